@@ -1,0 +1,53 @@
+ghost use Rattle.std.specs.Prelude.{◌≡◌, drop};
+ghost use Rattle.hmac_kdf.specs.Kdf.{kdf};
+ghost use Rattle.annex_a_keys.specs.AlgType.{distinguisher};
+ghost use Rattle.annex_a_keys.specs.Derived.{derivation};
+
+use crate::{AlgType, Derived};
+use hmac_kdf::KdfInput;
+use std::marker::Model;
+
+/// An algorithm key (TS 33.401 A.7): 32 octets, of which a 128-bit algorithm takes the last 16.
+#[derive(Clone, Copy, Debug, PartialEq, Eq)]
+pub struct AlgKey {
+    octets: [u8; 32],
+}
+
+impl Model for AlgKey {
+    ghost use Rattle.std.specs.Prelude.{List, ℕ};
+
+    ghost Value = { List ℕ };
+
+    ghost view = { λ k. k.octets };
+
+    ghost inverse = { λ octets. record { octets = octets } };
+}
+
+impl AlgKey {
+    /// The octets of this key.
+    pub fn octets(&self) -> [u8; 32]
+        ensures { result ≡ self.now }
+    {
+        self.octets
+    }
+
+    /// The key of a 128-bit algorithm: the last 16 octets (TS 33.401 A.7).
+    pub fn key128(&self) -> [u8; 16]
+        ensures { result ≡ drop 16 self.now }
+    {
+        let (_, last) = self.octets.split_at(16);
+        let mut key = [0; 16];
+        key.copy_from_slice(last);
+        key
+    }
+
+    // The algorithm key from the octets of KASME or KeNB.
+    pub(crate) fn derive(key: [u8; 32], kind: AlgType, id: u8) -> (AlgKey, Derived)
+        ensures value { result.0 ≡ kdf key (KdfInput.Alg (distinguisher kind) id) }
+        ensures derived { result.1 ≡ derivation key (KdfInput.Alg (distinguisher kind) id) }
+    {
+        let derived = Derived::of(key, KdfInput::Alg(kind.distinguisher(), id));
+        let octets = derived.out;
+        (AlgKey { octets }, derived)
+    }
+}

@@ -1,0 +1,73 @@
+ghost use Rattle.std.specs.Prelude.{◌≡◌, ◌<◌, ◌≤◌, ◌↔◌, IfOk, IsErrOf};
+
+use std::marker::Model;
+
+/// The greatest physical cell identity (TS 36.331, PhysCellId).
+pub const GREATEST_PCI: u16 = 503;
+
+/// The greatest downlink EARFCN that KeNB* takes in two octets (TS 33.401 A.5).
+pub const GREATEST_EARFCN: u32 = 65535;
+
+/// A cell as the derivation of KeNB* sees it (TS 33.401 A.5): its PCI and its EARFCN-DL, both in
+/// range.
+#[derive(Clone, Copy, Debug, PartialEq, Eq)]
+pub struct Cell {
+    pci: u16,
+    earfcn: u32,
+}
+
+impl Model for Cell {
+    ghost use Rattle.std.specs.Prelude.{◌≤◌};
+    ghost use Rattle.annex_a_keys.specs.Cell.{Place};
+    ghost use Rattle.annex_a_keys.specs.declared.cell.TheConstants.{GREATEST_PCI, GREATEST_EARFCN};
+
+    ghost Value = { Place };
+
+    ghost view = { λ c. record { pci = c.pci; earfcn = c.earfcn } };
+
+    ghost invariant = { λ c. (c.pci ≤ GREATEST_PCI) × (c.earfcn ≤ GREATEST_EARFCN) };
+
+    ghost inverse = { λ p. record { pci = p.pci; earfcn = p.earfcn } };
+}
+
+/// Why a cell was refused.
+#[derive(Clone, Copy, Debug, PartialEq, Eq)]
+pub enum CellFault {
+    /// The PCI is above 503.
+    PciTooLarge,
+    /// The EARFCN-DL is above 65535, the PCI being good.
+    EarfcnWide,
+}
+
+impl Cell {
+    /// The cell with this PCI and this EARFCN-DL.
+    pub fn new(pci: u16, earfcn: u32) -> Result<Cell, CellFault>
+        ensures cell { IfOk result (λ cell. cell ≡ record { pci = pci; earfcn = earfcn }) }
+        ensures pci_too_large { IsErrOf result CellFault.PciTooLarge ↔ (GREATEST_PCI < pci) }
+        ensures earfcn_wide { IsErrOf result CellFault.EarfcnWide ↔ ((pci ≤ GREATEST_PCI) × (GREATEST_EARFCN < earfcn)) }
+    {
+        if pci > GREATEST_PCI {
+            return Err(CellFault::PciTooLarge);
+        }
+        if earfcn > GREATEST_EARFCN {
+            return Err(CellFault::EarfcnWide);
+        }
+        Ok(Cell { pci, earfcn })
+    }
+
+    /// The physical cell identity, 0 to 503.
+    pub fn pci(&self) -> u16
+        ensures value { result ≡ self.now.pci }
+        ensures in_range { result ≤ GREATEST_PCI }
+    {
+        self.pci
+    }
+
+    /// The downlink EARFCN, 0 to 65535.
+    pub fn earfcn(&self) -> u32
+        ensures value { result ≡ self.now.earfcn }
+        ensures in_range { result ≤ GREATEST_EARFCN }
+    {
+        self.earfcn
+    }
+}

@@ -1,0 +1,32 @@
+ghost use Rattle.std.specs.Prelude.{◌≡◌};
+ghost use Rattle.hmac_kdf.specs.Kdf.{IsKdfInput};
+
+use hmac_kdf::{KdfInput, kdf};
+
+/// One derivation of TS 33.401 Annex A: the key that was used, its input, and the 32 octets that
+/// came out.
+#[derive(Clone, Copy, Debug, PartialEq, Eq)]
+pub struct Derived {
+    /// The 32 octets of KASME, KeNB or NH.
+    pub key: [u8; 32],
+    /// The input, whose string S is that of TS 33.220 B.2.
+    pub input: KdfInput,
+    /// The 32 octets derived.
+    pub out: [u8; 32],
+}
+
+impl Derived {
+    ghost use Rattle.annex_a_keys.specs.Derived.{derivation};
+
+    // The derivation from a key and an input.
+    pub(crate) fn of(key: [u8; 32], input: KdfInput) -> Derived
+        requires { IsKdfInput input }
+        ensures { result ≡ derivation key input }
+    {
+        Derived {
+            key,
+            input,
+            out: kdf(&key, &input),
+        }
+    }
+}

@@ -1,0 +1,58 @@
+ghost use Rattle.std.specs.Prelude.{◌≡◌};
+ghost use Rattle.hmac_kdf.specs.Kdf.{kdf};
+ghost use Rattle.annex_a_keys.specs.AlgType.{distinguisher, IsOfAs};
+ghost use Rattle.annex_a_keys.specs.Derived.{derivation};
+
+use crate::{AlgKey, AlgType, Cell, Derived, Star};
+use hmac_kdf::KdfInput;
+use std::marker::Model;
+
+/// KeNB, the key of a connection between phone and base station (TS 33.401 6.2): 32 octets.
+#[derive(Clone, Copy, Debug, PartialEq, Eq)]
+pub struct Kenb {
+    octets: [u8; 32],
+}
+
+impl Model for Kenb {
+    ghost use Rattle.std.specs.Prelude.{List, ℕ};
+
+    ghost Value = { List ℕ };
+
+    ghost view = { λ k. k.octets };
+
+    ghost inverse = { λ octets. record { octets = octets } };
+}
+
+impl Kenb {
+    /// The KeNB of these octets.
+    pub fn of_octets(octets: [u8; 32]) -> Kenb
+        ensures { result ≡ octets }
+    {
+        Kenb { octets }
+    }
+
+    /// The octets of this KeNB.
+    pub fn octets(&self) -> [u8; 32]
+        ensures { result ≡ self.now }
+    {
+        self.octets
+    }
+
+    /// KeNB* for a target cell, derived horizontally (TS 33.401 A.5), and its derivation.
+    pub fn star(&self, cell: &Cell) -> (Star, Derived)
+        ensures value { result.0 ≡ kdf self.now (KdfInput.Star cell.now.pci cell.now.earfcn) }
+        ensures derived { result.1 ≡ derivation self.now (KdfInput.Star cell.now.pci cell.now.earfcn) }
+    {
+        Star::derive(self.octets, cell)
+    }
+
+    /// An RRC or user-plane algorithm key (TS 33.401 A.7) for an algorithm identity, and its
+    /// derivation.
+    pub fn alg(&self, kind: AlgType, id: u8) -> (AlgKey, Derived)
+        requires { IsOfAs kind }
+        ensures value { result.0 ≡ kdf self.now (KdfInput.Alg (distinguisher kind) id) }
+        ensures derived { result.1 ≡ derivation self.now (KdfInput.Alg (distinguisher kind) id) }
+    {
+        AlgKey::derive(self.octets, kind, id)
+    }
+}

@@ -1,0 +1,84 @@
+-- The ladder of keys: its rows stand for the derivations of TS 33.401 Annex A that were made, in the
+-- order of their first making. Roots are the KASME that no derivation made.
+use Rattle.std.specs.Prelude.{◌≡◌, ◌≢◌, ℕ, ◌+◌, ◌<◌, ◌^◌, Bool, false, Option, Some, None, IsSome, List, [], ◌∷◌, ◌++◌, length, replicate, unwrap_or, slice_get, position}
+use Rattle.std.specs.Option.{option_map, option_map_or}
+use Rattle.std.specs.Str.{bytes_eq}
+use Rattle.hmac_kdf.specs.declared.input.KdfInput.{KdfInput}
+use Rattle.hmac_kdf.specs.declared.input.KdfInput.TheVariants.{Kenb, Nh, Star, Alg}
+use Rattle.hmac_kdf.specs.Kdf.{kdf}
+use Rattle.annex_a_keys.specs.declared.derived.Derived.{Derived}
+use Rattle.key_terms.specs.declared.row.Row.{Row}
+use Rattle.key_terms.specs.declared.row.LadderRow.{LadderRow}
+use Rattle.key_terms.specs.declared.row.Origin.{Origin}
+use Rattle.key_terms.specs.declared.row.Origin.TheVariants.{Root, From}
+
+-- what a ladder holds, and for how many rows more it has room
+pub record Rows : Type 0 where
+  pub rows : List LadderRow
+  pub spare : ℕ
+
+-- the row of this number
+abbrev pub row : ℕ → Row
+row k = record { 0 = k }
+
+-- a row that nobody holds
+abbrev pub unheld : Origin → List ℕ → LadderRow
+unheld origin octets = record { origin = origin; octets = octets; phone = false; core = false; stations = replicate 8 false }
+
+-- the octets of the row of this number, if it stands
+abbrev pub octets_at : List LadderRow → ℕ → Option (List ℕ)
+octets_at rows k = option_map (λ r. r.octets) (slice_get rows k)
+
+-- its origin
+abbrev pub origin_at : List LadderRow → ℕ → Option Origin
+origin_at rows k = option_map (λ r. r.origin) (slice_get rows k)
+
+-- the number of the first row with these octets, if there is one
+abbrev pub row_of : List LadderRow → List ℕ → Option ℕ
+row_of rows octets = position (λ r. bytes_eq r.octets octets) rows
+
+-- the origin of a derivation: the row of its key, and its input
+abbrev pub origin_of : List LadderRow → Derived → Origin
+origin_of rows made = From (row (unwrap_or (row_of rows made.key) 0)) made.input
+
+-- no two rows have the same octets: the first row with a row's octets is that row
+abbrev pub AreApart : List LadderRow → Type 0
+AreApart rows = (k : ℕ) (octets : List ℕ) → octets_at rows k ≡ Some octets → row_of rows octets ≡ Some k
+
+-- KeNB and NH are derived from a root (TS 33.401 A.3 and A.4)
+abbrev pub HasRoot : List LadderRow → ℕ → KdfInput → Type 0
+HasRoot rows key (Kenb count) = origin_at rows key ≡ Some Root
+HasRoot rows key (Nh sync) = origin_at rows key ≡ Some Root
+HasRoot rows key (Star pci earfcn) = Unit {0}
+HasRoot rows key (Alg kind identity) = Unit {0}
+
+-- the SYNC-input of an NH is a row's octets (TS 33.401 A.4)
+abbrev pub HasSync : List LadderRow → KdfInput → Type 0
+HasSync rows (Nh sync) = IsSome (row_of rows sync)
+HasSync rows (Kenb count) = Unit {0}
+HasSync rows (Star pci earfcn) = Unit {0}
+HasSync rows (Alg kind identity) = Unit {0}
+
+-- row k is what its origin says: a root, or what an earlier row derives
+abbrev pub IsMade : List LadderRow → ℕ → Origin → List ℕ → Type 0
+IsMade rows k Root octets = Unit {0}
+IsMade rows k (From key input) octets =
+    (key.0 < k) × (option_map (λ r. kdf r.octets input) (slice_get rows key.0) ≡ Some octets) × HasRoot rows key.0 input × HasSync rows input
+
+-- each row is what its origin says
+abbrev pub AreMade : List LadderRow → Type 0
+AreMade rows = (k : ℕ) (r : LadderRow) → slice_get rows k ≡ Some r → IsMade rows k r.origin r.octets
+
+-- the rows stand for distinct derivations with distinct octets
+pub record IsLadder (rows : List LadderRow) : Type 0 where
+  pub apart : AreApart rows
+  pub made : AreMade rows
+
+-- as many rows as can be numbered
+abbrev pub AreNumbered : List LadderRow → Type 0
+AreNumbered rows = length rows < 2 ^ 32
+
+-- a row that stands has these octets and another origin than this
+pub record Coincides (rows : List LadderRow) (origin : Origin) (octets : List ℕ) (k : ℕ) : Type 0 where
+  pub stands : row_of rows octets ≡ Some k
+  pub other : origin_at rows k ≢ Some origin

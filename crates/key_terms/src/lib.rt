@@ -1,0 +1,8 @@
+//! The ladder: the list of all keys that were derived, each with its derivation.
+#![tactic(auto)]
+
+mod ladder;
+mod row;
+
+pub use ladder::{Ladder, LadderFault};
+pub use row::{Holder, LadderRow, Origin, Row};
