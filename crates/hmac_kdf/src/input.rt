@@ -1,3 +1,9 @@
+ghost use Rattle.std.specs.Prelude.{◌≡◌, ◌+◌, ◌≤◌, ◌++◌, length};
+ghost use Rattle.arrayvec.specs.ArrayVec.{array_vec_len};
+ghost use Rattle.hmac_kdf.specs.Kdf.{parameter};
+
+use arrayvec::ArrayVec;
+
 /// The input of a derivation of TS 33.401 Annex A, beside the key.
 #[derive(Clone, Copy, Debug, PartialEq, Eq)]
 pub enum KdfInput {
@@ -10,4 +16,51 @@ pub enum KdfInput {
     Star(u16, u32),
     /// An algorithm key from KASME or KeNB (A.7): the algorithm type and identity.
     Alg(u8, u8),
+}
+
+impl KdfInput {
+    ghost use Rattle.hmac_kdf.specs.Kdf.{kdf_string, IsKdfInput};
+
+    /// The string S of TS 33.220 B.2, of at most 35 octets: FC, and then each parameter and its
+    /// length. An EARFCN-DL is at most 65535.
+    #[tactic(auto, unfolding(crate::specs::Kdf::kdf_string))]
+    pub fn string(&self) -> ArrayVec<u8, 35>
+        requires { IsKdfInput self.now }
+        ensures { result.items ≡ kdf_string self.now }
+    {
+        let mut string = ArrayVec::new();
+        match self {
+            KdfInput::Kenb(count) => {
+                string.push(0x11);
+                push_parameter(&mut string, &count.to_be_bytes());
+            }
+            KdfInput::Nh(sync) => {
+                string.push(0x12);
+                push_parameter(&mut string, sync);
+            }
+            KdfInput::Star(pci, earfcn) => {
+                string.push(0x13);
+                push_parameter(&mut string, &pci.to_be_bytes());
+                push_parameter(&mut string, &(*earfcn as u16).to_be_bytes());
+            }
+            KdfInput::Alg(kind, identity) => {
+                string.push(0x15);
+                push_parameter(&mut string, &[*kind]);
+                push_parameter(&mut string, &[*identity]);
+            }
+        }
+        string
+    }
+}
+
+// Puts a parameter at the end of a string: its octets, and their number in two octets.
+fn push_parameter(string: &mut ArrayVec<u8, 35>, octets: &[u8])
+    requires { array_vec_len string.old + length octets.now + 2 ≤ 35 }
+    ensures items { string.new.items ≡ string.old.items ++ parameter octets.now }
+    ensures len { array_vec_len string.new ≡ array_vec_len string.old + length octets.now + 2 }
+{
+    string.try_extend_from_slice(octets).unwrap();
+    string
+        .try_extend_from_slice(&(octets.len() as u16).to_be_bytes())
+        .unwrap();
 }

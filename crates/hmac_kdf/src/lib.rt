@@ -2,11 +2,11 @@
 //! the inputs of TS 33.401 Annex A.
 #![tactic(auto)]
 
-ghost use Rattle.std.specs.Prelude.{◌≡◌, ◌-◌, ◌≤◌, ◌++◌, ◌∷◌, length, replicate};
+ghost use Rattle.std.specs.Prelude.{◌≡◌, ◌-◌, ◌≤◌, ◌++◌, length, replicate};
 ghost use Rattle.sha2.specs.Sha256.{sha256};
 ghost use Rattle.hmac_kdf.specs.declared.input.KdfInput.{KdfInput as Input};
 ghost use Rattle.hmac_kdf.specs.Hmac.{key_block, padded_with, hmac as hmac_of};
-ghost use Rattle.hmac_kdf.specs.Kdf.{kdf_string, parameter, IsKdfInput, kdf as kdf_of};
+ghost use Rattle.hmac_kdf.specs.Kdf.{kdf_string, IsKdfInput, kdf as kdf_of};
 
 mod input;
 
@@ -72,35 +72,12 @@ fn digest_of(first: &[u8], second: &[u8]) -> [u8; 32]
 
 /// The key derived from a key of 32 octets and an input: HMAC-SHA-256 of the input's string S
 /// (TS 33.220 B.2). An EARFCN-DL is at most 65535.
-#[tactic(auto, unfolding(crate::specs::Kdf::kdf, crate::specs::Kdf::kdf_string))]
+#[tactic(auto, unfolding(crate::specs::Kdf::kdf))]
 pub fn kdf(key: &[u8; 32], input: &KdfInput) -> [u8; 32]
     requires { IsKdfInput input.now }
     ensures { result ≡ kdf_of key.now input.now }
 {
-    match *input {
-        KdfInput::Kenb(count) => {
-            let [a, b, c, d] = count.to_be_bytes();
-            hmac(key, &[0x11, a, b, c, d, 0x00, 0x04])
-        }
-        KdfInput::Nh(sync) => hmac(key, &nh_string(&sync)),
-        KdfInput::Star(pci, earfcn) => {
-            let [a, b] = pci.to_be_bytes();
-            let [c, d] = (earfcn as u16).to_be_bytes();
-            hmac(key, &[0x13, a, b, 0x00, 0x02, c, d, 0x00, 0x02])
-        }
-        KdfInput::Alg(kind, identity) => hmac(key, &[0x15, kind, 0x00, 0x01, identity, 0x00, 0x01]),
-    }
-}
-
-// The string of an NH: its FC, the SYNC-input and the length of that.
-fn nh_string(sync: &[u8; 32]) -> [u8; 35]
-    ensures { result ≡ 0x12 ∷ parameter sync.now }
-{
-    let mut string = [0; 35];
-    string[0] = 0x12;
-    string[1..33].copy_from_slice(sync);
-    string[34] = 0x20;
-    string
+    hmac(key, input.string().as_slice())
 }
 
 /// The string determines the input: two inputs with one string are equal.

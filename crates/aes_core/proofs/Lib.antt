@@ -1,0 +1,5 @@
+pub mod AesLemmas
+pub mod Examples
+pub mod FieldLemmas
+pub mod KeyExpansionLemmas
+pub mod SBoxTable

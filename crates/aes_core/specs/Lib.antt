@@ -1,0 +1,4 @@
+pub mod Field
+pub mod SBox
+pub mod KeyExpansion
+pub mod Aes
