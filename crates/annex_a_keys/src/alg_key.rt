@@ -1,5 +1,5 @@
 ghost use Rattle.std.specs.Prelude.{◌≡◌, drop};
-ghost use Rattle.hmac_kdf.specs.Kdf.{kdf};
+ghost use Rattle.hmac_kdf.specs.Kdf.{IsKdfInput, kdf};
 ghost use Rattle.annex_a_keys.specs.AlgType.{distinguisher};
 ghost use Rattle.annex_a_keys.specs.Derived.{derivation};
 
@@ -45,6 +45,7 @@ impl AlgKey {
     pub(crate) fn derive(key: [u8; 32], kind: AlgType, id: u8) -> (AlgKey, Derived)
         ensures value { result.0 ≡ kdf key (KdfInput.Alg (distinguisher kind) id) }
         ensures derived { result.1 ≡ derivation key (KdfInput.Alg (distinguisher kind) id) }
+        ensures input { IsKdfInput result.1.input }
     {
         let derived = Derived::of(key, KdfInput::Alg(kind.distinguisher(), id));
         let octets = derived.out;

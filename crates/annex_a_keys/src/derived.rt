@@ -21,7 +21,8 @@ impl Derived {
     // The derivation from a key and an input.
     pub(crate) fn of(key: [u8; 32], input: KdfInput) -> Derived
         requires { IsKdfInput input }
-        ensures { result ≡ derivation key input }
+        ensures value { result ≡ derivation key input }
+        ensures input { IsKdfInput result.input }
     {
         Derived {
             key,

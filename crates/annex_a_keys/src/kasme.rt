@@ -1,5 +1,5 @@
 ghost use Rattle.std.specs.Prelude.{◌≡◌};
-ghost use Rattle.hmac_kdf.specs.Kdf.{kdf};
+ghost use Rattle.hmac_kdf.specs.Kdf.{IsKdfInput, kdf};
 ghost use Rattle.annex_a_keys.specs.AlgType.{distinguisher, IsOfNas};
 ghost use Rattle.annex_a_keys.specs.Derived.{derivation};
 
@@ -42,6 +42,7 @@ impl Kasme {
     pub fn kenb(&self, count: u32) -> (Kenb, Derived)
         ensures value { result.0 ≡ kdf self.now (KdfInput.Kenb count) }
         ensures derived { result.1 ≡ derivation self.now (KdfInput.Kenb count) }
+        ensures input { IsKdfInput result.1.input }
     {
         let derived = Derived::of(self.octets, KdfInput::Kenb(count));
         (Kenb::of_octets(derived.out), derived)
@@ -51,6 +52,7 @@ impl Kasme {
     pub fn nh_first(&self, kenb: &Kenb) -> (Nh, Derived)
         ensures value { result.0 ≡ kdf self.now (KdfInput.Nh kenb.now) }
         ensures derived { result.1 ≡ derivation self.now (KdfInput.Nh kenb.now) }
+        ensures input { IsKdfInput result.1.input }
     {
         self.nh(kenb.octets())
     }
@@ -59,6 +61,7 @@ impl Kasme {
     pub fn nh_next(&self, nh: &Nh) -> (Nh, Derived)
         ensures value { result.0 ≡ kdf self.now (KdfInput.Nh nh.now) }
         ensures derived { result.1 ≡ derivation self.now (KdfInput.Nh nh.now) }
+        ensures input { IsKdfInput result.1.input }
     {
         self.nh(nh.octets())
     }
@@ -67,6 +70,7 @@ impl Kasme {
     fn nh(&self, sync: [u8; 32]) -> (Nh, Derived)
         ensures value { result.0 ≡ kdf self.now (KdfInput.Nh sync) }
         ensures derived { result.1 ≡ derivation self.now (KdfInput.Nh sync) }
+        ensures input { IsKdfInput result.1.input }
     {
         let derived = Derived::of(self.octets, KdfInput::Nh(sync));
         (Nh::of_octets(derived.out), derived)
@@ -77,6 +81,7 @@ impl Kasme {
         requires { IsOfNas kind }
         ensures value { result.0 ≡ kdf self.now (KdfInput.Alg (distinguisher kind) id) }
         ensures derived { result.1 ≡ derivation self.now (KdfInput.Alg (distinguisher kind) id) }
+        ensures input { IsKdfInput result.1.input }
     {
         AlgKey::derive(self.octets, kind, id)
     }

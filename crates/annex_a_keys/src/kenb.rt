@@ -1,5 +1,5 @@
 ghost use Rattle.std.specs.Prelude.{◌≡◌};
-ghost use Rattle.hmac_kdf.specs.Kdf.{kdf};
+ghost use Rattle.hmac_kdf.specs.Kdf.{IsKdfInput, kdf};
 ghost use Rattle.annex_a_keys.specs.AlgType.{distinguisher, IsOfAs};
 ghost use Rattle.annex_a_keys.specs.Derived.{derivation};
 
@@ -42,6 +42,7 @@ impl Kenb {
     pub fn star(&self, cell: &Cell) -> (Star, Derived)
         ensures value { result.0 ≡ kdf self.now (KdfInput.Star cell.now.pci cell.now.earfcn) }
         ensures derived { result.1 ≡ derivation self.now (KdfInput.Star cell.now.pci cell.now.earfcn) }
+        ensures input { IsKdfInput result.1.input }
     {
         Star::derive(self.octets, cell)
     }
@@ -52,6 +53,7 @@ impl Kenb {
         requires { IsOfAs kind }
         ensures value { result.0 ≡ kdf self.now (KdfInput.Alg (distinguisher kind) id) }
         ensures derived { result.1 ≡ derivation self.now (KdfInput.Alg (distinguisher kind) id) }
+        ensures input { IsKdfInput result.1.input }
     {
         AlgKey::derive(self.octets, kind, id)
     }

@@ -1,5 +1,5 @@
 ghost use Rattle.std.specs.Prelude.{◌≡◌};
-ghost use Rattle.hmac_kdf.specs.Kdf.{kdf};
+ghost use Rattle.hmac_kdf.specs.Kdf.{IsKdfInput, kdf};
 ghost use Rattle.annex_a_keys.specs.Derived.{derivation};
 
 use crate::{Cell, Derived, Star};
@@ -41,6 +41,7 @@ impl Nh {
     pub fn star(&self, cell: &Cell) -> (Star, Derived)
         ensures value { result.0 ≡ kdf self.now (KdfInput.Star cell.now.pci cell.now.earfcn) }
         ensures derived { result.1 ≡ derivation self.now (KdfInput.Star cell.now.pci cell.now.earfcn) }
+        ensures input { IsKdfInput result.1.input }
     {
         Star::derive(self.octets, cell)
     }

@@ -1,5 +1,5 @@
 ghost use Rattle.std.specs.Prelude.{◌≡◌};
-ghost use Rattle.hmac_kdf.specs.Kdf.{kdf};
+ghost use Rattle.hmac_kdf.specs.Kdf.{IsKdfInput, kdf};
 ghost use Rattle.annex_a_keys.specs.Derived.{derivation};
 
 use crate::{Cell, Derived, Kenb};
@@ -48,6 +48,7 @@ impl Star {
     pub(crate) fn derive(key: [u8; 32], cell: &Cell) -> (Star, Derived)
         ensures value { result.0 ≡ kdf key (KdfInput.Star cell.now.pci cell.now.earfcn) }
         ensures derived { result.1 ≡ derivation key (KdfInput.Star cell.now.pci cell.now.earfcn) }
+        ensures input { IsKdfInput result.1.input }
     {
         let derived = Derived::of(key, KdfInput::Star(cell.pci(), cell.earfcn()));
         (Star::of_octets(derived.out), derived)

@@ -13,7 +13,7 @@ position_is : {X : Type 0} (p : X → Bool) (xs : List X) (k : ℕ) → position
 position_is p xs k e within = rw (e, lt-ltb k (length xs) within)
 
 -- where none passes, the first place is past the end
-position-None : {X : Type 0} (p : X → Bool) (xs : List X) → position p xs ≡ None → position_or_len p xs ≡ length xs
+pub position-None : {X : Type 0} (p : X → Bool) (xs : List X) → position p xs ≡ None → position_or_len p xs ≡ length xs
 position-None p xs none =
     let at_most : position_or_len p xs ≤ length xs = prefix_len-le-length (λ x. not (p x)) xs in
     elim (cases_lt (position_or_len p xs) (length xs)) [

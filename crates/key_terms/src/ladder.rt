@@ -1,7 +1,7 @@
 ghost use Rattle.std.specs.Prelude.{◌≡◌, ◌↔◌, ℕ, ◌+◌, ◌-◌, ◌^◌, ◌<◌, ◌≤◌, [], ◌∷◌, ◌++◌, length, OnOk, OnErr, IfOk, IfErr, IfSome, IsSome, Some, None, IsOkUnless, slice_get, vec_len, vec_capacity};
 ghost use Rattle.std.specs.Option.{option_map};
 ghost use Rattle.hmac_kdf.specs.Kdf.{IsKdfInput, kdf};
-ghost use Rattle.key_terms.specs.Ladder.{row, unheld, octets_at, origin_at, row_of, origin_of, HasRoot, HasSync, IsMade, IsLadder, Coincides};
+ghost use Rattle.key_terms.specs.Ladder.{row, unheld, octets_at, origin_at, row_of, origin_of, HasRoot, HasSync, IsMade, IsLadder, Coincides, RootRefused, AddRefused};
 
 use crate::{LadderRow, Origin, Row};
 use annex_a_keys::Derived;
@@ -66,6 +66,7 @@ impl Ladder {
         ensures new { row_of self.old.rows octets ≡ None → (result ≡ Ok (row (length self.old.rows))) × (self.new.rows ≡ self.old.rows ++ unheld Origin.Root octets ∷ []) }
         ensures repeated { (k : ℕ) → row_of self.old.rows octets ≡ Some k → origin_at self.old.rows k ≡ Some Origin.Root → result ≡ Err (LadderFault.RepeatedRoot (row k)) }
         ensures coincidence { (k : ℕ) → Coincides self.old.rows Origin.Root octets k → result ≡ Err (LadderFault.Coincidence (row k) Origin.Root) }
+        ensures cause { IfErr result (RootRefused self.old.rows octets) }
         ensures spare { self.old.spare ≤ self.new.spare + 1 }
         ensures err { OnErr result (self.new ≡ self.old) }
         ensures ladder { IsLadder self.new.rows }
@@ -91,6 +92,7 @@ impl Ladder {
         ensures new { row_of self.old.rows made.now.out ≡ None → (result ≡ Ok (row (length self.old.rows))) × (self.new.rows ≡ self.old.rows ++ unheld (origin_of self.old.rows made.now) made.now.out ∷ []) }
         ensures again { (k : ℕ) → row_of self.old.rows made.now.out ≡ Some k → origin_at self.old.rows k ≡ Some (origin_of self.old.rows made.now) → (result ≡ Ok (row k)) × (self.new ≡ self.old) }
         ensures coincidence { (k : ℕ) → Coincides self.old.rows (origin_of self.old.rows made.now) made.now.out k → result ≡ Err (LadderFault.Coincidence (row k) (origin_of self.old.rows made.now)) }
+        ensures cause { IfErr result (AddRefused self.old.rows made.now) }
         ensures spare { self.old.spare ≤ self.new.spare + 1 }
         ensures err { OnErr result (self.new ≡ self.old) }
         ensures ladder { IsLadder self.new.rows }

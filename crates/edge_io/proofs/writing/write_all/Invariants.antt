@@ -1,0 +1,16 @@
+use Rattle.std.proofs.Common.{◌≡◌, ◌-◌, ◌≤◌, IsTrue, length, take}
+use Rattle.edge_io.specs.Cause.{NoCountFell}
+use Rattle.edge_io.specs.Octets.{Grows}
+use Rattle.edge_io.proofs.writing.write_all.Given as goal
+
+abbrev pub invariant-pieces : goal.invariant-pieces
+invariant-pieces g l =
+    IsTrue (g.K.Edge.told l.sink).ready
+    × Grows (g.K.Edge.told l.initial.sink).written (g.K.Edge.told l.sink).written (take l.sent l.octets)
+    × (l.sent ≤ length l.octets)
+    × ((g.K.Edge.told l.sink).left ≡ (g.K.Edge.told l.initial.sink).left)
+    × ((g.K.Edge.told l.sink).most ≡ (g.K.Edge.told l.initial.sink).most)
+    × NoCountFell (g.K.Edge.told l.initial.sink) (g.K.Edge.told l.sink)
+
+abbrev pub decreases-pieces : goal.decreases-pieces
+decreases-pieces g l = length l.octets - l.sent

@@ -1,0 +1,5 @@
+pub mod Told
+pub mod Cause
+pub mod Octets
+pub mod Peers
+pub mod Script

@@ -1,0 +1,52 @@
+-- What is told of an object of the outside at a moment.
+use Rattle.std.specs.Prelude.{ℕ, Bool, true, Option, None, List}
+
+-- One object may be a source, a sink or both, as a port is; of a side that it lacks it tells
+-- nothing, and counts no fault there.
+pub record Told : Type 0 where
+  pub left : Option (List ℕ)  -- the octets that it has still to give, where it tells them
+  pub most : ℕ  -- the greatest number of octets that it may still give
+  pub read_faults : ℕ
+  pub written : Option (List ℕ)  -- the octets that it was given, where it tells them
+  pub write_faults : ℕ
+  pub open_faults : ℕ
+  pub ready : Bool  -- it may be read and written; a port is ready while it is open
+
+-- what a source alone tells, which is always ready
+abbrev pub source_told : Option (List ℕ) → ℕ → ℕ → Told
+source_told left most faults =
+    record {
+      left = left;
+      most = most;
+      read_faults = faults;
+      written = None;
+      write_faults = 0;
+      open_faults = 0;
+      ready = true;
+    }
+
+-- what a sink alone tells, which is always ready
+abbrev pub sink_told : Option (List ℕ) → ℕ → Told
+sink_told written faults =
+    record {
+      left = None;
+      most = 0;
+      read_faults = 0;
+      written = written;
+      write_faults = faults;
+      open_faults = 0;
+      ready = true;
+    }
+
+-- what a port tells that is made of a source and a sink, and whose opening never failed
+abbrev pub port_told : Told → Told → Bool → Told
+port_told source sink is_open =
+    record {
+      left = source.left;
+      most = source.most;
+      read_faults = source.read_faults;
+      written = sink.written;
+      write_faults = sink.write_faults;
+      open_faults = 0;
+      ready = is_open;
+    }

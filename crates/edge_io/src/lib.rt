@@ -1,0 +1,47 @@
+//! The outside of the program: the octets that it reads and writes, its peers and its port.
+//!
+//! Every object of the outside counts its faults, and answers one only where its count rose. What
+//! it has left to read, and what it was given to write, is told by the forms over memory.
+#![tactic(auto)]
+
+mod copying;
+mod drop_sink;
+mod edge;
+mod failed;
+mod faults;
+mod mem_peer;
+mod mem_peers;
+mod mem_port;
+mod mem_sink;
+mod mem_source;
+mod peers;
+mod port;
+mod reader_source;
+mod reading;
+mod scripted;
+mod sink;
+mod slice_source;
+mod source;
+mod writer_sink;
+mod writing;
+
+pub use drop_sink::DropSink;
+pub use edge::Edge;
+pub use failed::Failed;
+pub use mem_peers::MemPeers;
+pub use mem_port::MemPort;
+pub use mem_sink::MemSink;
+pub use mem_source::MemSource;
+pub use peers::{PeerCall, Peers, Role, StartFault};
+pub use port::Port;
+pub use reader_source::ReaderSource;
+pub use reading::{ReadAll, read_all, read_fill};
+pub use scripted::Scripted;
+pub use sink::Sink;
+pub use slice_source::SliceSource;
+pub use source::Source;
+pub use writer_sink::WriterSink;
+pub use writing::write_all;
+
+#[cfg(test)]
+mod tests;

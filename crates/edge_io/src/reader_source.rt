@@ -1,0 +1,97 @@
+ghost use Rattle.std.specs.Prelude.{◌≡◌, ◌+◌, ◌^◌, ◌≤◌, ◌<◌, IsTrue, length, IfOk, None};
+ghost use Rattle.std.specs.Io.{ReadsAtMost};
+ghost use Rattle.std.specs.Io.KnownBytes.{IsAtEnd, ReadConsumes};
+ghost use Rattle.edge_io.specs.Told.{source_told};
+ghost use Rattle.edge_io.specs.Cause.{HasCause, NoCountFell};
+ghost use Rattle.edge_io.specs.Octets.{Gives, octets_of};
+
+use crate::edge::Edge;
+use crate::failed::Failed;
+use crate::source::Source;
+use std::io::{ErrorKind, Read};
+
+/// The greatest number of octets that a reader's source gives.
+const MOST: usize = 1 << 62;
+
+/// A source over a reader, such as standard input. It counts each error of the reader, and tells
+/// nothing of the octets. It gives at most 2^62 octets: a read past them fails.
+#[derive(Drop)]
+pub struct ReaderSource<R: Drop> {
+    /// The reader that the octets come from.
+    pub reader: R,
+    most: usize,
+    faults: u64,
+}
+
+impl<R: Read + Drop> ReaderSource<R> {
+    /// A source that gives what this reader gives.
+    pub fn new(reader: R) -> ReaderSource<R>
+        ensures told { ⟦<ReaderSource<R> as Edge>⟧.told result ≡ source_told None (2 ^ 62) 0 }
+        ensures reader { result.reader ≡ reader }
+    {
+        ReaderSource {
+            reader,
+            most: MOST,
+            faults: 0,
+        }
+    }
+}
+
+impl<R: Read + Drop> Edge for ReaderSource<R> {
+    ghost told = { λ s. source_told None s.most s.faults };
+}
+
+impl<R: Read + Drop> Source for ReaderSource<R> {
+    ghost use Rattle.std.proofs.Common.{rules};
+
+    /// It hands on what the reader gives.
+    fn read(&mut self, buf: &mut [u8]) -> Result<usize, Failed>
+        requires { IsTrue (⟦<ReaderSource<R> as Edge>⟧.told self.old).ready }
+        ensures ready { IsTrue (⟦<ReaderSource<R> as Edge>⟧.told self.new).ready }
+        ensures count { IfOk result (λ n. n ≤ length buf.old) }
+        ensures octets { Gives (⟦<ReaderSource<R> as Edge>⟧.told self.old).left
+            (⟦<ReaderSource<R> as Edge>⟧.told self.new).left (octets_of result buf.new) }
+        ensures end { IfOk result (λ n. n ≡ 0 → 0 < length buf.old →
+            IsAtEnd (⟦<ReaderSource<R> as Edge>⟧.told self.new).left) }
+        ensures most { (⟦<ReaderSource<R> as Edge>⟧.told self.new).most
+            + length (octets_of result buf.new) ≤ (⟦<ReaderSource<R> as Edge>⟧.told self.old).most }
+        ensures written { (⟦<ReaderSource<R> as Edge>⟧.told self.new).written
+            ≡ (⟦<ReaderSource<R> as Edge>⟧.told self.old).written }
+        ensures cause { HasCause (⟦<ReaderSource<R> as Edge>⟧.told self.old).read_faults
+            (⟦<ReaderSource<R> as Edge>⟧.told self.new).read_faults result }
+        ensures counts { NoCountFell (⟦<ReaderSource<R> as Edge>⟧.told self.old)
+            (⟦<ReaderSource<R> as Edge>⟧.told self.new) }
+        ensures passed { ReadConsumes (R.remaining self.old.reader) (R.remaining self.new.reader)
+            result buf.new }
+    {
+        if self.most > 0 {
+            let room = buf.len().min(self.most);
+            if let Ok(count) = read_once(&mut self.reader, &mut buf[..room]) {
+                self.most -= count;
+                return Ok(count);
+            }
+        }
+        self.faults = self.faults.saturating_add(1);
+        Err(Failed)
+    }
+
+    ghost told_within = { Prim.search rules };
+}
+
+// An interrupted read gave nothing: it is made again, as by the loops of std, and is no fault.
+fn read_once<R: Read>(reader: &mut R, buf: &mut [u8]) -> Result<usize, Failed>
+    ensures bound { ReadsAtMost result buf.new }
+    ensures bytes { ReadConsumes (R.remaining reader.old) (R.remaining reader.new) result buf.new }
+{
+    for _ in 0..u64::MAX {
+        match reader.read(buf) {
+            Ok(count) => return Ok(count),
+            Err(e) => {
+                if e.kind() != ErrorKind::Interrupted {
+                    return Err(Failed);
+                }
+            }
+        }
+    }
+    Err(Failed)
+}

@@ -1,0 +1,24 @@
+ghost use Rattle.std.specs.Prelude.{◌≡◌, ◌≤◌, ◌<◌, IsTrue, length, IfOk};
+ghost use Rattle.edge_io.specs.Cause.{HasCause, NoCountFell};
+ghost use Rattle.edge_io.specs.Octets.{Grows, octets_of};
+
+use crate::edge::Edge;
+use crate::failed::Failed;
+
+/// What octets are written to.
+pub trait Sink: Edge {
+    /// Takes octets from the front of `piece` and answers how many. Of a piece that is not empty
+    /// it takes at least one, or counts a fault.
+    fn write(&mut self, piece: &[u8]) -> Result<usize, Failed>
+        requires { IsTrue (Self.told self.old).ready }
+        ensures ready { IsTrue (Self.told self.new).ready }
+        ensures count { IfOk result (λ n. n ≤ length piece.now) }
+        ensures some { IfOk result (λ n. 0 < length piece.now → 0 < n) }
+        ensures octets { Grows (Self.told self.old).written (Self.told self.new).written
+            (octets_of result piece.now) }
+        ensures left { (Self.told self.new).left ≡ (Self.told self.old).left }
+        ensures most { (Self.told self.new).most ≡ (Self.told self.old).most }
+        ensures cause { HasCause (Self.told self.old).write_faults (Self.told self.new).write_faults
+            result }
+        ensures counts { NoCountFell (Self.told self.old) (Self.told self.new) };
+}

@@ -1,0 +1,82 @@
+ghost use Rattle.std.specs.Prelude.{◌≡◌, ◌≤◌, ◌<◌, IsTrue, length, IfOk, None};
+ghost use Rattle.std.specs.Io.{WritesAtMost};
+ghost use Rattle.std.specs.Io.KnownBytes.{WriteAppends};
+ghost use Rattle.edge_io.specs.Told.{sink_told};
+ghost use Rattle.edge_io.specs.Cause.{HasCause, NoCountFell};
+ghost use Rattle.edge_io.specs.Octets.{Grows, octets_of};
+
+use crate::edge::Edge;
+use crate::failed::Failed;
+use crate::sink::Sink;
+use std::io::{ErrorKind, Write};
+
+/// A sink over a writer, such as standard output. It counts each error of the writer, and each
+/// write of which the writer took nothing, and tells nothing of the octets. It doesn't flush.
+#[derive(Drop)]
+pub struct WriterSink<W: Drop> {
+    /// The writer that the octets go to.
+    pub writer: W,
+    faults: u64,
+}
+
+impl<W: Write + Drop> WriterSink<W> {
+    /// A sink that hands on to this writer.
+    pub fn new(writer: W) -> WriterSink<W>
+        ensures told { ⟦<WriterSink<W> as Edge>⟧.told result ≡ sink_told None 0 }
+        ensures writer { result.writer ≡ writer }
+    {
+        WriterSink { writer, faults: 0 }
+    }
+}
+
+impl<W: Write + Drop> Edge for WriterSink<W> {
+    ghost told = { λ s. sink_told None s.faults };
+}
+
+impl<W: Write + Drop> Sink for WriterSink<W> {
+    /// It hands on to the writer, which takes what this answers.
+    fn write(&mut self, piece: &[u8]) -> Result<usize, Failed>
+        requires { IsTrue (⟦<WriterSink<W> as Edge>⟧.told self.old).ready }
+        ensures ready { IsTrue (⟦<WriterSink<W> as Edge>⟧.told self.new).ready }
+        ensures count { IfOk result (λ n. n ≤ length piece.now) }
+        ensures some { IfOk result (λ n. 0 < length piece.now → 0 < n) }
+        ensures octets { Grows (⟦<WriterSink<W> as Edge>⟧.told self.old).written
+            (⟦<WriterSink<W> as Edge>⟧.told self.new).written (octets_of result piece.now) }
+        ensures left { (⟦<WriterSink<W> as Edge>⟧.told self.new).left
+            ≡ (⟦<WriterSink<W> as Edge>⟧.told self.old).left }
+        ensures most { (⟦<WriterSink<W> as Edge>⟧.told self.new).most
+            ≡ (⟦<WriterSink<W> as Edge>⟧.told self.old).most }
+        ensures cause { HasCause (⟦<WriterSink<W> as Edge>⟧.told self.old).write_faults
+            (⟦<WriterSink<W> as Edge>⟧.told self.new).write_faults result }
+        ensures counts { NoCountFell (⟦<WriterSink<W> as Edge>⟧.told self.old)
+            (⟦<WriterSink<W> as Edge>⟧.told self.new) }
+        ensures passed { WriteAppends (W.contents self.old.writer) (W.contents self.new.writer)
+            result piece.now }
+    {
+        if let Ok(count) = write_once(&mut self.writer, piece) {
+            if count > 0 || piece.is_empty() {
+                return Ok(count);
+            }
+        }
+        self.faults = self.faults.saturating_add(1);
+        Err(Failed)
+    }
+}
+
+// An interrupted write took nothing: it is made again, as by the loops of std, and is no fault.
+fn write_once<W: Write>(writer: &mut W, piece: &[u8]) -> Result<usize, Failed>
+    ensures bound { WritesAtMost result piece.now }
+    ensures bytes { WriteAppends (W.contents writer.old) (W.contents writer.new) result piece.now }
+{
+    for _ in 0..u64::MAX {
+        match writer.write(piece) {
+            Ok(count) => return Ok(count),
+            Err(e) => {
+                if e.kind() != ErrorKind::Interrupted {
+                    return Err(Failed);
+                }
+            }
+        }
+    }
+    Err(Failed)
+}
