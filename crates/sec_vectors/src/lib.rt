@@ -3,3 +3,9 @@
 
 #[cfg(test)]
 mod aes;
+#[cfg(test)]
+mod cmac;
+#[cfg(test)]
+mod eea2;
+#[cfg(test)]
+mod eia2;

@@ -1,0 +1,7 @@
+use Rattle.std.proofs.Common.{◌≡◌, ℕ, ◌<◌, length, get_or}
+use Rattle.std.specs.Int.Bits.{bit_xor}
+use Rattle.cmac_eia2.proofs.blocks.add.Given as goal
+
+abbrev pub invariant-loop-i : goal.invariant-loop-i
+invariant-loop-i l =
+    (length l.sum ≡ 16) × ((k : ℕ) → k < l.i → get_or l.sum k 0 ≡ bit_xor (get_or l.a k 0) (get_or l.b k 0))

@@ -1,0 +1,3 @@
+pub mod Cmac
+pub mod Eia2
+pub mod Stream

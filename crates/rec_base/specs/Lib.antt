@@ -1,0 +1,3 @@
+pub mod Bearer
+pub mod BigEndian
+pub mod Header
