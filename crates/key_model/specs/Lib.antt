@@ -1,0 +1,10 @@
+pub mod Term
+pub mod Chain
+pub mod Number
+pub mod Value
+pub mod Least
+pub mod Derivable
+pub mod Use
+pub mod HandoverTable
+pub mod Reading
+pub mod HandoverLines
