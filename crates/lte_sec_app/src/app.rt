@@ -1,0 +1,81 @@
+ghost use Rattle.std.specs.Prelude.{◌≡◌, ◌↔◌, false, Some, None, [], IfSome, IsTrue};
+ghost use Rattle.edge_io.specs.Cause.{NoCountFell};
+ghost use Rattle.lte_sec_app.specs.Command.{named};
+ghost use Rattle.lte_sec_app.specs.Run.{LadderAt, LadderIsComplete};
+
+use crate::command::{Command, command_of};
+use crate::ladder_report::{write_refusal, write_report};
+use crate::ladder_text::{TextFault, read_lines};
+use crate::status::Status;
+use edge_io::{Peers, Port, ReadAll, Sink, Source, read_all};
+use std::alloc::Global;
+
+/// The greatest number of octets of an input.
+pub const LIMIT: usize = 16_777_216;
+
+/// Runs the program with the words after its name: its input is read, its output written, and the
+/// answer is its status.
+///
+/// - `ladder` reads a ladder text and writes a line for each of its lines.
+///
+/// Other words are answered with `BadWords`, and leave every object as it was.
+pub fn run<R: Source, W: Sink, P: Peers, L: Port>(
+    alloc: Global,
+    words: &[String],
+    input: &mut R,
+    out: &mut W,
+    peers: &mut P,
+    port: &mut L,
+) -> Status
+    requires input_ready { IsTrue (R.told input.old).ready }
+    requires out_ready { IsTrue (W.told out.old).ready }
+    requires port_closed { (L.told port.old).ready ≡ false }
+    requires no_peer { IfSome (P.told peers.old) (λ told. told.roles ≡ []) }
+
+    // Words that are no command leave all as it was.
+    ensures bad_words { (result ≡ Status.BadWords) ↔ (named words.now ≡ None) }
+    ensures bad_words_input { result ≡ Status.BadWords → input.new ≡ input.old }
+    ensures bad_words_out { result ≡ Status.BadWords → out.new ≡ out.old }
+
+    // What `ladder` writes, and the cause of each of its statuses.
+    ensures ladder { named words.now ≡ Some Command.Ladder → LadderAt result (R.told input.old) (R.told input.new) (W.told out.old) (W.told out.new) }
+    ensures ladder_complete { named words.now ≡ Some Command.Ladder → LadderIsComplete result (R.told input.old) (R.told input.new) (W.told out.old) (W.told out.new) }
+
+    // An input that was not read within the limit has no output.
+    ensures unread { result ≡ Status.ReadFault → out.new ≡ out.old }
+    ensures too_long { result ≡ Status.TooLong → out.new ≡ out.old }
+
+    // No count of faults falls, and what is not asked is left alone.
+    ensures input_counts { NoCountFell (R.told input.old) (R.told input.new) }
+    ensures out_counts { NoCountFell (W.told out.old) (W.told out.new) }
+    ensures peers { peers.new ≡ peers.old }
+    ensures port { port.new ≡ port.old }
+{
+    match command_of(words) {
+        None => Status::BadWords,
+        Some(Command::Ladder) => ladder(alloc, input, out),
+    }
+}
+
+// The command `ladder`.
+fn ladder<R: Source, W: Sink>(alloc: Global, input: &mut R, out: &mut W) -> Status
+    requires input_ready { IsTrue (R.told input.old).ready }
+    requires out_ready { IsTrue (W.told out.old).ready }
+    ensures ladder { LadderAt result (R.told input.old) (R.told input.new) (W.told out.old) (W.told out.new) }
+    ensures unread { result ≡ Status.ReadFault → out.new ≡ out.old }
+    ensures too_long { result ≡ Status.TooLong → out.new ≡ out.old }
+    ensures input_counts { NoCountFell (R.told input.old) (R.told input.new) }
+    ensures out_counts { NoCountFell (W.told out.old) (W.told out.new) }
+{
+    let octets = match read_all(alloc, input, LIMIT) {
+        Ok(octets) => octets,
+        Err(ReadAll::Memory) => return Status::Memory,
+        Err(ReadAll::ReadFault) => return Status::ReadFault,
+        Err(ReadAll::TooLong) => return Status::TooLong,
+    };
+    match read_lines(alloc, &octets) {
+        Ok(lines) => write_report(alloc, &lines, out),
+        Err(TextFault::BadLine(line)) => write_refusal(alloc, line, out),
+        Err(TextFault::Memory) => Status::Memory,
+    }
+}
