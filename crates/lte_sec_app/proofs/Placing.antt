@@ -1,5 +1,5 @@
 -- Where the ladder puts a line's row.
-use Rattle.std.proofs.Common.{◌≡◌, ◌≢◌, ℕ, suc, ◌+◌, ◌<◌, ◌⊎◌, Bool, true, false, not, Option, Some, None, Result, Ok, Err, List, [], ◌∷◌, ◌++◌, map, length, get_or, sym, refl, ap, subst, ◌∙◌, arith, inl, inr, length-append}
+use Rattle.std.proofs.Common.{◌≡◌, ℕ, suc, ◌<◌, ◌⊎◌, Bool, true, not, Option, Some, None, Result, Ok, Err, List, [], ◌∷◌, ◌++◌, map, length, get_or, sym, refl, ap, subst, ◌∙◌, arith, inl, inr, length-append}
 use Rattle.std.proofs.lemmas.Bool.{false≢true}
 use Rattle.std.proofs.lemmas.List.{length-map, get_or-map, map-append}
 use Rattle.std.proofs.lemmas.List.Folds.{list_any_at}
@@ -25,8 +25,8 @@ use Rattle.key_terms.proofs.Places.{position-None, slice_get_stays, slice_get_pu
 use Rattle.lte_sec_app.specs.declared.ladder_line.LadderLine.{LadderLine}
 use Rattle.lte_sec_app.specs.declared.ladder_line.LadderLine.TheVariants.{Root, Kenb, Nh, Star}
 use Rattle.lte_sec_app.specs.LadderText.{same, meets}
-use Rattle.lte_sec_app.specs.LadderReport.{KeyRow, key_at, derived_in, octets_in, Place, Again, Anew, Taken, place_by_octets, place_in, rows_after}
-use Rattle.lte_sec_app.specs.LadderRows.{origin_in, ladder_of, Refers, StandsFor, answer_at}
+use Rattle.lte_sec_app.specs.LadderReport.{KeyRow, key_at, octets_in, Place, Again, Anew, Taken, place_by_octets, place_in, rows_after}
+use Rattle.lte_sec_app.specs.LadderRows.{origin_in, Refers, StandsFor, answer_at}
 use Rattle.lte_sec_app.proofs.Rows.{found_or_not, row_in, row_at, same_line, one_origin, octets_place}
 
 -- the test of a row for a line

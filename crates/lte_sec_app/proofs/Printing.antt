@@ -1,33 +1,29 @@
 -- The output, line after line.
-use Rattle.std.proofs.Common.{◌≡◌, ◌≢◌, ℕ, suc, ◌+◌, ◌<◌, ◌≤◌, ◌⊎◌, ◌||◌, Bool, true, false, not, cond, Option, Some, None, Result, Ok, Err, List, [], ◌∷◌, ◌++◌, map, length, get_or, drop, sym, refl, ap, subst, ◌∙◌, arith, inl, inr, length-append, append_assoc, append-nil, drop_of_length-le}
-use Rattle.std.proofs.lemmas.Bool.{false≢true}
+use Rattle.std.proofs.Common.{◌≡◌, ◌≢◌, ℕ, suc, ◌+◌, ◌<◌, ◌≤◌, ◌⊎◌, ◌||◌, Bool, true, false, not, cond, Some, None, Ok, Err, List, [], ◌∷◌, ◌++◌, map, length, get_or, drop, sym, refl, ap, subst, ◌∙◌, arith, inl, inr, append_assoc, append-nil, drop_of_length-le}
 use Rattle.std.proofs.lemmas.List.{length-map, get_or-map, map-append}
-use Rattle.std.proofs.lemmas.List.Folds.{list_any_at, list_any_none}
+use Rattle.std.proofs.lemmas.List.Folds.{list_any_at}
 use Rattle.std.proofs.lemmas.List.Quantifiers.{position-Some}
-use Rattle.std.proofs.lemmas.List.Sums.{fails_before_first}
 use Rattle.std.proofs.lemmas.Option.{none-some}
-use Rattle.std.specs.List.{slice_get, position, position_or_len, list_any}
-use Rattle.std.specs.Option.{option_map, option_map_or}
-use Rattle.std.specs.Result.{IfOk}
+use Rattle.std.specs.List.{position, position_or_len, list_any}
+use Rattle.std.specs.Option.{option_map_or}
 use Rattle.std.specs.Str.{bytes_eq}
 use Rattle.std.proofs.Math.Seq.{drop-cons}
 use Rattle.edge_io.proofs.Known.{nothing_out, none_of, all_out, grows_twice, prefix_on}
 use Rattle.edge_io.specs.Told.{Told}
-use Rattle.edge_io.specs.Cause.{Rose, NoCountFell}
+use Rattle.edge_io.specs.Cause.{NoCountFell}
 use Rattle.edge_io.specs.Octets.{Grows, GrowsByPrefix}
-use Rattle.key_terms.specs.declared.ladder.LadderFault.{LadderFault}
 use Rattle.key_terms.specs.declared.ladder.LadderFault.TheVariants as fault
 use Rattle.key_terms.specs.declared.row.LadderRow.{LadderRow}
 use Rattle.key_terms.specs.declared.row.Origin.{Origin}
 use Rattle.key_terms.specs.declared.row.Row.{Row}
-use Rattle.key_terms.specs.Ladder.{row, octets_at, IsLadder}
+use Rattle.key_terms.specs.Ladder.{row}
 use Rattle.key_terms.proofs.Places.{slice_get_at_end, position-None}
 use Rattle.lte_sec_app.specs.declared.ladder_line.LadderLine.{LadderLine}
 use Rattle.lte_sec_app.specs.declared.status.Status.{Status}
-use Rattle.lte_sec_app.specs.declared.status.Status.TheVariants.{Done, Memory, BadWords, Refused, ReadFault, WriteFault, PeerFault, Coincidence, Differs, TooLong, BadFrame}
+use Rattle.lte_sec_app.specs.declared.status.Status.TheVariants.{Done, Memory, Refused, WriteFault, Coincidence}
 use Rattle.lte_sec_app.specs.LadderText.{same, meets, with_row, AreGood}
 use Rattle.lte_sec_app.specs.LadderReport.{KeyRow, key_at, derived_in, octets_in, kind_of, row_text, coincidence_text, Place, Again, Anew, Taken, place_by_octets, place_in, rows_after, ends_at, text_at, Output, then_rest, output_from, IsReported, TextAt, Writes}
-use Rattle.lte_sec_app.specs.LadderRows.{origin_in, ladder_of, StandsFor, answer_at}
+use Rattle.lte_sec_app.specs.LadderRows.{StandsFor, answer_at}
 use Rattle.lte_sec_app.proofs.Placing.{again_key, number_or_none}
 
 -- the rows where one is the same derivation

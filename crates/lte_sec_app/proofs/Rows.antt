@@ -1,30 +1,27 @@
 -- How the rows of the ladder stand for the lines: what a line names, and where it finds its row.
-use Rattle.std.proofs.Common.{◌≡◌, ◌≢◌, ℕ, zero, suc, ◌+◌, ◌<◌, ◌≤◌, ◌==◌, ◌&&◌, not, ◌⊎◌, Bool, true, false, cond, Option, Some, None, List, [], ◌∷◌, ◌++◌, map, length, sym, refl, ap, subst, ◌∙◌, arith, inl, inr, length-append}
+use Rattle.std.proofs.Common.{◌≡◌, ℕ, ◌+◌, ◌<◌, ◌≤◌, ◌==◌, ◌&&◌, not, ◌⊎◌, Bool, true, false, cond, Option, Some, None, List, [], ◌∷◌, map, length, sym, refl, ap, subst, ◌∙◌, arith, inl, inr}
 use Rattle.std.proofs.lemmas.Bool.{false≢true, and_parts}
 use Rattle.std.proofs.lemmas.Option.{none-some, slice_get-map, slice_get_within, slice_get_cases}
 use Rattle.std.proofs.lemmas.Bool.Decides.{Decides-eqb}
 use Rattle.std.proofs.lemmas.Slice.Eq.{bytes_eq-Decides}
 use Rattle.std.proofs.lemmas.List.{length-map}
 use Rattle.std.specs.List.{slice_get, position, prefix_len}
-use Rattle.std.specs.Option.{option_map, option_map_or, is_some, unwrap_or, IsSome}
+use Rattle.std.specs.Option.{option_map, option_map_or, is_some, unwrap_or}
 use Rattle.std.specs.Str.{bytes_eq}
-use Rattle.hmac_kdf.specs.declared.input.KdfInput.{KdfInput}
 use Rattle.hmac_kdf.specs.declared.input.KdfInput.TheVariants as input
 use Rattle.hmac_kdf.specs.Kdf.{kdf}
 use Rattle.annex_a_keys.specs.Derived.{derivation}
 use Rattle.annex_a_keys.specs.declared.derived.Derived.{Derived}
 use Rattle.key_terms.specs.declared.row.LadderRow.{LadderRow}
-use Rattle.key_terms.specs.declared.row.Origin.{Origin}
 use Rattle.key_terms.specs.declared.row.Origin.TheVariants as origin
 use Rattle.key_terms.specs.declared.row.Row.{Row}
-use Rattle.key_terms.specs.Ladder.{row, unheld, octets_at, origin_at, origin_of, HasRoot, HasSync, IsLadder, Coincides}
+use Rattle.key_terms.specs.Ladder.{row, unheld, octets_at, origin_at, origin_of, HasRoot, HasSync, IsLadder}
 use Rattle.key_terms.specs.Ladder.{row_of as row_with}
-use Rattle.key_terms.proofs.Places.{slice_get_stays, slice_get_push}
 use Rattle.lte_sec_app.specs.declared.ladder_line.LadderLine.{LadderLine}
 use Rattle.lte_sec_app.specs.declared.ladder_line.LadderLine.TheVariants.{Root, Kenb, Nh, Star}
 use Rattle.lte_sec_app.specs.LadderText.{same, is_root, is_hop_of, has_star, stands_as, meets}
 use Rattle.lte_sec_app.specs.LadderReport.{KeyRow, key_at, derived_in, octets_in}
-use Rattle.lte_sec_app.specs.LadderRows.{origin_in, ladder_of, Refers, StandsFor}
+use Rattle.lte_sec_app.specs.LadderRows.{origin_in, ladder_of, Refers}
 
 -- a place of a list holds something, or the list ends before it
 pub found_or_not : {X : Type 0} (xs : List X) (k : ℕ) → ((x : X) × (slice_get xs k ≡ Some x)) ⊎ ((length xs ≤ k) × (slice_get xs k ≡ None))

@@ -1,5 +1,5 @@
 -- What is so of `ladder` at each status.
-use Rattle.std.proofs.Common.{◌≡◌, ◌⊎◌, ℕ, ◌<◌, ◌≤◌, Option, Some, None, Result, Ok, Err, List, [], length, inl, inr, refl, sym, ap, subst, ◌∙◌, arith}
+use Rattle.std.proofs.Common.{◌≡◌, ℕ, ◌<◌, ◌≤◌, Option, Some, None, Ok, Err, List, [], length, inl, inr, refl, sym, ap, subst, ◌∙◌, arith}
 use Rattle.std.specs.Io.KnownBytes.{IsAtEnd}
 use Rattle.std.specs.Option.{IfSome}
 use Rattle.edge_io.specs.Told.{Told}
@@ -7,7 +7,7 @@ use Rattle.edge_io.specs.Octets.{Grows, GrowsByPrefix}
 use Rattle.lte_sec_app.specs.declared.app.TheConstants.{LIMIT}
 use Rattle.lte_sec_app.specs.declared.ladder_line.LadderLine.{LadderLine}
 use Rattle.lte_sec_app.specs.declared.status.Status.{Status}
-use Rattle.lte_sec_app.specs.declared.status.Status.TheVariants.{Done, Memory, BadWords, Refused, ReadFault, WriteFault, PeerFault, Coincidence, Differs, TooLong, BadFrame}
+use Rattle.lte_sec_app.specs.declared.status.Status.TheVariants.{Done, Memory, Refused, ReadFault, WriteFault, Coincidence, TooLong}
 use Rattle.lte_sec_app.specs.LadderText.{reading_of}
 use Rattle.lte_sec_app.specs.LadderReport.{Output, output_of, refusal_text, output_from, Writes}
 use Rattle.lte_sec_app.specs.Run.{Answers, Answered, LadderAt, LadderIsComplete}

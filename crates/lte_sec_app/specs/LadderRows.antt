@@ -11,7 +11,7 @@ use Rattle.key_terms.specs.Ladder.{row, unheld}
 use Rattle.lte_sec_app.specs.declared.ladder_line.LadderLine.{LadderLine}
 use Rattle.lte_sec_app.specs.declared.ladder_line.LadderLine.TheVariants.{Root, Kenb, Nh, Star}
 use Rattle.lte_sec_app.specs.LadderText.{meets}
-use Rattle.lte_sec_app.specs.LadderReport.{KeyRow, key_at, octets_in, Place, Again, Anew, Taken, place_in, rows_after}
+use Rattle.lte_sec_app.specs.LadderReport.{KeyRow, key_at, octets_in, Place, Again, Anew, Taken}
 
 -- the origin of a line's row in the ladder
 abbrev pub origin_in : List KeyRow → LadderLine → Origin

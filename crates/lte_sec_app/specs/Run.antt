@@ -1,8 +1,8 @@
 -- What is so of a run of the program at each status.
-use Rattle.std.specs.Prelude.{◌≡◌, ◌⊎◌, ℕ, ◌<◌, ◌≤◌, ◌^◌, Option, Some, None, IfSome, Result, Ok, List, length}
+use Rattle.std.specs.Prelude.{◌≡◌, ◌⊎◌, ℕ, ◌<◌, ◌≤◌, Some, IfSome, IsTrue, Ok, List, length}
 use Rattle.std.specs.Io.KnownBytes.{IsAtEnd}
 use Rattle.edge_io.specs.Told.{Told}
-use Rattle.edge_io.specs.Cause.{Rose}
+use Rattle.edge_io.specs.Cause.{Rose, NoCountFell}
 use Rattle.edge_io.specs.Octets.{Grows, GrowsByPrefix}
 use Rattle.lte_sec_app.specs.declared.ladder_line.LadderLine.{LadderLine}
 use Rattle.lte_sec_app.specs.declared.app.TheConstants.{LIMIT}
@@ -10,6 +10,19 @@ use Rattle.lte_sec_app.specs.declared.status.Status.{Status}
 use Rattle.lte_sec_app.specs.declared.status.Status.TheVariants.{Done, Memory, Refused, ReadFault, WriteFault, Coincidence, TooLong}
 use Rattle.lte_sec_app.specs.LadderText.{reading_of}
 use Rattle.lte_sec_app.specs.LadderReport.{output_of}
+
+-- what stays of an object that is used as a source alone
+pub record UsedAsSource (before after : Told) : Type 0 where
+  pub ready : IsTrue after.ready
+  pub written : after.written ≡ before.written
+  pub counts : NoCountFell before after
+
+-- what stays of an object that is used as a sink alone
+pub record UsedAsSink (before after : Told) : Type 0 where
+  pub ready : IsTrue after.ready
+  pub left : after.left ≡ before.left
+  pub most : after.most ≡ before.most
+  pub counts : NoCountFell before after
 
 -- the text was within the limit, its output ends with this status, and was written whole
 pub record Answers (ends : Status) (octets : List ℕ) (out out' : Told) : Type 0 where

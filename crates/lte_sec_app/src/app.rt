@@ -1,7 +1,6 @@
 ghost use Rattle.std.specs.Prelude.{◌≡◌, ◌↔◌, false, Some, None, [], IfSome, IsTrue};
-ghost use Rattle.edge_io.specs.Cause.{NoCountFell};
 ghost use Rattle.lte_sec_app.specs.Command.{named};
-ghost use Rattle.lte_sec_app.specs.Run.{LadderAt, LadderIsComplete};
+ghost use Rattle.lte_sec_app.specs.Run.{LadderAt, LadderIsComplete, UsedAsSource, UsedAsSink};
 
 use crate::command::{Command, command_of};
 use crate::ladder_report::{write_refusal, write_report};
@@ -45,9 +44,9 @@ pub fn run<R: Source, W: Sink, P: Peers, L: Port>(
     ensures unread { result ≡ Status.ReadFault → out.new ≡ out.old }
     ensures too_long { result ≡ Status.TooLong → out.new ≡ out.old }
 
-    // No count of faults falls, and what is not asked is left alone.
-    ensures input_counts { NoCountFell (R.told input.old) (R.told input.new) }
-    ensures out_counts { NoCountFell (W.told out.old) (W.told out.new) }
+    // What stays of each object.
+    ensures input { UsedAsSource (R.told input.old) (R.told input.new) }
+    ensures out { UsedAsSink (W.told out.old) (W.told out.new) }
     ensures peers { peers.new ≡ peers.old }
     ensures port { port.new ≡ port.old }
 {
@@ -64,8 +63,8 @@ fn ladder<R: Source, W: Sink>(alloc: Global, input: &mut R, out: &mut W) -> Stat
     ensures ladder { LadderAt result (R.told input.old) (R.told input.new) (W.told out.old) (W.told out.new) }
     ensures unread { result ≡ Status.ReadFault → out.new ≡ out.old }
     ensures too_long { result ≡ Status.TooLong → out.new ≡ out.old }
-    ensures input_counts { NoCountFell (R.told input.old) (R.told input.new) }
-    ensures out_counts { NoCountFell (W.told out.old) (W.told out.new) }
+    ensures input { UsedAsSource (R.told input.old) (R.told input.new) }
+    ensures out { UsedAsSink (W.told out.old) (W.told out.new) }
 {
     let octets = match read_all(alloc, input, LIMIT) {
         Ok(octets) => octets,

@@ -1,10 +1,10 @@
 ghost use Rattle.std.specs.Prelude.{◌≡◌, ℕ, ◌+◌, ◌<◌, ◌≤◌, true, false, List, [], Some, length, map, IfOk, IsTrue};
 ghost use Rattle.std.specs.String.{string_bytes};
-ghost use Rattle.edge_io.specs.Cause.{NoCountFell};
 ghost use Rattle.hmac_kdf.specs.Kdf.{IsKdfInput};
 ghost use Rattle.key_terms.specs.Ladder.{IsLadder};
 ghost use Rattle.lte_sec_app.specs.LadderText.{is_root, meets, AreGood};
 ghost use Rattle.lte_sec_app.specs.LadderReport.{KeyRow, key_at, derived_in, kind_of, row_text, root_coincidence_text, rows_coincidence_text, coincidence_text, refusal_text, place_in, rows_after, text_at, output_from, ends_at, IsReported, TextAt, Writes};
+ghost use Rattle.lte_sec_app.specs.Run.{UsedAsSink};
 ghost use Rattle.lte_sec_app.specs.LadderRows.{StandsFor, Awaits, answer_at};
 
 use crate::ladder_line::LadderLine;
@@ -19,9 +19,8 @@ pub fn write_report<W: Sink>(alloc: Global, lines: &[LadderLine], out: &mut W) -
     requires ready { IsTrue (W.told out.old).ready }
     requires good { AreGood [] lines.now }
     requires few { length lines.now ≤ 4096 }
-    ensures ready { IsTrue (W.told out.new).ready }
     ensures output { Writes (output_from [] 1 lines.now) result (W.told out.old) (W.told out.new) }
-    ensures counts { NoCountFell (W.told out.old) (W.told out.new) }
+    ensures out { UsedAsSink (W.told out.old) (W.told out.new) }
 {
     let mut ladder = Ladder::new(alloc);
     match ladder.reserve(lines.len()) {
@@ -40,9 +39,8 @@ pub fn write_report<W: Sink>(alloc: Global, lines: &[LadderLine], out: &mut W) -
 /// Writes the refusal of a text by the number of its first bad line.
 pub fn write_refusal<W: Sink>(alloc: Global, line: u32, out: &mut W) -> Status
     requires { IsTrue (W.told out.old).ready }
-    ensures ready { IsTrue (W.told out.new).ready }
     ensures output { Writes (record { text = refusal_text line; ends = Status.Refused }) result (W.told out.old) (W.told out.new) }
-    ensures counts { NoCountFell (W.told out.old) (W.told out.new) }
+    ensures out { UsedAsSink (W.told out.old) (W.told out.new) }
 {
     write_text(refusal_line(alloc, line), Status::Refused, out)
 }
@@ -59,13 +57,12 @@ fn write_line<W: Sink>(
     requires room { 0 < ladder.old.spare }
     requires ladder { IsLadder ladder.old.rows }
     requires awaits { Awaits ladder.old.rows line.now }
-    ensures ready { IsTrue (W.told out.new).ready }
     ensures line { (rows : List KeyRow) → StandsFor rows ladder.old.rows → meets (map (λ r. r.line) rows) line.now ≡ true
         → TextAt result (ends_at (place_in rows line.now)) (text_at (place_in rows line.now) rows number line.now) (W.told out.old) (W.told out.new) }
     ensures rows { (rows : List KeyRow) → StandsFor rows ladder.old.rows → meets (map (λ r. r.line) rows) line.now ≡ true → StandsFor (rows_after (place_in rows line.now) rows line.now) ladder.new.rows }
     ensures spare { ladder.old.spare ≤ ladder.new.spare + 1 }
     ensures ladder { IsLadder ladder.new.rows }
-    ensures counts { NoCountFell (W.told out.old) (W.told out.new) }
+    ensures out { UsedAsSink (W.told out.old) (W.told out.new) }
 {
     match place(ladder, line) {
         Ok(row) => {
@@ -84,9 +81,8 @@ fn write_line<W: Sink>(
 fn write_text<W: Sink>(text: Result<String, AllocError>, ends: Status, out: &mut W) -> Status
     requires ready { IsTrue (W.told out.old).ready }
     requires reported { IsReported ends }
-    ensures ready { IsTrue (W.told out.new).ready }
     ensures text { (octets : List ℕ) → IfOk text (λ t. string_bytes t ≡ octets) → TextAt result ends octets (W.told out.old) (W.told out.new) }
-    ensures counts { NoCountFell (W.told out.old) (W.told out.new) }
+    ensures out { UsedAsSink (W.told out.old) (W.told out.new) }
 {
     match text {
         Err(_) => Status::Memory,

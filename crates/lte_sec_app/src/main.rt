@@ -7,6 +7,8 @@ mod ladder_line;
 mod ladder_report;
 mod ladder_text;
 mod status;
+#[cfg(test)]
+mod tests;
 
 use edge_io::{MemPeers, MemPort, MemSink, MemSource, ReaderSource, WriterSink};
 use status::Status;

@@ -1,7 +1,7 @@
-use Rattle.std.proofs.Common.{◌≡◌, true, List, map, sym, ap, subst, ◌∙◌}
+use Rattle.std.proofs.Common.{◌≡◌, true, List, map, sym, ap, subst}
 use Rattle.std.specs.Option.{is_some, IfSome}
 use Rattle.key_terms.specs.declared.row.Origin.TheVariants as origin
-use Rattle.key_terms.specs.Ladder.{HasRoot, Coincides}
+use Rattle.key_terms.specs.Ladder.{HasRoot}
 use Rattle.lte_sec_app.specs.LadderText.{meets}
 use Rattle.lte_sec_app.specs.LadderReport.{KeyRow, octets_in}
 use Rattle.lte_sec_app.specs.LadderRows.{StandsFor, origin_in}

@@ -1,4 +1,4 @@
-use Rattle.std.proofs.Common.{sym, ◌∙◌, subst}
+use Rattle.std.proofs.Common.{sym, ◌∙◌}
 use Rattle.lte_sec_app.proofs.Printing.{row_written}
 use Rattle.lte_sec_app.proofs.ladder_report.write_line.Goals as goal
 

@@ -1,5 +1,4 @@
-use Rattle.std.proofs.Common.{◌≡◌, ◌+◌, ◌<◌, ◌≤◌, length, refl, sym, ap, subst, ◌∙◌, arith, rules}
-use Rattle.edge_io.specs.Cause.{NoCountFell}
+use Rattle.std.proofs.Common.{◌+◌, ◌<◌, length, sym, subst, ◌∙◌, arith, rules}
 use Rattle.key_terms.proofs.LadderLemmas.{ladder_none}
 use Rattle.key_terms.specs.Ladder.{IsLadder}
 use Rattle.lte_sec_app.specs.LadderReport.{place_in, ends_at, text_at, TextAt}
@@ -10,11 +9,10 @@ pub loop-index-init : goal.loop-index-init
 loop-index-init g c =
     let none = c.in-Ok.ensures.rows ∙ c.new-ladder.ensures.rows in
     record {
-      ready = c.requires.ready;
       printed = none_printed c.args.lines.now (g.W.Edge.told c.args.out.now) c.reserve.new.self.rows none c.requires.good;
       ladder = subst IsLadder (sym none) ladder_none;
       room = omega (arith, c.in-Ok.ensures.spare);
-      counts = search rules;
+      out = search rules;
     }
 
 pub loop-index-preserved : goal.loop-index-preserved
@@ -33,11 +31,10 @@ loop-index-preserved g c =
     let place = place_in rows line in
     let written = subst (λ s. TextAt s (ends_at place) (text_at place rows (i + 1) line) mid now) c.in-Done.is (c.write_line.ensures.line rows so_far.printed.stand met) in
     record {
-      ready = c.write_line.ensures.ready;
       printed = next_printed lines i first mid now c.loop-index.ladder.rows c.write_line.new.ladder.rows line so_far.printed within is written (c.write_line.ensures.rows rows so_far.printed.stand met);
       ladder = c.write_line.ensures.ladder;
       room = omega (arith, so_far.room, c.write_line.ensures.spare);
-      counts = search rules;
+      out = search rules;
     }
 
 pub returns-in_default : goal.returns-in_default
@@ -54,7 +51,6 @@ returns-in_default g c =
     let rows = so_far.printed.rows in
     let met = line_met lines i first mid c.loop-index.ladder.rows line so_far.printed within is in
     record {
-      ready = c.write_line.ensures.ready;
-      output = ended lines i first mid now c.loop-index.ladder.rows line c.write_line.result so_far.printed within is so_far.counts (c.write_line.ensures.line rows so_far.printed.stand met) c.in_default.not-Done;
-      counts = search rules;
+      output = ended lines i first mid now c.loop-index.ladder.rows line c.write_line.result so_far.printed within is so_far.out.counts (c.write_line.ensures.line rows so_far.printed.stand met) c.in_default.not-Done;
+      out = search rules;
     }

@@ -1,4 +1,4 @@
-use Rattle.std.proofs.Common.{◌≡◌, ◌+◌, [], ◌∷◌, ◌++◌, length, length-append, Some, refl, sym, ◌∙◌, ap, subst, rules, arith}
+use Rattle.std.proofs.Common.{◌≡◌, [], ◌∷◌, ◌++◌, length, length-append, Some, sym, ◌∙◌, ap, subst, rules, arith}
 use Rattle.lte_sec_app.specs.LadderText.{words_of, with_row, next_line, rows_of, AreGood}
 use Rattle.lte_sec_app.proofs.Reading.{reading_begins, reading_next, reading_ends, next_meets, rows_next, good_next}
 use Rattle.lte_sec_app.proofs.ladder_text.read_lines.Goals as goal
