@@ -1,7 +1,7 @@
 -- The ladder of keys: its rows stand for the derivations of TS 33.401 Annex A that were made, in the
 -- order of their first making. Roots are the KASME that no derivation made.
-use Rattle.std.specs.Prelude.{◌≡◌, ◌≢◌, ℕ, ◌+◌, ◌<◌, ◌^◌, Bool, false, Option, Some, None, IsSome, List, [], ◌∷◌, ◌++◌, length, replicate, unwrap_or, slice_get, position}
-use Rattle.std.specs.Option.{option_map, option_map_or}
+use Rattle.std.specs.Prelude.{◌≡◌, ◌≢◌, ℕ, ◌<◌, ◌^◌, false, Option, Some, IsSome, List, length, replicate, unwrap_or, slice_get, position}
+use Rattle.std.specs.Option.{option_map}
 use Rattle.std.specs.Str.{bytes_eq}
 use Rattle.hmac_kdf.specs.declared.input.KdfInput.{KdfInput}
 use Rattle.hmac_kdf.specs.declared.input.KdfInput.TheVariants.{Kenb, Nh, Star, Alg}

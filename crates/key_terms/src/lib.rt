@@ -3,6 +3,8 @@
 
 mod ladder;
 mod row;
+#[cfg(test)]
+mod tests;
 
 pub use ladder::{Ladder, LadderFault};
 pub use row::{Holder, LadderRow, Origin, Row};

@@ -9,3 +9,5 @@ mod cmac;
 mod eea2;
 #[cfg(test)]
 mod eia2;
+#[cfg(test)]
+mod keys;

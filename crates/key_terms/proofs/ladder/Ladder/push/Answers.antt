@@ -1,5 +1,4 @@
 use Rattle.std.proofs.Common.{ap, arith}
-use Rattle.key_terms.specs.Ladder.{IsLadder}
 use Rattle.key_terms.proofs.LadderLemmas.{ladder_put}
 use Rattle.key_terms.proofs.ladder.Ladder.push.Goals as goal
 

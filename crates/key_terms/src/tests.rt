@@ -1,0 +1,79 @@
+ghost use Rattle.std.specs.Prelude.{◌≤◌, ◌<◌, ◌+◌};
+
+use super::*;
+use annex_a_keys::Kasme;
+use hmac_kdf::KdfInput;
+use std::alloc::Global;
+use std::process::Abort;
+
+const KASME: [u8; 32] = [7; 32];
+
+// An empty ladder with room for 4 rows.
+fn ladder_with_room(rt: &impl Abort, alloc: Global) -> Ladder
+    ensures { 4 ≤ result.spare }
+{
+    let mut ladder = Ladder::new(alloc);
+    assert_eq!(rt; ladder.reserve(4), Ok(()));
+    ladder
+}
+
+// Adds the KeNB of the KASME, which is a root of the ladder, at an uplink NAS COUNT.
+fn add_kenb(rt: &impl Abort, ladder: &mut Ladder, count: u32) -> Result<Row, LadderFault>
+    requires { 0 < ladder.old.spare }
+    ensures { ladder.old.spare ≤ ladder.new.spare + 1 }
+{
+    let made = Kasme::of_octets(KASME).kenb(count).1;
+    let key = ladder.find(&made.key).expect(rt, "a root");
+    assert_eq!(rt; ladder.row(key).origin, Origin::Root);
+    ladder.add(&made)
+}
+
+#[test]
+fn the_same_kenb_twice_is_one_row(rt: HostRuntime) {
+    let mut ladder = ladder_with_room(&rt, rt.alloc());
+    assert_eq!(rt; ladder.root(KASME), Ok(Row(0)));
+    assert_eq!(rt; add_kenb(&rt, &mut ladder, 0), Ok(Row(1)));
+    assert_eq!(rt; add_kenb(&rt, &mut ladder, 1), Ok(Row(2)));
+    assert_eq!(rt; add_kenb(&rt, &mut ladder, 0), Ok(Row(1)));
+    assert_eq!(rt; ladder.len(), 3);
+    let row = ladder.row(Row(2));
+    assert_eq!(rt; row.origin, Origin::From(Row(0), KdfInput::Kenb(1)));
+    assert_eq!(rt; ladder.find(&row.octets), Some(Row(2)));
+    assert_eq!(rt; ladder.find(&[0; 32]), None);
+}
+
+#[test]
+fn a_root_twice_is_refused(rt: HostRuntime) {
+    let mut ladder = ladder_with_room(&rt, rt.alloc());
+    assert_eq!(rt; ladder.root([0; 32]), Ok(Row(0)));
+    assert_eq!(rt; ladder.root(KASME), Ok(Row(1)));
+    assert_eq!(rt; ladder.root(KASME), Err(LadderFault::RepeatedRoot(Row(1))));
+    assert_eq!(rt; ladder.len(), 2);
+}
+
+#[test]
+fn a_root_with_the_octets_of_a_kenb_is_a_coincidence(rt: HostRuntime) {
+    let mut ladder = ladder_with_room(&rt, rt.alloc());
+    assert_eq!(rt; ladder.root(KASME), Ok(Row(0)));
+    assert_eq!(rt; add_kenb(&rt, &mut ladder, 0), Ok(Row(1)));
+    let planted = Kasme::of_octets(KASME).kenb(0).1.out;
+    assert_eq!(rt;
+        ladder.root(planted),
+        Err(LadderFault::Coincidence(Row(1), Origin::Root))
+    );
+    assert_eq!(rt; ladder.len(), 2);
+}
+
+#[test]
+fn a_kenb_with_the_octets_of_a_root_is_a_coincidence(rt: HostRuntime) {
+    let mut ladder = ladder_with_room(&rt, rt.alloc());
+    let planted = Kasme::of_octets(KASME).kenb(0).1.out;
+    assert_eq!(rt; ladder.root(planted), Ok(Row(0)));
+    assert_eq!(rt; ladder.root(KASME), Ok(Row(1)));
+    let origin = Origin::From(Row(1), KdfInput::Kenb(0));
+    assert_eq!(rt;
+        add_kenb(&rt, &mut ladder, 0),
+        Err(LadderFault::Coincidence(Row(0), origin))
+    );
+    assert_eq!(rt; ladder.len(), 2);
+}
