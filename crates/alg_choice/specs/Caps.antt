@@ -1,0 +1,14 @@
+-- The algorithms that a phone supports (TS 24.301 9.9.3.34).
+use Rattle.std.specs.Prelude.{Bool}
+use Rattle.alg_choice.specs.declared.algs.Eea.{Eea}
+use Rattle.alg_choice.specs.declared.caps.Caps.{Caps}
+use Rattle.alg_choice.specs.Bits.{has_bit}
+use Rattle.alg_choice.specs.Algs.{identity_of, eia2_identity}
+
+-- whether an encryption algorithm is among them
+abbrev pub holds_eea : Caps → Eea → Bool
+holds_eea caps eea = has_bit caps.eea (identity_of eea)
+
+-- whether 128-EIA2 is among them
+abbrev pub holds_eia2 : Caps → Bool
+holds_eia2 caps = has_bit caps.eia eia2_identity

@@ -1,0 +1,5 @@
+pub mod Bits
+pub mod Algs
+pub mod Caps
+pub mod Priority
+pub mod Choice

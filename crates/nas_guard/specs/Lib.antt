@@ -1,0 +1,4 @@
+pub mod Cipher
+pub mod Keys
+pub mod Seal
+pub mod Open

@@ -1,0 +1,34 @@
+// The algorithms of TS 33.401 Annex B under an algorithm key.
+ghost use Rattle.std.specs.Prelude.{◌≡◌, ◌<◌, ◌≤◌, length};
+ghost use Rattle.nas_guard.specs.Cipher.{ciphered, mac_of};
+
+use alg_choice::Eea;
+use annex_a_keys::AlgKey;
+use cmac_eia2::eia2;
+use ctr_eea2::eea2;
+use rec_base::Dir;
+
+/// Ciphers a text in place under an encryption algorithm, or deciphers it (TS 33.401 B.1.1). EEA0
+/// leaves it as it is.
+///
+/// `bearer` is BEARER, of 5 bits, and the text has at most 1,536 octets.
+#[tactic(auto, unfolding(crate::specs::Cipher::ciphered))]
+pub fn cipher(eea: Eea, key: &AlgKey, count: u32, bearer: u8, dir: Dir, text: &mut [u8])
+    requires bearer { bearer < 32 }
+    requires length { length text.old ≤ 1536 }
+    ensures { text.new ≡ ciphered eea key.now count bearer dir text.old }
+{
+    match eea {
+        Eea::Eea0 => {}
+        Eea::Eea2 => eea2(&key.key128(), count, bearer, dir, text),
+    }
+}
+
+/// The MAC of a text under 128-EIA2 (TS 33.401 B.2.1), of four octets. `bearer` is BEARER, of 5 bits.
+#[tactic(auto, unfolding(crate::specs::Cipher::mac_of))]
+pub fn mac(key: &AlgKey, count: u32, bearer: u8, dir: Dir, text: &[u8]) -> [u8; 4]
+    requires { bearer < 32 }
+    ensures { result ≡ mac_of key.now count bearer dir text.now }
+{
+    eia2(&key.key128(), count, bearer, dir, text)
+}

@@ -1,0 +1,75 @@
+ghost use Rattle.std.specs.Prelude.{◌≡◌, ◌≤◌, length};
+ghost use Rattle.annex_a_keys.specs.AlgType.{IsOfNas};
+ghost use Rattle.nas_guard.specs.Cipher.{mac_of};
+ghost use Rattle.nas_guard.specs.Keys.{key_of};
+ghost use Rattle.nas_guard.specs.Seal.{nas_bearer, sent_text};
+
+use crate::lists::append;
+use crate::{cipher, mac};
+use alg_choice::Algs;
+use annex_a_keys::{AlgKey, AlgType};
+use rec_base::{Dir, Octets};
+use std::marker::Model;
+
+/// The keys of a NAS security context, KNASenc and KNASint, and its algorithms (TS 33.401 6.2).
+#[derive(Clone, Copy, Debug, PartialEq, Eq)]
+pub struct NasKeys {
+    enc: AlgKey,
+    int: AlgKey,
+    algs: Algs,
+}
+
+impl Model for NasKeys {
+    ghost use Rattle.nas_guard.specs.Keys.{Keys};
+
+    ghost Value = { Keys };
+
+    ghost view = { λ k. record { enc = k.enc; int = k.int; algs = k.algs } };
+
+    ghost inverse = { λ k. record { enc = k.enc; int = k.int; algs = k.algs } };
+}
+
+impl NasKeys {
+    /// The keys and algorithms of a context.
+    pub fn new(enc: AlgKey, int: AlgKey, algs: Algs) -> NasKeys
+        ensures { result ≡ record { enc = enc; int = int; algs = algs } }
+    {
+        NasKeys { enc, int, algs }
+    }
+
+    /// The whole algorithm key, of 32 octets, for NAS encryption or for NAS integrity.
+    pub fn key(&self, kind: AlgType) -> [u8; 32]
+        requires { IsOfNas kind }
+        ensures { result ≡ key_of self.now kind }
+    {
+        match kind {
+            AlgType::NasEnc => self.enc.octets(),
+            _ => self.int.octets(),
+        }
+    }
+
+    // The MAC over a sequence number and a text as sent.
+    pub(crate) fn mac(&self, count: u32, dir: Dir, covered: &[u8]) -> [u8; 4]
+        ensures { result ≡ mac_of self.now.int count nas_bearer dir covered.now }
+    {
+        mac(&self.int, count, 0, dir, covered)
+    }
+
+    // The text as sent of a text, and the text of a text as sent.
+    #[tactic(auto, unfolding(crate::specs::Seal::sent_text))]
+    pub(crate) fn sent_text(&self, header: u8, count: u32, dir: Dir, text: &[u8]) -> Octets
+        requires { length text.now ≤ 1536 }
+        ensures value { result ≡ sent_text self.now header count dir text.now }
+        ensures length { length result ≡ length text.now }
+    {
+        let mut buffer = [0; 1536];
+        let sent = &mut buffer[..text.len()];
+        sent.copy_from_slice(text);
+        if header == 2 || header == 4 {
+            cipher(self.algs.eea, &self.enc, count, 0, dir, sent);
+        }
+        let mut octets = Octets::new();
+        append(&mut octets, sent);
+        octets
+    }
+}
