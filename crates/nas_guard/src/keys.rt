@@ -4,7 +4,6 @@ ghost use Rattle.nas_guard.specs.Cipher.{mac_of};
 ghost use Rattle.nas_guard.specs.Keys.{key_of};
 ghost use Rattle.nas_guard.specs.Seal.{nas_bearer, sent_text};
 
-use crate::lists::append;
 use crate::{cipher, mac};
 use alg_choice::Algs;
 use annex_a_keys::{AlgKey, AlgType};
@@ -69,7 +68,7 @@ impl NasKeys {
             cipher(self.algs.eea, &self.enc, count, 0, dir, sent);
         }
         let mut octets = Octets::new();
-        append(&mut octets, sent);
+        octets.append(sent);
         octets
     }
 }

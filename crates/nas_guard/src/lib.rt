@@ -5,7 +5,6 @@
 mod ciphers;
 mod keys;
 mod laws;
-mod lists;
 mod opening;
 mod sealing;
 #[cfg(test)]

@@ -4,7 +4,6 @@ ghost use Rattle.nas_guard.specs.Seal.{sealed};
 ghost use Rattle.nas_guard.specs.Open.{opened};
 
 use crate::NasKeys;
-use crate::lists::append;
 use nas_count::{CountSpent, TxCount};
 use rec_base::{Bounded, Dir};
 
@@ -50,12 +49,12 @@ fn octets_of(keys: &NasKeys, count: u32, header: u8, dir: Dir, text: &[u8]) -> N
 {
     let sent = keys.sent_text(header, count, dir, text);
     let mut covered = NasPdu::new();
-    append(&mut covered, &[(count % 256) as u8]);
-    append(&mut covered, sent.as_slice());
+    covered.append(&[(count % 256) as u8]);
+    covered.append(sent.as_slice());
     let mac = keys.mac(count, dir, covered.as_slice());
     let mut pdu = NasPdu::new();
-    append(&mut pdu, &[16 * header + 7]);
-    append(&mut pdu, &mac);
-    append(&mut pdu, covered.as_slice());
+    pdu.append(&[16 * header + 7]);
+    pdu.append(&mac);
+    pdu.append(covered.as_slice());
     pdu
 }

@@ -1,5 +1,5 @@
 // Lists of octets of a bounded length, which take no memory.
-ghost use Rattle.std.specs.Prelude.{◌≡◌, ◌≤◌, ◌<◌, ◌↔◌, [], ◌∷◌, ◌++◌, length, IsOk, OnOk, OnErr, IfErr};
+ghost use Rattle.std.specs.Prelude.{◌≡◌, ◌+◌, ◌≤◌, ◌<◌, ◌↔◌, [], ◌∷◌, ◌++◌, length, IsOk, OnOk, OnErr, IfErr};
 
 use arrayvec::ArrayVec;
 use std::marker::Model;
@@ -53,6 +53,14 @@ impl<const N: usize> Bounded<N> {
         }
         self.octets.push(item);
         Ok(())
+    }
+
+    /// Appends octets, for which there is room.
+    pub fn append(&mut self, octets: &[u8])
+        requires { length self.old + length octets.now ≤ N }
+        ensures { self.new ≡ self.old ++ octets.now }
+    {
+        let _ = self.octets.try_extend_from_slice(octets);
     }
 
     /// The octets, in order.
