@@ -1,0 +1,225 @@
+-- Laws of the fields of a record: what is read is spelled so, and what is spelled so is read.
+use Rattle.std.proofs.Common.{◌≡◌, ℕ, ◌+◌, ◌<◌, ◌≤◌, Bool, true, false, cond, ltb, eqb, List, [], ◌∷◌, ◌++◌, length, get_or, take, drop, Result, Ok, Err, refl, sym, ap, ◌∙◌, append_assoc, add-zero, arith, length-drop, drop-drop, drop-cons, add-one, subst, inl, inr, ◌*◌}
+use Rattle.std.specs.Prelude.{nat_lt, ◌||◌}
+use Rattle.std.proofs.lemmas.Bool.{cases_lt, ltb-false, le-ltb, eqb-true}
+use Rattle.std.proofs.lemmas.List.{take-append-drop, get_or-drop, get_or-take, length-take, nil_from_length, get_or_past}
+use Rattle.rec_base.specs.BigEndian.{number_of, octets_of, field_at, number_at}
+use Rattle.rec_base.specs.declared.faults.RecFault.{RecFault}
+use Rattle.rec_base.specs.declared.faults.RecFault.TheVariants.{Short, Long, BadField}
+use Rattle.rec_base.proofs.Numbers.{AreOctets, number_of-one, octets_of-number_of}
+use Rattle.alg_choice.specs.declared.algs.Algs.{Algs}
+use Rattle.alg_choice.specs.Algs.{identity_of, eia2_identity}
+use Rattle.alg_choice.specs.declared.algs.Eea.{Eea}
+use Rattle.alg_choice.specs.declared.algs.Eea.TheVariants.{Eea0, Eea2}
+use Rattle.alg_choice.specs.declared.caps.Caps.{Caps}
+use Rattle.annex_a_keys.specs.Cell.{Place}
+use Rattle.rec_fields.specs.Field.{◌>>=◌, of_size, number_in, algs_at, caps_at, cell_at, text_of}
+use Rattle.rec_fields.specs.Spelled.{algs_octet, cell_octets}
+
+-- the value of a step that did not fail
+pub bind_ok : {A B : Type 0} (r : Result A RecFault) (f : A → Result B RecFault) (y : B) → (r >>= f) ≡ Ok y → (x : A) × (r ≡ Ok x) × (f x ≡ Ok y)
+bind_ok (Ok x) f y e = (x, refl, e)
+bind_ok (Err d) f y e = absurd cc
+
+-- two tests, each of which refuses
+tests_ok : {A : Type 0} (b c : Bool) (d : RecFault) (x y : A) → cond (b || c) (Err d) (Ok x) ≡ Ok y → (b ≡ false) × (c ≡ false) × (x ≡ y)
+tests_ok true c d x y e = absurd cc
+tests_ok false true d x y e = absurd cc
+tests_ok false false d x y e = (refl, refl, cc)
+
+-- a size that was not refused
+size_ok : (b c : Bool) (x : Unit {0}) → cond b (Err Short) (cond c (Err Long) (Ok tt)) ≡ Ok x → (b ≡ false) × (c ≡ false)
+size_ok true c x e = absurd cc
+size_ok false true x e = absurd cc
+size_ok false false x e = (refl, refl)
+
+-- the record has the size of its layout
+pub size_is : (size : ℕ) (octets : List ℕ) (x : Unit {0}) → of_size size octets ≡ Ok x → length octets ≡ size
+unfolding of_size
+size_is size octets x e =
+    let tests = size_ok (nat_lt (length octets) size) (nat_lt size (length octets)) x e in
+    let low : size ≤ length octets = ltb-false _ _ tests.0 in
+    let high : length octets ≤ size = ltb-false _ _ tests.1 in
+    omega arith
+
+octets_rest : (n : ℕ) (octets : List ℕ) → AreOctets octets → AreOctets (drop n octets)
+octets_rest n octets h i = rw get_or-drop (h (n + i))
+
+octets_front : (n : ℕ) (octets : List ℕ) → AreOctets octets → AreOctets (take n octets)
+octets_front n octets h i =
+    elim (cases_lt i n) [
+      | inl lt ↦ rw (get_or-take n octets i 0 lt) (h i)
+      | inr le ↦ rw (get_or_past (take n octets) i 0 (omega (arith, length-take n octets))) (omega arith)
+    ]
+
+-- nothing stands behind the layout
+pub ends : (octets : List ℕ) (size : ℕ) → length octets ≡ size → drop size octets ≡ []
+ends octets size h = nil_from_length (drop size octets) (omega (arith, length-drop size octets))
+
+-- the number in a field of one octet is that octet
+pub octet_is : (octets : List ℕ) (place : ℕ) → place < length octets → number_at octets place 1 ≡ get_or octets place 0
+unfolding number_at field_at
+octet_is octets place h =
+    let field = drop place octets in
+    let within : 1 ≤ length field = omega (arith, length-drop place octets) in
+    let read = rw add-zero at (get_or-drop place octets 0 0) in
+    number_of-one field within ∙ read
+
+-- the octets from a place on begin with the number of the field there
+pub octet_takes : (octets : List ℕ) (place : ℕ) → place < length octets → drop place octets ≡ number_at octets place 1 ∷ drop (place + 1) octets
+unfolding number_at field_at
+octet_takes octets place h =
+    let value = octet_is octets place h in
+    rw (value, add-one) (drop-cons octets place 0 h)
+
+-- the kind, and what stands behind it
+pub kind_takes : (octets : List ℕ) (kind : ℕ) → 0 < length octets → number_at octets 0 1 ≡ kind → octets ≡ kind ∷ drop 1 octets
+kind_takes octets kind h e = octet_takes octets 0 h ∙ ap (λ n. n ∷ drop 1 octets) e
+
+pub number_takes : (width : ℕ) (octets : List ℕ) (place : ℕ) → AreOctets octets → place + width ≤ length octets
+    → drop place octets ≡ octets_of width (number_at octets place width) ++ drop (place + width) octets
+unfolding number_at field_at
+number_takes width octets place fit h =
+    let rest = drop place octets in
+    let size : length (take width rest) ≡ width = omega (arith, length-take width rest, length-drop place octets) in
+    let written = octets_of-number_of (take width rest) (octets_front width rest (octets_rest place octets fit)) in
+    let spelled : octets_of width (number_of (take width rest)) ≡ take width rest = ap (λ w. octets_of w (number_of (take width rest))) (sym size) ∙ written in
+    sym (take-append-drop width rest) ∙ (λ j. sym spelled j ++ drop-drop width place octets j)
+
+-- a number in its range
+pub in_range_is : (low high : ℕ) (octets : List ℕ) (place width n : ℕ) → number_in low high octets place width ≡ Ok n
+    → (number_at octets place width ≡ n) × (low ≤ n) × (n ≤ high)
+unfolding number_in
+in_range_is low high octets place width n e =
+    let m = number_at octets place width in
+    let tests = tests_ok (nat_lt m low) (nat_lt high m) (BadField place) m n e in
+    let above : low ≤ m = ltb-false _ _ tests.0 in
+    let below : m ≤ high = ltb-false _ _ tests.1 in
+    let same = tests.2 in
+    (tests.2, omega arith, omega arith)
+
+pub in_range_read : (low high : ℕ) (octets : List ℕ) (place width n : ℕ) → number_at octets place width ≡ n → low ≤ n → n ≤ high
+    → number_in low high octets place width ≡ Ok n
+unfolding number_in
+in_range_read low high octets place width n e above below =
+    let a : ltb n low ≡ false = le-ltb _ _ above in
+    let b : ltb high n ≡ false = le-ltb _ _ below in
+    rw (e, a, b) refl
+
+-- a field in its range is spelled where it was read
+pub number_in_takes : (low high : ℕ) (octets : List ℕ) (place width n : ℕ) → AreOctets octets → place + width ≤ length octets
+    → number_in low high octets place width ≡ Ok n
+    → (drop place octets ≡ octets_of width n ++ drop (place + width) octets) × (low ≤ n) × (n ≤ high)
+number_in_takes low high octets place width n fit h e =
+    let is = in_range_is low high octets place width n e in
+    (number_takes width octets place fit h ∙ ap (λ m. octets_of width m ++ drop (place + width) octets) is.0, is.1, is.2)
+
+pub octet_in_takes : (low high : ℕ) (octets : List ℕ) (place n : ℕ) → place < length octets
+    → number_in low high octets place 1 ≡ Ok n
+    → (drop place octets ≡ n ∷ drop (place + 1) octets) × (low ≤ n) × (n ≤ high)
+octet_in_takes low high octets place n h e =
+    let is = in_range_is low high octets place 1 n e in
+    (octet_takes octets place h ∙ ap (λ m. m ∷ drop (place + 1) octets) is.0, is.1, is.2)
+
+abbrev done : {A : Type 0} → A → Result A RecFault
+done x = Ok x
+
+pub ok_is : {A : Type 0} (x y : A) → done x ≡ done y → x ≡ y
+ok_is x y e = cc
+
+-- the algorithms of an octet
+algs_by : (b c : Bool) (octet place : ℕ) (algs : Algs) → (b ≡ true → octet ≡ 0x02) → (c ≡ true → octet ≡ 0x22)
+    → cond b (done (record { eea = Eea0 })) (cond c (done (record { eea = Eea2 })) (Err (BadField place))) ≡ Ok algs → octet ≡ algs_octet algs
+algs_by true c octet place algs p q e = p refl ∙ ap algs_octet (ok_is (record { eea = Eea0 }) algs e)
+algs_by false true octet place algs p q e = q refl ∙ ap algs_octet (ok_is (record { eea = Eea2 }) algs e)
+algs_by false false octet place algs p q e = absurd cc
+
+algs_is : (octets : List ℕ) (place : ℕ) (algs : Algs) → algs_at octets place ≡ Ok algs → number_at octets place 1 ≡ algs_octet algs
+unfolding algs_at
+algs_is octets place algs e =
+    let n = number_at octets place 1 in
+    algs_by (eqb n 0x02) (eqb n 0x22) n place algs (λ h. eqb-true n 0x02 h) (λ h. eqb-true n 0x22 h) e
+
+pub algs_takes : (octets : List ℕ) (place : ℕ) (algs : Algs) → place < length octets → algs_at octets place ≡ Ok algs
+    → drop place octets ≡ algs_octet algs ∷ drop (place + 1) octets
+algs_takes octets place algs h e = octet_takes octets place h ∙ ap (λ m. m ∷ drop (place + 1) octets) (algs_is octets place algs e)
+
+abbrev algs_choice : ℕ → ℕ → Result Algs RecFault
+algs_choice n place = cond (eqb n 0x02) (Ok (record { eea = Eea0 })) (cond (eqb n 0x22) (Ok (record { eea = Eea2 })) (Err (BadField place)))
+
+algs_from : (octets : List ℕ) (place octet : ℕ) → number_at octets place 1 ≡ octet → algs_at octets place ≡ algs_choice octet place
+unfolding algs_at
+algs_from octets place octet e = ap (λ n. algs_choice n place) e
+
+algs_read_eea : (octets : List ℕ) (place : ℕ) (eea : Eea) → number_at octets place 1 ≡ 16 * identity_of eea + eia2_identity → algs_at octets place ≡ Ok (record { eea = eea })
+algs_read_eea octets place Eea0 e = algs_from octets place 0x02 e
+algs_read_eea octets place Eea2 e = algs_from octets place 0x22 e
+
+pub algs_read : (octets : List ℕ) (place : ℕ) (algs : Algs) → number_at octets place 1 ≡ algs_octet algs → algs_at octets place ≡ Ok algs
+algs_read octets place algs e = algs_read_eea octets place algs.eea e
+
+-- the capabilities
+pub caps_takes : (octets : List ℕ) (place : ℕ) → place + 2 ≤ length octets
+    → drop place octets ≡ (caps_at octets place).eea ∷ (caps_at octets place).eia ∷ drop (place + 2) octets
+unfolding caps_at
+caps_takes octets place h =
+    let two : place + 1 + 1 ≡ place + 2 = omega arith in
+    let second = octet_takes octets (place + 1) (omega arith) in
+    octet_takes octets place (omega arith)
+    ∙ ap (λ rest. number_at octets place 1 ∷ rest) (second ∙ ap (λ n. number_at octets (place + 1) 1 ∷ drop n octets) two)
+
+pub caps_read : (octets : List ℕ) (place : ℕ) (caps : Caps) → number_at octets place 1 ≡ caps.eea → number_at octets (place + 1) 1 ≡ caps.eia
+    → caps_at octets place ≡ caps
+unfolding caps_at
+caps_read octets place caps e f = λ j. record { eea = e j; eia = f j }
+
+-- a cell
+pub cell_takes : (octets : List ℕ) (place : ℕ) (cell : Place) → AreOctets octets → place + 6 ≤ length octets → cell_at octets place ≡ Ok cell
+    → (drop place octets ≡ cell_octets cell ++ drop (place + 6) octets) × (cell.pci ≤ 503) × (cell.earfcn ≤ 65535)
+unfolding cell_at
+cell_takes octets place cell fit h e =
+    let a = bind_ok (number_in 0 503 octets place 2) (λ pci. number_in 0 65535 octets (place + 2) 4 >>= λ earfcn. Ok (record { pci = pci; earfcn = earfcn })) cell e in
+    let b = bind_ok (number_in 0 65535 octets (place + 2) 4) (λ earfcn. Ok (record { pci = a.0; earfcn = earfcn })) cell a.2 in
+    let p = number_in_takes 0 503 octets place 2 a.0 fit (omega arith) a.1 in
+    let q = number_in_takes 0 65535 octets (place + 2) 4 b.0 fit (omega arith) b.1 in
+    let six : place + 2 + 4 ≡ place + 6 = omega arith in
+    let made : Place = record { pci = a.0; earfcn = b.0 } in
+    let parts : drop place octets ≡ cell_octets made ++ drop (place + 6) octets =
+    p.0 ∙ ap (λ rest. octets_of 2 a.0 ++ rest) (q.0 ∙ ap (λ n. octets_of 4 b.0 ++ drop n octets) six)
+    ∙ sym (append_assoc (octets_of 2 a.0) (octets_of 4 b.0) (drop (place + 6) octets)) in
+    subst (λ (c : Place). (drop place octets ≡ cell_octets c ++ drop (place + 6) octets) × (c.pci ≤ 503) × (c.earfcn ≤ 65535)) (ok_is made cell b.2) (parts, p.2, q.2)
+
+pub cell_read : (octets : List ℕ) (place : ℕ) (cell : Place) → number_at octets place 2 ≡ cell.pci → number_at octets (place + 2) 4 ≡ cell.earfcn
+    → cell.pci ≤ 503 → cell.earfcn ≤ 65535 → cell_at octets place ≡ Ok cell
+unfolding cell_at
+cell_read octets place cell e f p q =
+    let pci = in_range_read 0 503 octets place 2 cell.pci e (omega arith) p in
+    let earfcn = in_range_read 0 65535 octets (place + 2) 4 cell.earfcn f (omega arith) q in
+    λ j. pci j >>= λ pci. earfcn j >>= λ earfcn. Ok (record { pci = pci; earfcn = earfcn })
+
+-- a text
+text_by : (b : Bool) (x y : List ℕ) → cond b (Err Long) (done x) ≡ Ok y → (b ≡ false) × (x ≡ y)
+text_by true x y e = absurd cc
+text_by false x y e = (refl, cc)
+
+pub text_takes : (kind : ℕ) (rest text : List ℕ) → text_of (kind ∷ rest) ≡ Ok text → (rest ≡ text) × (length text ≤ 200)
+unfolding text_of
+text_takes kind rest text e =
+    let is = text_by (nat_lt 201 (length (kind ∷ rest))) rest text e in
+    let bound : length (kind ∷ rest) ≤ 201 = ltb-false _ _ is.0 in
+    let size : length rest ≡ length text = ap length is.1 in
+    (is.1, omega arith)
+
+pub text_read : (kind : ℕ) (text : List ℕ) → length text ≤ 200 → text_of (kind ∷ text) ≡ Ok text
+unfolding text_of
+text_read kind text h =
+    let short : ltb 201 (length (kind ∷ text)) ≡ false = le-ltb _ _ (omega arith) in
+    rw short refl
+
+-- a size that is that of the layout
+pub size_read : (size : ℕ) (octets : List ℕ) → length octets ≡ size → of_size size octets ≡ Ok tt
+unfolding of_size
+size_read size octets h =
+    let a : ltb (length octets) size ≡ false = le-ltb _ _ (omega arith) in
+    let b : ltb size (length octets) ≡ false = le-ltb _ _ (omega arith) in
+    rw (a, b) refl
