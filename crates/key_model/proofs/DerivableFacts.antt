@@ -7,10 +7,10 @@ use Rattle.key_model.specs.Derivable.{Derivable, in_set, by_kenb, by_nh, by_star
 
 -- no KASME can be derived
 pub no_root : (held : Term → Type 0) → HasNoRoot held → (r : Term) → IsRoot r → Derivable held r → ⊥
-no_root held none (Root r) is d = not_held d
+no_root held none (Root r octets) is d = not_held d
   where
-    not_held : Derivable held (Root r) → ⊥
-    not_held (in_set h) = none r h
+    not_held : Derivable held (Root r octets) → ⊥
+    not_held (in_set h) = none r octets h
 no_root held none (Kenb r n) is d = is
 no_root held none (Nh r t) is d = is
 no_root held none (Star t pci earfcn) is d = is
@@ -27,12 +27,12 @@ nh_held held none r t is (in_set h) = h
 nh_held held none r t is (by_nh d e) = absurd (no_root held none r is d)
 
 -- a KeNB below a root can be derived exactly where it is in the set
-pub kenb_derivable : (held : Term → Type 0) → HasNoRoot held → (r n : ℕ) → Derivable held (Kenb (Root r) n) ↔ held (Kenb (Root r) n)
-kenb_derivable held none r n = (kenb_held held none (Root r) n tt, in_set)
+pub kenb_derivable : (held : Term → Type 0) → HasNoRoot held → (r n : ℕ) (octets : List ℕ) → Derivable held (Kenb (Root r octets) n) ↔ held (Kenb (Root r octets) n)
+kenb_derivable held none r n octets = (kenb_held held none (Root r octets) n tt, in_set)
 
 -- and so an NH
-pub nh_derivable : (held : Term → Type 0) → HasNoRoot held → (r : ℕ) (t : Term) → Derivable held (Nh (Root r) t) ↔ held (Nh (Root r) t)
-nh_derivable held none r t = (nh_held held none (Root r) t tt, in_set)
+pub nh_derivable : (held : Term → Type 0) → HasNoRoot held → (r : ℕ) (octets : List ℕ) (t : Term) → Derivable held (Nh (Root r octets) t) ↔ held (Nh (Root r octets) t)
+nh_derivable held none r octets t = (nh_held held none (Root r octets) t tt, in_set)
 
 -- and so is each key of a chain
 pub chain_held : (held : Term → Type 0) → HasNoRoot held → (r : Term) (n i : ℕ) → IsRoot r → Derivable held (nh r n i) → held (nh r n i)
@@ -53,7 +53,7 @@ star_held held none r n i pci earfcn is = (either, derives)
 
 -- a key that others are derived from is well formed
 well_formed : (t : Term) → IsDerivationKey t → IsWellFormed t
-well_formed (Root r) k = k
+well_formed (Root r octets) k = k
 well_formed (Kenb r n) k = k
 well_formed (Nh r t) k = k
 well_formed (Star t pci earfcn) k = k
@@ -61,7 +61,7 @@ well_formed (Alg t type id) k = absurd k
 
 -- such a key comes by KeNB* steps alone
 by_stars_alone : (held : Term → Type 0) (t : Term) → IsDerivationKey t → ComesFrom held t → ComesByStars held t
-by_stars_alone held (Root r) k c = c
+by_stars_alone held (Root r octets) k c = c
 by_stars_alone held (Kenb r n) k c = c
 by_stars_alone held (Nh r t) k c = c
 by_stars_alone held (Star t pci earfcn) k c = c
@@ -69,7 +69,7 @@ by_stars_alone held (Alg t type id) k c = absurd k
 
 -- a key of the set comes from it in no step
 itself : (held : Term → Type 0) (t : Term) → held t → ComesFrom held t
-itself held (Root r) h = (Root r, [], h, refl)
+itself held (Root r octets) h = (Root r octets, [], h, refl)
 itself held (Kenb r n) h = (Kenb r n, [], h, refl)
 itself held (Nh r t) h = (Nh r t, [], h, refl)
 itself held (Star t pci earfcn) h = (Star t pci earfcn, [], h, refl)
@@ -98,7 +98,7 @@ by_stars_derivable held t (s, cells, h, e) = subst (λ u. Derivable held u) (sym
 
 -- what comes from a key of the set can be derived
 pub from_set_derivable : (held : Term → Type 0) (t : Term) → ComesFrom held t → Derivable held t
-from_set_derivable held (Root r) c = by_stars_derivable held (Root r) c
+from_set_derivable held (Root r octets) c = by_stars_derivable held (Root r octets) c
 from_set_derivable held (Kenb r n) c = by_stars_derivable held (Kenb r n) c
 from_set_derivable held (Nh r t) c = by_stars_derivable held (Nh r t) c
 from_set_derivable held (Star t pci earfcn) c = by_stars_derivable held (Star t pci earfcn) c

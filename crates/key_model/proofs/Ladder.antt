@@ -1,37 +1,37 @@
 -- A ladder of keys in octets, as another implementation of HMAC-SHA-256 computed them: KASME of 32 octets ab, KeNB of
 -- COUNT 5, the first NH, its KeNB* for PCI 300 and EARFCN-DL 1850, and the RRC integrity key of that for 128-EIA2.
-use Rattle.std.proofs.Common.{◌≡◌, ℕ, List, [], ◌∷◌, refl}
+use Rattle.std.proofs.Common.{◌≡◌, [], ◌∷◌, refl}
 use Rattle.std.specs.Prelude.{replicate}
 use Rattle.sha2.specs.Sha256.{sha256, digest_bytes, hash_after, compress, rounds, schedule, first_words}
 use Rattle.hmac_kdf.specs.Hmac.{hmac}
 use Rattle.hmac_kdf.specs.Kdf.{kdf, kdf_string}
-use Rattle.key_model.specs.Term.{Root, Star, Alg}
+use Rattle.key_model.specs.Term.{Term, Root, Star, Alg}
 use Rattle.key_model.specs.Chain.{nh}
 use Rattle.key_model.specs.Value.{value_of}
 
--- the octets of each KASME
-abbrev ab : ℕ → List ℕ
-ab r = replicate 32 0xab
+-- the KASME
+abbrev root : Term
+root = Root 0 (replicate 32 0xab)
 
-kenb_octets : value_of ab (nh (Root 0) 5 0) ≡ (
+kenb_octets : value_of (nh root 5 0) ≡ (
     0xf4 ∷ 0x28 ∷ 0xdd ∷ 0x41 ∷ 0xa4 ∷ 0x9e ∷ 0x64 ∷ 0xaf ∷ 0xca ∷ 0x0b ∷ 0x67 ∷ 0x81 ∷ 0x30 ∷ 0x51 ∷ 0x70 ∷ 0xbc ∷
     0xae ∷ 0x34 ∷ 0xed ∷ 0xc1 ∷ 0xf1 ∷ 0x15 ∷ 0x3a ∷ 0xc7 ∷ 0xd7 ∷ 0x72 ∷ 0x58 ∷ 0x58 ∷ 0x90 ∷ 0xc6 ∷ 0xf4 ∷ 0x5d ∷ [])
 unfolding kdf kdf_string hmac sha256 digest_bytes hash_after compress rounds schedule first_words
 kenb_octets = refl
 
-nh_octets : value_of ab (nh (Root 0) 5 1) ≡ (
+nh_octets : value_of (nh root 5 1) ≡ (
     0x3d ∷ 0xea ∷ 0xd7 ∷ 0xc5 ∷ 0x4d ∷ 0x57 ∷ 0x03 ∷ 0xb6 ∷ 0x3c ∷ 0x8d ∷ 0xe5 ∷ 0x33 ∷ 0x4d ∷ 0x35 ∷ 0x67 ∷ 0x14 ∷
     0xf2 ∷ 0xdd ∷ 0xbe ∷ 0xf4 ∷ 0x28 ∷ 0x59 ∷ 0x1b ∷ 0x73 ∷ 0x19 ∷ 0xd0 ∷ 0x61 ∷ 0x36 ∷ 0xad ∷ 0xe9 ∷ 0x94 ∷ 0x1e ∷ [])
 unfolding kdf kdf_string hmac sha256 digest_bytes hash_after compress rounds schedule first_words
 nh_octets = refl
 
-star_octets : value_of ab (Star (nh (Root 0) 5 1) 300 1850) ≡ (
+star_octets : value_of (Star (nh root 5 1) 300 1850) ≡ (
     0xdb ∷ 0xe4 ∷ 0x8b ∷ 0xdd ∷ 0xbb ∷ 0x4b ∷ 0x49 ∷ 0xc6 ∷ 0xbc ∷ 0x71 ∷ 0x05 ∷ 0x7f ∷ 0xb1 ∷ 0xf9 ∷ 0x79 ∷ 0x9b ∷
     0x01 ∷ 0xa0 ∷ 0xe6 ∷ 0x73 ∷ 0x2e ∷ 0x08 ∷ 0x03 ∷ 0xcb ∷ 0xbb ∷ 0x03 ∷ 0xc4 ∷ 0x03 ∷ 0x0b ∷ 0x5c ∷ 0x24 ∷ 0x89 ∷ [])
 unfolding kdf kdf_string hmac sha256 digest_bytes hash_after compress rounds schedule first_words
 star_octets = refl
 
-rrc_int_octets : value_of ab (Alg (Star (nh (Root 0) 5 1) 300 1850) 4 2) ≡ (
+rrc_int_octets : value_of (Alg (Star (nh root 5 1) 300 1850) 4 2) ≡ (
     0x7b ∷ 0x96 ∷ 0x1c ∷ 0xef ∷ 0xea ∷ 0x97 ∷ 0x6d ∷ 0x3f ∷ 0xc1 ∷ 0x17 ∷ 0x43 ∷ 0x73 ∷ 0x94 ∷ 0xcb ∷ 0x47 ∷ 0xb2 ∷
     0x6f ∷ 0x68 ∷ 0xad ∷ 0x3f ∷ 0xd3 ∷ 0x5f ∷ 0x81 ∷ 0x17 ∷ 0x77 ∷ 0x7a ∷ 0xae ∷ 0xf4 ∷ 0x35 ∷ 0x95 ∷ 0x7c ∷ 0xeb ∷ [])
 unfolding kdf kdf_string hmac sha256 digest_bytes hash_after compress rounds schedule first_words

@@ -1,13 +1,13 @@
 -- The reading in terms is carried to the reading in octets by values and NCCs.
-use Rattle.std.proofs.Common.{◌≡◌, ℕ, List, Bool, ◌==◌, refl, ap, arith}
+use Rattle.std.proofs.Common.{◌≡◌, Bool, ◌==◌, refl, ap, arith}
 use Rattle.std.specs.Prelude.{◌&&◌}
 use Rattle.key_model.specs.Chain.{ncc_of}
 use Rattle.key_model.specs.Value.{value_of}
 use Rattle.key_model.specs.Use.{Use, map_use, same_use}
 use Rattle.key_model.specs.Reading.{Reading, Carries, octet_reading, term_reading}
 
-pub values_carry : (roots : ℕ → List ℕ) → Carries (term_reading roots) octet_reading (value_of roots) ncc_of
-values_carry roots = record {
+pub values_carry : Carries term_reading octet_reading value_of ncc_of
+values_carry = record {
   kenb = λ key count. refl;
   nh = λ key sync. refl;
   star = λ key pci earfcn. refl;

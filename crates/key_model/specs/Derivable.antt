@@ -16,7 +16,7 @@ pub data Derivable (held : Term → Type 0) : Term → Type 0 where
 
 -- no KASME is in the set
 abbrev pub HasNoRoot : (Term → Type 0) → Type 0
-HasNoRoot held = (r : ℕ) → ¬ held (Root r)
+HasNoRoot held = (r : ℕ) (octets : List ℕ) → ¬ held (Root r octets)
 
 -- the KeNB* after handovers to these cells, each a PCI and an EARFCN-DL, the latest first (A.5)
 abbrev pub stars : Term → List (ℕ × ℕ) → Term

@@ -7,4 +7,5 @@ pub mod Derivable
 pub mod Use
 pub mod HandoverTable
 pub mod Reading
+pub mod Derivation
 pub mod HandoverLines

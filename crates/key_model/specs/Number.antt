@@ -8,5 +8,5 @@ abbrev pub chain_number : Term → ℕ
 chain_number (Kenb r n) = 0
 chain_number (Nh r t) = suc (chain_number t)
 chain_number (Star t pci earfcn) = chain_number t
-chain_number (Root r) = 0
+chain_number (Root r octets) = 0
 chain_number (Alg t type id) = 0

@@ -52,9 +52,9 @@ term_reading_by same = record {
   same = same;
 }
 
--- the reading in terms where the roots have these octets: two keys are the same where their values are
-abbrev pub term_reading : (ℕ → List ℕ) → Reading Term ℕ
-term_reading roots = term_reading_by (same_value roots)
+-- the reading in terms: two keys are the same where their values are
+abbrev pub term_reading : Reading Term ℕ
+term_reading = term_reading_by same_value
 
 -- f on keys and g on chain numbers carry r to q: what r gives, carried, is what q gives of what is carried
 pub record Carries {K C L D : Type 0} (r : Reading K C) (q : Reading L D) (f : K → L) (g : C → D) : Type 0 where

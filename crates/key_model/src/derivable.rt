@@ -1,6 +1,6 @@
 // What can be derived from a set of keys that has no KASME in it.
 
-ghost use Rattle.std.specs.Prelude.{ℕ, ◌↔◌, ◌⊎◌};
+ghost use Rattle.std.specs.Prelude.{ℕ, ◌↔◌, ◌⊎◌, List};
 ghost use Rattle.key_model.specs.Term.{Term, Root, Kenb, Nh, Star, IsWellFormed};
 ghost use Rattle.key_model.specs.Chain.{nh};
 ghost use Rattle.key_model.specs.Derivable.{Derivable, HasNoRoot, ComesFrom};
@@ -20,17 +20,18 @@ pub fn derivable_keys_come_from_the_set<S: KeySet>()
 
 /// From a set with no KASME no KASME can be derived, and no KeNB or NH of a KASME but those of the set.
 pub fn no_key_above_is_derivable<S: KeySet>()
-    ensures root { (set : S) (r : ℕ) → HasNoRoot (S.contains set) → ¬ Derivable (S.contains set) (Root r) }
-    ensures kenb { (set : S) (r n : ℕ) → HasNoRoot (S.contains set) →
-        Derivable (S.contains set) (Kenb (Root r) n) ↔ S.contains set (Kenb (Root r) n) }
-    ensures nh { (set : S) (r : ℕ) (t : Term) → HasNoRoot (S.contains set) →
-        Derivable (S.contains set) (Nh (Root r) t) ↔ S.contains set (Nh (Root r) t) }
+    ensures root { (set : S) (r : ℕ) (octets : List ℕ) → HasNoRoot (S.contains set) →
+        ¬ Derivable (S.contains set) (Root r octets) }
+    ensures kenb { (set : S) (r n : ℕ) (octets : List ℕ) → HasNoRoot (S.contains set) →
+        Derivable (S.contains set) (Kenb (Root r octets) n) ↔ S.contains set (Kenb (Root r octets) n) }
+    ensures nh { (set : S) (r : ℕ) (octets : List ℕ) (t : Term) → HasNoRoot (S.contains set) →
+        Derivable (S.contains set) (Nh (Root r octets) t) ↔ S.contains set (Nh (Root r octets) t) }
 {}
 
 /// From a set with no KASME the KeNB* of a key of a chain can be derived exactly where the set has it
 /// or has that key: so a vertical key, of a chain number above 0, from its NH alone.
 pub fn star_is_derivable_from_its_nh<S: KeySet>()
-    ensures { (set : S) (r n i pci earfcn : ℕ) → HasNoRoot (S.contains set) →
-        Derivable (S.contains set) (Star (nh (Root r) n i) pci earfcn)
-        ↔ (S.contains set (Star (nh (Root r) n i) pci earfcn) ⊎ S.contains set (nh (Root r) n i)) }
+    ensures { (set : S) (r n i pci earfcn : ℕ) (octets : List ℕ) → HasNoRoot (S.contains set) →
+        Derivable (S.contains set) (Star (nh (Root r octets) n i) pci earfcn)
+        ↔ (S.contains set (Star (nh (Root r octets) n i) pci earfcn) ⊎ S.contains set (nh (Root r octets) n i)) }
 {}

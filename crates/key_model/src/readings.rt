@@ -1,31 +1,29 @@
 // Keys in octets, and how the reading in terms and the reading in octets hang together.
 
-ghost use Rattle.std.specs.Prelude.{◌≡◌, ℕ, ◌↔◌, Bool, List, length, IsTrue};
-ghost use Rattle.key_model.specs.Term.{Term, same_term};
+ghost use Rattle.std.specs.Prelude.{◌≡◌, ℕ, ◌↔◌, Bool, length, IsTrue};
+ghost use Rattle.key_model.specs.Term.{Term, IsRoot, same_term};
 ghost use Rattle.key_model.specs.Chain.{ncc_of};
 ghost use Rattle.key_model.specs.Value.{value_of, same_value};
 ghost use Rattle.key_model.specs.Use.{Use, map_use, same_use};
 ghost use Rattle.key_model.specs.Reading.{Reading, Carries, octet_reading, term_reading};
 ghost use Rattle.key_model.specs.HandoverLines.{CarriesLines};
 
-/// Each key has 32 octets where each KASME has (TS 33.401 Annex A).
+/// Each key that is derived has 32 octets (TS 33.401 Annex A).
 pub fn values_have_32_octets()
-    ensures { (roots : ℕ → List ℕ) → ((r : ℕ) → length (roots r) ≡ 32) →
-        (t : Term) → length (value_of roots t) ≡ 32 }
+    ensures { (t : Term) → ¬ IsRoot t → length (value_of t) ≡ 32 }
 {}
 
 /// Two keys are tested as terms to be the same exactly where they are equal, and as values exactly
 /// where their octets are equal.
 pub fn same_is_equality()
     ensures term { (a b : Term) → IsTrue (same_term a b) ↔ (a ≡ b) }
-    ensures value { (roots : ℕ → List ℕ) (a b : Term) →
-        IsTrue (same_value roots a b) ↔ (value_of roots a ≡ value_of roots b) }
+    ensures value { (a b : Term) → IsTrue (same_value a b) ↔ (value_of a ≡ value_of b) }
 {}
 
 /// The values of keys and the NCCs of chain numbers carry the reading in terms to the reading in
 /// octets.
 pub fn term_reading_is_carried()
-    ensures { (roots : ℕ → List ℕ) → Carries (term_reading roots) octet_reading (value_of roots) ncc_of }
+    ensures { Carries term_reading octet_reading value_of ncc_of }
 {}
 
 /// Where f and g carry one reading to another, they carry each line of the handover table.

@@ -1,4 +1,4 @@
-ghost use Rattle.std.specs.Prelude.{◌≡◌};
+ghost use Rattle.std.specs.Prelude.{◌≡◌, []};
 ghost use Rattle.key_model.specs.Term.{Root};
 ghost use Rattle.key_model.specs.Chain.{nh};
 
@@ -11,7 +11,7 @@ use crate::{
 struct ThirdNh;
 
 impl KeySet for ThirdNh {
-    ghost contains = { λ _ t. t ≡ nh (Root 0) 5 3 };
+    ghost contains = { λ _ t. t ≡ nh (Root 0 []) 5 3 };
 }
 
 #[test]
