@@ -36,7 +36,7 @@ ciphered-ciphered Eea0 key count bearer dir text = refl
 ciphered-ciphered Eea2 key count bearer dir text = eea2_of-eea2_of (drop 16 key) count bearer dir text
 
 -- the text of the text as sent is the text
-pub sent_text-sent_text : (keys : Keys) (header count : ℕ) (dir : Dir) (text : List ℕ)
+pub sent_text-sent_text : (keys : Keys (List ℕ)) (header count : ℕ) (dir : Dir) (text : List ℕ)
     → sent_text keys header count dir (sent_text keys header count dir text) ≡ text
 unfolding sent_text
 sent_text-sent_text keys header count dir text = by_type (is_ciphered header)
@@ -86,7 +86,7 @@ not_short : (n : ℕ) → nat_lt (suc (suc (suc (suc (suc (suc n)))))) 6 ≡ fal
 not_short n = grind (arith, nat_tests)
 
 -- what six octets and more open to, where the MAC is right
-opened-octets : (keys : Keys) (header count next : ℕ) (dir : Dir) (mac : List ℕ) (sn : ℕ) (sent : List ℕ) → length mac ≡ 4
+opened-octets : (keys : Keys (List ℕ)) (header count next : ℕ) (dir : Dir) (mac : List ℕ) (sn : ℕ) (sent : List ℕ) → length mac ≡ 4
     → is_protected (first_octet header) ≡ true → estimate_of next sn ≡ Ok count → mac_of keys.int count nas_bearer dir (sn ∷ sent) ≡ mac
     → opened keys next dir (first_octet header ∷ mac ++ sn ∷ sent) ≡ Ok (record { header = header; count = count; text = sent_text keys header count dir sent })
 unfolding opened
@@ -100,7 +100,7 @@ opened-octets keys header count next dir (a ∷ b ∷ c ∷ d ∷ []) sn sent lo
 opened-octets keys header count next dir (a ∷ b ∷ c ∷ d ∷ e ∷ mac) sn sent long protected estimate same = absurd (omega arith)
 
 -- what was sealed opens
-pub opened-sealed : (keys : Keys) (header count next : ℕ) (dir : Dir) (text : List ℕ)
+pub opened-sealed : (keys : Keys (List ℕ)) (header count next : ℕ) (dir : Dir) (text : List ℕ)
     → 1 ≤ header → header ≤ 4 → count < LIMIT → least next (count % 256) 256 ≡ count
     → opened keys next dir (sealed keys header count dir text) ≡ Ok (record { header = header; count = count; text = text })
 unfolding sealed
@@ -114,7 +114,7 @@ pub expected-is_least : (next count : ℕ) → next ≤ count → count - next <
 expected-is_least next count above few = (least_in_window next count 256 (omega arith) above).1 few
 
 -- what opens was sealed, octet by octet
-was_sealed : (keys : Keys) (next : ℕ) (dir : Dir) (pdu : List ℕ) (count : ℕ) → 6 ≤ length pdu → first_in pdu % 16 ≡ 7
+was_sealed : (keys : Keys (List ℕ)) (next : ℕ) (dir : Dir) (pdu : List ℕ) (count : ℕ) → 6 ≤ length pdu → first_in pdu % 16 ≡ 7
     → count % 256 ≡ sn_in pdu → mac_at keys dir pdu count ≡ mac_in pdu
     → pdu ≡ sealed keys (header_in pdu) count dir (sent_text keys (header_in pdu) count dir (sent_in pdu))
 unfolding sealed
@@ -128,7 +128,7 @@ was_sealed keys next dir (f ∷ a ∷ b ∷ c ∷ d ∷ e ∷ sent) count long s
     let first : first_octet (f / 16) ≡ f = omega arith in
     rw (sent_text-sent_text keys (f / 16) count dir sent, sn, mac, first) refl
 
-pub sealed-opened : (keys : Keys) (next : ℕ) (dir : Dir) (pdu : List ℕ) (o : Opened) → sn_in pdu < 256 → Opens keys next dir pdu o
+pub sealed-opened : (keys : Keys (List ℕ)) (next : ℕ) (dir : Dir) (pdu : List ℕ) (o : Opened) → sn_in pdu < 256 → Opens keys next dir pdu o
     → pdu ≡ sealed keys o.header o.count dir o.text
 sealed-opened keys next dir pdu o octet h =
     let remainder : o.count % 256 ≡ sn_in pdu = ap (λ n. n % 256) h.count ∙ (least_is next (sn_in pdu) 256 octet).remainder in
@@ -153,13 +153,13 @@ estimated next sn count h = by_test (nat_lt (least next sn 256) LIMIT) refl h
         (sym same, omega arith)
     by_test false e found = absurd (cc)
 
-abbrev opened_to : Keys → Dir → List ℕ → ℕ → Opened
+abbrev opened_to : Keys (List ℕ) → Dir → List ℕ → ℕ → Opened
 opened_to keys dir pdu count = record { header = header_in pdu; count = count; text = sent_text keys (header_in pdu) count dir (sent_in pdu) }
 
-abbrev failed_at : Keys → Dir → List ℕ → ℕ → OpenFault
+abbrev failed_at : Keys (List ℕ) → Dir → List ℕ → ℕ → OpenFault
 failed_at keys dir pdu count = MacFails count (mac_at keys dir pdu count) (mac_in pdu)
 
-opened_at-Opens : (keys : Keys) (next : ℕ) (dir : Dir) (pdu : List ℕ) (o : Opened) (count : ℕ) → 6 ≤ length pdu → IsProtected (first_in pdu)
+opened_at-Opens : (keys : Keys (List ℕ)) (next : ℕ) (dir : Dir) (pdu : List ℕ) (o : Opened) (count : ℕ) → 6 ≤ length pdu → IsProtected (first_in pdu)
     → count ≡ least next (sn_in pdu) 256 → count < LIMIT → opened_at keys dir pdu count ≡ Ok o → Opens keys next dir pdu o
 opened_at-Opens keys next dir pdu o count long protected is_least below found = by_mac (bytes_eq (mac_at keys dir pdu count) (mac_in pdu)) refl found
   where
@@ -171,7 +171,7 @@ opened_at-Opens keys next dir pdu o count long protected is_least below found = 
         subst (Opens keys next dir pdu) same (record { long = long; protected = protected; header = refl; count = is_least; below = below; mac = mac; text = refl })
     by_mac false e h = absurd (cc)
 
-opened_by-Opens : (keys : Keys) (next : ℕ) (dir : Dir) (pdu : List ℕ) (o : Opened) (r : Result ℕ CountSpent) → 6 ≤ length pdu → IsProtected (first_in pdu)
+opened_by-Opens : (keys : Keys (List ℕ)) (next : ℕ) (dir : Dir) (pdu : List ℕ) (o : Opened) (r : Result ℕ CountSpent) → 6 ≤ length pdu → IsProtected (first_in pdu)
     → estimate_of next (sn_in pdu) ≡ r → opened_by keys dir pdu r ≡ Ok o → Opens keys next dir pdu o
 opened_by-Opens keys next dir pdu o (Ok count) long protected e found =
     let is = estimated next (sn_in pdu) count e in
@@ -179,7 +179,7 @@ opened_by-Opens keys next dir pdu o (Ok count) long protected e found =
 opened_by-Opens keys next dir pdu o (Err spent) long protected e found = absurd (cc)
 
 -- octets open to nothing else than the definition says
-pub opened-Opens : (keys : Keys) (next : ℕ) (dir : Dir) (pdu : List ℕ) (o : Opened) → opened keys next dir pdu ≡ Ok o → Opens keys next dir pdu o
+pub opened-Opens : (keys : Keys (List ℕ)) (next : ℕ) (dir : Dir) (pdu : List ℕ) (o : Opened) → opened keys next dir pdu ≡ Ok o → Opens keys next dir pdu o
 unfolding opened
 opened-Opens keys next dir pdu o found = by_length (nat_lt (length pdu) 6) refl found
   where

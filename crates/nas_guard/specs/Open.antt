@@ -40,11 +40,11 @@ abbrev pub is_protected : ℕ → Bool
 is_protected octet = (octet % 16 == 7) && (nat_le 1 (octet / 16) && nat_le (octet / 16) 4)
 
 -- the MAC that a receiver computes at a COUNT (4.4.4.3)
-abbrev pub mac_at : Keys → Dir → List ℕ → ℕ → List ℕ
+abbrev pub mac_at : Keys (List ℕ) → Dir → List ℕ → ℕ → List ℕ
 mac_at keys dir pdu count = mac_of keys.int count nas_bearer dir (covered_in pdu)
 
 -- the text at a COUNT, where the MAC is right
-abbrev pub opened_at : Keys → Dir → List ℕ → ℕ → Result Opened OpenFault
+abbrev pub opened_at : Keys (List ℕ) → Dir → List ℕ → ℕ → Result Opened OpenFault
 opened_at keys dir pdu count =
     if bytes_eq (mac_at keys dir pdu count) (mac_in pdu)
     then Ok (record {
@@ -54,12 +54,12 @@ opened_at keys dir pdu count =
     })
     else Err (MacFails count (mac_at keys dir pdu count) (mac_in pdu))
 
-abbrev pub opened_by : Keys → Dir → List ℕ → Result ℕ CountSpent → Result Opened OpenFault
+abbrev pub opened_by : Keys (List ℕ) → Dir → List ℕ → Result ℕ CountSpent → Result Opened OpenFault
 opened_by keys dir pdu (Ok count) = opened_at keys dir pdu count
 opened_by keys dir pdu (Err spent) = Err faults.TheVariants.CountSpent
 
 -- what octets open to under these keys, where this COUNT comes next
-unfoldable pub opened : Keys → ℕ → Dir → List ℕ → Result Opened OpenFault
+unfoldable pub opened : Keys (List ℕ) → ℕ → Dir → List ℕ → Result Opened OpenFault
 opened keys next dir pdu =
     if nat_lt (length pdu) 6 then Err Short
     else (if is_protected (first_in pdu) then opened_by keys dir pdu (estimate_of next (sn_in pdu))
@@ -70,7 +70,7 @@ abbrev pub IsProtected : ℕ → Type 0
 IsProtected octet = (octet % 16 ≡ 7) × (1 ≤ octet / 16) × (octet / 16 ≤ 4)
 
 -- octets open to this
-pub record Opens (keys : Keys) (next : ℕ) (dir : Dir) (pdu : List ℕ) (o : Opened) : Type 0 where
+pub record Opens (keys : Keys (List ℕ)) (next : ℕ) (dir : Dir) (pdu : List ℕ) (o : Opened) : Type 0 where
   pub long : 6 ≤ length pdu
   pub protected : IsProtected (first_in pdu)
   pub header : o.header ≡ header_in pdu
@@ -80,7 +80,7 @@ pub record Opens (keys : Keys) (next : ℕ) (dir : Dir) (pdu : List ℕ) (o : Op
   pub text : o.text ≡ sent_text keys o.header o.count dir (sent_in pdu)
 
 -- octets are refused for this, at most one of the four
-abbrev pub Refuses : Keys → ℕ → Dir → List ℕ → OpenFault → Type 0
+abbrev pub Refuses : Keys (List ℕ) → ℕ → Dir → List ℕ → OpenFault → Type 0
 Refuses keys next dir pdu Short = length pdu < 6
 Refuses keys next dir pdu (BadHeader octet) =
     (6 ≤ length pdu) × (octet ≡ first_in pdu) × (¬ IsProtected octet)

@@ -19,9 +19,10 @@ pub struct NasKeys {
 }
 
 impl Model for NasKeys {
+    ghost use Rattle.std.specs.Prelude.{ℕ, List};
     ghost use Rattle.nas_guard.specs.Keys.{Keys};
 
-    ghost Value = { Keys };
+    ghost Value = { Keys (List ℕ) };
 
     ghost view = { λ k. record { enc = k.enc; int = k.int; algs = k.algs } };
 

@@ -13,7 +13,7 @@ ghost use Rattle.nas_guard.specs.Open.{opened};
 /// algorithms and in the same direction, where its COUNT is the one that the receiver expects: the
 /// least with its sequence number.
 pub fn sealed_opens()
-    ensures { (keys : Keys) (header count next : ℕ) (dir : Dir) (text : List ℕ)
+    ensures { (keys : Keys (List ℕ)) (header count next : ℕ) (dir : Dir) (text : List ℕ)
         → 1 ≤ header → header ≤ 4 → count < LIMIT → least next (count % 256) 256 ≡ count
         → opened keys next dir (sealed keys header count dir text) ≡ Ok (record { header = header; count = count; text = text }) }
 {}
