@@ -1,0 +1,4 @@
+pub mod AsKeys
+pub mod Counts
+pub mod Srb
+pub mod Drb

@@ -1,0 +1,9 @@
+//! Radio bearers (TS 36.323 5.6 and 5.7, TS 33.401 Annex B): the keys of the access stratum, the COUNTs
+//! of a bearer, and the PDUs of signalling and data radio bearers, made and opened.
+#![tactic(auto)]
+
+mod counting;
+mod pdus;
+
+pub use counting::LIMIT;
+pub use pdus::{PdcpFault, PdcpOpened, PdcpSent};
