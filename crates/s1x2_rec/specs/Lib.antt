@@ -1,0 +1,4 @@
+pub mod Fields
+pub mod Content
+pub mod Spelling
+pub mod Reading

@@ -1,0 +1,98 @@
+-- The records of S1 and X2, each with its one spelling.
+use Rattle.std.specs.Prelude.{◌≡◌, ℕ, ◌<◌, ◌≤◌, ◌^◌, List, [], ◌∷◌, ◌++◌, length, get_or, Option, Some, None}
+use Rattle.key_model.specs.HandoverTable.{NumberedKey}
+use Rattle.rec_base.specs.BigEndian.{octets_of}
+use Rattle.rec_fields.specs.Spelled.{algs_octet, cell_octets}
+use Rattle.alg_choice.specs.declared.caps.Caps.{Caps}
+use Rattle.annex_a_keys.specs.Cell.{Place}
+use Rattle.s1x2_rec.specs.Fields.{Fields, InitialContext, ContextRelease, PathSwitchRequest, PathSwitchAnswer, HandoverRequired, HandoverRequest, HandoverRequestAck, HandoverCommand, HandoverNotify, HandoverCancel, X2Request, X2Ack, X2Cancel, X2Release}
+use Rattle.s1x2_rec.specs.Content.{Content}
+
+-- a key
+abbrev pub key_octets : Option (NumberedKey (List ℕ) ℕ) → List ℕ
+key_octets None = []
+key_octets (Some k) = k.key
+
+-- its NCC, and then a key
+abbrev pub pair_octets : Option (NumberedKey (List ℕ) ℕ) → List ℕ
+pair_octets None = []
+pair_octets (Some k) = k.number ∷ k.key
+
+-- the kind, and then the fields in order, numbers in four octets
+abbrev pub spelled : Fields → Option (NumberedKey (List ℕ) ℕ) → List ℕ
+spelled (InitialContext conn cell caps) key = 0x20 ∷ octets_of 4 conn ++ cell_octets cell ++ caps.eea ∷ caps.eia ∷ key_octets key
+spelled (ContextRelease conn) key = 0x21 ∷ octets_of 4 conn
+spelled (PathSwitchRequest conn station number cell caps) key =
+    0x22 ∷ octets_of 4 conn ++ station ∷ octets_of 4 number ++ cell_octets cell ++ caps.eea ∷ caps.eia ∷ []
+spelled (PathSwitchAnswer conn number) key = 0x23 ∷ octets_of 4 conn ++ octets_of 4 number ++ pair_octets key
+spelled (HandoverRequired conn station attempt cell) key = 0x24 ∷ octets_of 4 conn ++ station ∷ octets_of 4 attempt ++ cell_octets cell
+spelled (HandoverRequest conn source attempt cell caps) key =
+    0x25 ∷ octets_of 4 conn ++ source ∷ octets_of 4 attempt ++ cell_octets cell ++ caps.eea ∷ caps.eia ∷ pair_octets key
+spelled (HandoverRequestAck conn source attempt cell ncc algs air) key =
+    0x26 ∷ octets_of 4 conn ++ source ∷ octets_of 4 attempt ++ cell_octets cell ++ ncc ∷ algs_octet algs ∷ octets_of 4 air
+spelled (HandoverCommand conn attempt cell ncc algs air) key =
+    0x27 ∷ octets_of 4 conn ++ octets_of 4 attempt ++ cell_octets cell ++ ncc ∷ algs_octet algs ∷ octets_of 4 air
+spelled (HandoverNotify conn station cell) key = 0x28 ∷ octets_of 4 conn ++ station ∷ cell_octets cell
+spelled (HandoverCancel conn source attempt cell) key = 0x29 ∷ octets_of 4 conn ++ source ∷ octets_of 4 attempt ++ cell_octets cell
+spelled (X2Request conn source attempt cell caps) key =
+    0x30 ∷ octets_of 4 conn ++ source ∷ octets_of 4 attempt ++ cell_octets cell ++ caps.eea ∷ caps.eia ∷ pair_octets key
+spelled (X2Ack conn attempt cell algs air) key =
+    0x31 ∷ octets_of 4 conn ++ octets_of 4 attempt ++ cell_octets cell ++ algs_octet algs ∷ octets_of 4 air
+spelled (X2Cancel conn source attempt) key = 0x32 ∷ octets_of 4 conn ++ source ∷ octets_of 4 attempt
+spelled (X2Release conn attempt) key = 0x33 ∷ octets_of 4 conn ++ octets_of 4 attempt
+
+unfoldable pub spelling_of : Content (List ℕ) ℕ → List ℕ
+spelling_of content = spelled content.fields content.key
+
+-- a number of 32 bits, at least 1
+abbrev pub IsNumber : ℕ → Type 0
+IsNumber n = (1 ≤ n) × (n < 2 ^ 32)
+
+-- PCI and EARFCN-DL of a cell
+abbrev pub IsCell : Place → Type 0
+IsCell cell = (cell.pci ≤ 503) × (cell.earfcn ≤ 65535)
+
+-- capabilities, two octets
+abbrev pub IsCaps : Caps → Type 0
+IsCaps caps = (caps.eea < 256) × (caps.eia < 256)
+
+-- each plain field is in its range: stations and NCCs 0 to 7
+abbrev pub FieldsInRange : Fields → Type 0
+FieldsInRange (InitialContext conn cell caps) = IsNumber conn × IsCell cell × IsCaps caps
+FieldsInRange (ContextRelease conn) = IsNumber conn
+FieldsInRange (PathSwitchRequest conn station number cell caps) = IsNumber conn × (station ≤ 7) × IsNumber number × IsCell cell × IsCaps caps
+FieldsInRange (PathSwitchAnswer conn number) = IsNumber conn × IsNumber number
+FieldsInRange (HandoverRequired conn station attempt cell) = IsNumber conn × (station ≤ 7) × IsNumber attempt × IsCell cell
+FieldsInRange (HandoverRequest conn source attempt cell caps) = IsNumber conn × (source ≤ 7) × IsNumber attempt × IsCell cell × IsCaps caps
+FieldsInRange (HandoverRequestAck conn source attempt cell ncc algs air) =
+    IsNumber conn × (source ≤ 7) × IsNumber attempt × IsCell cell × (ncc ≤ 7) × IsNumber air
+FieldsInRange (HandoverCommand conn attempt cell ncc algs air) = IsNumber conn × IsNumber attempt × IsCell cell × (ncc ≤ 7) × IsNumber air
+FieldsInRange (HandoverNotify conn station cell) = IsNumber conn × (station ≤ 7) × IsCell cell
+FieldsInRange (HandoverCancel conn source attempt cell) = IsNumber conn × (source ≤ 7) × IsNumber attempt × IsCell cell
+FieldsInRange (X2Request conn source attempt cell caps) = IsNumber conn × (source ≤ 7) × IsNumber attempt × IsCell cell × IsCaps caps
+FieldsInRange (X2Ack conn attempt cell algs air) = IsNumber conn × IsNumber attempt × IsCell cell × IsNumber air
+FieldsInRange (X2Cancel conn source attempt) = IsNumber conn × (source ≤ 7) × IsNumber attempt
+FieldsInRange (X2Release conn attempt) = IsNumber conn × IsNumber attempt
+
+-- a key of 32 octets, whose NCC is at most this
+abbrev pub IsKey : ℕ → Option (NumberedKey (List ℕ) ℕ) → Type 0
+IsKey greatest None = ⊥
+IsKey greatest (Some k) = (length k.key ≡ 32) × ((i : ℕ) → get_or k.key i 0 < 256) × (k.number ≤ greatest)
+
+abbrev pub IsNoKey : Option (NumberedKey (List ℕ) ℕ) → Type 0
+IsNoKey None = Unit {0}
+IsNoKey (Some k) = ⊥
+
+-- a key stands exactly in the records that carry one; that of an InitialContext is a KeNB, whose NCC is 0 and is not
+-- written (TS 33.401 7.2.8.1.1)
+abbrev pub KeyInRange : Fields → Option (NumberedKey (List ℕ) ℕ) → Type 0
+KeyInRange (InitialContext conn cell caps) key = IsKey 0 key
+KeyInRange (PathSwitchAnswer conn number) key = IsKey 7 key
+KeyInRange (HandoverRequest conn source attempt cell caps) key = IsKey 7 key
+KeyInRange (X2Request conn source attempt cell caps) key = IsKey 7 key
+KeyInRange other key = IsNoKey key
+
+-- each field is in its range
+pub record InRange (content : Content (List ℕ) ℕ) : Type 0 where
+  pub fields : FieldsInRange content.fields
+  pub key : KeyInRange content.fields content.key

@@ -1,0 +1,176 @@
+use alg_choice::{Algs, Caps};
+use annex_a_keys::{Cell, Kenb, Nh, Star};
+
+/// A record of S1 or X2: its kind, one octet, and then its fields in order. A connection, an attempt, a
+/// number and an air address are four octets and at least 1; a station, a source and an NCC are one
+/// octet from 0 to 7; a cell is its PCI in two octets and its EARFCN-DL in four; capabilities are two
+/// octets, algorithms one and a key 32.
+#[derive(Clone, PartialEq, Eq, Debug, Drop)]
+pub enum CoreRecord {
+    /// 20, from the core: Initial Context Setup Request (TS 36.413 8.3.1), 45 octets.
+    InitialContext {
+        /// The connection.
+        conn: u32,
+        /// The cell of the phone.
+        cell: Cell,
+        /// The security capabilities of the phone.
+        caps: Caps,
+        /// The initial KeNB, whose NCC is 0 (TS 33.401 7.2.8.1.1).
+        kenb: Kenb,
+    },
+    /// 21, from the core: UE Context Release Command (TS 36.413 8.3.3), 5 octets.
+    ContextRelease {
+        /// The connection.
+        conn: u32,
+    },
+    /// 22, to the core: Path Switch Request (TS 36.413 8.4.4), 18 octets.
+    PathSwitchRequest {
+        /// The connection.
+        conn: u32,
+        /// The station that asks.
+        station: u8,
+        /// The number of the request.
+        number: u32,
+        /// The cell of the phone.
+        cell: Cell,
+        /// The security capabilities of the phone.
+        caps: Caps,
+    },
+    /// 23, from the core: Path Switch Request Acknowledge (TS 36.413 8.4.4), 42 octets.
+    PathSwitchAnswer {
+        /// The connection.
+        conn: u32,
+        /// The number of the request that is answered.
+        number: u32,
+        /// The NCC of the NH.
+        ncc: u8,
+        /// A fresh NH.
+        nh: Nh,
+    },
+    /// 24, to the core: Handover Required (TS 36.413 8.4.1), 16 octets.
+    HandoverRequired {
+        /// The connection.
+        conn: u32,
+        /// The station that asks.
+        station: u8,
+        /// The attempt.
+        attempt: u32,
+        /// The target cell.
+        cell: Cell,
+    },
+    /// 25, from the core: Handover Request (TS 36.413 8.4.2), 51 octets.
+    HandoverRequest {
+        /// The connection.
+        conn: u32,
+        /// The source station.
+        source: u8,
+        /// The attempt.
+        attempt: u32,
+        /// The target cell.
+        cell: Cell,
+        /// The security capabilities of the phone.
+        caps: Caps,
+        /// The NCC of the NH.
+        ncc: u8,
+        /// A fresh NH.
+        nh: Nh,
+    },
+    /// 26, to the core: Handover Request Acknowledge (TS 36.413 8.4.2), 22 octets.
+    HandoverRequestAck {
+        /// The connection.
+        conn: u32,
+        /// The source station.
+        source: u8,
+        /// The attempt.
+        attempt: u32,
+        /// The target cell.
+        cell: Cell,
+        /// The NCC of the target's key.
+        ncc: u8,
+        /// The algorithms chosen by the target.
+        algs: Algs,
+        /// The address of the phone at the target.
+        air: u32,
+    },
+    /// 27, from the core: Handover Command (TS 36.413 8.4.1), 21 octets.
+    HandoverCommand {
+        /// The connection.
+        conn: u32,
+        /// The attempt.
+        attempt: u32,
+        /// The target cell.
+        cell: Cell,
+        /// The NCC of the target's key.
+        ncc: u8,
+        /// The algorithms chosen by the target.
+        algs: Algs,
+        /// The address of the phone at the target.
+        air: u32,
+    },
+    /// 28, to the core: Handover Notify (TS 36.413 8.4.3), 12 octets.
+    HandoverNotify {
+        /// The connection.
+        conn: u32,
+        /// The station that the phone has come to.
+        station: u8,
+        /// The cell that it has come to.
+        cell: Cell,
+    },
+    /// 29, both ways: Handover Cancel (TS 36.413 8.4.5), 16 octets.
+    HandoverCancel {
+        /// The connection.
+        conn: u32,
+        /// The source station.
+        source: u8,
+        /// The attempt.
+        attempt: u32,
+        /// The target cell.
+        cell: Cell,
+    },
+    /// 30, from source to target: X2 Handover Request (TS 36.423 8.2.1), 51 octets.
+    X2Request {
+        /// The connection.
+        conn: u32,
+        /// The source station.
+        source: u8,
+        /// The attempt.
+        attempt: u32,
+        /// The target cell.
+        cell: Cell,
+        /// The security capabilities of the phone.
+        caps: Caps,
+        /// The NCC of the KeNB*.
+        ncc: u8,
+        /// The KeNB* of the target cell.
+        star: Star,
+    },
+    /// 31, from target to source: X2 Handover Request Acknowledge (TS 36.423 8.2.1), 20 octets.
+    X2Ack {
+        /// The connection.
+        conn: u32,
+        /// The attempt.
+        attempt: u32,
+        /// The target cell.
+        cell: Cell,
+        /// The algorithms chosen by the target.
+        algs: Algs,
+        /// The address of the phone at the target.
+        air: u32,
+    },
+    /// 32, from source to target: X2 Handover Cancel (TS 36.423 8.2.3), 10 octets.
+    X2Cancel {
+        /// The connection.
+        conn: u32,
+        /// The source station.
+        source: u8,
+        /// The attempt.
+        attempt: u32,
+    },
+    /// 33, from target to source: X2 UE Context Release (TS 36.423 8.2.4), 9 octets.
+    X2Release {
+        /// The connection.
+        conn: u32,
+        /// The attempt.
+        attempt: u32,
+    },
+}
