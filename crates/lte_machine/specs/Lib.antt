@@ -1,0 +1,9 @@
+pub mod Bearers
+pub mod Wire
+pub mod Ciphers
+pub mod Opening
+pub mod Reply
+pub mod Refusals
+pub mod PhoneState
+pub mod StationState
+pub mod CoreState

@@ -1,0 +1,14 @@
+-- Faults of the layers below as answers of an actor.
+use Rattle.std.specs.Prelude.{ℕ, ◌+◌, ◌*◌, List, take, Result, Ok, Err, slice_index}
+use Rattle.rec_base.specs.declared.faults.RecFault.{RecFault}
+use Rattle.lte_events.specs.declared.answers.Answer.{Answer}
+use Rattle.lte_events.specs.declared.answers.Answer as answers
+use Rattle.lte_events.specs.declared.answers.Answer.TheVariants.{BadRecord, MacFails}
+use Rattle.pdcp_guard.specs.declared.pdus.PdcpFault.{PdcpFault}
+use Rattle.pdcp_guard.specs.declared.pdus.PdcpFault as faults
+
+abbrev pub of_pdcp : PdcpFault → Answer
+of_pdcp faults.TheVariants.Short = answers.TheVariants.Short
+of_pdcp (faults.TheVariants.BadHeader octet) = answers.TheVariants.BadHeader octet
+of_pdcp faults.TheVariants.CountSpent = answers.TheVariants.CountSpent
+of_pdcp (faults.TheVariants.MacFails count wanted got) = answers.TheVariants.MacFails count wanted got

@@ -1,0 +1,122 @@
+-- What an actor gives out in a step, and what a run tells of agreement beside it.
+use Rattle.std.specs.Prelude.{ℕ, Bool, false, List, [], map, Option, Some, None, option_map}
+use Rattle.alg_choice.specs.declared.algs.Algs.{Algs}
+use Rattle.annex_a_keys.specs.Cell.{Place}
+use Rattle.rec_base.specs.declared.ways.Way.{Way}
+use Rattle.lte_events.specs.declared.answers.Answer.{Answer}
+use Rattle.key_model.specs.Derivation.{Derivation, map_derivation}
+use Rattle.key_model.specs.HandoverTable.{NumberedKey}
+use Rattle.key_model.specs.HandoverLines.{map_numbered}
+use Rattle.key_model.specs.Use.{map_use}
+use Rattle.lte_machine.specs.Wire.{KeyUse, Outgoing, map_outgoing}
+
+-- the key of a step: its NCC, how the actor came by it, and the key itself
+pub record Note (K : Type 0) : Type 0 where
+  pub ncc : ℕ
+  pub way : Way
+  pub key : K
+
+-- the source of a handover and its attempt number
+pub record Origin : Type 0 where
+  pub source : ℕ
+  pub attempt : ℕ
+
+-- what a station made for an air address: the context or preparation that it drew the address for, and the attempt from
+-- which that came, if it came by one
+pub record Made (K C : Type 0) : Type 0 where
+  pub station : ℕ
+  pub air : ℕ
+  pub conn : ℕ
+  pub cell : Place
+  pub key : K
+  pub number : C
+  pub algs : Algs
+  pub from_attempt : Option Origin
+
+-- an attempt of a handover: the key of the context that it was opened under, its target, and KeNB* if the source made it
+pub record Tried (K C : Type 0) : Type 0 where
+  pub station : ℕ
+  pub attempt : ℕ
+  pub target : ℕ
+  pub conn : ℕ
+  pub cell : Place
+  pub key : K
+  pub number : C
+  pub given : Option (NumberedKey K C)
+
+-- a key that the phone took at a station and air address, and its key before, where it obeyed a handover command
+pub record Took (K C : Type 0) : Type 0 where
+  pub station : ℕ
+  pub air : ℕ
+  pub key : K
+  pub number : C
+  pub algs : Algs
+  pub before : Option (NumberedKey K C)
+
+-- what a step gives out
+pub record Reply (K C : Type 0) : Type 0 where
+  pub answer : Answer
+  pub sent : Option (Outgoing K C)
+  pub opened : Option (List ℕ)
+  -- the derivations in order
+  pub derived : List (Derivation K)
+  -- the key in a record that was read, also where the step then refuses it
+  pub received : Option K
+  -- the integrity use of a record whose check held, also where the step then refuses it
+  pub accepted : Option (KeyUse K)
+  pub note : Option (Note K)
+  pub alarm : Bool
+  pub made : Option (Made K C)
+  pub tried : Option (Tried K C)
+  pub took : Option (Took K C)
+
+-- an answer alone
+abbrev pub only : {K C : Type 0} → Answer → Reply K C
+only answer = record {
+  answer = answer; sent = None; opened = None; derived = []; received = None; accepted = None; note = None;
+  alarm = false; made = None; tried = None; took = None;
+}
+
+-- an answer, with the key that was received and the use that was accepted
+abbrev pub finished : {K C : Type 0} → Option K → Option (KeyUse K) → Reply K C → Reply K C
+finished received accepted reply = record reply { received = received; accepted = accepted }
+
+abbrev pub map_note : {K L : Type 0} → (K → L) → Note K → Note L
+map_note f n = record { ncc = n.ncc; way = n.way; key = f n.key }
+
+abbrev pub map_made : {K C L D : Type 0} → (K → L) → (C → D) → Made K C → Made L D
+map_made f g m = record {
+  station = m.station; air = m.air; conn = m.conn; cell = m.cell; key = f m.key; number = g m.number; algs = m.algs;
+  from_attempt = m.from_attempt;
+}
+
+abbrev pub map_tried : {K C L D : Type 0} → (K → L) → (C → D) → Tried K C → Tried L D
+map_tried f g t = record {
+  station = t.station; attempt = t.attempt; target = t.target; conn = t.conn; cell = t.cell; key = f t.key;
+  number = g t.number; given = option_map (map_numbered f g) t.given;
+}
+
+abbrev pub map_took : {K C L D : Type 0} → (K → L) → (C → D) → Took K C → Took L D
+map_took f g t = record {
+  station = t.station; air = t.air; key = f t.key; number = g t.number; algs = t.algs;
+  before = option_map (map_numbered f g) t.before;
+}
+
+abbrev pub map_reply : {K C L D : Type 0} → (K → L) → (C → D) → Reply K C → Reply L D
+map_reply f g r = record {
+  answer = r.answer;
+  sent = option_map (map_outgoing f g) r.sent;
+  opened = r.opened;
+  derived = map (map_derivation f) r.derived;
+  received = option_map f r.received;
+  accepted = option_map (map_use f) r.accepted;
+  note = option_map (map_note f) r.note;
+  alarm = r.alarm;
+  made = option_map (map_made f g) r.made;
+  tried = option_map (map_tried f g) r.tried;
+  took = option_map (map_took f g) r.took;
+}
+
+-- keys and chain numbers out of sight: what the choice of a row may not look at
+abbrev pub unseen : {K : Type 0} → K → Unit {0}
+unseen key = tt

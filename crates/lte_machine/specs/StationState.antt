@@ -1,0 +1,119 @@
+-- A base station: what it keeps of the phone (TS 33.401 7.2.8, TS 36.331 5.3, TS 36.423), in keys K and chain numbers C.
+use Rattle.std.specs.Prelude.{ℕ, Bool, List, [], ◌∷◌, replicate, Option, None, option_map, Result, Ok, Err}
+use Rattle.alg_choice.specs.declared.algs.Algs.{Algs}
+use Rattle.alg_choice.specs.declared.algs.Eea.{Eea}
+use Rattle.alg_choice.specs.declared.caps.Caps.{Caps}
+use Rattle.annex_a_keys.specs.Cell.{Place}
+use Rattle.rec_base.specs.declared.bearers.Bearer.{Bearer}
+use Rattle.rec_base.specs.declared.faults.RecFault.{RecFault}
+use Rattle.lte_events.specs.declared.acts.StationAct.{StationAct}
+use Rattle.lte_events.specs.Site.{Site}
+use Rattle.nh_chain.specs.Station.{StationKey, map_station_key}
+use Rattle.pdcp_guard.specs.AsKeys.{AsKeys, map_as_keys}
+use Rattle.ho_prep.specs.Prep.{Prep, map_prep}
+use Rattle.x2_handover.specs.Attempt.{X2Start, X2Acked, X2Sent, map_x2_start, map_x2_acked}
+use Rattle.s1_handover.specs.Attempt.{S1Start, S1Acked, S1Sent}
+use Rattle.s1x2_rec.specs.Content.{Content, map_content}
+use Rattle.lte_machine.specs.Bearers.{Bearers}
+use Rattle.lte_machine.specs.Reply.{Origin}
+
+-- an attempt of a handover over X2, or within the station, by how far it is
+pub data X2State (K C : Type 0) : Type 0 where
+  X2Open : X2Start K C → X2State K C
+  X2Ready : X2Acked K C → X2State K C
+  X2Commanded : X2Sent → X2State K C
+
+pub data S1State : Type 0 where
+  S1Open : S1Start → S1State
+  S1Ready : S1Acked → S1State
+  S1Commanded : S1Sent → S1State
+
+-- the kinds of attempt are apart
+pub data Attempt (K C : Type 0) : Type 0 where
+  OverX2 : X2State K C → Attempt K C
+  OverS1 : S1State → Attempt K C
+  Within : X2State K C → Attempt K C
+
+-- the phone's context: connection, cell and air address, key with a stored pair if there is one, keys, capabilities,
+-- whether its security still starts, bearers, attempt, the path switch request whose answer is outstanding, and the X2
+-- handover that it came by
+pub record Context (K C : Type 0) : Type 0 where
+  pub conn : ℕ
+  pub cell : Place
+  pub air : ℕ
+  pub key : StationKey K C
+  pub algs : Algs
+  pub keys : AsKeys K
+  pub caps : Caps
+  pub starting : Bool
+  pub bearers : Bearers
+  pub attempt : Option (Attempt K C)
+  pub outstanding : Option ℕ
+  pub origin : Option Origin
+
+-- its number, all cells with their stations, its list of algorithms, the next number that it draws, the greatest
+-- connection number, the greatest attempt seen of each source, context, preparations
+pub record Station (K C : Type 0) : Type 0 where
+  pub id : ℕ
+  pub cells : List Site
+  pub priority : List Eea
+  pub next : ℕ
+  pub last : ℕ
+  pub seen : List ℕ
+  pub context : Option (Context K C)
+  pub preps : List (Prep K C)
+
+-- a station that has served nobody
+abbrev pub first_station : {K C : Type 0} → ℕ → List Site → List Eea → ℕ → Station K C
+first_station id cells priority first = record {
+  id = id; cells = cells; priority = priority; next = first; last = 0; seen = replicate 8 0; context = None; preps = [];
+}
+
+-- the interfaces of its records
+pub data Interface : Type 0 where
+  OnS1 OnX2 : Interface
+
+-- what a station gets
+pub data StationInput (K C : Type 0) : Type 0 where
+  StationActs : StationAct → StationInput K C
+  -- a PDU of an air address on a bearer
+  AirPdu : ℕ → Bearer → List ℕ → StationInput K C
+  -- a record, as it reads
+  StationRecord : Interface → Result (Content K C) RecFault → StationInput K C
+
+abbrev pub map_x2_state : {K C L D : Type 0} → (K → L) → (C → D) → X2State K C → X2State L D
+map_x2_state f g (X2Open s) = X2Open (map_x2_start f g s)
+map_x2_state f g (X2Ready a) = X2Ready (map_x2_acked f g a)
+map_x2_state f g (X2Commanded s) = X2Commanded s
+
+abbrev pub map_attempt : {K C L D : Type 0} → (K → L) → (C → D) → Attempt K C → Attempt L D
+map_attempt f g (OverX2 a) = OverX2 (map_x2_state f g a)
+map_attempt f g (OverS1 a) = OverS1 a
+map_attempt f g (Within a) = Within (map_x2_state f g a)
+
+abbrev pub map_context : {K C L D : Type 0} → (K → L) → (C → D) → Context K C → Context L D
+map_context f g c = record {
+  conn = c.conn; cell = c.cell; air = c.air; key = map_station_key f g c.key; algs = c.algs; keys = map_as_keys f c.keys;
+  caps = c.caps; starting = c.starting; bearers = c.bearers; attempt = option_map (map_attempt f g) c.attempt;
+  outstanding = c.outstanding; origin = c.origin;
+}
+
+-- the preparations, one after the other
+abbrev pub map_preps : {K C L D : Type 0} → (K → L) → (C → D) → List (Prep K C) → List (Prep L D)
+map_preps f g [] = []
+map_preps f g (p ∷ ps) = map_prep f g p ∷ map_preps f g ps
+
+abbrev pub map_station : {K C L D : Type 0} → (K → L) → (C → D) → Station K C → Station L D
+map_station f g s = record {
+  id = s.id; cells = s.cells; priority = s.priority; next = s.next; last = s.last; seen = s.seen;
+  context = option_map (map_context f g) s.context; preps = map_preps f g s.preps;
+}
+
+abbrev pub map_read : {K C L D : Type 0} → (K → L) → (C → D) → Result (Content K C) RecFault → Result (Content L D) RecFault
+map_read f g (Ok content) = Ok (map_content f g content)
+map_read f g (Err fault) = Err fault
+
+abbrev pub map_station_input : {K C L D : Type 0} → (K → L) → (C → D) → StationInput K C → StationInput L D
+map_station_input f g (StationActs act) = StationActs act
+map_station_input f g (AirPdu air bearer pdu) = AirPdu air bearer pdu
+map_station_input f g (StationRecord interface read) = StationRecord interface (map_read f g read)

@@ -1,0 +1,104 @@
+-- What the actors send, and under which keys: generic in keys K and chain numbers C.
+use Rattle.std.specs.Prelude.{ℕ, List, [], ◌∷◌, ◌++◌, Option, Some, None, option_map}
+use Rattle.alg_choice.specs.declared.algs.Eea.{Eea}
+use Rattle.rec_base.specs.declared.uses.Dir.{Dir}
+use Rattle.rec_base.specs.declared.uses.Dir.TheVariants.{Up, Down}
+use Rattle.rec_base.specs.declared.bearers.Bearer.{Bearer}
+use Rattle.rec_base.specs.Bearer.{bearer5_of}
+use Rattle.nas_guard.specs.Seal.{nas_bearer}
+use Rattle.lte_events.specs.declared.addresses.Address.{Address}
+use Rattle.lte_events.specs.declared.addresses.Address.TheVariants.{Phone, PhoneNas, CoreNas, StationAir}
+use Rattle.key_model.specs.HandoverTable.{NumberedKey}
+use Rattle.key_model.specs.HandoverLines.{map_numbered}
+use Rattle.key_model.specs.Use.{Use, map_use}
+use Rattle.s1x2_rec.specs.Fields.{Fields}
+use Rattle.lte_machine.specs.Bearers.{Srb, Drb, of_srb, of_drb}
+
+-- one use of a key: with COUNT, BEARER and DIRECTION (TS 33.401 B.1.1 and B.2.1)
+abbrev pub KeyUse : Type 0 → Type 0
+KeyUse K = Use K Dir
+
+-- a ciphering: the use, and the algorithm, which leaves a text as it is where it is EEA0
+pub record Ciphering (K : Type 0) : Type 0 where
+  pub under : KeyUse K
+  pub eea : Eea
+
+-- a record as its sender makes it. The kind fixes the address
+pub data Outgoing (K C : Type 0) : Type 0 where
+  -- a NAS message under protection: header type, integrity use, ciphering if there is one, text (TS 24.301 4.4)
+  SealedNas : Dir → ℕ → KeyUse K → Option (Ciphering K) → List ℕ → Outgoing K C
+  -- a NAS message as it is, from the phone (TS 24.301 4.4.4.2)
+  PlainNas : List ℕ → Outgoing K C
+  -- an RRC text on an SRB of a station and air address (TS 36.323 5.6 and 5.7)
+  SealedRrc : Dir → ℕ → ℕ → Srb → KeyUse K → Option (Ciphering K) → List ℕ → Outgoing K C
+  -- a user packet on a DRB of a station and air address (TS 36.323 5.6)
+  UserPacket : Dir → ℕ → ℕ → Drb → Ciphering K → List ℕ → Outgoing K C
+  -- a record on S1 or X2: plain fields, and its key with the number of it, if it holds one
+  Between : Address → Fields → Option (NumberedKey K C) → Outgoing K C
+
+abbrev pub map_ciphering : {K L : Type 0} → (K → L) → Ciphering K → Ciphering L
+map_ciphering f c = record { under = map_use f c.under; eea = c.eea }
+
+abbrev pub map_outgoing : {K C L D : Type 0} → (K → L) → (C → D) → Outgoing K C → Outgoing L D
+map_outgoing f g (SealedNas dir header u e text) = SealedNas dir header (map_use f u) (option_map (map_ciphering f) e) text
+map_outgoing f g (PlainNas octets) = PlainNas octets
+map_outgoing f g (SealedRrc dir station air srb u e text) =
+    SealedRrc dir station air srb (map_use f u) (option_map (map_ciphering f) e) text
+map_outgoing f g (UserPacket dir station air drb e text) = UserPacket dir station air drb (map_ciphering f e) text
+map_outgoing f g (Between to fields key) = Between to fields (option_map (map_numbered f g) key)
+
+-- the use of a NAS key (TS 33.401 8.1)
+abbrev pub nas_use : {K : Type 0} → Dir → K → ℕ → KeyUse K
+nas_use dir key count = record { key = key; count = count; bearer = nas_bearer; dir = dir }
+
+-- the use of a key on a radio bearer (TS 36.323 5.6 and 5.7)
+abbrev pub srb_use : {K : Type 0} → Dir → K → Srb → ℕ → KeyUse K
+srb_use dir key srb count = record { key = key; count = count; bearer = bearer5_of (of_srb srb); dir = dir }
+
+abbrev pub drb_use : {K : Type 0} → Dir → K → Drb → ℕ → KeyUse K
+drb_use dir key drb count = record { key = key; count = count; bearer = bearer5_of (of_drb drb); dir = dir }
+
+abbrev pub ciphering_by : {K : Type 0} → Eea → KeyUse K → Ciphering K
+ciphering_by eea u = record { under = u; eea = eea }
+
+-- where a record goes
+abbrev pub nas_address : Dir → Address
+nas_address Up = CoreNas
+nas_address Down = PhoneNas
+
+abbrev pub air_address : Dir → ℕ → ℕ → Bearer → Address
+air_address Up station air bearer = StationAir station air bearer
+air_address Down station air bearer = Phone station air bearer
+
+abbrev pub address_of : {K C : Type 0} → Outgoing K C → Address
+address_of (SealedNas dir header u e text) = nas_address dir
+address_of (PlainNas octets) = CoreNas
+address_of (SealedRrc dir station air srb u e text) = air_address dir station air (of_srb srb)
+address_of (UserPacket dir station air drb e text) = air_address dir station air (of_drb drb)
+address_of (Between to fields key) = to
+
+-- its integrity use, if it is sealed
+abbrev pub integrity_of : {K C : Type 0} → Outgoing K C → Option (KeyUse K)
+integrity_of (SealedNas dir header u e text) = Some u
+integrity_of (SealedRrc dir station air srb u e text) = Some u
+integrity_of other = None
+
+abbrev pub ciphering_use : {K : Type 0} → Option (Ciphering K) → List (KeyUse K)
+ciphering_use None = []
+ciphering_use (Some e) = e.under ∷ []
+
+-- the uses of a sending, that of encryption first
+abbrev pub uses_of : {K C : Type 0} → Outgoing K C → List (KeyUse K)
+uses_of (SealedNas dir header u e text) = ciphering_use e ++ u ∷ []
+uses_of (PlainNas octets) = []
+uses_of (SealedRrc dir station air srb u e text) = ciphering_use e ++ u ∷ []
+uses_of (UserPacket dir station air drb e text) = e.under ∷ []
+uses_of (Between to fields key) = []
+
+-- the text of a packet, if it is one
+abbrev pub text_in : {K C : Type 0} → Outgoing K C → List ℕ
+text_in (SealedNas dir header u e text) = text
+text_in (PlainNas octets) = octets
+text_in (SealedRrc dir station air srb u e text) = text
+text_in (UserPacket dir station air drb e text) = text
+text_in (Between to fields key) = []

@@ -1,0 +1,5 @@
+//! The written machine of LTE access security after authentication: what the phone, a base station and
+//! the core do on every input, what the network does, and what a run is. It is definitions, in `specs/`.
+//!
+//! Each function here has an empty body: its contract is a law about them.
+#![tactic(auto)]
