@@ -1,11 +1,13 @@
 -- The keys of the access stratum (TS 33.401 6.2).
-use Rattle.std.specs.Prelude.{ℕ, List}
+use Rattle.std.specs.Prelude.{List, [], ◌∷◌, ℕ}
 use Rattle.alg_choice.specs.declared.algs.Algs.{Algs}
 use Rattle.alg_choice.specs.Algs.{identity_of, eia2_identity}
 use Rattle.annex_a_keys.specs.AlgType.{distinguisher}
 use Rattle.annex_a_keys.specs.declared.alg_type.AlgType.{AlgType}
 use Rattle.annex_a_keys.specs.declared.alg_type.AlgType.TheVariants.{RrcEnc, RrcInt, UpEnc}
 use Rattle.key_model.specs.Reading.{Reading}
+use Rattle.key_model.specs.Derivation.{Derivation, alg_made, kdf_input}
+use Rattle.annex_a_keys.specs.declared.derived.Derived.{Derived}
 
 -- KRRCenc, KRRCint and KUPenc, for keys K, and the chosen algorithms
 pub record AsKeys (K : Type 0) : Type 0 where
@@ -38,3 +40,15 @@ as_keys_of r kenb algs = record {
   up_enc = r.alg kenb (distinguisher UpEnc) (identity_of algs.eea);
   algs = algs;
 }
+
+-- their derivations, by rising type (A.7)
+abbrev pub as_derivations : {K C : Type 0} → Reading K C → K → Algs → List (Derivation K)
+as_derivations r kenb algs =
+    alg_made r kenb (distinguisher RrcEnc) (identity_of algs.eea)
+    ∷ alg_made r kenb (distinguisher RrcInt) eia2_identity
+    ∷ alg_made r kenb (distinguisher UpEnc) (identity_of algs.eea)
+    ∷ []
+
+-- a derivation in octets
+abbrev pub derived_of : Derivation (List ℕ) → Derived
+derived_of d = record { key = d.key; input = kdf_input d.input; out = d.out }

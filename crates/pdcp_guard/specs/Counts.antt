@@ -34,3 +34,17 @@ skipped count n = min (count + n) LIMIT
 -- a COUNT that has 32 bits
 unfoldable pub in_32_bits : ℕ → Result ℕ PdcpFault
 in_32_bits count = if nat_lt count LIMIT then Ok count else Err CountSpent
+
+-- the COUNT of the next PDU to send
+abbrev pub send_count : BearerState → Result ℕ PdcpFault
+send_count b = in_32_bits b.counts.send
+
+-- the bearer after a sending that took this COUNT, or was refused
+abbrev pub after_send : BearerState → Result ℕ PdcpFault → BearerState
+after_send b (Ok count) = sends_next b (count + 1)
+after_send b (Err fault) = b
+
+-- the bearer after a PDU with this COUNT was taken, or one was refused
+abbrev pub after_receive : BearerState → Result ℕ PdcpFault → BearerState
+after_receive b (Ok count) = expects_next b (count + 1)
+after_receive b (Err fault) = b

@@ -6,6 +6,7 @@ use Rattle.rec_base.specs.declared.bearers.Bearer.TheVariants.{Drb1, Drb2, Drb3,
 use Rattle.rec_base.specs.declared.uses.Dir.{Dir}
 use Rattle.key_model.specs.Least.{least}
 use Rattle.nas_guard.specs.Cipher.{ciphered}
+use Rattle.pdcp_guard.specs.declared.pdus.PdcpSent.{PdcpSent}
 use Rattle.pdcp_guard.specs.declared.pdus.PdcpOpened.{PdcpOpened}
 use Rattle.pdcp_guard.specs.declared.pdus.PdcpFault.{PdcpFault}
 use Rattle.pdcp_guard.specs.declared.pdus.PdcpFault.TheVariants.{CountSpent, Short, BadHeader, MacFails}
@@ -37,6 +38,11 @@ drb_ciphered keys bearer count dir text = ciphered keys.algs.eea keys.up_enc cou
 unfoldable pub drb_sealed : AsKeys (List ℕ) → Bearer → ℕ → Dir → List ℕ → List ℕ
 drb_sealed keys bearer count dir text =
     drb_first_octet count ∷ drb_second_octet count ∷ drb_ciphered keys bearer count dir text
+
+-- the sending of a text under this COUNT, or its refusal
+abbrev pub drb_sent_by : AsKeys (List ℕ) → Bearer → Dir → List ℕ → Result ℕ PdcpFault → Result PdcpSent PdcpFault
+drb_sent_by keys bearer dir text (Ok count) = Ok (record { pdu = drb_sealed keys bearer count dir text; count = count })
+drb_sent_by keys bearer dir text (Err fault) = Err fault
 
 -- the first octet of a PDU
 abbrev pub drb_first : List ℕ → ℕ

@@ -7,6 +7,7 @@ use Rattle.rec_base.specs.declared.bearers.Bearer.TheVariants.{Srb1, Srb2}
 use Rattle.rec_base.specs.declared.uses.Dir.{Dir}
 use Rattle.key_model.specs.Least.{least}
 use Rattle.nas_guard.specs.Cipher.{ciphered, mac_of}
+use Rattle.pdcp_guard.specs.declared.pdus.PdcpSent.{PdcpSent}
 use Rattle.pdcp_guard.specs.declared.pdus.PdcpOpened.{PdcpOpened}
 use Rattle.pdcp_guard.specs.declared.pdus.PdcpFault.{PdcpFault}
 use Rattle.pdcp_guard.specs.declared.pdus.PdcpFault.TheVariants.{CountSpent, Short, BadHeader, MacFails}
@@ -38,7 +39,12 @@ unfoldable pub srb_sealed : AsKeys (List ℕ) → Bool → Bearer → ℕ → Di
 srb_sealed keys cipher bearer count dir text =
     srb_header count ∷ srb_ciphered keys cipher bearer count dir (text ++ srb_mac keys bearer count dir (srb_header count ∷ text))
 
--- the sequence number of a PDU, and its data and MAC-I as sent
+-- the sending of a text under this COUNT, or its refusal
+abbrev pub srb_sent_by : AsKeys (List ℕ) → Bool → Bearer → Dir → List ℕ → Result ℕ PdcpFault → Result PdcpSent PdcpFault
+srb_sent_by keys cipher bearer dir text (Ok count) = Ok (record { pdu = srb_sealed keys cipher bearer count dir text; count = count })
+srb_sent_by keys cipher bearer dir text (Err fault) = Err fault
+
+-- the first octet of a PDU, and its sequence number
 abbrev pub srb_first : List ℕ → ℕ
 srb_first pdu = slice_index pdu 0
 

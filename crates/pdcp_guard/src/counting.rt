@@ -1,2 +1,106 @@
+ghost use Rattle.std.specs.Prelude.{◌≡◌, ◌+◌, ◌<◌, ◌≤◌};
+ghost use Rattle.key_model.specs.Least.{least};
+ghost use Rattle.pdcp_guard.specs.Counts.{in_32_bits, skipped};
+
+use crate::PdcpFault;
+use std::marker::Model;
+
 /// Every PDCP COUNT is below this: it has 32 bits (TS 36.323 6.3.5).
 pub const LIMIT: u64 = 1 << 32;
+
+// The COUNTs of a radio bearer: the next one to send with, and the next one that a receiver expects.
+// 2^32 stands where none is left.
+#[derive(Debug, PartialEq, Eq, Drop)]
+pub(crate) struct Counts {
+    send: u64,
+    receive: u64,
+}
+
+impl Model for Counts {
+    ghost use Rattle.std.specs.Prelude.{◌≤◌};
+    ghost use Rattle.pdcp_guard.specs.declared.counting.TheConstants.{LIMIT};
+    ghost use Rattle.pdcp_guard.specs.Counts.{Counts as Value_of_counts};
+
+    ghost Value = { Value_of_counts };
+
+    ghost view = { λ c. record { send = c.send; receive = c.receive } };
+
+    ghost invariant = { λ c. (c.send ≤ LIMIT) × (c.receive ≤ LIMIT) };
+
+    ghost inverse = { λ c. record { send = c.send; receive = c.receive } };
+}
+
+impl Counts {
+    // Both COUNTs start at 0 (TS 36.323 5.2.1).
+    pub(crate) fn new() -> Counts
+        ensures { result ≡ record { send = 0; receive = 0 } }
+    {
+        Counts {
+            send: 0,
+            receive: 0,
+        }
+    }
+
+    // The next COUNT to send with.
+    #[tactic(auto, unfolding(crate::specs::Counts::in_32_bits))]
+    pub(crate) fn next(&self) -> Result<u32, PdcpFault>
+        ensures { result ≡ in_32_bits self.now.send }
+    {
+        in_32_bits(self.send)
+    }
+
+    // Takes a COUNT to send with.
+    pub(crate) fn sent(&mut self, count: u32)
+        ensures { self.new ≡ record { send = count + 1; receive = self.old.receive } }
+    {
+        self.send = u64::from(count) + 1;
+    }
+
+    // Leaves out so many COUNTs to send with, to 2^32 at the most.
+    pub(crate) fn skip(&mut self, n: u32)
+        ensures { self.new ≡ record { send = skipped self.old.send n; receive = self.old.receive } }
+    {
+        self.send = (self.send + u64::from(n)).min(LIMIT);
+    }
+
+    // Takes the COUNT of a PDU that was received.
+    pub(crate) fn received(&mut self, count: u32)
+        ensures { self.new ≡ record { send = self.old.send; receive = count + 1 } }
+    {
+        self.receive = u64::from(count) + 1;
+    }
+
+    // The COUNT of a PDU that was received, from its sequence number of so many values.
+    pub(crate) fn estimate(&self, sn: u16, values: u16) -> Result<u32, PdcpFault>
+        requires some { 0 < values }
+        requires below { sn < values }
+        requires twelve_bits { values ≤ 4096 }
+        ensures { result ≡ in_32_bits (least self.now.receive sn values) }
+    {
+        in_32_bits(least(self.receive, sn, values))
+    }
+}
+
+// A COUNT that has 32 bits.
+#[tactic(auto, unfolding(crate::specs::Counts::in_32_bits))]
+fn in_32_bits(count: u64) -> Result<u32, PdcpFault>
+    ensures { result ≡ in_32_bits count }
+{
+    if count >= LIMIT {
+        return Err(PdcpFault::CountSpent);
+    }
+    Ok(count as u32)
+}
+
+// The least number at or above `low` with this remainder modulo so many values.
+#[tactic(auto, unfolding(key_model::specs::Least::least))]
+fn least(low: u64, sn: u16, values: u16) -> u64
+    requires low { low ≤ LIMIT }
+    requires some { 0 < values }
+    requires below { sn < values }
+    requires twelve_bits { values ≤ 4096 }
+    ensures { result ≡ least low sn values }
+{
+    let values = u64::from(values);
+    low + (u64::from(sn) + (values - low % values)) % values
+}

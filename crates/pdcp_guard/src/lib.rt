@@ -3,7 +3,13 @@
 #![tactic(auto)]
 
 mod counting;
+mod drbs;
+mod keys;
 mod pdus;
+mod srbs;
 
 pub use counting::LIMIT;
+pub use drbs::Drb;
+pub use keys::AsKeys;
 pub use pdus::{PdcpFault, PdcpOpened, PdcpSent};
+pub use srbs::Srb;

@@ -1,0 +1,197 @@
+ghost use Rattle.std.specs.Prelude.{◌≡◌, ℕ, ◌+◌, ◌-◌, ◌<◌, ◌≤◌, ◌∷◌, ◌↔◌, IfErr, IfOk, IsErr, IsTrue, OnErr, length};
+ghost use Rattle.pdcp_guard.specs.Counts.{after_send, expects_next, new_bearer, send_count, sends_next, skipped};
+ghost use Rattle.pdcp_guard.specs.Srb.{IsSrb, SrbOpens, SrbRefuses, srb_count, srb_opened, srb_opened_at, srb_sealed, srb_sent_by};
+ghost use Rattle.pdcp_guard.specs.declared.counting.TheConstants.{LIMIT};
+
+use crate::counting::{Counts, LIMIT};
+use crate::{AsKeys, PdcpFault, PdcpOpened, PdcpSent};
+use rec_base::{Bearer, Dir, Octets};
+use std::marker::Model;
+
+/// A signalling radio bearer: integrity protected, and ciphered where its caller says so (TS 36.323 5.6
+/// and 5.7). A contract sees it as the bearer and its COUNTs.
+///
+/// It is neither `Copy` nor `Clone`, so that no COUNT is sent twice.
+#[derive(Debug, PartialEq, Eq, Drop)]
+pub struct Srb {
+    bearer: Bearer,
+    counts: Counts,
+}
+
+impl Model for Srb {
+    ghost use Rattle.pdcp_guard.specs.Counts.{BearerState};
+
+    ghost Value = { BearerState };
+
+    ghost use Rattle.pdcp_guard.specs.Srb.{IsSrb};
+
+    ghost view = { λ b. record { bearer = b.bearer; counts = b.counts } };
+
+    ghost invariant = { λ b. IsSrb b.bearer };
+
+    ghost inverse = { λ b. record { bearer = b.bearer; counts = b.counts } };
+}
+
+impl Srb {
+    /// A new bearer, SRB1 or SRB2: both COUNTs start at 0 (TS 36.323 5.2.1).
+    pub fn new(bearer: Bearer) -> Srb
+        requires { IsSrb bearer }
+        ensures { result ≡ new_bearer bearer }
+    {
+        Srb {
+            bearer,
+            counts: Counts::new(),
+        }
+    }
+
+    /// Makes the PDU of a text under the next COUNT, which it takes (TS 36.323 5.6 and 5.7).
+    ///
+    /// `cipher` says whether the bearer is ciphered. The text has at most 201 octets. Where the next COUNT
+    /// would be 2^32, the answer is `CountSpent` and the bearer stays as it is.
+    pub fn send(
+        &mut self,
+        keys: &AsKeys,
+        dir: Dir,
+        cipher: bool,
+        text: &[u8],
+    ) -> Result<PdcpSent, PdcpFault>
+        requires { length text.now ≤ 201 }
+        ensures value { result ≡ srb_sent_by keys.now cipher self.old.bearer dir text.now (send_count self.old) }
+        ensures new { self.new ≡ after_send self.old (send_count self.old) }
+        ensures pdu { IfOk result (λ sent. sent.pdu ≡ srb_sealed keys.now cipher self.old.bearer sent.count dir text.now) }
+        ensures count { IfOk result (λ sent. sent.count ≡ self.old.counts.send) }
+        ensures moves { IfOk result (λ sent. self.new ≡ sends_next self.old (sent.count + 1)) }
+
+        // A receiver whose next expected COUNT is no more than 31 below opens it to the text.
+        ensures opens { IfOk result (λ sent. (next : ℕ) → next ≤ sent.count → sent.count - next < 32
+            → srb_opened keys.now cipher self.old.bearer next dir sent.pdu ≡ Ok (record { count = sent.count; text = text.now })) }
+
+        ensures spent { IsErr result ↔ (self.old.counts.send ≡ LIMIT) }
+        ensures cause { IfErr result (λ fault. fault ≡ PdcpFault.CountSpent) }
+        ensures err { OnErr result (self.new ≡ self.old) }
+    {
+        let count = self.counts.next()?;
+        self.counts.sent(count);
+        let pdu = sealed(keys, cipher, self.bearer, count, dir, text);
+        Ok(PdcpSent { pdu, count })
+    }
+
+    /// Opens a PDU under the least COUNT at or above the next expected one with its sequence number, and
+    /// leaves the bearer as it is (TS 36.323 5.1.2.2).
+    ///
+    /// The PDU has at most 1,536 octets. Where causes of refusal stand together, the first of `Short`,
+    /// `BadHeader`, `CountSpent` and `MacFails` is the answer.
+    pub fn open(
+        &self,
+        keys: &AsKeys,
+        dir: Dir,
+        cipher: bool,
+        pdu: &[u8],
+    ) -> Result<PdcpOpened, PdcpFault>
+        requires { length pdu.now ≤ 1536 }
+        ensures value { result ≡ srb_opened keys.now cipher self.now.bearer self.now.counts.receive dir pdu.now }
+        ensures opens { IfOk result (SrbOpens keys.now cipher self.now.bearer self.now.counts.receive dir pdu.now) }
+        ensures refused { IfErr result (SrbRefuses keys.now cipher self.now.bearer self.now.counts.receive dir pdu.now) }
+        ensures was_sealed { IfOk result (λ o. pdu.now ≡ srb_sealed keys.now cipher self.now.bearer o.count dir o.text) }
+    {
+        let count = self.count_of(pdu)?;
+        opened_at(keys, cipher, self.bearer, count, dir, pdu)
+    }
+
+    /// Takes the COUNT of a PDU that opened as the last received one.
+    pub fn accept(&mut self, count: u32)
+        requires { self.old.counts.receive ≤ count }
+        ensures { self.new ≡ expects_next self.old (count + 1) }
+    {
+        self.counts.received(count);
+    }
+
+    /// Leaves out so many COUNTs to send with, to 2^32 at the most.
+    pub fn skip(&mut self, n: u32)
+        ensures { self.new ≡ sends_next self.old (skipped self.old.counts.send n) }
+    {
+        self.counts.skip(n);
+    }
+
+    /// Whether no COUNT is left to send with.
+    pub fn spent(&self) -> bool
+        ensures { IsTrue result ↔ (self.now.counts.send ≡ LIMIT) }
+    {
+        self.counts.next().is_err()
+    }
+
+    // The COUNT of a PDU.
+    #[tactic(auto, unfolding(crate::specs::Srb::srb_count))]
+    fn count_of(&self, pdu: &[u8]) -> Result<u32, PdcpFault>
+        ensures { result ≡ srb_count self.now.counts.receive pdu.now }
+    {
+        if pdu.len() < 5 {
+            return Err(PdcpFault::Short);
+        }
+        let first = pdu[0];
+        if first >= 32 {
+            return Err(PdcpFault::BadHeader(first));
+        }
+        self.counts.estimate(u16::from(first % 32), 32)
+    }
+}
+
+// What MAC-I covers: the header octet and the data.
+fn covered(header: u8, data: &[u8]) -> Octets
+    requires { length data.now < 1536 }
+    ensures { result ≡ header ∷ data.now }
+{
+    let mut octets = Octets::new();
+    octets.append(&[header]);
+    octets.append(data);
+    octets
+}
+
+// The PDU of a text under a COUNT.
+#[tactic(auto, unfolding(crate::specs::Srb::srb_sealed))]
+fn sealed(
+    keys: &AsKeys,
+    cipher: bool,
+    bearer: Bearer,
+    count: u32,
+    dir: Dir,
+    text: &[u8],
+) -> Octets
+    requires { length text.now ≤ 201 }
+    ensures { result ≡ srb_sealed keys.now cipher bearer count dir text.now }
+{
+    let header = (count % 32) as u8;
+    let mac = keys.srb_mac(bearer, count, dir, covered(header, text).as_slice());
+    let mut plain = Octets::new();
+    plain.append(text);
+    plain.append(&mac);
+    let sent = keys.srb_ciphered(cipher, bearer, count, dir, plain.as_slice());
+    covered(header, sent.as_slice())
+}
+
+// The text of a PDU at a COUNT, where its MAC-I is right.
+#[tactic(auto, unfolding(crate::specs::Srb::srb_opened_at))]
+fn opened_at(
+    keys: &AsKeys,
+    cipher: bool,
+    bearer: Bearer,
+    count: u32,
+    dir: Dir,
+    pdu: &[u8],
+) -> Result<PdcpOpened, PdcpFault>
+    requires long { 5 ≤ length pdu.now }
+    requires length { length pdu.now ≤ 1536 }
+    ensures { result ≡ srb_opened_at keys.now cipher bearer count dir pdu.now }
+{
+    let plain = keys.srb_ciphered(cipher, bearer, count, dir, &pdu[1..]);
+    let (data, mac) = plain.as_slice().split_at(pdu.len() - 5);
+    let wanted = keys.srb_mac(bearer, count, dir, covered(pdu[0], data).as_slice());
+    let mut got = [0; 4];
+    got.copy_from_slice(mac);
+    if wanted != got {
+        return Err(PdcpFault::MacFails { count, wanted, got });
+    }
+    let mut text = Octets::new();
+    text.append(data);
+    Ok(PdcpOpened { count, text })
+}
