@@ -5,7 +5,7 @@ use Rattle.rec_base.specs.BigEndian.{octets_of}
 use Rattle.rec_fields.specs.Spelled.{algs_octet, cell_octets}
 use Rattle.alg_choice.specs.declared.caps.Caps.{Caps}
 use Rattle.annex_a_keys.specs.Cell.{Place}
-use Rattle.s1x2_rec.specs.Fields.{Fields, InitialContext, ContextRelease, PathSwitchRequest, PathSwitchAnswer, HandoverRequired, HandoverRequest, HandoverRequestAck, HandoverCommand, HandoverNotify, HandoverCancel, X2Request, X2Ack, X2Cancel, X2Release}
+use Rattle.s1x2_rec.specs.Fields.{Fields, kind_of, InitialContext, ContextRelease, PathSwitchRequest, PathSwitchAnswer, HandoverRequired, HandoverRequest, HandoverRequestAck, HandoverCommand, HandoverNotify, HandoverCancel, X2Request, X2Ack, X2Cancel, X2Release}
 use Rattle.s1x2_rec.specs.Content.{Content}
 
 -- a key
@@ -18,31 +18,32 @@ abbrev pub pair_octets : Option (NumberedKey (List ℕ) ℕ) → List ℕ
 pair_octets None = []
 pair_octets (Some k) = k.number ∷ k.key
 
--- the kind, and then the fields in order, numbers in four octets
-abbrev pub spelled : Fields → Option (NumberedKey (List ℕ) ℕ) → List ℕ
-spelled (InitialContext conn cell caps) key = 0x20 ∷ octets_of 4 conn ++ cell_octets cell ++ caps.eea ∷ caps.eia ∷ key_octets key
-spelled (ContextRelease conn) key = 0x21 ∷ octets_of 4 conn
-spelled (PathSwitchRequest conn station number cell caps) key =
-    0x22 ∷ octets_of 4 conn ++ station ∷ octets_of 4 number ++ cell_octets cell ++ caps.eea ∷ caps.eia ∷ []
-spelled (PathSwitchAnswer conn number) key = 0x23 ∷ octets_of 4 conn ++ octets_of 4 number ++ pair_octets key
-spelled (HandoverRequired conn station attempt cell) key = 0x24 ∷ octets_of 4 conn ++ station ∷ octets_of 4 attempt ++ cell_octets cell
-spelled (HandoverRequest conn source attempt cell caps) key =
-    0x25 ∷ octets_of 4 conn ++ source ∷ octets_of 4 attempt ++ cell_octets cell ++ caps.eea ∷ caps.eia ∷ pair_octets key
-spelled (HandoverRequestAck conn source attempt cell ncc algs air) key =
-    0x26 ∷ octets_of 4 conn ++ source ∷ octets_of 4 attempt ++ cell_octets cell ++ ncc ∷ algs_octet algs ∷ octets_of 4 air
-spelled (HandoverCommand conn attempt cell ncc algs air) key =
-    0x27 ∷ octets_of 4 conn ++ octets_of 4 attempt ++ cell_octets cell ++ ncc ∷ algs_octet algs ∷ octets_of 4 air
-spelled (HandoverNotify conn station cell) key = 0x28 ∷ octets_of 4 conn ++ station ∷ cell_octets cell
-spelled (HandoverCancel conn source attempt cell) key = 0x29 ∷ octets_of 4 conn ++ source ∷ octets_of 4 attempt ++ cell_octets cell
-spelled (X2Request conn source attempt cell caps) key =
-    0x30 ∷ octets_of 4 conn ++ source ∷ octets_of 4 attempt ++ cell_octets cell ++ caps.eea ∷ caps.eia ∷ pair_octets key
-spelled (X2Ack conn attempt cell algs air) key =
-    0x31 ∷ octets_of 4 conn ++ octets_of 4 attempt ++ cell_octets cell ++ algs_octet algs ∷ octets_of 4 air
-spelled (X2Cancel conn source attempt) key = 0x32 ∷ octets_of 4 conn ++ source ∷ octets_of 4 attempt
-spelled (X2Release conn attempt) key = 0x33 ∷ octets_of 4 conn ++ octets_of 4 attempt
+-- the fields in order, numbers in four octets
+abbrev pub fields_octets : Fields → Option (NumberedKey (List ℕ) ℕ) → List ℕ
+fields_octets (InitialContext conn cell caps) key = octets_of 4 conn ++ cell_octets cell ++ caps.eea ∷ caps.eia ∷ key_octets key
+fields_octets (ContextRelease conn) key = octets_of 4 conn
+fields_octets (PathSwitchRequest conn station number cell caps) key =
+    octets_of 4 conn ++ station ∷ octets_of 4 number ++ cell_octets cell ++ caps.eea ∷ caps.eia ∷ []
+fields_octets (PathSwitchAnswer conn number) key = octets_of 4 conn ++ octets_of 4 number ++ pair_octets key
+fields_octets (HandoverRequired conn station attempt cell) key = octets_of 4 conn ++ station ∷ octets_of 4 attempt ++ cell_octets cell
+fields_octets (HandoverRequest conn source attempt cell caps) key =
+    octets_of 4 conn ++ source ∷ octets_of 4 attempt ++ cell_octets cell ++ caps.eea ∷ caps.eia ∷ pair_octets key
+fields_octets (HandoverRequestAck conn source attempt cell ncc algs air) key =
+    octets_of 4 conn ++ source ∷ octets_of 4 attempt ++ cell_octets cell ++ ncc ∷ algs_octet algs ∷ octets_of 4 air
+fields_octets (HandoverCommand conn attempt cell ncc algs air) key =
+    octets_of 4 conn ++ octets_of 4 attempt ++ cell_octets cell ++ ncc ∷ algs_octet algs ∷ octets_of 4 air
+fields_octets (HandoverNotify conn station cell) key = octets_of 4 conn ++ station ∷ cell_octets cell
+fields_octets (HandoverCancel conn source attempt cell) key = octets_of 4 conn ++ source ∷ octets_of 4 attempt ++ cell_octets cell
+fields_octets (X2Request conn source attempt cell caps) key =
+    octets_of 4 conn ++ source ∷ octets_of 4 attempt ++ cell_octets cell ++ caps.eea ∷ caps.eia ∷ pair_octets key
+fields_octets (X2Ack conn attempt cell algs air) key =
+    octets_of 4 conn ++ octets_of 4 attempt ++ cell_octets cell ++ algs_octet algs ∷ octets_of 4 air
+fields_octets (X2Cancel conn source attempt) key = octets_of 4 conn ++ source ∷ octets_of 4 attempt
+fields_octets (X2Release conn attempt) key = octets_of 4 conn ++ octets_of 4 attempt
 
+-- the kind, and then the fields
 unfoldable pub spelling_of : Content (List ℕ) ℕ → List ℕ
-spelling_of content = spelled content.fields content.key
+spelling_of content = kind_of content.fields ∷ fields_octets content.fields content.key
 
 -- a number of 32 bits, at least 1
 abbrev pub IsNumber : ℕ → Type 0

@@ -2,6 +2,10 @@
 //! grammar.
 #![tactic(auto)]
 
+mod reading;
+mod reading_s1;
+mod reading_x2;
 mod records;
+mod writing;
 
 pub use records::CoreRecord;
