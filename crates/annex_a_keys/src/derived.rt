@@ -5,7 +5,7 @@ use hmac_kdf::{KdfInput, kdf};
 
 /// One derivation of TS 33.401 Annex A: the key that was used, its input, and the 32 octets that
 /// came out.
-#[derive(Clone, Copy, Debug, PartialEq, Eq)]
+#[derive(Clone, Copy, Debug, Default, PartialEq, Eq)]
 pub struct Derived {
     /// The 32 octets of KASME, KeNB or NH.
     pub key: [u8; 32],

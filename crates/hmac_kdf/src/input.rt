@@ -18,6 +18,13 @@ pub enum KdfInput {
     Alg(u8, u8),
 }
 
+// What the unused places of a bounded list of derivations hold.
+impl Default for KdfInput {
+    fn default() -> KdfInput {
+        KdfInput::Kenb(0)
+    }
+}
+
 impl KdfInput {
     ghost use Rattle.hmac_kdf.specs.Kdf.{kdf_string, IsKdfInput};
 
