@@ -1,0 +1,133 @@
+-- On signalling radio bearers what was sealed opens, and what opens was sealed.
+use Rattle.std.proofs.Common.{◌≡◌, ◌≢◌, ℕ, suc, ◌+◌, ◌-◌, ◌%◌, ◌<◌, ◌≤◌, nat_lt, Bool, true, false, if◌then◌else◌, List, [], ◌∷◌, ◌++◌, length, drop, take, Result, Ok, Err, IfOk, IfErr, refl, ap, sym, ◌∙◌, subst, arith, length-append}
+use Rattle.std.specs.Str.{bytes_eq}
+use Rattle.std.proofs.lemmas.Slice.Eq.{bytes_eq-Decides}
+use Rattle.std.proofs.lemmas.List.{take-append-drop}
+use Rattle.std.proofs.lemmas.Bool.Decides.{nat_tests}
+use Rattle.std.proofs.Math.Nat.{mod-mod}
+use Rattle.std.proofs.Math.Seq.{take-append_seam, drop-append_seam}
+use Rattle.rec_base.specs.Bearer.{bearer5_of}
+use Rattle.rec_base.specs.declared.bearers.Bearer.{Bearer}
+use Rattle.rec_base.specs.declared.uses.Dir.{Dir}
+use Rattle.key_model.specs.Least.{least}
+use Rattle.key_model.proofs.LeastFacts.{least_is}
+use Rattle.nas_guard.specs.Cipher.{ciphered}
+use Rattle.nas_guard.proofs.SealFacts.{ciphered-ciphered, length-mac_of}
+use Rattle.pdcp_guard.specs.declared.pdus.PdcpOpened.{PdcpOpened}
+use Rattle.pdcp_guard.specs.declared.pdus.PdcpFault.{PdcpFault}
+use Rattle.pdcp_guard.specs.declared.pdus.PdcpFault.TheVariants.{MacFails}
+use Rattle.pdcp_guard.specs.AsKeys.{AsKeys}
+use Rattle.pdcp_guard.specs.Counts.{LIMIT}
+use Rattle.pdcp_guard.specs.Srb.{SrbOpens, SrbRefuses, srb_ciphered, srb_count, srb_first, srb_got, srb_header, srb_mac, srb_opened, srb_opened_by, srb_opened_at, srb_plain, srb_sealed, srb_sn, srb_text, srb_wanted}
+use Rattle.pdcp_guard.proofs.CountFacts.{expected-is_least, in_32_bits-below, length-ciphered}
+
+-- to cipher twice gives the octets back
+srb_ciphered-srb_ciphered : (keys : AsKeys (List ℕ)) (cipher : Bool) (bearer : Bearer) (count : ℕ) (dir : Dir) (octets : List ℕ)
+    → srb_ciphered keys cipher bearer count dir (srb_ciphered keys cipher bearer count dir octets) ≡ octets
+unfolding srb_ciphered
+srb_ciphered-srb_ciphered keys true bearer count dir octets =
+    ciphered-ciphered keys.algs.eea keys.rrc_enc count (bearer5_of bearer) dir octets
+srb_ciphered-srb_ciphered keys false bearer count dir octets = refl
+
+-- the length is kept
+length-srb_ciphered : (keys : AsKeys (List ℕ)) (cipher : Bool) (bearer : Bearer) (count : ℕ) (dir : Dir) (octets : List ℕ)
+    → length (srb_ciphered keys cipher bearer count dir octets) ≡ length octets
+unfolding srb_ciphered
+length-srb_ciphered keys true bearer count dir octets =
+    length-ciphered keys.algs.eea keys.rrc_enc count (bearer5_of bearer) dir octets
+length-srb_ciphered keys false bearer count dir octets = refl
+
+-- what a PDU opens to at a COUNT where its MAC-I is right
+opened_at-plain : (keys : AsKeys (List ℕ)) (cipher : Bool) (bearer : Bearer) (count : ℕ) (dir : Dir) (header : ℕ) (sent text mac : List ℕ)
+    → srb_ciphered keys cipher bearer count dir sent ≡ text ++ mac → length sent ≡ length text + 4
+    → srb_mac keys bearer count dir (header ∷ text) ≡ mac
+    → srb_opened_at keys cipher bearer count dir (header ∷ sent) ≡ Ok (record { count = count; text = text })
+unfolding srb_opened_at
+opened_at-plain keys cipher bearer count dir header sent text mac plain long right =
+    let few : suc (length sent) - 5 ≡ length text = omega arith in
+    let same = (bytes_eq-Decides mac mac).1 refl in
+    rw (few, plain, take-append_seam text mac, drop-append_seam text mac, right, same) refl
+
+-- the COUNT of a PDU with at least five octets
+count-octets : (next header count : ℕ) (sent : List ℕ) → 4 ≤ length sent → header < 32
+    → least next (header % 32) 32 ≡ count → count < LIMIT → srb_count next (header ∷ sent) ≡ Ok count
+unfolding srb_count
+count-octets next header count sent long reserved is_least below =
+    let not_short : nat_lt (suc (length sent)) 5 ≡ false = grind (arith, nat_tests) in
+    let good : nat_lt header 32 ≡ true = grind (arith, nat_tests) in
+    rw (not_short, good, is_least) (in_32_bits-below count below)
+
+-- what was sealed opens
+pub srb_opened-srb_sealed : (keys : AsKeys (List ℕ)) (cipher : Bool) (bearer : Bearer) (count next : ℕ) (dir : Dir) (text : List ℕ)
+    → count < LIMIT → least next (count % 32) 32 ≡ count
+    → srb_opened keys cipher bearer next dir (srb_sealed keys cipher bearer count dir text) ≡ Ok (record { count = count; text = text })
+unfolding srb_sealed
+srb_opened-srb_sealed keys cipher bearer count next dir text below is_least =
+    let mac = srb_mac keys bearer count dir (count % 32 ∷ text) in
+    let sent = srb_ciphered keys cipher bearer count dir (text ++ mac) in
+    let mac_long : length mac ≡ 4 = length-mac_of keys.rrc_int count (bearer5_of bearer) dir (count % 32 ∷ text) in
+    let long : length sent ≡ length text + 4 = length-srb_ciphered keys cipher bearer count dir (text ++ mac) ∙ length-append text mac ∙ ap (λ n. length text + n) mac_long in
+    let found : srb_count next (count % 32 ∷ sent) ≡ Ok count = count-octets next (count % 32) count sent (omega arith) (omega arith) (rw (mod-mod count 32) is_least) below in
+    ap (srb_opened_by keys cipher bearer dir (count % 32 ∷ sent)) found
+    ∙ opened_at-plain keys cipher bearer count dir (count % 32) sent text mac (srb_ciphered-srb_ciphered keys cipher bearer count dir (text ++ mac)) long refl
+
+pub srb_opened-near : (keys : AsKeys (List ℕ)) (cipher : Bool) (bearer : Bearer) (count next : ℕ) (dir : Dir) (text : List ℕ)
+    → count < LIMIT → next ≤ count → count - next < 32
+    → srb_opened keys cipher bearer next dir (srb_sealed keys cipher bearer count dir text) ≡ Ok (record { count = count; text = text })
+srb_opened-near keys cipher bearer count next dir text below above few =
+    srb_opened-srb_sealed keys cipher bearer count next dir text below (expected-is_least 32 next count (omega arith) above few)
+
+-- what opens was sealed, octet by octet
+was_sealed : (keys : AsKeys (List ℕ)) (cipher : Bool) (bearer : Bearer) (count : ℕ) (dir : Dir) (pdu : List ℕ)
+    → 5 ≤ length pdu → count % 32 ≡ srb_first pdu → srb_wanted keys cipher bearer count dir pdu ≡ srb_got keys cipher bearer count dir pdu
+    → pdu ≡ srb_sealed keys cipher bearer count dir (srb_text keys cipher bearer count dir pdu)
+unfolding srb_sealed
+was_sealed keys cipher bearer count dir [] long header mac = absurd (omega arith)
+was_sealed keys cipher bearer count dir (first ∷ sent) long header mac =
+    let plain = srb_ciphered keys cipher bearer count dir sent in
+    rw (header, mac, take-append-drop (suc (length sent) - 5) plain, srb_ciphered-srb_ciphered keys cipher bearer count dir sent) refl
+
+pub srb_sealed-opened : (keys : AsKeys (List ℕ)) (cipher : Bool) (bearer : Bearer) (next : ℕ) (dir : Dir) (pdu : List ℕ) (o : PdcpOpened)
+    → SrbOpens keys cipher bearer next dir pdu o → pdu ≡ srb_sealed keys cipher bearer o.count dir o.text
+srb_sealed-opened keys cipher bearer next dir pdu o h =
+    let reserved = h.reserved in
+    let small : srb_sn pdu ≡ srb_first pdu = omega arith in
+    let remainder : o.count % 32 ≡ srb_first pdu = ap (λ n. n % 32) h.count ∙ (least_is next (srb_sn pdu) 32 (omega arith)).remainder ∙ small in
+    was_sealed keys cipher bearer o.count dir pdu h.long remainder h.mac
+    ∙ rw h.text refl
+
+-- what is so of an answer at a COUNT
+pub record Answered (keys : AsKeys (List ℕ)) (cipher : Bool) (bearer : Bearer) (next : ℕ) (dir : Dir) (pdu : List ℕ) (r : Result PdcpOpened PdcpFault) : Type 0 where
+  pub opens : IfOk r (SrbOpens keys cipher bearer next dir pdu)
+  pub refused : IfErr r (SrbRefuses keys cipher bearer next dir pdu)
+  pub was_sealed : IfOk r (λ o. pdu ≡ srb_sealed keys cipher bearer o.count dir o.text)
+
+abbrev answer_by : AsKeys (List ℕ) → Bool → Bearer → ℕ → Dir → List ℕ → Bool → Result PdcpOpened PdcpFault
+answer_by keys cipher bearer count dir pdu b =
+    if b then Ok (record { count = count; text = srb_text keys cipher bearer count dir pdu })
+    else Err (MacFails count (srb_wanted keys cipher bearer count dir pdu) (srb_got keys cipher bearer count dir pdu))
+
+pub srb_answered : (keys : AsKeys (List ℕ)) (cipher : Bool) (bearer : Bearer) (next : ℕ) (dir : Dir) (pdu : List ℕ) (count : ℕ)
+    → 5 ≤ length pdu → srb_first pdu < 32 → count ≡ least next (srb_sn pdu) 32 → count < LIMIT
+    → Answered keys cipher bearer next dir pdu (srb_opened_at keys cipher bearer count dir pdu)
+unfolding srb_opened_at
+srb_answered keys cipher bearer next dir pdu count long reserved is_least below =
+    by_mac (bytes_eq wanted got) refl
+  where
+    wanted : List ℕ
+    wanted = srb_wanted keys cipher bearer count dir pdu
+
+    got : List ℕ
+    got = srb_got keys cipher bearer count dir pdu
+
+    by_mac : (b : Bool) → bytes_eq (srb_wanted keys cipher bearer count dir pdu) (srb_got keys cipher bearer count dir pdu) ≡ b
+        → Answered keys cipher bearer next dir pdu (answer_by keys cipher bearer count dir pdu b)
+    by_mac true e =
+        let mac = (bytes_eq-Decides (srb_wanted keys cipher bearer count dir pdu) (srb_got keys cipher bearer count dir pdu)).0 e in
+        let opens : SrbOpens keys cipher bearer next dir pdu (record { count = count; text = srb_text keys cipher bearer count dir pdu }) =
+        record { long = long; reserved = reserved; count = is_least; below = below; mac = mac; text = refl } in
+        record { opens = opens; refused = tt; was_sealed = srb_sealed-opened keys cipher bearer next dir pdu _ opens }
+    by_mac false e =
+        let differs : srb_wanted keys cipher bearer count dir pdu ≢ srb_got keys cipher bearer count dir pdu =
+        λ same. let test = (bytes_eq-Decides (srb_wanted keys cipher bearer count dir pdu) (srb_got keys cipher bearer count dir pdu)).1 same in absurd (cc) in
+        record { opens = tt; refused = (long, reserved, is_least, below, refl, refl, differs); was_sealed = tt }

@@ -1,0 +1,25 @@
+use Rattle.std.proofs.Common.{◌≡◌, ◌<◌, arith}
+use Rattle.pdcp_guard.specs.Counts.{LIMIT}
+use Rattle.pdcp_guard.specs.Srb.{srb_opened_at}
+use Rattle.pdcp_guard.proofs.SrbFacts.{Answered, srb_answered}
+use Rattle.pdcp_guard.proofs.srbs.Srb.open.Goals as goal
+
+answered : (c : goal.After-opened_at) → Answered c.args.keys.now c.args.cipher c.args.self.now.bearer c.args.self.now.counts.receive c.args.dir c.args.pdu.now (srb_opened_at c.args.keys.now c.args.cipher c.args.self.now.bearer c.in_ok-count.count c.args.dir c.args.pdu.now)
+answered c =
+    let below : c.in_ok-count.count < LIMIT = omega arith in
+    srb_answered c.args.keys.now c.args.cipher c.args.self.now.bearer c.args.self.now.counts.receive c.args.dir c.args.pdu.now c.in_ok-count.count c.in_ok-count.ensures.long c.in_ok-count.ensures.reserved c.in_ok-count.ensures.count below
+
+pub returns-clause-opens : goal.returns-clause-opens
+returns-clause-opens c =
+    let same : c.self.inside.bearer ≡ c.args.self.now.bearer = cc in
+    rw (c.opened_at.ensures, same) (answered c).opens
+
+pub returns-clause-refused : goal.returns-clause-refused
+returns-clause-refused c =
+    let same : c.self.inside.bearer ≡ c.args.self.now.bearer = cc in
+    rw (c.opened_at.ensures, same) (answered c).refused
+
+pub returns-clause-was_sealed : goal.returns-clause-was_sealed
+returns-clause-was_sealed c =
+    let same : c.self.inside.bearer ≡ c.args.self.now.bearer = cc in
+    rw (c.opened_at.ensures, same) (answered c).was_sealed
