@@ -98,12 +98,19 @@ pub record SrbOpens (keys : AsKeys (List ℕ)) (cipher : Bool) (bearer : Bearer)
   pub mac : srb_wanted keys cipher bearer o.count dir pdu ≡ srb_got keys cipher bearer o.count dir pdu
   pub text : o.text ≡ srb_text keys cipher bearer o.count dir pdu
 
+-- a PDU has no COUNT for this reason, at most one of the three
+abbrev pub SrbHasNoCount : ℕ → List ℕ → PdcpFault → Type 0
+SrbHasNoCount next pdu Short = length pdu < 5
+SrbHasNoCount next pdu (BadHeader octet) = (5 ≤ length pdu) × (octet ≡ srb_first pdu) × (32 ≤ octet)
+SrbHasNoCount next pdu CountSpent =
+    (5 ≤ length pdu) × (srb_first pdu < 32) × (LIMIT ≤ least next (srb_sn pdu) 32)
+SrbHasNoCount next pdu (MacFails count wanted got) = ⊥
+
 -- a PDU is refused for this, at most one of the four
 abbrev pub SrbRefuses : AsKeys (List ℕ) → Bool → Bearer → ℕ → Dir → List ℕ → PdcpFault → Type 0
-SrbRefuses keys cipher bearer next dir pdu Short = length pdu < 5
-SrbRefuses keys cipher bearer next dir pdu (BadHeader octet) = (5 ≤ length pdu) × (octet ≡ srb_first pdu) × (32 ≤ octet)
-SrbRefuses keys cipher bearer next dir pdu CountSpent =
-    (5 ≤ length pdu) × (srb_first pdu < 32) × (LIMIT ≤ least next (srb_sn pdu) 32)
+SrbRefuses keys cipher bearer next dir pdu Short = SrbHasNoCount next pdu Short
+SrbRefuses keys cipher bearer next dir pdu (BadHeader octet) = SrbHasNoCount next pdu (BadHeader octet)
+SrbRefuses keys cipher bearer next dir pdu CountSpent = SrbHasNoCount next pdu CountSpent
 SrbRefuses keys cipher bearer next dir pdu (MacFails count wanted got) =
     (5 ≤ length pdu) × (srb_first pdu < 32) × (count ≡ least next (srb_sn pdu) 32) × (count < LIMIT)
     × (wanted ≡ srb_wanted keys cipher bearer count dir pdu) × (got ≡ srb_got keys cipher bearer count dir pdu) × (wanted ≢ got)

@@ -1,4 +1,4 @@
-ghost use Rattle.std.specs.Prelude.{◌≡◌, ◌+◌, ◌<◌, ◌≤◌};
+ghost use Rattle.std.specs.Prelude.{◌≡◌, ◌+◌, ◌<◌, ◌≤◌, ◌↔◌, IfErr, IfOk, IsErr};
 ghost use Rattle.key_model.specs.Least.{least};
 ghost use Rattle.pdcp_guard.specs.Counts.{in_32_bits, skipped};
 
@@ -44,7 +44,10 @@ impl Counts {
     // The next COUNT to send with.
     #[tactic(auto, unfolding(crate::specs::Counts::in_32_bits))]
     pub(crate) fn next(&self) -> Result<u32, PdcpFault>
-        ensures { result ≡ in_32_bits self.now.send }
+        ensures value { result ≡ in_32_bits self.now.send }
+        ensures count { IfOk result (λ count. count ≡ self.now.send) }
+        ensures spent { IsErr result ↔ (self.now.send ≡ LIMIT) }
+        ensures cause { IfErr result (λ fault. fault ≡ PdcpFault.CountSpent) }
     {
         in_32_bits(self.send)
     }
@@ -75,7 +78,10 @@ impl Counts {
         requires some { 0 < values }
         requires below { sn < values }
         requires twelve_bits { values ≤ 4096 }
-        ensures { result ≡ in_32_bits (least self.now.receive sn values) }
+        ensures value { result ≡ in_32_bits (least self.now.receive sn values) }
+        ensures least { IfOk result (λ count. count ≡ least self.now.receive sn values) }
+        ensures spent { IfErr result (λ _. LIMIT ≤ least self.now.receive sn values) }
+        ensures cause { IfErr result (λ fault. fault ≡ PdcpFault.CountSpent) }
     {
         in_32_bits(least(self.receive, sn, values))
     }
@@ -84,7 +90,10 @@ impl Counts {
 // A COUNT that has 32 bits.
 #[tactic(auto, unfolding(crate::specs::Counts::in_32_bits))]
 fn in_32_bits(count: u64) -> Result<u32, PdcpFault>
-    ensures { result ≡ in_32_bits count }
+    ensures value { result ≡ in_32_bits count }
+    ensures count { IfOk result (λ same. same ≡ count) }
+    ensures spent { IsErr result ↔ (LIMIT ≤ count) }
+    ensures cause { IfErr result (λ fault. fault ≡ PdcpFault.CountSpent) }
 {
     if count >= LIMIT {
         return Err(PdcpFault::CountSpent);

@@ -1,6 +1,7 @@
-ghost use Rattle.std.specs.Prelude.{◌≡◌, ℕ, ◌+◌, ◌-◌, ◌<◌, ◌≤◌, ◌↔◌, IfErr, IfOk, IsErr, OnErr, length};
+ghost use Rattle.std.specs.Prelude.{◌≡◌, ℕ, ◌+◌, ◌-◌, ◌/◌, ◌<◌, ◌≤◌, ◌↔◌, drop, IfErr, IfOk, IsErr, OnErr, length};
 ghost use Rattle.pdcp_guard.specs.Counts.{after_receive, after_send, expects_next, new_bearer, send_count, sends_next, skipped};
-ghost use Rattle.pdcp_guard.specs.Drb.{IsDrb, DrbOpens, DrbRefuses, drb_count, drb_opened, drb_opened_at, drb_sealed, drb_sent_by};
+ghost use Rattle.key_model.specs.Least.{least};
+ghost use Rattle.pdcp_guard.specs.Drb.{IsDrb, DrbOpens, DrbRefuses, drb_ciphered, drb_count, drb_first, drb_opened, drb_opened_at, drb_sealed, drb_sent_by, drb_sn};
 ghost use Rattle.pdcp_guard.specs.declared.counting.TheConstants.{LIMIT};
 
 use crate::counting::{Counts, LIMIT};
@@ -98,7 +99,11 @@ impl Drb {
     // The COUNT of a PDU.
     #[tactic(auto, unfolding(crate::specs::Drb::drb_count))]
     fn count_of(&self, pdu: &[u8]) -> Result<u32, PdcpFault>
-        ensures { result ≡ drb_count self.now.counts.receive pdu.now }
+        ensures value { result ≡ drb_count self.now.counts.receive pdu.now }
+        ensures long { IfOk result (λ _. 2 ≤ length pdu.now) }
+        ensures first { IfOk result (λ _. drb_first pdu.now / 16 ≡ 8) }
+        ensures count { IfOk result (λ count. count ≡ least self.now.counts.receive (drb_sn pdu.now) 4096) }
+        ensures refused { IfErr result (DrbRefuses self.now.counts.receive pdu.now) }
     {
         if pdu.len() < 2 {
             return Err(PdcpFault::Short);
@@ -130,7 +135,9 @@ fn sealed(keys: &AsKeys, bearer: Bearer, count: u32, dir: Dir, text: &[u8]) -> O
 fn opened_at(keys: &AsKeys, bearer: Bearer, count: u32, dir: Dir, pdu: &[u8]) -> PdcpOpened
     requires long { 2 ≤ length pdu.now }
     requires length { length pdu.now ≤ 1536 }
-    ensures { result ≡ drb_opened_at keys.now bearer count dir pdu.now }
+    ensures value { result ≡ drb_opened_at keys.now bearer count dir pdu.now }
+    ensures count { result.count ≡ count }
+    ensures text { result.text ≡ drb_ciphered keys.now bearer count dir (drop 2 pdu.now) }
 {
     let text = keys.drb_ciphered(bearer, count, dir, &pdu[2..]);
     PdcpOpened { count, text }

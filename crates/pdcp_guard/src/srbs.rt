@@ -1,6 +1,7 @@
 ghost use Rattle.std.specs.Prelude.{◌≡◌, ℕ, ◌+◌, ◌-◌, ◌<◌, ◌≤◌, ◌∷◌, ◌↔◌, IfErr, IfOk, IsErr, IsTrue, OnErr, length};
 ghost use Rattle.pdcp_guard.specs.Counts.{after_send, expects_next, new_bearer, send_count, sends_next, skipped};
-ghost use Rattle.pdcp_guard.specs.Srb.{IsSrb, SrbOpens, SrbRefuses, srb_count, srb_opened, srb_opened_at, srb_sealed, srb_sent_by};
+ghost use Rattle.key_model.specs.Least.{least};
+ghost use Rattle.pdcp_guard.specs.Srb.{IsSrb, SrbHasNoCount, SrbOpens, SrbRefuses, srb_count, srb_first, srb_opened, srb_opened_at, srb_sealed, srb_sent_by, srb_sn};
 ghost use Rattle.pdcp_guard.specs.declared.counting.TheConstants.{LIMIT};
 
 use crate::counting::{Counts, LIMIT};
@@ -123,7 +124,11 @@ impl Srb {
     // The COUNT of a PDU.
     #[tactic(auto, unfolding(crate::specs::Srb::srb_count))]
     fn count_of(&self, pdu: &[u8]) -> Result<u32, PdcpFault>
-        ensures { result ≡ srb_count self.now.counts.receive pdu.now }
+        ensures value { result ≡ srb_count self.now.counts.receive pdu.now }
+        ensures long { IfOk result (λ _. 5 ≤ length pdu.now) }
+        ensures reserved { IfOk result (λ _. srb_first pdu.now < 32) }
+        ensures count { IfOk result (λ count. count ≡ least self.now.counts.receive (srb_sn pdu.now) 32) }
+        ensures refused { IfErr result (SrbHasNoCount self.now.counts.receive pdu.now) }
     {
         if pdu.len() < 5 {
             return Err(PdcpFault::Short);
@@ -136,14 +141,14 @@ impl Srb {
     }
 }
 
-// What MAC-I covers: the header octet and the data.
-fn covered(header: u8, data: &[u8]) -> Octets
-    requires { length data.now < 1536 }
-    ensures { result ≡ header ∷ data.now }
+// What MAC-I covers: the header octet and the data, which is the text.
+fn covered(header: u8, text: &[u8]) -> Octets
+    requires { length text.now < 1536 }
+    ensures { result ≡ header ∷ text.now }
 {
     let mut octets = Octets::new();
     octets.append(&[header]);
-    octets.append(data);
+    octets.append(text);
     octets
 }
 
@@ -184,14 +189,14 @@ fn opened_at(
     ensures { result ≡ srb_opened_at keys.now cipher bearer count dir pdu.now }
 {
     let plain = keys.srb_ciphered(cipher, bearer, count, dir, &pdu[1..]);
-    let (data, mac) = plain.as_slice().split_at(pdu.len() - 5);
-    let wanted = keys.srb_mac(bearer, count, dir, covered(pdu[0], data).as_slice());
+    let (front, mac) = plain.as_slice().split_at(pdu.len() - 5);
+    let wanted = keys.srb_mac(bearer, count, dir, covered(pdu[0], front).as_slice());
     let mut got = [0; 4];
     got.copy_from_slice(mac);
     if wanted != got {
         return Err(PdcpFault::MacFails { count, wanted, got });
     }
     let mut text = Octets::new();
-    text.append(data);
+    text.append(front);
     Ok(PdcpOpened { count, text })
 }
