@@ -1,1 +1,3 @@
-pub mod Layout
+pub mod Layouts
+pub mod Grammar
+pub mod Contents

@@ -1,5 +1,10 @@
+ghost use Rattle.std.specs.Prelude.{◌≡◌, IfOk};
+
+use crate::reading::record_of;
+use crate::writing::written;
 use alg_choice::{Algs, Caps};
 use annex_a_keys::{Cell, Kenb, Nh, Star};
+use rec_base::{Octets, RecFault};
 
 /// A record of S1 or X2: its kind, one octet, and then its fields in order. A connection, an attempt, a
 /// number and an air address are four octets and at least 1; a station, a source and an NCC are one
@@ -173,4 +178,35 @@ pub enum CoreRecord {
         /// The attempt.
         attempt: u32,
     },
+}
+
+impl CoreRecord {
+    ghost use Rattle.s1x2_rec.specs.declared.records.CoreRecord.{CoreRecord};
+    ghost use Rattle.s1x2_rec.specs.Content.{content_of};
+    ghost use Rattle.s1x2_rec.specs.Spelling.{spelling_of, InRange};
+    ghost use Rattle.s1x2_rec.specs.Reading.{read_record, read_core, content_read};
+
+    /// The record that the octets spell, all of them. Otherwise the first fault: no octet is `Short`;
+    /// then an unknown kind is `BadKind`; then fewer octets than the layout has are `Short` and more
+    /// are `Long`; then the first field out of its range is `BadField`, with its offset in octets.
+    pub fn read(octets: &[u8]) -> Result<CoreRecord, RecFault>
+        // What is read is spelled so.
+        ensures found { IfOk result (λ r. InRange (content_of r) × (octets.now ≡ spelling_of (content_of r))) }
+        // What is spelled so is read.
+        ensures only { (r : CoreRecord) → InRange (content_of r) → octets.now ≡ spelling_of (content_of r) → result ≡ Ok r }
+        // Which fault it is.
+        ensures exact { result ≡ read_record octets.now }
+        // The same with the key apart.
+        ensures content { content_read result ≡ read_core octets.now }
+    {
+        record_of(octets)
+    }
+
+    /// The one spelling of a record whose fields are in their ranges: at most 51 octets.
+    pub fn write(&self) -> Octets
+        requires { InRange (content_of self.now) }
+        ensures { result ≡ spelling_of (content_of self.now) }
+    {
+        written(self)
+    }
 }
