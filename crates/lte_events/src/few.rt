@@ -1,0 +1,58 @@
+// Lists of a bounded length, which take no memory.
+ghost use Rattle.std.specs.Prelude.{◌≡◌, ◌≤◌, ◌<◌, ◌↔◌, [], ◌∷◌, ◌++◌, length, IsOk, OnOk, OnErr, IfErr};
+
+use arrayvec::ArrayVec;
+use std::marker::Model;
+
+/// A list of at most `N` items, which lies in the value itself. A contract sees it as the list.
+#[derive(PartialEq, Eq, Debug, Drop)]
+pub struct Few<T, const N: usize> {
+    items: ArrayVec<T, N>,
+}
+
+impl<T, const N: usize> Model for Few<T, N> {
+    ghost use Rattle.std.specs.Prelude.{List, ◌≤◌, length};
+
+    ghost Value = { List T };
+
+    ghost view = { λ f. f.items.items };
+
+    ghost invariant = { λ f. length f.items.items ≤ N };
+
+    ghost inverse = { λ items. record { items = record { items = items } } };
+}
+
+impl<T: Default, const N: usize> Few<T, N> {
+    /// No item.
+    pub fn new() -> Self
+        ensures { result ≡ [] }
+    {
+        Few {
+            items: ArrayVec::new(),
+        }
+    }
+}
+
+impl<T: Drop, const N: usize> Few<T, N> {
+    /// Appends an item, or hands it back where the list has `N` items.
+    pub fn try_push(&mut self, item: T) -> Result<(), T>
+        ensures variant { IsOk result ↔ (length self.old < N) }
+        ensures ok { OnOk result (self.new ≡ self.old ++ item ∷ []) }
+        ensures err { OnErr result (self.new ≡ self.old) }
+        ensures handed_back { IfErr result (λ given. given ≡ item) }
+    {
+        if self.items.is_full() {
+            return Err(item);
+        }
+        self.items.push(item);
+        Ok(())
+    }
+
+    /// The items, in order.
+    pub fn as_slice(&self) -> &[T]
+        ensures value { result.now ≡ self.now }
+        ensures within { length result.now ≤ N }
+    {
+        self.items.as_slice()
+    }
+}

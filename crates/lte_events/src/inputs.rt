@@ -1,0 +1,54 @@
+use crate::{CoreAct, PhoneAct, StationAct};
+use alg_choice::Caps;
+use annex_a_keys::Kasme;
+use rec_base::{Bearer, Octets};
+
+/// One input of the phone.
+#[derive(Clone, PartialEq, Eq, Debug, Drop)]
+pub enum PhoneIn {
+    /// An authentication: the KSI, 0 to 6, and its KASME.
+    Auth(u8, Kasme),
+    /// An act of its own.
+    Act(PhoneAct),
+    /// A NAS message came.
+    Nas(Octets),
+    /// A PDCP PDU came from a station, 0 to 7, at an address there, on a bearer.
+    Air(u8, u32, Bearer, Octets),
+}
+
+/// One input of a station.
+#[derive(Clone, PartialEq, Eq, Debug, Drop)]
+pub enum StationIn {
+    /// An act of its own.
+    Act(StationAct),
+    /// A PDCP PDU came at an address, on a bearer.
+    Air(u32, Bearer, Octets),
+    /// A record came on S1.
+    S1(Octets),
+    /// A record came on X2.
+    X2(Octets),
+}
+
+/// One input of the core.
+#[derive(Clone, PartialEq, Eq, Debug, Drop)]
+pub enum CoreIn {
+    /// An authentication: the KSI, 0 to 6, its KASME, and the capabilities of the phone.
+    Auth(u8, Kasme, Caps),
+    /// An act of its own.
+    Act(CoreAct),
+    /// A NAS message came.
+    Nas(Octets),
+    /// A record came on S1.
+    S1(Octets),
+}
+
+/// One input of one actor.
+#[derive(Clone, PartialEq, Eq, Debug, Drop)]
+pub enum ActorIn {
+    /// Of the phone.
+    Phone(PhoneIn),
+    /// Of a station, 0 to 7.
+    Station(u8, StationIn),
+    /// Of the core.
+    Core(CoreIn),
+}

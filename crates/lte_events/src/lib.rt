@@ -1,0 +1,29 @@
+//! What passes between the actors and their callers: the inputs and acts of phone, stations and core,
+//! their replies and answers, the events of a whole system, what it starts with, and what is reported.
+#![tactic(auto)]
+
+mod acts;
+mod addresses;
+mod answers;
+mod classes;
+mod events;
+mod few;
+mod inputs;
+mod lines;
+mod replies;
+mod setups;
+mod sites;
+#[cfg(test)]
+mod tests;
+
+pub use acts::{CoreAct, HoKind, PhoneAct, StationAct};
+pub use addresses::Address;
+pub use answers::Answer;
+pub use classes::Class;
+pub use events::Event;
+pub use few::Few;
+pub use inputs::{ActorIn, CoreIn, PhoneIn, StationIn};
+pub use lines::{Line, Who};
+pub use replies::{ActorOut, KeyNote, Record};
+pub use setups::{Setup, StationSetup};
+pub use sites::{Cells, CellsFault};

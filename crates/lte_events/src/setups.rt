@@ -1,0 +1,39 @@
+use crate::{Cells, Few};
+use alg_choice::{Caps, Eea, Priority};
+
+/// What a station starts with.
+#[derive(Clone, Copy, Debug, PartialEq, Eq)]
+pub struct StationSetup {
+    /// Its number, 0 to 7.
+    pub id: u8,
+    /// The encryption algorithms that it may choose, in order.
+    pub priority: Priority,
+    /// The first number that it draws, at least 1.
+    pub first: u32,
+}
+
+// What the unused places of a bounded list of stations hold.
+impl Default for StationSetup {
+    fn default() -> StationSetup {
+        StationSetup {
+            id: 0,
+            priority: Priority::new(Eea::Eea0, None),
+            first: 1,
+        }
+    }
+}
+
+/// What a system of one phone, its stations and one core starts with.
+#[derive(Debug, PartialEq, Eq, Drop)]
+pub struct Setup {
+    /// The capabilities of the phone.
+    pub caps: Caps,
+    /// The encryption algorithms that the core may choose, in order.
+    pub core_priority: Priority,
+    /// The first connection number that the core draws, at least 1.
+    pub core_first: u32,
+    /// The stations, at most 8.
+    pub stations: Few<StationSetup, 8>,
+    /// The cells of all stations.
+    pub cells: Cells,
+}
