@@ -7,3 +7,4 @@ pub mod Refusals
 pub mod PhoneState
 pub mod StationState
 pub mod CoreState
+pub mod Ladder
