@@ -8,3 +8,4 @@ pub mod PhoneState
 pub mod StationState
 pub mod CoreState
 pub mod Ladder
+pub mod Tuples
