@@ -4,7 +4,12 @@ pub mod Ciphers
 pub mod Opening
 pub mod Reply
 pub mod Refusals
+pub mod Kinds
 pub mod PhoneState
+pub mod PhoneRows
+pub mod PhoneChoice
+pub mod PhoneKeys
+pub mod PhoneStep
 pub mod StationState
 pub mod CoreState
 pub mod Ladder

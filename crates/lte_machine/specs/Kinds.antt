@@ -1,0 +1,20 @@
+-- The kinds of the NAS and the RRC texts, each the first octet of its text.
+use Rattle.std.specs.Prelude.{ℕ}
+use Rattle.nas_rec.specs.declared.records.NasRecord as nas
+use Rattle.nas_rec.specs.declared.records.NasRecord.{NasRecord}
+use Rattle.rrc_rec.specs.declared.records.RrcRecord as rrc
+use Rattle.rrc_rec.specs.declared.records.RrcRecord.{RrcRecord}
+
+abbrev pub nas_kind : NasRecord → ℕ
+nas_kind (nas.TheVariants.SecurityModeCommand ksi algs caps) = 0x01
+nas_kind nas.TheVariants.SecurityModeComplete = 0x02
+nas_kind (nas.TheVariants.SecurityModeReject cause) = 0x03
+nas_kind nas.TheVariants.ServiceRequest = 0x04
+nas_kind (nas.TheVariants.NasData text) = 0x05
+
+abbrev pub rrc_kind : RrcRecord → ℕ
+rrc_kind (rrc.TheVariants.SecurityModeCommand algs station air) = 0x01
+rrc_kind rrc.TheVariants.SecurityModeComplete = 0x02
+rrc_kind (rrc.TheVariants.Reconfiguration cell ncc algs station air) = 0x03
+rrc_kind rrc.TheVariants.ReconfigurationComplete = 0x04
+rrc_kind (rrc.TheVariants.RrcData text) = 0x05

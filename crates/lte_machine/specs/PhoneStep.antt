@@ -1,0 +1,55 @@
+-- A step of the phone.
+use Rattle.std.specs.Prelude.{◌≡◌, ◌≢◌, ℕ, List, [], Option, Some, None, option_map}
+use Rattle.key_model.specs.Reading.{Reading}
+use Rattle.lte_events.specs.declared.answers.Answer.TheVariants.{Done}
+use Rattle.lte_machine.specs.Wire.{Outgoing, SealedNas}
+use Rattle.lte_machine.specs.Opening.{Opening, Outcome, accepted_of}
+use Rattle.lte_machine.specs.Reply.{Reply, finished, map_reply, unseen}
+use Rattle.lte_machine.specs.PhoneState.{Phone, PhoneInput, PhoneAuth, PhoneActs, PhoneNasPdu, PhoneAirPdu, map_phone, map_phone_input}
+use Rattle.lte_machine.specs.PhoneChoice.{PlainPhone, PlainInput, PhoneFront, phone_front, phone_row}
+use Rattle.lte_machine.specs.PhoneKeys.{phone_expects, phone_does, one_nas_sent}
+
+-- the KASME that an input brings
+abbrev pub phone_root : {K : Type 0} → PhoneInput K → Option K
+phone_root (PhoneAuth ksi root) = Some root
+phone_root other = None
+
+-- the octets that an input brings to be opened
+abbrev pub phone_pdu_in : {K : Type 0} → PhoneInput K → List ℕ
+phone_pdu_in (PhoneNasPdu pdu) = pdu
+phone_pdu_in (PhoneAirPdu station air bearer pdu) = pdu
+phone_pdu_in other = []
+
+-- the phone without keys, and an input without its key
+abbrev pub plain_phone : {K C : Type 0} → Reading K C → Phone K C → PlainPhone
+plain_phone r s = map_phone unseen r.ncc s
+
+abbrev pub plain_input : {K : Type 0} → PhoneInput K → PlainInput
+plain_input i = map_phone_input unseen i
+
+abbrev pub front_of : {K C : Type 0} → Reading K C → Phone K C → PhoneInput K → PhoneFront
+front_of r s i = phone_front (plain_phone r s) (plain_input i)
+
+-- what the input would open
+abbrev pub phone_opens : {K C : Type 0} → Reading K C → Phone K C → PhoneInput K → Opening K
+phone_opens r s i = phone_expects r (front_of r s i) s
+
+-- a step, by the outcome of that opening; the phone reads no record that holds a key
+abbrev pub phone_step : {K C : Type 0} → Reading K C → Phone K C → PhoneInput K → Outcome → Phone K C × Reply K C
+phone_step r s i outcome =
+    let done = phone_does r (phone_row (plain_phone r s) (front_of r s i) outcome) (phone_root i) s in
+    (done.0, finished None (accepted_of (phone_opens r s i) outcome) done.1)
+
+-- a step, its keys and chain numbers read in another way
+abbrev pub map_phone_step : {K C L D : Type 0} → (K → L) → (C → D) → Phone K C × Reply K C → Phone L D × Reply L D
+map_phone_step f g done = (map_phone f g done.0, map_reply f g done.1)
+
+-- the phone after a refusal that sent this: a SECURITY MODE REJECT takes one uplink NAS COUNT (TS 24.301 5.4.3.5), and
+-- nothing else changes
+abbrev pub after_refusal : {K C : Type 0} → Option (Outgoing K C) → Phone K C → Phone K C
+after_refusal (Some (SealedNas dir header u e text)) s = record s { context = option_map one_nas_sent s.context }
+after_refusal other s = s
+
+-- a refused step changes nothing else
+abbrev pub RefusedKeeps : {K C : Type 0} → Phone K C → Phone K C × Reply K C → Type 0
+RefusedKeeps s done = done.1.answer ≢ Done → done.0 ≡ after_refusal done.1.sent s
