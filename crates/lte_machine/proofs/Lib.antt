@@ -1,2 +1,5 @@
 pub mod Opens
 pub mod AnnexB
+pub mod ReachMap
+pub mod PhoneMap
+pub mod PhoneRefused

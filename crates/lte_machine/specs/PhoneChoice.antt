@@ -6,7 +6,6 @@ use Rattle.alg_choice.specs.declared.caps.Caps.{Caps}
 use Rattle.alg_choice.specs.Choice.{are_supported}
 use Rattle.annex_a_keys.specs.Cell.{Place}
 use Rattle.key_model.specs.HandoverLines.{steps_to}
-use Rattle.rec_base.specs.declared.bearers.Bearer.{Bearer}
 use Rattle.rec_base.specs.declared.faults.RecFault.{RecFault}
 use Rattle.lte_events.specs.declared.answers.Answer.{Answer}
 use Rattle.lte_events.specs.declared.answers.Answer.TheVariants.{Done, NoContext, WrongKsi, CapsMismatch, AlgUnsupported, MacFails, CountSpent, BadRecord, Short, BadHeader, WrongKind, NotConnected, NotAddressed, NothingToResend, AlreadyConnected}
@@ -30,7 +29,7 @@ use Rattle.lte_machine.specs.Opening.{Outcome, Opened, Differs}
 use Rattle.lte_machine.specs.Kinds.{nas_kind, rrc_kind}
 use Rattle.lte_machine.specs.Refusals.{of_pdcp}
 use Rattle.lte_machine.specs.PhoneState.{Partial, NasContext, Link, Radio, Idle, Connecting, Connected, Phone, PhoneInput, PhoneAuth, PhoneActs, PhoneNasPdu, PhoneAirPdu}
-use Rattle.lte_machine.specs.PhoneRows.{AuthRow, Authenticated, NasRow, NasRefused, RejectedPlain, RejectedUnder, ContextTaken, ContextTakenConnected, NasOpened, AirRow, AirRefused, LinkSecured, HandedOver, RrcOpened, PacketOpened, ActRow, ActRefused, ServiceRequested, CompleteResent, WentIdle, PacketSent, RrcSent, NasSent, NasLeftOut, BearerLeftOut, PhoneRow, OfAuth, OfNas, OfAir, OfAct}
+use Rattle.lte_machine.specs.PhoneRows.{Authenticated, NasRow, NasRefused, RejectedPlain, RejectedUnder, ContextTaken, ContextTakenConnected, NasOpened, AirRow, AirRefused, LinkSecured, HandedOver, RrcOpened, PacketOpened, ActRow, ActRefused, ServiceRequested, CompleteResent, WentIdle, PacketSent, RrcSent, NasSent, NasLeftOut, BearerLeftOut, PhoneRow, OfAuth, OfNas, OfAir, OfAct}
 
 -- the phone without keys, and an input without its key
 abbrev pub PlainPhone : Type 0
@@ -99,8 +98,8 @@ abbrev pub command_read : PlainPhone → ℕ → List ℕ → Result NasRecord R
 command_read s held pdu (Err fault) = NasSettled (NasRefused (BadRecord fault))
 command_read s held pdu (Ok (nas.TheVariants.SecurityModeCommand ksi algs caps)) =
     if ksi == held then
-        (if are_supported s.caps algs then command_at algs caps (estimate_of 0 (sn_in pdu))
-        else NasSettled (rejected (AlgUnsupported algs) rejected_unspecified s.context))
+    (if are_supported s.caps algs then command_at algs caps (estimate_of 0 (sn_in pdu))
+    else NasSettled (rejected (AlgUnsupported algs) rejected_unspecified s.context))
     else NasSettled (rejected (WrongKsi held ksi) rejected_unspecified s.context)
 command_read s held pdu (Ok other) = NasSettled (NasRefused (WrongKind (nas_kind other)))
 

@@ -22,11 +22,11 @@ use Rattle.rrc_rec.specs.Spelling.{spelling_of as rrc_spelling}
 use Rattle.nh_chain.specs.Chain.{begun}
 use Rattle.nh_chain.specs.Reach.{Reached, reached_after}
 use Rattle.pdcp_guard.specs.AsKeys.{AsKeys, as_keys_of, as_derivations}
-use Rattle.lte_machine.specs.Bearers.{Srb, Signalling1, Drb, Which, Bearers, new_bearers, srb_counts, drb_counts, with_srb, srb_sent, drb_sent, srb_taken, drb_taken, left_out_on, skipped}
-use Rattle.lte_machine.specs.Wire.{KeyUse, Ciphering, ciphering_by, nas_use, srb_use, drb_use, Outgoing, SealedNas, PlainNas, SealedRrc, UserPacket}
+use Rattle.lte_machine.specs.Bearers.{Srb, Signalling1, Drb, Which, Bearers, new_bearers, srb_counts, drb_counts, srb_sent, drb_sent, srb_taken, drb_taken, left_out_on, skipped}
+use Rattle.lte_machine.specs.Wire.{Ciphering, ciphering_by, nas_use, srb_use, drb_use, Outgoing, SealedNas, PlainNas, SealedRrc, UserPacket}
 use Rattle.lte_machine.specs.Opening.{Opening, OpensNothing, OpensNas, OpensSrb, OpensDrb}
 use Rattle.lte_machine.specs.Reply.{Reply, only}
-use Rattle.lte_machine.specs.PhoneState.{nas_keys_of, Partial, NasContext, Waiting, Link, Radio, Idle, Connecting, Connected, Phone}
+use Rattle.lte_machine.specs.PhoneState.{nas_keys_of, Partial, NasContext, Link, Radio, Idle, Connecting, Connected, Phone}
 use Rattle.lte_machine.specs.PhoneRows.{AuthRow, Authenticated, NasRow, NasRefused, RejectedPlain, RejectedUnder, ContextTaken, ContextTakenConnected, NasOpened, AirRow, AirRefused, LinkSecured, HandedOver, RrcOpened, PacketOpened, ActRow, ActRefused, ServiceRequested, CompleteResent, WentIdle, PacketSent, RrcSent, NasSent, NasLeftOut, BearerLeftOut, PhoneRow, OfAuth, OfNas, OfAir, OfAct}
 use Rattle.lte_machine.specs.PhoneChoice.{NasFront, NasSettled, AtCommand, AtMessage, AirFront, AirSettled, AtStart, AtSignalling, AtPacket, PhoneFront, Settled, FromNas, FromAir}
 
@@ -110,7 +110,7 @@ nas_sealed keys header count record_sent =
 abbrev pub rrc_sealed : {K C : Type 0} → AsKeys K → ℕ → ℕ → Srb → ℕ → RrcRecord → Outgoing K C
 rrc_sealed keys station air srb count record_sent =
     SealedRrc Up station air srb (srb_use Up keys.rrc_int srb count) (Some (srb_ciphering_up keys srb count))
-        (rrc_spelling record_sent)
+    (rrc_spelling record_sent)
 
 -- the NAS context after its next uplink COUNT was taken
 abbrev pub one_nas_sent : {K : Type 0} → NasContext K → NasContext K
@@ -147,9 +147,10 @@ plain_reject cause = PlainNas (first_octet 0 ∷ nas_spelling (nas.TheVariants.S
 -- one under the context in use, ciphered (5.4.3.5)
 abbrev pub rejected_under : {K C : Type 0} → Answer → ℕ → Phone K C → Option (NasContext K) → Phone K C × Reply K C
 rejected_under answer cause s None = (s, only answer)
-rejected_under answer cause s (Some c) =
-    (record s { context = Some (one_nas_sent c) },
-     record (only answer) { sent = Some (nas_sealed c.keys 2 c.send (nas.TheVariants.SecurityModeReject cause)) })
+rejected_under answer cause s (Some c) = (
+  record s { context = Some (one_nas_sent c) },
+  record (only answer) { sent = Some (nas_sealed c.keys 2 c.send (nas.TheVariants.SecurityModeReject cause)) },
+)
 
 -- the context of a command: its keys are of the partial context's KASME, the SECURITY MODE COMPLETE takes uplink COUNT 0,
 -- and the command took its own downlink COUNT (TS 24.301 4.4.3.1 and 5.4.3.3)
@@ -164,21 +165,23 @@ complete_of r algs root = nas_sealed (nas_keys_of r root algs) 4 0 nas.TheVarian
 -- a phone that has no connection derives KeNB of the COUNT of its SECURITY MODE COMPLETE (TS 33.401 7.2.8.1.1 and A.3)
 abbrev pub context_taken : {K C : Type 0} → Reading K C → Algs → ℕ → Phone K C → Option (Partial K) → Phone K C × Reply K C
 context_taken r algs count s None = (s, only Done)
-context_taken r algs count s (Some p) =
-    (record s {
-      partial = None;
-      context = Some (context_of r algs count p.root);
-      radio = Connecting (record { root = p.root; kenb = r.kenb p.root 0 });
-    },
-     record (sends (complete_of r algs p.root)) {
-      derived = kenb_made r p.root 0 ∷ nas_derivations r p.root algs;
-    })
+context_taken r algs count s (Some p) = (
+  record s {
+    partial = None;
+    context = Some (context_of r algs count p.root);
+    radio = Connecting (record { root = p.root; kenb = r.kenb p.root 0 });
+  },
+  record (sends (complete_of r algs p.root)) {
+    derived = kenb_made r p.root 0 ∷ nas_derivations r p.root algs;
+  },
+)
 
 abbrev pub context_taken_connected : {K C : Type 0} → Reading K C → Algs → ℕ → Phone K C → Option (Partial K) → Phone K C × Reply K C
 context_taken_connected r algs count s None = (s, only Done)
-context_taken_connected r algs count s (Some p) =
-    (record s { partial = None; context = Some (context_of r algs count p.root) },
-     record (sends (complete_of r algs p.root)) { derived = nas_derivations r p.root algs })
+context_taken_connected r algs count s (Some p) = (
+  record s { partial = None; context = Some (context_of r algs count p.root) },
+  record (sends (complete_of r algs p.root)) { derived = nas_derivations r p.root algs },
+)
 
 -- a NAS text was taken at a COUNT (TS 24.301 4.4.3.1)
 abbrev pub nas_opened : {K C : Type 0} → ℕ → List ℕ → Phone K C → Option (NasContext K) → Phone K C × Reply K C
@@ -197,44 +200,65 @@ nas_does r (NasOpened count text) s = nas_opened count text s s.context
 -- follows is ciphered (TS 33.401 7.2.4.5 and 7.2.8.1.1, TS 36.331 5.3.4.3)
 abbrev pub link_secured : {K C : Type 0} → Reading K C → ℕ → ℕ → Algs → ℕ → Phone K C → Radio K C → Phone K C × Reply K C
 link_secured r station air algs count s (Connecting w) =
-    let keys = as_keys_of r w.kenb algs in
-    (record s {
-      radio = Connected (record {
-        station = station; air = air; chain = begun r w.root w.kenb; kenb = w.kenb; keys = keys;
-        bearers = srb_sent Signalling1 (srb_taken Signalling1 count new_bearers); by_handover = false;
-      });
-    },
-     record (only Done) {
-      sent = Some (SealedRrc Up station air Signalling1 (srb_use Up keys.rrc_int Signalling1 0) None
-          (rrc_spelling rrc.TheVariants.SecurityModeComplete));
-      derived = as_derivations r w.kenb algs;
-      note = Some (record { ncc = r.ncc r.first; way = Initial; key = w.kenb });
-      took = Some (record {
-        station = station; air = air; key = w.kenb; number = r.first; algs = algs; before = None;
-      });
-    })
+    let keys = as_keys_of r w.kenb algs in (
+      record s {
+        radio = Connected (record {
+          station = station;
+          air = air;
+          chain = begun r w.root w.kenb;
+          kenb = w.kenb;
+          keys = keys;
+          bearers = srb_sent Signalling1 (srb_taken Signalling1 count new_bearers);
+          by_handover = false;
+        });
+      },
+      record (only Done) {
+        sent = Some (SealedRrc Up station air Signalling1 (srb_use Up keys.rrc_int Signalling1 0) None
+            (rrc_spelling rrc.TheVariants.SecurityModeComplete));
+        derived = as_derivations r w.kenb algs;
+        note = Some (record { ncc = r.ncc r.first; way = Initial; key = w.kenb });
+        took = Some (record {
+          station = station;
+          air = air;
+          key = w.kenb;
+          number = r.first;
+          algs = algs;
+          before = None;
+        });
+      },
+    )
 link_secured r station air algs count s other = (s, only Done)
 
 -- a handover command is obeyed: KeNB* of what the chain reached, new keys, all bearers anew, and
 -- RRCConnectionReconfigurationComplete to the target (TS 33.401 7.2.8.4.4, TS 36.331 5.3.5.4, TS 36.323 5.2)
 abbrev pub arrived : {K C : Type 0} → Reading K C → Algs → ℕ → ℕ → Phone K C → Link K C → Reached K C → Phone K C × Reply K C
 arrived r algs station air s l reached =
-    let keys = as_keys_of r reached.star.key algs in
-    (record s {
-      radio = Connected (record {
-        station = station; air = air; chain = reached.chain; kenb = reached.star.key; keys = keys;
-        bearers = srb_sent Signalling1 new_bearers; by_handover = true;
-      });
-    },
-     record (only Done) {
-      sent = Some (rrc_sealed keys station air Signalling1 0 rrc.TheVariants.ReconfigurationComplete);
-      derived = reached.made ++ as_derivations r reached.star.key algs;
-      note = Some (record { ncc = r.ncc reached.star.number; way = reached.way; key = reached.star.key });
-      took = Some (record {
-        station = station; air = air; key = reached.star.key; number = reached.star.number; algs = algs;
-        before = Some (record { key = l.kenb; number = l.chain.number });
-      });
-    })
+    let keys = as_keys_of r reached.star.key algs in (
+      record s {
+        radio = Connected (record {
+          station = station;
+          air = air;
+          chain = reached.chain;
+          kenb = reached.star.key;
+          keys = keys;
+          bearers = srb_sent Signalling1 new_bearers;
+          by_handover = true;
+        });
+      },
+      record (only Done) {
+        sent = Some (rrc_sealed keys station air Signalling1 0 rrc.TheVariants.ReconfigurationComplete);
+        derived = reached.made ++ as_derivations r reached.star.key algs;
+        note = Some (record { ncc = r.ncc reached.star.number; way = reached.way; key = reached.star.key });
+        took = Some (record {
+          station = station;
+          air = air;
+          key = reached.star.key;
+          number = reached.star.number;
+          algs = algs;
+          before = Some (record { key = l.kenb; number = l.chain.number });
+        });
+      },
+    )
 
 abbrev pub handed_over : {K C : Type 0} → Reading K C → Place → ℕ → Algs → ℕ → ℕ → Phone K C → Radio K C → Phone K C × Reply K C
 handed_over r cell steps algs station air s (Connected l) =
@@ -261,33 +285,37 @@ air_does r (PacketOpened drb count text) s = packet_opened drb count text s s.ra
 -- own rule: it has the form of any NAS message, and not the short one
 abbrev pub service_requested : {K C : Type 0} → Reading K C → Phone K C → Option (NasContext K) → Phone K C × Reply K C
 service_requested r s None = (s, only Done)
-service_requested r s (Some c) =
-    (record s {
-      context = Some (one_nas_sent c);
-      radio = Connecting (record { root = c.root; kenb = r.kenb c.root c.send });
-    },
-     record (sends (SealedNas Up 1 (nas_use Up c.keys.int c.send) None (nas_spelling nas.TheVariants.ServiceRequest))) {
-      derived = kenb_made r c.root c.send ∷ [];
-    })
+service_requested r s (Some c) = (
+  record s {
+    context = Some (one_nas_sent c);
+    radio = Connecting (record { root = c.root; kenb = r.kenb c.root c.send });
+  },
+  record (sends (SealedNas Up 1 (nas_use Up c.keys.int c.send) None (nas_spelling nas.TheVariants.ServiceRequest))) {
+    derived = kenb_made r c.root c.send ∷ [];
+  },
+)
 
 -- RRCConnectionReconfigurationComplete once more, under the next COUNT. This project's own rule: no layer below repeats it
 abbrev pub complete_resent : {K C : Type 0} → Phone K C → Radio K C → Phone K C × Reply K C
-complete_resent s (Connected l) =
-    (record s { radio = with_bearers l (srb_sent Signalling1 l.bearers) },
-     sends (rrc_sealed l.keys l.station l.air Signalling1 l.bearers.srb1.send rrc.TheVariants.ReconfigurationComplete))
+complete_resent s (Connected l) = (
+  record s { radio = with_bearers l (srb_sent Signalling1 l.bearers) },
+  sends (rrc_sealed l.keys l.station l.air Signalling1 l.bearers.srb1.send rrc.TheVariants.ReconfigurationComplete),
+)
 complete_resent s other = (s, only Done)
 
 -- a user packet, an RRC text, a NAS text
 abbrev pub packet_sent : {K C : Type 0} → Drb → List ℕ → Phone K C → Radio K C → Phone K C × Reply K C
-packet_sent drb text s (Connected l) =
-    (record s { radio = with_bearers l (drb_sent drb l.bearers) },
-     sends (UserPacket Up l.station l.air drb (drb_ciphering_up l.keys drb (drb_counts drb l.bearers).send) text))
+packet_sent drb text s (Connected l) = (
+  record s { radio = with_bearers l (drb_sent drb l.bearers) },
+  sends (UserPacket Up l.station l.air drb (drb_ciphering_up l.keys drb (drb_counts drb l.bearers).send) text),
+)
 packet_sent drb text s other = (s, only Done)
 
 abbrev pub rrc_sent : {K C : Type 0} → Srb → List ℕ → Phone K C → Radio K C → Phone K C × Reply K C
-rrc_sent srb text s (Connected l) =
-    (record s { radio = with_bearers l (srb_sent srb l.bearers) },
-     sends (rrc_sealed l.keys l.station l.air srb (srb_counts srb l.bearers).send (rrc.TheVariants.RrcData text)))
+rrc_sent srb text s (Connected l) = (
+  record s { radio = with_bearers l (srb_sent srb l.bearers) },
+  sends (rrc_sealed l.keys l.station l.air srb (srb_counts srb l.bearers).send (rrc.TheVariants.RrcData text)),
+)
 rrc_sent srb text s other = (s, only Done)
 
 abbrev pub nas_sent : {K C : Type 0} → List ℕ → Phone K C → Option (NasContext K) → Phone K C × Reply K C

@@ -5,7 +5,7 @@ use Rattle.lte_events.specs.declared.answers.Answer.TheVariants.{Done}
 use Rattle.lte_machine.specs.Wire.{Outgoing, SealedNas}
 use Rattle.lte_machine.specs.Opening.{Opening, Outcome, accepted_of}
 use Rattle.lte_machine.specs.Reply.{Reply, finished, map_reply, unseen}
-use Rattle.lte_machine.specs.PhoneState.{Phone, PhoneInput, PhoneAuth, PhoneActs, PhoneNasPdu, PhoneAirPdu, map_phone, map_phone_input}
+use Rattle.lte_machine.specs.PhoneState.{Phone, PhoneInput, PhoneAuth, PhoneNasPdu, PhoneAirPdu, map_phone, map_phone_input}
 use Rattle.lte_machine.specs.PhoneChoice.{PlainPhone, PlainInput, PhoneFront, phone_front, phone_row}
 use Rattle.lte_machine.specs.PhoneKeys.{phone_expects, phone_does, one_nas_sent}
 

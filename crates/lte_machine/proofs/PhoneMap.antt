@@ -1,0 +1,254 @@
+-- A step of the phone is carried where the readings are.
+use Rattle.std.proofs.Common.{◌≡◌, ℕ, Bool, true, false, List, Option, Some, None, refl, sym, ◌∙◌, ap}
+use Rattle.std.specs.Prelude.{map, option_map}
+use Rattle.std.proofs.lemmas.List.{map-append}
+use Rattle.alg_choice.specs.declared.algs.Algs.{Algs}
+use Rattle.alg_choice.specs.Algs.{identity_of, eia2_identity}
+use Rattle.annex_a_keys.specs.Cell.{Place}
+use Rattle.lte_events.specs.declared.answers.Answer.{Answer}
+use Rattle.key_model.specs.Reading.{Reading, Carries}
+use Rattle.key_model.specs.Derivation.{map_derivation}
+use Rattle.key_model.specs.Use.{map_use}
+use Rattle.nh_chain.specs.Reach.{Reached, reached_after}
+use Rattle.pdcp_guard.specs.AsKeys.{as_derivations}
+use Rattle.lte_machine.specs.Bearers.{Srb, Drb, Which}
+use Rattle.lte_machine.specs.Wire.{Ciphering, map_ciphering}
+use Rattle.lte_machine.specs.Opening.{Opening, OpensNothing, OpensNas, OpensSrb, OpensDrb, map_opening, Outcome, Opened, Differs, accepted_of}
+use Rattle.lte_machine.specs.Reply.{finished, unseen}
+use Rattle.lte_machine.specs.PhoneState.{Partial, map_partial, NasContext, map_context, Link, map_link, Radio, Idle, Connecting, Connected, map_radio, Phone, map_phone, PhoneInput, PhoneAuth, PhoneActs, PhoneNasPdu, PhoneAirPdu, map_phone_input}
+use Rattle.lte_machine.specs.PhoneRows.{Authenticated, NasRow, NasRefused, RejectedPlain, RejectedUnder, ContextTaken, ContextTakenConnected, NasOpened, AirRow, AirRefused, LinkSecured, HandedOver, RrcOpened, PacketOpened, ActRow, ActRefused, ServiceRequested, CompleteResent, WentIdle, PacketSent, RrcSent, NasSent, NasLeftOut, BearerLeftOut, PhoneRow, OfAuth, OfNas, OfAir, OfAct}
+use Rattle.lte_machine.specs.PhoneChoice.{NasFront, NasSettled, AtCommand, AtMessage, AirFront, AirSettled, AtStart, AtSignalling, AtPacket, PhoneFront, Settled, FromNas, FromAir, phone_front, phone_row}
+use Rattle.lte_machine.specs.PhoneKeys.{ciphering_if, command_expects, message_expects, nas_expects, start_expects, signalling_expects, packet_expects, air_expects, phone_expects, authenticated, rejected_under, context_taken, context_taken_connected, nas_opened, nas_does, link_secured, arrived, handed_over, rrc_opened, packet_opened, air_does, service_requested, complete_resent, packet_sent, rrc_sent, nas_sent, nas_left_out, bearer_left_out, act_does, phone_does}
+use Rattle.lte_machine.specs.PhoneStep.{phone_root, plain_phone, plain_input, front_of, phone_opens, phone_step, map_phone_step}
+use Rattle.lte_machine.proofs.ReachMap.{map_reached, reached_after-map}
+
+-- the use under which a record was accepted
+accepted_of-map : {K L : Type 0} (f : K → L) (o : Opening K) (outcome : Outcome) → option_map (map_use f) (accepted_of o outcome) ≡ accepted_of (map_opening f o) outcome
+accepted_of-map f OpensNothing outcome = refl
+accepted_of-map f (OpensNas u e) (Opened text) = refl
+accepted_of-map f (OpensNas u e) (Differs wanted got) = refl
+accepted_of-map f (OpensSrb u e) (Opened text) = refl
+accepted_of-map f (OpensSrb u e) (Differs wanted got) = refl
+accepted_of-map f (OpensDrb e) outcome = refl
+
+ciphering_if-map : {K L : Type 0} (f : K → L) (b : Bool) (e : Ciphering K) → option_map (map_ciphering f) (ciphering_if b e) ≡ ciphering_if b (map_ciphering f e)
+ciphering_if-map f true e = refl
+ciphering_if-map f false e = refl
+
+module _ {K C L D : Type 0} (r : Reading K C) (q : Reading L D) (f : K → L) (g : C → D) (c : Carries r q f g) where
+  -- the plain view is the same
+
+  plain_partial : (o : Option (Partial K)) → option_map (map_partial unseen) (option_map (map_partial f) o) ≡ option_map (map_partial unseen) o
+  plain_partial None = refl
+  plain_partial (Some p) = refl
+
+  plain_context : (o : Option (NasContext K)) → option_map (map_context unseen) (option_map (map_context f) o) ≡ option_map (map_context unseen) o
+  plain_context None = refl
+  plain_context (Some n) = refl
+
+  plain_radio : (radio : Radio K C) → map_radio unseen q.ncc (map_radio f g radio) ≡ map_radio unseen r.ncc radio
+  plain_radio Idle = refl
+  plain_radio (Connecting w) = refl
+  plain_radio (Connected l) = rw (c.ncc l.chain.number) refl
+
+  plain_phone-map : (s : Phone K C) → plain_phone q (map_phone f g s) ≡ plain_phone r s
+  plain_phone-map s = λ j. record {
+    caps = s.caps;
+    partial = plain_partial s.partial j;
+    context = plain_context s.context j;
+    radio = plain_radio s.radio j;
+  }
+
+  plain_input-map : (i : PhoneInput K) → plain_input (map_phone_input f i) ≡ plain_input i
+  plain_input-map (PhoneAuth ksi root) = refl
+  plain_input-map (PhoneActs act) = refl
+  plain_input-map (PhoneNasPdu pdu) = refl
+  plain_input-map (PhoneAirPdu station air bearer pdu) = refl
+
+  front_of-map : (s : Phone K C) (i : PhoneInput K) → front_of r s i ≡ front_of q (map_phone f g s) (map_phone_input f i)
+  front_of-map s i = λ j. phone_front (sym (plain_phone-map s) j) (sym (plain_input-map i) j)
+
+  phone_root-map : (i : PhoneInput K) → option_map f (phone_root i) ≡ phone_root (map_phone_input f i)
+  phone_root-map (PhoneAuth ksi root) = refl
+  phone_root-map (PhoneActs act) = refl
+  phone_root-map (PhoneNasPdu pdu) = refl
+  phone_root-map (PhoneAirPdu station air bearer pdu) = refl
+
+  -- the uses that an opening needs
+
+  command_expects-map : (count : ℕ) (algs : Algs) (o : Option (Partial K)) → map_opening f (command_expects r count algs o) ≡ command_expects q count algs (option_map (map_partial f) o)
+  command_expects-map count algs None = refl
+  command_expects-map count algs (Some p) = rw (c.alg p.root 2 eia2_identity) refl
+
+  message_expects-map : (count header : ℕ) (o : Option (NasContext K)) → map_opening f (message_expects count header o) ≡ message_expects count header (option_map (map_context f) o)
+  message_expects-map count header None = refl
+  message_expects-map count header (Some n) = rw (ciphering_if-map f) refl
+
+  nas_expects-map : (front : NasFront) (s : Phone K C) → map_opening f (nas_expects r front s) ≡ nas_expects q front (map_phone f g s)
+  nas_expects-map (NasSettled row) s = refl
+  nas_expects-map (AtCommand count algs caps) s = command_expects-map count algs s.partial
+  nas_expects-map (AtMessage count header) s = message_expects-map count header s.context
+
+  start_expects-map : (count : ℕ) (algs : Algs) (radio : Radio K C) → map_opening f (start_expects r count algs radio) ≡ start_expects q count algs (map_radio f g radio)
+  start_expects-map count algs Idle = refl
+  start_expects-map count algs (Connecting w) = rw (c.alg w.kenb 4 eia2_identity) refl
+  start_expects-map count algs (Connected l) = refl
+
+  signalling_expects-map : (srb : Srb) (count : ℕ) (radio : Radio K C) → map_opening f (signalling_expects srb count radio) ≡ signalling_expects srb count (map_radio f g radio)
+  signalling_expects-map srb count Idle = refl
+  signalling_expects-map srb count (Connecting w) = refl
+  signalling_expects-map srb count (Connected l) = refl
+
+  packet_expects-map : (drb : Drb) (count : ℕ) (radio : Radio K C) → map_opening f (packet_expects drb count radio) ≡ packet_expects drb count (map_radio f g radio)
+  packet_expects-map drb count Idle = refl
+  packet_expects-map drb count (Connecting w) = refl
+  packet_expects-map drb count (Connected l) = refl
+
+  air_expects-map : (front : AirFront) (s : Phone K C) → map_opening f (air_expects r front s) ≡ air_expects q front (map_phone f g s)
+  air_expects-map (AirSettled row) s = refl
+  air_expects-map (AtStart count algs named station air) s = start_expects-map count algs s.radio
+  air_expects-map (AtSignalling srb count own) s = signalling_expects-map srb count s.radio
+  air_expects-map (AtPacket drb count) s = packet_expects-map drb count s.radio
+
+  phone_expects-map : (front : PhoneFront) (s : Phone K C) → map_opening f (phone_expects r front s) ≡ phone_expects q front (map_phone f g s)
+  phone_expects-map (Settled row) s = refl
+  phone_expects-map (FromNas front) s = nas_expects-map front s
+  phone_expects-map (FromAir front) s = air_expects-map front s
+
+  -- the rows on NAS messages
+
+  authenticated-map : (ksi : ℕ) (s : Phone K C) (root : Option K) → map_phone_step f g (authenticated ksi s root) ≡ authenticated ksi (map_phone f g s) (option_map f root)
+  authenticated-map ksi s None = refl
+  authenticated-map ksi s (Some root) = refl
+
+  rejected_under-map : (answer : Answer) (cause : ℕ) (s : Phone K C) (o : Option (NasContext K)) → map_phone_step f g (rejected_under answer cause s o) ≡ rejected_under answer cause (map_phone f g s) (option_map (map_context f) o)
+  rejected_under-map answer cause s None = refl
+  rejected_under-map answer cause s (Some n) = refl
+
+  context_taken-map : (algs : Algs) (count : ℕ) (s : Phone K C) (o : Option (Partial K)) → map_phone_step f g (context_taken r algs count s o) ≡ context_taken q algs count (map_phone f g s) (option_map (map_partial f) o)
+  context_taken-map algs count s None = refl
+  context_taken-map algs count s (Some p) =
+      rw (c.kenb p.root 0, c.alg p.root 1 (identity_of algs.eea), c.alg p.root 2 eia2_identity) refl
+
+  context_taken_connected-map : (algs : Algs) (count : ℕ) (s : Phone K C) (o : Option (Partial K)) → map_phone_step f g (context_taken_connected r algs count s o) ≡ context_taken_connected q algs count (map_phone f g s) (option_map (map_partial f) o)
+  context_taken_connected-map algs count s None = refl
+  context_taken_connected-map algs count s (Some p) =
+      rw (c.alg p.root 1 (identity_of algs.eea), c.alg p.root 2 eia2_identity) refl
+
+  nas_opened-map : (count : ℕ) (text : List ℕ) (s : Phone K C) (o : Option (NasContext K)) → map_phone_step f g (nas_opened count text s o) ≡ nas_opened count text (map_phone f g s) (option_map (map_context f) o)
+  nas_opened-map count text s None = refl
+  nas_opened-map count text s (Some n) = refl
+
+  nas_does-map : (row : NasRow) (s : Phone K C) → map_phone_step f g (nas_does r row s) ≡ nas_does q row (map_phone f g s)
+  nas_does-map (NasRefused answer) s = refl
+  nas_does-map (RejectedPlain answer cause) s = refl
+  nas_does-map (RejectedUnder answer cause) s = rejected_under-map answer cause s s.context
+  nas_does-map (ContextTaken algs count) s = context_taken-map algs count s s.partial
+  nas_does-map (ContextTakenConnected algs count) s = context_taken_connected-map algs count s s.partial
+  nas_does-map (NasOpened count text) s = nas_opened-map count text s s.context
+
+  -- the rows on PDUs of radio bearers
+
+  link_secured-map : (station air : ℕ) (algs : Algs) (count : ℕ) (s : Phone K C) (radio : Radio K C) → map_phone_step f g (link_secured r station air algs count s radio) ≡ link_secured q station air algs count (map_phone f g s) (map_radio f g radio)
+  link_secured-map station air algs count s Idle = refl
+  link_secured-map station air algs count s (Connecting w) =
+      rw (c.alg w.kenb 3 (identity_of algs.eea), c.alg w.kenb 4 eia2_identity, c.alg w.kenb 5 (identity_of algs.eea), ← c.ncc r.first, c.first) refl
+  link_secured-map station air algs count s (Connected l) = refl
+
+  as_derivations-map : (kenb : K) (algs : Algs) → map (map_derivation f) (as_derivations r kenb algs) ≡ as_derivations q (f kenb) algs
+  as_derivations-map kenb algs =
+      rw (c.alg kenb 3 (identity_of algs.eea), c.alg kenb 4 eia2_identity, c.alg kenb 5 (identity_of algs.eea)) refl
+
+  arrived-map : (algs : Algs) (station air : ℕ) (s : Phone K C) (l : Link K C) (x : Reached K C) → map_phone_step f g (arrived r algs station air s l x) ≡ arrived q algs station air (map_phone f g s) (map_link f g l) (map_reached f g x)
+  arrived-map algs station air s l x =
+      rw (map-append (map_derivation f) x.made (as_derivations r x.star.key algs), c.alg x.star.key 3 (identity_of algs.eea), c.alg x.star.key 4 eia2_identity, c.alg x.star.key 5 (identity_of algs.eea), ← c.ncc x.star.number) refl
+
+  handed_over-map : (cell : Place) (steps : ℕ) (algs : Algs) (station air : ℕ) (s : Phone K C) (radio : Radio K C) → map_phone_step f g (handed_over r cell steps algs station air s radio) ≡ handed_over q cell steps algs station air (map_phone f g s) (map_radio f g radio)
+  handed_over-map cell steps algs station air s Idle = refl
+  handed_over-map cell steps algs station air s (Connecting w) = refl
+  handed_over-map cell steps algs station air s (Connected l) =
+      arrived-map algs station air s l (reached_after r l.chain l.kenb steps cell)
+      ∙ ap (arrived q algs station air (map_phone f g s) (map_link f g l)) (reached_after-map r q f g c l.chain l.kenb steps cell)
+
+  rrc_opened-map : (srb : Srb) (count : ℕ) (text : List ℕ) (s : Phone K C) (radio : Radio K C) → map_phone_step f g (rrc_opened srb count text s radio) ≡ rrc_opened srb count text (map_phone f g s) (map_radio f g radio)
+  rrc_opened-map srb count text s Idle = refl
+  rrc_opened-map srb count text s (Connecting w) = refl
+  rrc_opened-map srb count text s (Connected l) = refl
+
+  packet_opened-map : (drb : Drb) (count : ℕ) (text : List ℕ) (s : Phone K C) (radio : Radio K C) → map_phone_step f g (packet_opened drb count text s radio) ≡ packet_opened drb count text (map_phone f g s) (map_radio f g radio)
+  packet_opened-map drb count text s Idle = refl
+  packet_opened-map drb count text s (Connecting w) = refl
+  packet_opened-map drb count text s (Connected l) = refl
+
+  air_does-map : (row : AirRow) (s : Phone K C) → map_phone_step f g (air_does r row s) ≡ air_does q row (map_phone f g s)
+  air_does-map (AirRefused answer) s = refl
+  air_does-map (LinkSecured station air algs count) s = link_secured-map station air algs count s s.radio
+  air_does-map (HandedOver cell steps algs station air) s = handed_over-map cell steps algs station air s s.radio
+  air_does-map (RrcOpened srb count text) s = rrc_opened-map srb count text s s.radio
+  air_does-map (PacketOpened drb count text) s = packet_opened-map drb count text s s.radio
+
+  -- the rows on acts of the phone's own
+
+  service_requested-map : (s : Phone K C) (o : Option (NasContext K)) → map_phone_step f g (service_requested r s o) ≡ service_requested q (map_phone f g s) (option_map (map_context f) o)
+  service_requested-map s None = refl
+  service_requested-map s (Some n) = rw (c.kenb n.root n.send) refl
+
+  complete_resent-map : (s : Phone K C) (radio : Radio K C) → map_phone_step f g (complete_resent s radio) ≡ complete_resent (map_phone f g s) (map_radio f g radio)
+  complete_resent-map s Idle = refl
+  complete_resent-map s (Connecting w) = refl
+  complete_resent-map s (Connected l) = refl
+
+  packet_sent-map : (drb : Drb) (text : List ℕ) (s : Phone K C) (radio : Radio K C) → map_phone_step f g (packet_sent drb text s radio) ≡ packet_sent drb text (map_phone f g s) (map_radio f g radio)
+  packet_sent-map drb text s Idle = refl
+  packet_sent-map drb text s (Connecting w) = refl
+  packet_sent-map drb text s (Connected l) = refl
+
+  rrc_sent-map : (srb : Srb) (text : List ℕ) (s : Phone K C) (radio : Radio K C) → map_phone_step f g (rrc_sent srb text s radio) ≡ rrc_sent srb text (map_phone f g s) (map_radio f g radio)
+  rrc_sent-map srb text s Idle = refl
+  rrc_sent-map srb text s (Connecting w) = refl
+  rrc_sent-map srb text s (Connected l) = refl
+
+  nas_sent-map : (text : List ℕ) (s : Phone K C) (o : Option (NasContext K)) → map_phone_step f g (nas_sent text s o) ≡ nas_sent text (map_phone f g s) (option_map (map_context f) o)
+  nas_sent-map text s None = refl
+  nas_sent-map text s (Some n) = refl
+
+  nas_left_out-map : (n : ℕ) (s : Phone K C) (o : Option (NasContext K)) → map_phone_step f g (nas_left_out n s o) ≡ nas_left_out n (map_phone f g s) (option_map (map_context f) o)
+  nas_left_out-map n s None = refl
+  nas_left_out-map n s (Some m) = refl
+
+  bearer_left_out-map : (bearer : Which) (n : ℕ) (s : Phone K C) (radio : Radio K C) → map_phone_step f g (bearer_left_out bearer n s radio) ≡ bearer_left_out bearer n (map_phone f g s) (map_radio f g radio)
+  bearer_left_out-map bearer n s Idle = refl
+  bearer_left_out-map bearer n s (Connecting w) = refl
+  bearer_left_out-map bearer n s (Connected l) = refl
+
+  act_does-map : (row : ActRow) (s : Phone K C) → map_phone_step f g (act_does r row s) ≡ act_does q row (map_phone f g s)
+  act_does-map (ActRefused answer) s = refl
+  act_does-map ServiceRequested s = service_requested-map s s.context
+  act_does-map CompleteResent s = complete_resent-map s s.radio
+  act_does-map WentIdle s = refl
+  act_does-map (PacketSent drb text) s = packet_sent-map drb text s s.radio
+  act_does-map (RrcSent srb text) s = rrc_sent-map srb text s s.radio
+  act_does-map (NasSent text) s = nas_sent-map text s s.context
+  act_does-map (NasLeftOut n) s = nas_left_out-map n s s.context
+  act_does-map (BearerLeftOut bearer n) s = bearer_left_out-map bearer n s s.radio
+
+  phone_does-map : (row : PhoneRow) (root : Option K) (s : Phone K C) → map_phone_step f g (phone_does r row root s) ≡ phone_does q row (option_map f root) (map_phone f g s)
+  phone_does-map (OfAuth (Authenticated ksi)) root s = authenticated-map ksi s root
+  phone_does-map (OfNas row) root s = nas_does-map row s
+  phone_does-map (OfAir row) root s = air_does-map row s
+  phone_does-map (OfAct row) root s = act_does-map row s
+
+  -- what an input would open, and a step
+
+  pub phone_opens-map : (s : Phone K C) (i : PhoneInput K) → map_opening f (phone_opens r s i) ≡ phone_opens q (map_phone f g s) (map_phone_input f i)
+  phone_opens-map s i =
+      phone_expects-map (front_of r s i) s
+      ∙ (λ j. phone_expects q (front_of-map s i j) (map_phone f g s))
+
+  pub phone_step-map : (s : Phone K C) (i : PhoneInput K) (outcome : Outcome) → map_phone_step f g (phone_step r s i outcome) ≡ phone_step q (map_phone f g s) (map_phone_input f i) outcome
+  phone_step-map s i outcome =
+      let done = phone_does-map (phone_row (plain_phone r s) (front_of r s i) outcome) (phone_root i) s
+      ∙ (λ j. phone_does q (phone_row (sym (plain_phone-map s) j) (front_of-map s i j) outcome) (phone_root-map i j) (map_phone f g s)) in
+      let accepted = accepted_of-map f (phone_opens r s i) outcome
+      ∙ (λ j. accepted_of (phone_opens-map s i j) outcome) in
+      λ j. ((done j).0, finished None (accepted j) (done j).1)
