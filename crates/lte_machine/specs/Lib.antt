@@ -7,5 +7,9 @@ pub mod Refusals
 pub mod PhoneState
 pub mod StationState
 pub mod CoreState
+pub mod CoreRows
+pub mod CoreChoice
+pub mod CoreKeys
+pub mod CoreStep
 pub mod Ladder
 pub mod Tuples
