@@ -6,7 +6,6 @@ use Rattle.alg_choice.specs.declared.algs.Algs.{Algs}
 use Rattle.alg_choice.specs.declared.caps.Caps.{Caps}
 use Rattle.annex_a_keys.specs.Cell.{Place}
 use Rattle.rec_base.specs.declared.uses.Dir.TheVariants.{Up, Down}
-use Rattle.rec_base.specs.declared.ways.Way.{Way}
 use Rattle.rec_base.specs.declared.ways.Way.TheVariants.{Initial, Chained}
 use Rattle.lte_events.specs.declared.addresses.Address.TheVariants.{StationS1}
 use Rattle.lte_events.specs.declared.answers.Answer.{Answer}
@@ -26,9 +25,9 @@ use Rattle.lte_machine.specs.CoreChoice.{CoreFront, Settled, FromNas, CoreNasFro
 use Rattle.lte_machine.specs.CoreRows.{CoreNasRow, NasRefused, PlainReject, SmcComplete, ServiceAsked, NasOpened, SealedReject, CoreRecordRow, RecordRefused, PathSwitched, HandoverAsked, HandoverOrdered, HandoverNotified, HandoverCancelled, CoreActRow, ActRefused, SmcStarted, ContextSetUp, ContextReleased, NasSent, NasSkipped, CoreRow, OfNas, OfRecord, OfAct, OfAuth}
 use Rattle.lte_machine.specs.CoreState.{Core, CorePartial, CoreContext, CoreLink}
 use Rattle.lte_machine.specs.Opening.{Opening, OpensNothing, OpensNas}
-use Rattle.lte_machine.specs.PhoneState.{NasContext, nas_keys_of}
+use Rattle.lte_machine.specs.PhoneState.{nas_keys_of}
 use Rattle.lte_machine.specs.Reply.{Note, Reply, only}
-use Rattle.lte_machine.specs.Wire.{Ciphering, Outgoing, SealedNas, Between, KeyUse, nas_use, ciphering_by}
+use Rattle.lte_machine.specs.Wire.{Ciphering, Outgoing, SealedNas, Between, nas_use, ciphering_by}
 
 -- which uses an opening needs
 
@@ -50,7 +49,7 @@ abbrev pub opens_by_context : {K : Type 0} → Option (CoreContext K) → ℕ �
 opens_by_context None header count = OpensNothing
 opens_by_context (Some context) header count =
     OpensNas (nas_use Up context.nas.keys.int count)
-        (ciphering_if (is_ciphered header) (uplink_ciphering context.nas.keys count))
+    (ciphering_if (is_ciphered header) (uplink_ciphering context.nas.keys count))
 
 abbrev pub core_nas_expects : {K C : Type 0} → CoreNasFront → Core K C → Opening K
 core_nas_expects (NasSettled row) s = OpensNothing
@@ -105,8 +104,8 @@ abbrev pub smc_started : {K C : Type 0} → Reading K C → ℕ → Algs → Cap
 smc_started r ksi algs caps count None s = silent s
 smc_started r ksi algs caps count (Some partial) s =
     sending (smc_command (r.alg partial.root 2 eia2_identity) count ksi algs caps)
-        (nas_keys_made r partial.root algs)
-        (record s { partial = Some (record partial { send = count + 1 }); procedure = Some (nas_keys_of r partial.root algs) })
+    (nas_keys_made r partial.root algs)
+    (record s { partial = Some (record partial { send = count + 1 }); procedure = Some (nas_keys_of r partial.root algs) })
 
 -- the new context in use: its uplink goes on behind the Complete, its downlink behind the Command (TS 24.301 4.4.3.1
 -- and 5.4.3.4)
@@ -121,7 +120,10 @@ abbrev pub smc_complete : {K C : Type 0} → ℕ → Option (CorePartial K) → 
 smc_complete count None procedure s = silent s
 smc_complete count (Some partial) None s = silent s
 smc_complete count (Some partial) (Some keys) s = silent (record s {
-  context = Some (new_context partial keys count); trigger = Some count; partial = None; procedure = None;
+  context = Some (new_context partial keys count);
+  trigger = Some count;
+  partial = None;
+  procedure = None;
 })
 
 -- messages under the context in use
@@ -139,7 +141,7 @@ service_asked count (Some c) s = silent (record s { context = Some (nas_taken co
 
 abbrev pub nas_opened : {K C : Type 0} → ℕ → List ℕ → Option (CoreContext K) → Core K C → CoreDone K C
 nas_opened count text None s = silent s
-nas_opened count text (Some c) s = 
+nas_opened count text (Some c) s =
     (record s { context = Some (nas_taken count c) }, record (only Done) { opened = Some text })
 
 abbrev pub sealed_reject : {K C : Type 0} → ℕ → Option (CoreContext K) → Core K C → CoreDone K C
@@ -150,8 +152,8 @@ sealed_reject count (Some c) s = silent (record s { context = Some (nas_taken co
 abbrev pub nas_text : {K C : Type 0} → Keys K → ℕ → List ℕ → Outgoing K C
 nas_text keys count text =
     SealedNas Down 2 (nas_use Down keys.int count)
-        (Some (ciphering_by keys.algs.eea (nas_use Down keys.enc count)))
-        (spelling_of (NasData text))
+    (Some (ciphering_by keys.algs.eea (nas_use Down keys.enc count)))
+    (spelling_of (NasData text))
 
 abbrev pub nas_sent : {K C : Type 0} → ℕ → List ℕ → Option (CoreContext K) → Core K C → CoreDone K C
 nas_sent count text None s = silent s
@@ -174,14 +176,14 @@ context_set_up r conn cell target caps count None s = silent s
 context_set_up r conn cell target caps count (Some c) s =
     let kenb = r.kenb c.nas.root count in
     sending_noted (to_station target (InitialContext conn cell caps) (Some (record { key = kenb; number = r.first })))
-        (kenb_made r c.nas.root count ∷ [])
-        (record { ncc = r.ncc r.first; way = Initial; key = kenb })
-        false
-        (record s {
-          trigger = None;
-          next = conn + 1;
-          link = Some (record { conn = conn; chain = begun r c.nas.root kenb; station = target });
-        })
+    (kenb_made r c.nas.root count ∷ [])
+    (record { ncc = r.ncc r.first; way = Initial; key = kenb })
+    false
+    (record s {
+      trigger = None;
+      next = conn + 1;
+      link = Some (record { conn = conn; chain = begun r c.nas.root kenb; station = target });
+    })
 
 abbrev pub context_released : {K C : Type 0} → ℕ → ℕ → Core K C → CoreDone K C
 context_released conn station s = sending (to_station station (ContextRelease conn) None) [] (record s { link = None })
@@ -199,13 +201,13 @@ path_switched r conn station number alarm None s = silent s
 path_switched r conn station number alarm (Some link) s =
     let chain = stepped r link.chain in
     sending_noted (to_station station (PathSwitchAnswer conn number) (Some (present_pair chain)))
-        (nh_of r link.chain)
-        (chained r chain)
-        alarm
-        (record s {
-          link = Some (record { conn = link.conn; chain = chain; station = station });
-          requests = slice_set s.requests station number;
-        })
+    (nh_of r link.chain)
+    (chained r chain)
+    alarm
+    (record s {
+      link = Some (record { conn = link.conn; chain = chain; station = station });
+      requests = slice_set s.requests station number;
+    })
 
 -- the chain goes one step on, and the target gets the pair (TS 33.401 7.2.8.4.3)
 abbrev pub handover_asked : {K C : Type 0} → Reading K C → ℕ → ℕ → ℕ → Place → ℕ → Caps → Option (CoreLink K C) → Core K C → CoreDone K C
@@ -213,13 +215,13 @@ handover_asked r conn source attempt cell target caps None s = silent s
 handover_asked r conn source attempt cell target caps (Some link) s =
     let chain = stepped r link.chain in
     sending_noted (to_station target (HandoverRequest conn source attempt cell caps) (Some (present_pair chain)))
-        (nh_of r link.chain)
-        (chained r chain)
-        false
-        (record s {
-          link = Some (record link { chain = chain });
-          attempts = slice_set s.attempts source attempt;
-        })
+    (nh_of r link.chain)
+    (chained r chain)
+    false
+    (record s {
+      link = Some (record link { chain = chain });
+      attempts = slice_set s.attempts source attempt;
+    })
 
 abbrev pub handover_ordered : {K C : Type 0} → ℕ → ℕ → ℕ → Place → ℕ → Algs → ℕ → Core K C → CoreDone K C
 handover_ordered conn source attempt cell ncc algs air s =
