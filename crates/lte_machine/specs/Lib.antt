@@ -12,5 +12,9 @@ pub mod PhoneKeys
 pub mod PhoneStep
 pub mod StationState
 pub mod CoreState
+pub mod CoreRows
+pub mod CoreChoice
+pub mod CoreKeys
+pub mod CoreStep
 pub mod Ladder
 pub mod Tuples
