@@ -2,7 +2,8 @@
 use Rattle.std.specs.Prelude.{ℕ, ◌+◌, ◌-◌, min, nat_le, Bool}
 use Rattle.rec_base.specs.declared.bearers.Bearer.{Bearer}
 use Rattle.rec_base.specs.declared.bearers.Bearer.TheVariants.{Srb1, Srb2, Drb1, Drb2, Drb3, Drb4}
-use Rattle.pdcp_guard.specs.Counts.{Counts, LIMIT}
+use Rattle.pdcp_guard.specs.Counts.{Counts}
+use Rattle.pdcp_guard.specs.declared.counting.TheConstants.{LIMIT}
 
 -- SRB1 and SRB2 (TS 36.331 4.2.2)
 pub data Srb : Type 0 where

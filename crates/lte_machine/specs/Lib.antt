@@ -6,5 +6,7 @@ pub mod Reply
 pub mod Refusals
 pub mod PhoneState
 pub mod StationState
+pub mod StationRows
+pub mod StationChoice
 pub mod CoreState
 pub mod Ladder
