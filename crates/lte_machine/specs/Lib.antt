@@ -11,6 +11,8 @@ pub mod PhoneChoice
 pub mod PhoneKeys
 pub mod PhoneStep
 pub mod StationState
+pub mod StationRows
+pub mod StationChoice
 pub mod CoreState
 pub mod CoreRows
 pub mod CoreChoice

@@ -1,0 +1,441 @@
+-- The choice of a station's row: refusals in their order, the first that applies. It sees no key, and of a chain number
+-- its NCC. Where a PDU is to be opened, the choice stops, and goes on with the outcome.
+use Rattle.std.specs.Prelude.{ℕ, ◌+◌, ◌==◌, nat_le, nat_lt, Bool, true, false, not, ◌&&◌, if◌then◌else◌, List, length, take, slice_index, Option, Some, None, option_map, Result, Ok, Err, find}
+use Rattle.alg_choice.specs.declared.algs.Algs.{Algs}
+use Rattle.alg_choice.specs.declared.caps.Caps.{Caps}
+use Rattle.alg_choice.specs.declared.choices.NoAlgorithm.{NoAlgorithm as Unmatched}
+use Rattle.alg_choice.specs.Choice.{choice_of}
+use Rattle.annex_a_keys.specs.Cell.{Place}
+use Rattle.rec_base.specs.declared.faults.RecFault.{RecFault}
+use Rattle.lte_events.specs.declared.answers.Answer.{Answer}
+use Rattle.lte_events.specs.declared.answers.Answer.TheVariants.{Done, MacFails, CountSpent, NoAlgorithm, BadRecord, WrongKind, NotAddressed, NoUe, Stale, OldConnection, NotActive, UnknownCell, NoPathSwitch, AttemptOpen, NoAttempt, CommandSent, Repeated, PrepFull, NotReady, NumberSpent}
+use Rattle.lte_events.specs.declared.acts.StationAct.{StationAct}
+use Rattle.lte_events.specs.declared.acts.StationAct.TheVariants.{Start, Command, Cancel, Ask, SendUser, SendRrc, Skip}
+use Rattle.lte_events.specs.declared.acts.HoKind.{HoKind}
+use Rattle.lte_events.specs.Site.{Site, is_site}
+use Rattle.pdcp_guard.specs.declared.pdus.PdcpFault.{PdcpFault}
+use Rattle.pdcp_guard.specs.Counts.{Counts}
+use Rattle.pdcp_guard.specs.Srb.{srb_count}
+use Rattle.pdcp_guard.specs.Drb.{drb_count}
+use Rattle.rrc_rec.specs.declared.records.RrcRecord.{RrcRecord}
+use Rattle.rrc_rec.specs.declared.records.RrcRecord.TheVariants.{SecurityModeCommand, SecurityModeComplete, Reconfiguration, ReconfigurationComplete, RrcData}
+use Rattle.rrc_rec.specs.Reading.{read_rrc}
+use Rattle.s1x2_rec.specs.Fields.{Fields, kind_of, InitialContext, ContextRelease, PathSwitchAnswer, HandoverRequest, HandoverCommand, HandoverCancel, X2Request, X2Ack, X2Cancel, X2Release}
+use Rattle.s1x2_rec.specs.Content.{Content}
+use Rattle.ho_prep.specs.declared.origins.By.{By}
+use Rattle.ho_prep.specs.Prep.{Prep, at_air, has_attempt, most}
+use Rattle.x2_handover.specs.declared.orders.Order.{Order}
+use Rattle.x2_handover.specs.Attempt.{x2_order}
+use Rattle.s1_handover.specs.Attempt.{s1_order}
+use Rattle.lte_machine.specs.Bearers.{Srb, Signalling1, Signalling2, Drb, Which, OnSrb, OnDrb, which, Bearers, srb_counts, drb_counts, is_spent}
+use Rattle.lte_machine.specs.Opening.{Outcome, Opened, Differs}
+use Rattle.lte_machine.specs.Refusals.{of_pdcp}
+use Rattle.lte_machine.specs.Reply.{Origin}
+use Rattle.lte_machine.specs.StationState.{Station, Context, Attempt, OverX2, OverS1, Within, X2State, X2Open, X2Ready, X2Commanded, S1State, S1Open, S1Ready, S1Commanded, Interface, OnS1, OnX2, StationInput, StationActs, AirPdu, StationRecord}
+use Rattle.lte_machine.specs.StationRows.{Wanted, RecordRow, RecordRefused, ContextGiven, ContextReleased, PairTaken, PreparedByS1, PreparedByX2, AckedByS1, AckedByX2, PreparationCancelled, SourceReleased, AirRow, AirRefused, SecurityStarted, RrcTaken, PacketTaken, CompletedByS1, CompletedWithin, CompletedByX2, ActRow, ActRefused, StartedByX2, StartedByS1, StartedWithin, Commands, CancelledByX2, CancelledByS1, CancelledWithin, AsksAgain, SendsPacket, SendsRrc, LeavesOut, StationRow, OfRecord, OfAir, OfAct}
+
+-- a station without its keys
+abbrev pub PlainStation : Type 0
+PlainStation = Station (Unit {0}) ℕ
+
+abbrev pub PlainContext : Type 0
+PlainContext = Context (Unit {0}) ℕ
+
+abbrev pub PlainAttempt : Type 0
+PlainAttempt = Attempt (Unit {0}) ℕ
+
+-- air addresses, attempts and numbers of path switch requests are 32 bits, drawn in turn from one counter (this project's
+-- own rule: it never goes back): whether fewer are left than are to be drawn
+abbrev pub runs_out : ℕ → ℕ → Bool
+runs_out draws next = nat_lt 4294967296 (next + draws)
+
+-- the station that has a cell, if the cell is in the table
+abbrev pub station_of : Place → List Site → Option ℕ
+station_of cell sites = option_map (λ site. site.station) (find (is_site cell) sites)
+
+abbrev pub is_station : ℕ → Option ℕ → Bool
+is_station id None = false
+is_station id (Some station) = station == id
+
+-- the cell is one of the station's own
+abbrev pub is_own : PlainStation → Place → Bool
+is_own s cell = is_station s.id (station_of cell s.cells)
+
+-- the kind of an RRC text, its first octet
+abbrev pub rrc_kind : RrcRecord → ℕ
+rrc_kind (SecurityModeCommand algs station air) = 0x01
+rrc_kind SecurityModeComplete = 0x02
+rrc_kind (Reconfiguration cell ncc algs station air) = 0x03
+rrc_kind ReconfigurationComplete = 0x04
+rrc_kind (RrcData text) = 0x05
+
+-- the number of an attempt
+abbrev pub x2_number : X2State (Unit {0}) ℕ → ℕ
+x2_number (X2Open start) = start.number
+x2_number (X2Ready acked) = acked.start.number
+x2_number (X2Commanded sent) = sent.number
+
+abbrev pub s1_number : S1State → ℕ
+s1_number (S1Open start) = start.number
+s1_number (S1Ready acked) = acked.start.number
+s1_number (S1Commanded sent) = sent.number
+
+abbrev pub attempt_number : PlainAttempt → ℕ
+attempt_number (OverX2 state) = x2_number state
+attempt_number (OverS1 state) = s1_number state
+attempt_number (Within state) = x2_number state
+
+-- RECORDS
+
+-- Initial Context Setup Request (TS 36.413 8.3.1; 33.401 7.2.4.2.1 for the algorithms). This project's own rule: each
+-- connection has a number, and one that is not above the last is old
+abbrev pub initial_chosen : PlainStation → ℕ → Place → Caps → Result Algs Unmatched → RecordRow
+initial_chosen s conn cell caps (Err none) = RecordRefused NoAlgorithm
+initial_chosen s conn cell caps (Ok algs) =
+    if runs_out 1 s.next then RecordRefused NumberSpent else ContextGiven conn cell caps algs s.next
+
+abbrev pub initial_row : PlainStation → ℕ → Place → Caps → RecordRow
+initial_row s conn cell caps =
+    if nat_le conn s.last then RecordRefused (OldConnection s.last conn)
+    else (if is_own s cell then initial_chosen s conn cell caps (choice_of s.priority caps)
+    else RecordRefused UnknownCell)
+
+-- UE Context Release Command (TS 36.413 8.3.3)
+abbrev pub release_row : ℕ → Option PlainContext → RecordRow
+release_row conn None = RecordRefused NoUe
+release_row conn (Some c) = if c.conn == conn then ContextReleased else RecordRefused (OldConnection c.conn conn)
+
+-- Path Switch Request Acknowledge (TS 36.413 8.4.4). This project's own rule: only the answer to the newest request of
+-- the context is taken, once
+abbrev pub answer_row_by : ℕ → Option ℕ → RecordRow → RecordRow
+answer_row_by number None row = RecordRefused (Stale 0 number)
+answer_row_by number (Some outstanding) row =
+    if outstanding == number then row else RecordRefused (Stale outstanding number)
+
+abbrev pub answer_row : ℕ → Option PlainContext → RecordRow
+answer_row number None = RecordRefused NoUe
+answer_row number (Some c) = answer_row_by number c.outstanding (PairTaken c.conn c.origin)
+
+-- Handover Request on S1 or X2 (TS 36.413 8.4.2, TS 36.423 8.2.1). This project's own rules: requests of an older
+-- connection, and attempts of a source that are not above its greatest, are not taken; there are at most eight
+-- preparations. The row is that of the interface
+abbrev pub wanted_chosen : PlainStation → ℕ → Origin → Place → Caps → (Wanted → RecordRow) → Result Algs Unmatched → RecordRow
+wanted_chosen s conn from cell caps row (Err none) = RecordRefused NoAlgorithm
+wanted_chosen s conn from cell caps row (Ok algs) =
+    if runs_out 1 s.next then RecordRefused NumberSpent
+    else row (record { conn = conn; from = from; cell = cell; caps = caps; algs = algs; air = s.next })
+
+abbrev pub is_full : PlainStation → Bool
+is_full s = nat_le most (length s.preps)
+
+abbrev pub wanted_row : PlainStation → ℕ → Origin → Place → Caps → (Wanted → RecordRow) → RecordRow
+wanted_row s conn from cell caps row =
+    if nat_lt conn s.last then RecordRefused (OldConnection s.last conn)
+    else (if not (is_own s cell) then RecordRefused UnknownCell
+    else (if nat_le from.attempt (slice_index s.seen from.source) then RecordRefused (Repeated (slice_index s.seen from.source) from.attempt)
+    else (if (conn == s.last) && is_full s then RecordRefused PrepFull
+    else wanted_chosen s conn from cell caps row (choice_of s.priority caps))))
+
+-- an answer to an attempt of this kind and number, which may still be open
+abbrev pub acked_open : ℕ → ℕ → RecordRow → RecordRow
+acked_open number own row = if own == number then row else RecordRefused NoAttempt
+
+abbrev pub acked_before : ℕ → ℕ → RecordRow
+acked_before number own = acked_open number own (RecordRefused (Repeated number number))
+
+-- Handover Command (TS 36.413 8.4.1)
+abbrev pub s1_acked_row : ℕ → RecordRow → Option PlainAttempt → RecordRow
+s1_acked_row number row (Some (OverS1 (S1Open start))) = acked_open number start.number row
+s1_acked_row number row (Some (OverS1 (S1Ready acked))) = acked_before number acked.start.number
+s1_acked_row number row (Some (OverS1 (S1Commanded sent))) = acked_before number sent.number
+s1_acked_row number row other = RecordRefused NoAttempt
+
+abbrev pub s1_ack_row : ℕ → ℕ → Algs → ℕ → Option PlainContext → RecordRow
+s1_ack_row number ncc algs air None = RecordRefused NoUe
+s1_ack_row number ncc algs air (Some c) = s1_acked_row number (AckedByS1 ncc algs air) c.attempt
+
+-- Handover Request Acknowledge on X2 (TS 36.423 8.2.1)
+abbrev pub x2_acked_row : ℕ → RecordRow → Option PlainAttempt → RecordRow
+x2_acked_row number row (Some (OverX2 (X2Open start))) = acked_open number start.number row
+x2_acked_row number row (Some (OverX2 (X2Ready acked))) = acked_before number acked.start.number
+x2_acked_row number row (Some (OverX2 (X2Commanded sent))) = acked_before number sent.number
+x2_acked_row number row other = RecordRefused NoAttempt
+
+abbrev pub x2_ack_row : ℕ → Algs → ℕ → Option PlainContext → RecordRow
+x2_ack_row number algs air None = RecordRefused NoUe
+x2_ack_row number algs air (Some c) = x2_acked_row number (AckedByX2 algs air) c.attempt
+
+-- Handover Cancel (TS 36.413 8.4.5, TS 36.423 8.2.3)
+abbrev pub cancel_row : PlainStation → Origin → RecordRow
+cancel_row s from =
+    if has_attempt from.source from.attempt s.preps then PreparationCancelled from else RecordRefused NoAttempt
+
+-- UE Context Release on X2 (TS 36.423 8.2.2). This project's own rule: only after the command was sent
+abbrev pub x2_released_row : ℕ → Option PlainAttempt → RecordRow
+x2_released_row number (Some (OverX2 (X2Commanded sent))) =
+    if sent.number == number then SourceReleased else RecordRefused NoAttempt
+x2_released_row number other = RecordRefused NoAttempt
+
+abbrev pub x2_release_row : ℕ → Option PlainContext → RecordRow
+x2_release_row number None = RecordRefused NoUe
+x2_release_row number (Some c) = x2_released_row number c.attempt
+
+-- by the kinds that a station takes on S1, and on X2
+abbrev pub s1_row : PlainStation → Fields → RecordRow
+s1_row s (InitialContext conn cell caps) = initial_row s conn cell caps
+s1_row s (ContextRelease conn) = release_row conn s.context
+s1_row s (PathSwitchAnswer conn number) = answer_row number s.context
+s1_row s (HandoverRequest conn source attempt cell caps) =
+    wanted_row s conn (record { source = source; attempt = attempt }) cell caps PreparedByS1
+s1_row s (HandoverCommand conn attempt cell ncc algs air) = s1_ack_row attempt ncc algs air s.context
+s1_row s (HandoverCancel conn source attempt cell) = cancel_row s (record { source = source; attempt = attempt })
+s1_row s other = RecordRefused (WrongKind (kind_of other))
+
+abbrev pub x2_row : PlainStation → Fields → RecordRow
+x2_row s (X2Request conn source attempt cell caps) =
+    wanted_row s conn (record { source = source; attempt = attempt }) cell caps PreparedByX2
+x2_row s (X2Ack conn attempt cell algs air) = x2_ack_row attempt algs air s.context
+x2_row s (X2Cancel conn source attempt) = cancel_row s (record { source = source; attempt = attempt })
+x2_row s (X2Release conn attempt) = x2_release_row attempt s.context
+x2_row s other = RecordRefused (WrongKind (kind_of other))
+
+abbrev pub record_row : PlainStation → Interface → Result (Content (Unit {0}) ℕ) RecFault → RecordRow
+record_row s interface (Err fault) = RecordRefused (BadRecord fault)
+record_row s OnS1 (Ok content) = s1_row s content.fields
+record_row s OnX2 (Ok content) = x2_row s content.fields
+
+-- PDUS OF RADIO BEARERS
+
+-- what is to be opened, and at which COUNT, or the answer at once
+pub data AirFront : Type 0 where
+  AirSettled : AirRow → AirFront
+  -- SRB1 of a context whose security starts: not ciphered yet (TS 36.331 5.3.4)
+  OnStarting : ℕ → AirFront
+  -- a bearer of an active context
+  OnSignalling : Srb → ℕ → AirFront
+  OnUser : Drb → ℕ → AirFront
+  -- SRB1 at the air address of a preparation, which came so
+  OnPrepared : ℕ → By → ℕ → AirFront
+
+-- an opening needs a COUNT (TS 36.323 5.1.2)
+abbrev pub counted : (ℕ → AirFront) → Result ℕ PdcpFault → AirFront
+counted front (Err fault) = AirSettled (AirRefused (of_pdcp fault))
+counted front (Ok count) = front count
+
+abbrev pub starting_front : Bearers → Which → List ℕ → AirFront
+starting_front bearers (OnSrb Signalling1) pdu = counted OnStarting (srb_count bearers.srb1.receive pdu)
+starting_front bearers other pdu = AirSettled (AirRefused NotActive)
+
+abbrev pub active_front : Bearers → Which → List ℕ → AirFront
+active_front bearers (OnSrb srb) pdu = counted (OnSignalling srb) (srb_count (srb_counts srb bearers).receive pdu)
+active_front bearers (OnDrb drb) pdu = counted (OnUser drb) (drb_count (drb_counts drb bearers).receive pdu)
+
+abbrev pub context_front : Bool → Bearers → Which → List ℕ → AirFront
+context_front true bearers on pdu = starting_front bearers on pdu
+context_front false bearers on pdu = active_front bearers on pdu
+
+-- a preparation expects COUNT 0 on SRB1, and nothing else (TS 36.331 5.3.5.4)
+abbrev pub prepared_front : Option (Prep (Unit {0}) ℕ) → ℕ → Which → List ℕ → AirFront
+prepared_front None air on pdu = AirSettled (AirRefused NotAddressed)
+prepared_front (Some p) air (OnSrb Signalling1) pdu = counted (OnPrepared air p.by) (srb_count 0 pdu)
+prepared_front (Some p) air other pdu = AirSettled (AirRefused NotActive)
+
+abbrev pub air_front_by : Option PlainContext → Option (Prep (Unit {0}) ℕ) → ℕ → Which → List ℕ → AirFront
+air_front_by None prep air on pdu = prepared_front prep air on pdu
+air_front_by (Some c) prep air on pdu =
+    if c.air == air then context_front c.starting c.bearers on pdu else prepared_front prep air on pdu
+
+abbrev pub air_front : PlainStation → ℕ → Which → List ℕ → AirFront
+air_front s air on pdu = air_front_by s.context (at_air air s.preps) air on pdu
+
+-- Security Mode Complete (TS 36.331 5.3.4.3)
+abbrev pub starting_row : ℕ → Result RrcRecord RecFault → AirRow
+starting_row count (Err fault) = AirRefused (BadRecord fault)
+starting_row count (Ok SecurityModeComplete) = SecurityStarted count
+starting_row count (Ok other) = AirRefused (WrongKind (rrc_kind other))
+
+-- data, or a Reconfiguration Complete that the phone sent again
+abbrev pub rrc_row : Srb → ℕ → Result RrcRecord RecFault → AirRow
+rrc_row srb count (Err fault) = AirRefused (BadRecord fault)
+rrc_row srb count (Ok (RrcData text)) = RrcTaken srb count (Some text)
+rrc_row srb count (Ok ReconfigurationComplete) = RrcTaken srb count None
+rrc_row srb count (Ok other) = AirRefused (WrongKind (rrc_kind other))
+
+-- Reconfiguration Complete (TS 36.331 5.3.5.4): with it the target has the phone. After X2 a Path Switch Request is due,
+-- for which a number is drawn (TS 36.300 10.1.2.1.1)
+abbrev pub completed_row : ℕ → ℕ → ℕ → By → AirRow
+completed_row next air count By.X2 =
+    if runs_out 1 next then AirRefused NumberSpent else CompletedByX2 air count next
+completed_row next air count By.S1 = CompletedByS1 air count
+completed_row next air count (By.Intra origin) =
+    CompletedWithin air count (option_map (λ o. record { source = o.0; attempt = o.1 }) origin)
+
+abbrev pub prepared_row : ℕ → ℕ → ℕ → By → Result RrcRecord RecFault → AirRow
+prepared_row next air count by (Err fault) = AirRefused (BadRecord fault)
+prepared_row next air count by (Ok ReconfigurationComplete) = completed_row next air count by
+prepared_row next air count by (Ok other) = AirRefused NotActive
+
+-- the text of a user packet: 1,500 octets at most (this project's own rule: what is longer is cut)
+abbrev pub user_text : List ℕ → List ℕ
+user_text text = take 1500 text
+
+-- after the opening
+abbrev pub air_row : PlainStation → AirFront → Outcome → AirRow
+air_row s (AirSettled row) outcome = row
+air_row s (OnStarting count) (Differs wanted got) = AirRefused (MacFails count wanted got)
+air_row s (OnStarting count) (Opened text) = starting_row count (read_rrc text)
+air_row s (OnSignalling srb count) (Differs wanted got) = AirRefused (MacFails count wanted got)
+air_row s (OnSignalling srb count) (Opened text) = rrc_row srb count (read_rrc text)
+air_row s (OnUser drb count) (Differs wanted got) = AirRefused (MacFails count wanted got)
+air_row s (OnUser drb count) (Opened text) = PacketTaken drb count (user_text text)
+air_row s (OnPrepared air by count) (Differs wanted got) = AirRefused (MacFails count wanted got)
+air_row s (OnPrepared air by count) (Opened text) = prepared_row s.next air count by (read_rrc text)
+
+-- ACTS
+
+-- an act that needs the active context
+abbrev pub active_row : Bool → ActRow → ActRow
+active_row true row = ActRefused NotActive
+active_row false row = row
+
+-- sending needs a COUNT (TS 36.323 5.1.1)
+abbrev pub unless_spent : Counts → ActRow → ActRow
+unless_spent counts row = if is_spent counts then ActRefused CountSpent else row
+
+-- where a handover may not go: X2 and S1 to a cell of the station itself, and one within it to any other (TS 36.300
+-- 10.1.2.1, TS 33.401 7.2.8.4.1)
+abbrev pub is_misplaced : HoKind → Bool → Bool
+is_misplaced HoKind.Intra own = not own
+is_misplaced other own = own
+
+-- one number is drawn for the attempt, and within the station one more for the air address
+abbrev pub begun_row : PlainStation → ℕ → Place → HoKind → ActRow
+begun_row s target cell HoKind.X2 =
+    if runs_out 1 s.next then ActRefused NumberSpent else StartedByX2 s.next target cell
+begun_row s target cell HoKind.S1 =
+    if runs_out 1 s.next then ActRefused NumberSpent else StartedByS1 s.next target cell
+begun_row s target cell HoKind.Intra =
+    if is_full s then ActRefused PrepFull
+    else (if runs_out 2 s.next then ActRefused NumberSpent else StartedWithin s.next (s.next + 1) cell)
+
+-- this project's own rule: a context has at most one attempt
+abbrev pub alone_row : PlainStation → ℕ → Place → HoKind → Option PlainAttempt → ActRow
+alone_row s target cell kind (Some attempt) = ActRefused (AttemptOpen (attempt_number attempt))
+alone_row s target cell kind None = begun_row s target cell kind
+
+abbrev pub target_row : PlainStation → Option PlainAttempt → Place → HoKind → Option ℕ → ActRow
+target_row s attempt cell kind None = ActRefused UnknownCell
+target_row s attempt cell kind (Some target) =
+    if is_misplaced kind (target == s.id) then ActRefused UnknownCell else alone_row s target cell kind attempt
+
+abbrev pub start_row : PlainStation → HoKind → Place → Option PlainContext → ActRow
+start_row s kind cell None = ActRefused NoUe
+start_row s kind cell (Some c) =
+    active_row c.starting (target_row s c.attempt cell kind (station_of cell s.cells))
+
+-- the command, for the first time or again (TS 36.331 5.3.5.3)
+abbrev pub ordered_row : Order → Counts → ActRow
+ordered_row order counts = unless_spent counts (Commands order counts.send)
+
+abbrev pub x2_command_row : X2State (Unit {0}) ℕ → Counts → ActRow
+x2_command_row (X2Open start) counts = ActRefused NotReady
+x2_command_row (X2Ready acked) counts = ordered_row (x2_order (λ ncc. ncc) acked) counts
+x2_command_row (X2Commanded sent) counts = ordered_row sent.order counts
+
+abbrev pub s1_command_row : S1State → Counts → ActRow
+s1_command_row (S1Open start) counts = ActRefused NotReady
+s1_command_row (S1Ready acked) counts = ordered_row (s1_order acked) counts
+s1_command_row (S1Commanded sent) counts = ordered_row sent.order counts
+
+abbrev pub attempt_command_row : Option PlainAttempt → Counts → ActRow
+attempt_command_row None counts = ActRefused NoAttempt
+attempt_command_row (Some (OverX2 state)) counts = x2_command_row state counts
+attempt_command_row (Some (OverS1 state)) counts = s1_command_row state counts
+attempt_command_row (Some (Within state)) counts = x2_command_row state counts
+
+abbrev pub command_row : Option PlainContext → ActRow
+command_row None = ActRefused NoUe
+command_row (Some c) = attempt_command_row c.attempt c.bearers.srb1
+
+-- giving an attempt up (TS 36.413 8.4.5, TS 36.423 8.2.3). This project's own rule: until its command was sent
+abbrev pub x2_cancel_row : ℕ → X2State (Unit {0}) ℕ → ActRow
+x2_cancel_row conn (X2Open start) = CancelledByX2 conn start.number start.station
+x2_cancel_row conn (X2Ready acked) = CancelledByX2 conn acked.start.number acked.start.station
+x2_cancel_row conn (X2Commanded sent) = ActRefused CommandSent
+
+abbrev pub s1_cancel_row : ℕ → S1State → ActRow
+s1_cancel_row conn (S1Open start) = CancelledByS1 conn start.number start.cell
+s1_cancel_row conn (S1Ready acked) = CancelledByS1 conn acked.start.number acked.start.cell
+s1_cancel_row conn (S1Commanded sent) = ActRefused CommandSent
+
+abbrev pub within_cancel_row : X2State (Unit {0}) ℕ → ActRow
+within_cancel_row (X2Open start) = CancelledWithin start.number
+within_cancel_row (X2Ready acked) = CancelledWithin acked.start.number
+within_cancel_row (X2Commanded sent) = ActRefused CommandSent
+
+abbrev pub attempt_cancel_row : ℕ → Option PlainAttempt → ActRow
+attempt_cancel_row conn None = ActRefused NoAttempt
+attempt_cancel_row conn (Some (OverX2 state)) = x2_cancel_row conn state
+attempt_cancel_row conn (Some (OverS1 state)) = s1_cancel_row conn state
+attempt_cancel_row conn (Some (Within state)) = within_cancel_row state
+
+abbrev pub give_up_row : Option PlainContext → ActRow
+give_up_row None = ActRefused NoUe
+give_up_row (Some c) = attempt_cancel_row c.conn c.attempt
+
+-- Path Switch Request again (TS 36.413 8.4.4). This project's own rule: only for a context that came by X2
+abbrev pub came_row : ℕ → Option Origin → ActRow
+came_row next None = ActRefused NoPathSwitch
+came_row next (Some origin) = if runs_out 1 next then ActRefused NumberSpent else AsksAgain next
+
+abbrev pub ask_row : ℕ → Option PlainContext → ActRow
+ask_row next None = ActRefused NoUe
+ask_row next (Some c) = active_row c.starting (came_row next c.origin)
+
+-- a user packet on a DRB; that it names an SRB no caller asks for, and nothing is done
+abbrev pub packet_row : Which → List ℕ → Option PlainContext → ActRow
+packet_row (OnSrb srb) text context = ActRefused Done
+packet_row (OnDrb drb) text None = ActRefused NoUe
+packet_row (OnDrb drb) text (Some c) =
+    let counts = drb_counts drb c.bearers in
+    active_row c.starting (unless_spent counts (SendsPacket drb counts.send text))
+
+-- an RRC text on an SRB; that it names a DRB no caller asks for, and nothing is done
+abbrev pub send_rrc_row : Which → List ℕ → Option PlainContext → ActRow
+send_rrc_row (OnDrb drb) text context = ActRefused Done
+send_rrc_row (OnSrb srb) text None = ActRefused NoUe
+send_rrc_row (OnSrb srb) text (Some c) =
+    let counts = srb_counts srb c.bearers in
+    active_row c.starting (unless_spent counts (SendsRrc srb counts.send text))
+
+-- leaving COUNTs of a bearer out
+abbrev pub skip_row : Which → ℕ → Option PlainContext → ActRow
+skip_row on n None = ActRefused NoUe
+skip_row on n (Some c) = active_row c.starting (LeavesOut on n)
+
+abbrev pub act_row : PlainStation → StationAct → ActRow
+act_row s (Start kind cell) = start_row s kind cell s.context
+act_row s Command = command_row s.context
+act_row s Cancel = give_up_row s.context
+act_row s Ask = ask_row s.next s.context
+act_row s (SendUser bearer text) = packet_row (which bearer) text s.context
+act_row s (SendRrc bearer text) = send_rrc_row (which bearer) text s.context
+act_row s (Skip bearer n) = skip_row (which bearer) n s.context
+
+-- THE WHOLE CHOICE
+
+-- the row is settled, or a PDU of a bearer may be to be opened first
+pub data StationFront : Type 0 where
+  Settled : StationRow → StationFront
+  FromAir : AirFront → StationFront
+
+-- what comes before the opening
+abbrev pub station_front : PlainStation → StationInput (Unit {0}) ℕ → StationFront
+station_front s (StationActs act) = Settled (OfAct (act_row s act))
+station_front s (AirPdu air bearer pdu) = FromAir (air_front s air (which bearer) pdu)
+station_front s (StationRecord interface read) = Settled (OfRecord (record_row s interface read))
+
+-- and what comes after it
+abbrev pub station_row : PlainStation → StationFront → Outcome → StationRow
+station_row s (Settled row) outcome = row
+station_row s (FromAir front) outcome = OfAir (air_row s front outcome)
