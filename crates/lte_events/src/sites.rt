@@ -26,7 +26,7 @@ impl Model for Entry {
 
 /// The cells of all stations, at most 32, in the order in which they were added, none of them twice.
 /// A contract sees them as the list of the cells with their stations.
-#[derive(Debug, PartialEq, Eq, Drop)]
+#[derive(Clone, Debug, PartialEq, Eq, Drop)]
 pub struct Cells {
     entries: ArrayVec<Entry, 32>,
 }
