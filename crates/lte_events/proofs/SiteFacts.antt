@@ -1,5 +1,5 @@
 -- Facts on the cells of a system.
-use Rattle.std.proofs.Common.{◌≡◌, ℕ, Bool, true, false, ◌&&◌, nat_eq, ◌≤◌, ◌<◌, ◌↔◌, List, [], ◌∷◌, ◌++◌, length, rules, refl, All, find, IsTrue, IsSome, rw, arith, cond, ⊎_elim}
+use Rattle.std.proofs.Common.{◌≡◌, ℕ, suc, Bool, true, false, ◌≤◌, ◌<◌, ◌↔◌, List, [], ◌∷◌, ◌++◌, length, rules, All, find, IsTrue, IsSome, IfSome, arith, ⊎_elim}
 use Rattle.std.proofs.lemmas.Grind.{common_steps}
 use Rattle.std.proofs.lemmas.Bool.{cases_Bool}
 use Rattle.std.specs.List.{list_any, IsDistinct}
@@ -9,7 +9,7 @@ use Rattle.std.proofs.lemmas.Bool.Decides.{nat_tests}
 use Rattle.std.proofs.lemmas.List.Elements.{All-push, All-nil}
 use Rattle.std.proofs.lemmas.Map.Keys.{IsDistinct-push}
 use Rattle.annex_a_keys.specs.Cell.{Place}
-use Rattle.lte_events.specs.Site.{Site, is_site, NoneTwice, IsCellTable}
+use Rattle.lte_events.specs.Site.{Site, is_site, IsCellTable}
 
 -- whether two sites have one cell is an equivalence
 pub same_cell : IsEquivalence {K = Site} (λ a b. is_site a.cell b)
@@ -35,6 +35,14 @@ one_more sites station cell table room absent within = record {
 pub found_stands : (p : Site → Bool) (sites : List Site) → IsSome (option_map (λ s. s.station) (find p sites)) ↔ IsTrue (list_any p sites)
 found_stands p [] = search rules
 found_stands p (s ∷ sites) = ⊎_elim
-    (λ yes. rw (yes, yes) search rules)
-    (λ no. rw (no, no) (found_stands p sites))
+    (λ (yes : p s ≡ true). rw yes search rules)
+    (λ (no : p s ≡ false). rw no (found_stands p sites))
+    (cases_Bool (p s))
+
+-- what holds of all holds of what is found
+pub found_within : (p : Site → Bool) (sites : List Site) → All (λ s. s.station ≤ 7) sites → IfSome (option_map (λ s. s.station) (find p sites)) (λ station. station ≤ 7)
+found_within p [] table = tt
+found_within p (s ∷ sites) table = ⊎_elim
+    (λ (yes : p s ≡ true). rw yes (table 0 s (omega arith)))
+    (λ (no : p s ≡ false). rw no (found_within p sites (λ k d below. table (suc k) d (omega arith))))
     (cases_Bool (p s))

@@ -6,9 +6,10 @@ use rec_base::RecFault;
 
 /// What an actor or the network answers to an input: done, or the first cause of refusal, with the
 /// values that tell the case.
-#[derive(Clone, Copy, Debug, PartialEq, Eq)]
+#[derive(Clone, Copy, Debug, Default, PartialEq, Eq)]
 pub enum Answer {
     /// Done.
+    #[default]
     Done,
     /// There is no NAS security context.
     NoContext,

@@ -1,7 +1,9 @@
 // Lists of a bounded length, which take no memory.
-ghost use Rattle.std.specs.Prelude.{◌≡◌, ◌≤◌, ◌<◌, ◌↔◌, [], ◌∷◌, ◌++◌, length, IsOk, OnOk, OnErr, IfErr};
+ghost use Rattle.std.specs.Prelude.{◌≡◌, ◌+◌, ◌≤◌, ◌<◌, ◌↔◌, [], ◌∷◌, ◌++◌, length, slice_index_or, ℕ, IsOk, OnOk, OnErr, IfErr};
+ghost use Rattle.std.specs.List.{AllZip};
 
 use arrayvec::ArrayVec;
+use std::alloc::AllocError;
 use std::marker::Model;
 
 /// A list of at most `N` items, which lies in the value itself. A contract sees it as the list.
@@ -44,8 +46,26 @@ impl<T: Drop, const N: usize> Few<T, N> {
         if self.items.is_full() {
             return Err(item);
         }
-        self.items.push(item);
+        self.push(item);
         Ok(())
+    }
+
+    /// Appends an item, for which there is room.
+    pub fn push(&mut self, item: T)
+        requires { length self.old < N }
+        ensures { self.new ≡ self.old ++ item ∷ [] }
+    {
+        self.items.push(item);
+    }
+
+    /// Appends items, for which there is room.
+    pub fn append(&mut self, items: &[T])
+    where
+        T: Copy,
+        requires { length self.old + length items.now ≤ N }
+        ensures { self.new ≡ self.old ++ items.now }
+    {
+        let _ = self.items.try_extend_from_slice(items);
     }
 
     /// The items, in order.
@@ -54,5 +74,24 @@ impl<T: Drop, const N: usize> Few<T, N> {
         ensures within { length result.now ≤ N }
     {
         self.items.as_slice()
+    }
+}
+
+impl<T: Default, const N: usize> Default for Few<T, N> {
+    ghost is_default = { λ v. v ≡ [] };
+
+    fn default() -> Few<T, N> {
+        Few::new()
+    }
+}
+
+impl<T: Default + Clone, const N: usize> Clone for Few<T, N> {
+    ghost is_clone = { λ v w. AllZip T.is_clone v w };
+
+    ghost is_infallible = { λ v. (i : ℕ) (d : T) → i < length v → T.is_infallible (slice_index_or v i d) };
+
+    fn clone(&self) -> Result<Self, AllocError> {
+        let items = self.items.clone()?;
+        Ok(Few { items })
     }
 }

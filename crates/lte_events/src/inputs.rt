@@ -52,3 +52,10 @@ pub enum ActorIn {
     /// Of the core.
     Core(CoreIn),
 }
+
+// What the unused places of a bounded list of inputs hold.
+impl Default for ActorIn {
+    fn default() -> ActorIn {
+        ActorIn::Phone(PhoneIn::Act(PhoneAct::GoIdle))
+    }
+}

@@ -1,3 +1,6 @@
+ghost use Rattle.std.specs.Prelude.{◌≡◌};
+ghost use Rattle.lte_events.specs.Reply.{reply_of};
+
 use crate::{Address, Answer, Few};
 use annex_a_keys::Derived;
 use rec_base::{Octets, Use, UserText, Way};
@@ -23,7 +26,7 @@ pub struct KeyNote {
 }
 
 /// What an actor answers to an input.
-#[derive(PartialEq, Eq, Debug, Drop)]
+#[derive(Clone, PartialEq, Eq, Debug, Default, Drop)]
 pub struct ActorOut {
     /// Done, or why the input was refused.
     pub answer: Answer,
@@ -46,4 +49,24 @@ pub struct ActorOut {
     /// Whether the capabilities in a Path Switch Request are not those of the phone's latest
     /// authentication (TS 33.401 7.2.4.2.2).
     pub alarm: bool,
+}
+
+impl ActorOut {
+    /// The reply with this answer and nothing else.
+    pub fn of(answer: Answer) -> ActorOut
+        ensures { result ≡ reply_of answer }
+    {
+        ActorOut {
+            answer,
+            sent: None,
+            tuple: None,
+            opened: None,
+            derived: Few::new(),
+            received: None,
+            used: Few::new(),
+            accepted: None,
+            note: None,
+            alarm: false,
+        }
+    }
 }

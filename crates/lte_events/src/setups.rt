@@ -24,7 +24,7 @@ impl Default for StationSetup {
 }
 
 /// What a system of one phone, its stations and one core starts with.
-#[derive(Debug, PartialEq, Eq, Drop)]
+#[derive(Clone, Debug, PartialEq, Eq, Drop)]
 pub struct Setup {
     /// The capabilities of the phone.
     pub caps: Caps,

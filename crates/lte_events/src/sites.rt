@@ -26,7 +26,7 @@ impl Model for Entry {
 
 /// The cells of all stations, at most 32, in the order in which they were added, none of them twice.
 /// A contract sees them as the list of the cells with their stations.
-#[derive(Debug, PartialEq, Eq, Drop)]
+#[derive(Clone, Debug, PartialEq, Eq, Drop)]
 pub struct Cells {
     entries: ArrayVec<Entry, 32>,
 }
@@ -88,11 +88,8 @@ impl Cells {
         ensures stands { IsSome result ↔ IsTrue (list_any (is_site cell.now) self.now) }
         ensures station { IfSome result (λ station. station ≤ 7) }
     {
-        self.entries
-            .as_slice()
-            .iter()
-            .find(|entry| entry.cell == *cell)
-            .map(|entry| entry.station)
+        let _ = &self.entries;
+        self.first_station(cell)
     }
 
     /// The number of cells, at most 32.
@@ -112,6 +109,17 @@ impl Cells {
     {
         let entry = self.entries.as_slice()[i];
         (entry.station, entry.cell)
+    }
+
+    // The station of the first entry with this cell.
+    fn first_station(&self, cell: &Cell) -> Option<u8>
+        ensures { result ≡ option_map (λ s. s.station) (find (is_site cell.now) self.now) }
+    {
+        self.entries
+            .as_slice()
+            .iter()
+            .find(|entry| entry.cell == *cell)
+            .map(|entry| entry.station)
     }
 
     // Whether a cell stands.

@@ -1,6 +1,11 @@
-use crate::Answer;
-use alg_choice::{Algs, Caps, Eea};
-use rec_base::RecFault;
+use crate::{
+    ActorOut, Address, Answer, Cells, CellsFault, CoreAct, Event, Few, HoKind, PhoneAct,
+    StationAct, StationSetup,
+};
+use alg_choice::{Algs, Caps, Eea, Priority};
+use annex_a_keys::Cell;
+use rec_base::{Bearer, Octets, RecFault, UserText};
+use std::process::Abort;
 
 #[test]
 fn answers_have_their_number_and_name(rt: HostRuntime) {
@@ -25,4 +30,85 @@ fn answers_have_their_number_and_name(rt: HostRuntime) {
         assert_eq!(rt; answer.number(), number);
         assert_eq!(rt; answer.name(), name);
     }
+}
+
+// The cell with this PCI at EARFCN-DL 100.
+fn cell(rt: &impl Abort, pci: u16) -> Cell {
+    Cell::new(pci, 100).expect(rt, "a cell in range")
+}
+
+#[test]
+fn cells_are_found_in_the_order_added(rt: HostRuntime) {
+    let mut cells = Cells::new();
+    assert_eq!(rt; cells.station_of(&cell(&rt, 0)), None);
+    for pci in 0..32 {
+        assert_eq!(rt; cells.add((pci / 4) as u8, cell(&rt, pci)), Ok(()));
+    }
+    assert_eq!(rt; cells.len(), 32);
+    assert_eq!(rt; cells.at(5), (1, cell(&rt, 5)));
+    assert_eq!(rt; cells.station_of(&cell(&rt, 31)), Some(7));
+    assert_eq!(rt; cells.add(0, cell(&rt, 5)), Err(CellsFault::SameCell));
+    assert_eq!(rt; cells.add(0, cell(&rt, 32)), Err(CellsFault::Full));
+    assert_eq!(rt; cells.station_of(&cell(&rt, 32)), None);
+    assert_eq!(rt; cells.len(), 32);
+}
+
+#[test]
+fn one_cell_per_pci_and_earfcn(rt: HostRuntime) {
+    let mut cells = Cells::new();
+    for (pci, earfcn) in [(10, 100), (10, 101), (11, 100)] {
+        let cell = Cell::new(pci, earfcn).expect(&rt, "a cell in range");
+        assert_eq!(rt; cells.add(0, cell), Ok(()));
+        assert_eq!(rt; cells.add(1, cell), Err(CellsFault::SameCell));
+    }
+}
+
+// A station of this number.
+fn station(id: u8) -> StationSetup {
+    StationSetup {
+        id,
+        priority: Priority::new(Eea::Eea2, None),
+        first: 1,
+    }
+}
+
+#[test]
+fn full_list_hands_the_item_back(rt: HostRuntime) {
+    let mut stations: Few<StationSetup, 2> = Few::new();
+    assert_eq!(rt; stations.try_push(station(3)), Ok(()));
+    assert_eq!(rt; stations.try_push(station(5)), Ok(()));
+    assert_eq!(rt; stations.try_push(station(0)), Err(station(0)));
+    assert_eq!(rt; stations.as_slice(), [station(3), station(5)].as_slice());
+    assert_eq!(rt; stations.clone().unwrap(), stations);
+    let mut more: Few<StationSetup, 3> = Few::new();
+    more.push(station(1));
+    more.append(stations.as_slice());
+    let ids = [station(1), station(3), station(5)];
+    assert_eq!(rt; more.as_slice(), ids.as_slice());
+}
+
+#[test]
+fn events_differ_by_who_acts_and_how(rt: HostRuntime) {
+    let target = cell(&rt, 11);
+    let mut text = UserText::new();
+    text.append(b"hi");
+    let events = [
+        Event::Phone(PhoneAct::SendUser(Bearer::Drb1, text)),
+        Event::Station(0, StationAct::Start(HoKind::X2, target)),
+        Event::Station(0, StationAct::Start(HoKind::S1, target)),
+        Event::Core(CoreAct::Connect(target)),
+        Event::Inject(Address::StationAir(0, 1, Bearer::Srb1), Octets::new()),
+        Event::Deliver(-1),
+    ];
+    for (i, event) in events.iter().enumerate() {
+        assert_eq!(rt; events.iter().position(|other| *other == *event), Some(i));
+        assert_eq!(rt; event.clone().unwrap(), *event);
+    }
+}
+
+#[test]
+fn empty_reply_is_done(rt: HostRuntime) {
+    let reply = ActorOut::of(Answer::Done);
+    assert_eq!(rt; reply, ActorOut::default());
+    assert_eq!(rt; reply.derived.as_slice().len(), 0);
 }

@@ -1,6 +1,4 @@
-use Rattle.std.proofs.Common.{rules, ◌≡◌, ◌≤◌, ◌<◌, length, false, arith}
-use Rattle.std.specs.List.{list_any}
-use Rattle.lte_events.specs.Site.{is_site}
+use Rattle.std.proofs.Common.{rules}
 use Rattle.lte_events.proofs.SiteFacts.{one_more}
 use Rattle.lte_events.proofs.sites.Cells.add.Goals as goal
 
