@@ -1,5 +1,5 @@
 -- The same laws of contents.
-use Rattle.std.proofs.Common.{◌≡◌, ℕ, ◌≤◌, List, length, Option, Some, None, Result, Ok, Err, refl, sym, ap, subst, ◌∙◌, arith}
+use Rattle.std.proofs.Common.{◌≡◌, ℕ, ◌≤◌, List, length, Option, Some, None, Result, Ok, Err, refl, ap, subst, arith}
 use Rattle.key_model.specs.HandoverTable.{NumberedKey}
 use Rattle.rec_base.specs.declared.faults.RecFault.{RecFault}
 use Rattle.rec_base.specs.BigEndian.{octets_of}
@@ -7,8 +7,8 @@ use Rattle.rec_base.proofs.Numbers.{AreOctets}
 use Rattle.rec_fields.proofs.Fields.{ok_is}
 use Rattle.s1x2_rec.specs.declared.records.CoreRecord.{CoreRecord}
 use Rattle.s1x2_rec.specs.Fields.{Fields, InitialContext, ContextRelease, PathSwitchRequest, PathSwitchAnswer, HandoverRequired, HandoverRequest, HandoverRequestAck, HandoverCommand, HandoverNotify, HandoverCancel, X2Request, X2Ack, X2Cancel, X2Release}
-use Rattle.s1x2_rec.specs.Content.{Content, content_of, plain, with_key}
-use Rattle.s1x2_rec.specs.Spelling.{spelling_of, InRange, FieldsInRange, KeyInRange}
+use Rattle.s1x2_rec.specs.Content.{Content, content_of, with_key}
+use Rattle.s1x2_rec.specs.Spelling.{spelling_of, InRange, KeyInRange}
 use Rattle.s1x2_rec.specs.Reading.{read_record, read_core, content_read}
 use Rattle.s1x2_rec.proofs.Grammar.{spelled_is_read, read_is_spelled}
 

@@ -1,7 +1,7 @@
 -- What is read is spelled so, and what is spelled so is read.
-use Rattle.std.proofs.Common.{◌≡◌, ℕ, ◌^◌, ◌<◌, ◌≤◌, Bool, true, false, cond, eqb, List, [], ◌∷◌, length, Result, Ok, Err, refl, sym, ap, subst, ◌∙◌, arith}
+use Rattle.std.proofs.Common.{◌≡◌, ℕ, ◌<◌, Bool, true, false, cond, eqb, List, ◌∷◌, length, Result, Ok, Err, refl, sym, ap, subst, ◌∙◌, arith}
 use Rattle.std.specs.Prelude.{IfOk}
-use Rattle.std.proofs.lemmas.Bool.{eqb-true, eqb-false, ne_eqb}
+use Rattle.std.proofs.lemmas.Bool.{eqb-true, ne_eqb}
 use Rattle.rec_base.specs.BigEndian.{number_at, octets_of}
 use Rattle.rec_base.specs.declared.faults.RecFault.{RecFault}
 use Rattle.rec_base.specs.declared.faults.RecFault.TheVariants.{Short}
@@ -12,9 +12,9 @@ use Rattle.annex_a_keys.specs.Cell.{Place}
 use Rattle.rec_fields.proofs.Fields.{octet_is}
 use Rattle.s1x2_rec.specs.declared.records.CoreRecord.{CoreRecord}
 use Rattle.s1x2_rec.specs.declared.records.CoreRecord.TheVariants.{InitialContext, ContextRelease, PathSwitchRequest, PathSwitchAnswer, HandoverRequired, HandoverRequest, HandoverRequestAck, HandoverCommand, HandoverNotify, HandoverCancel, X2Request, X2Ack, X2Cancel, X2Release}
-use Rattle.s1x2_rec.specs.Content.{Content, content_of}
+use Rattle.s1x2_rec.specs.Content.{content_of}
 use Rattle.s1x2_rec.specs.Spelling.{spelling_of, InRange}
-use Rattle.s1x2_rec.specs.Reading.{read_record, read_core, content_read, of_kind, initial_context_of, context_release_of, path_switch_request_of, path_switch_answer_of, handover_required_of, handover_request_of, handover_request_ack_of, handover_command_of, handover_notify_of, handover_cancel_of, x2_request_of, x2_ack_of, x2_cancel_of, x2_release_of}
+use Rattle.s1x2_rec.specs.Reading.{read_record, of_kind, initial_context_of, context_release_of, path_switch_request_of, path_switch_answer_of, handover_required_of, handover_request_of, handover_request_ack_of, handover_command_of, handover_notify_of, handover_cancel_of, x2_request_of, x2_ack_of, x2_cancel_of, x2_release_of}
 use Rattle.s1x2_rec.proofs.Layouts.{Layout, End, Key, Number, Small, Cell, Algorithms, Capabilities, Values, spelled_by, record_found, record_again}
 
 abbrev Spelled : List ℕ → CoreRecord → Type 0

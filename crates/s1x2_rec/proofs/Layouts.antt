@@ -1,5 +1,5 @@
 -- Records as layouts: what is read by a layout is spelled by it, and what is spelled by it is read.
-use Rattle.std.proofs.Common.{◌≡◌, ℕ, ◌+◌, ◌-◌, ◌^◌, ◌++◌, ◌<◌, ◌≤◌, List, [], ◌∷◌, length, get_or, take, drop, Result, Ok, Err, refl, sym, ap, ◌∙◌, inl, inr, arith, drop-drop, length-drop, length-append, append_assoc}
+use Rattle.std.proofs.Common.{◌≡◌, ℕ, ◌+◌, ◌-◌, ◌^◌, ◌++◌, ◌<◌, ◌≤◌, List, [], ◌∷◌, length, take, drop, Result, Ok, refl, sym, ap, ◌∙◌, inl, inr, arith, drop-drop, length-drop, length-append, append_assoc}
 use Rattle.std.proofs.lemmas.Bool.{cases_lt}
 use Rattle.std.proofs.lemmas.List.{get_or-drop, get_or-take, get_or_past, length-take, take_all}
 use Rattle.std.proofs.Math.Seq.{drop-append_seam, take-append_seam}
@@ -9,7 +9,7 @@ use Rattle.rec_base.proofs.Numbers.{AreOctets, number_of-octets_of, number_of-on
 use Rattle.alg_choice.specs.declared.algs.Algs.{Algs}
 use Rattle.alg_choice.specs.declared.caps.Caps.{Caps}
 use Rattle.annex_a_keys.specs.Cell.{Place}
-use Rattle.rec_fields.specs.Field.{◌>>=◌, of_size, number_in, station_at, from_one_at, algs_at, caps_at, cell_at}
+use Rattle.rec_fields.specs.Field.{◌>>=◌, of_size, station_at, from_one_at, algs_at, caps_at, cell_at}
 use Rattle.rec_fields.specs.Spelled.{algs_octet, cell_octets}
 use Rattle.rec_fields.proofs.Fields.{bind_ok, ok_is, size_is, size_read, ends, kind_takes, octet_in_takes, octet_is, in_range_read, algs_takes, algs_read, number_in_takes, cell_takes, cell_read, caps_takes, caps_read}
 use Rattle.s1x2_rec.specs.Spelling.{IsNumber, IsCell, IsCaps}
