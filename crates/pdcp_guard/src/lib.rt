@@ -5,11 +5,13 @@
 mod counting;
 mod drbs;
 mod keys;
+mod laws;
 mod pdus;
 mod srbs;
 
 pub use counting::LIMIT;
 pub use drbs::Drb;
 pub use keys::AsKeys;
+pub use laws::{as_keys_are_carried, drb_sealed_opens, srb_sealed_opens};
 pub use pdus::{PdcpFault, PdcpOpened, PdcpSent};
 pub use srbs::Srb;
