@@ -11,7 +11,7 @@ use Rattle.pdcp_guard.specs.declared.pdus.PdcpOpened.{PdcpOpened}
 use Rattle.pdcp_guard.specs.AsKeys.{AsKeys}
 use Rattle.pdcp_guard.specs.Counts.{LIMIT}
 use Rattle.pdcp_guard.specs.Drb.{DrbOpens, drb_ciphered, drb_count, drb_first, drb_first_octet, drb_opened, drb_opened_at, drb_opened_by, drb_sealed, drb_second_octet, drb_sn}
-use Rattle.pdcp_guard.proofs.CountFacts.{expected-is_least, in_32_bits-below}
+use Rattle.pdcp_guard.proofs.CountFacts.{expected-is_least, in_32_bits-below, length-ciphered}
 
 -- to cipher twice gives the text back
 drb_ciphered-drb_ciphered : (keys : AsKeys (List ℕ)) (bearer : Bearer) (count : ℕ) (dir : Dir) (text : List ℕ)
@@ -36,16 +36,35 @@ count-octets next first second count sent good is_least below =
     let test : (first / 16 == 8) ≡ true = eq-eqb (first / 16) 8 good in
     rw (not_short, test, is_least) (in_32_bits-below count below)
 
+-- what was sealed opens at its COUNT
+pub drb_opened_at-drb_sealed : (keys : AsKeys (List ℕ)) (bearer : Bearer) (count : ℕ) (dir : Dir) (text : List ℕ)
+    → drb_opened_at keys bearer count dir (drb_sealed keys bearer count dir text) ≡ record { count = count; text = text }
+unfolding drb_sealed drb_opened_at
+drb_opened_at-drb_sealed keys bearer count dir text = rw (drb_ciphered-drb_ciphered keys bearer count dir text) refl
+
+-- and its COUNT is found where it is the one expected
+drb_count-drb_sealed : (keys : AsKeys (List ℕ)) (bearer : Bearer) (count next : ℕ) (dir : Dir) (text : List ℕ)
+    → count < LIMIT → least next (count % 4096) 4096 ≡ count → drb_count next (drb_sealed keys bearer count dir text) ≡ Ok count
+unfolding drb_sealed
+drb_count-drb_sealed keys bearer count next dir text below is_least =
+    count-octets next (drb_first_octet count) (drb_second_octet count) count _ (first_octet-data count) (rw (sn-octets count) is_least) below
+
 -- what was sealed opens
 pub drb_opened-drb_sealed : (keys : AsKeys (List ℕ)) (bearer : Bearer) (count next : ℕ) (dir : Dir) (text : List ℕ)
     → count < LIMIT → least next (count % 4096) 4096 ≡ count
     → drb_opened keys bearer next dir (drb_sealed keys bearer count dir text) ≡ Ok (record { count = count; text = text })
-unfolding drb_sealed drb_opened_at
 drb_opened-drb_sealed keys bearer count next dir text below is_least =
-    let sent = drb_ciphered keys bearer count dir text in
-    let found : drb_count next (drb_first_octet count ∷ drb_second_octet count ∷ sent) ≡ Ok count = count-octets next (drb_first_octet count) (drb_second_octet count) count sent (first_octet-data count) (rw (sn-octets count) is_least) below in
-    ap (drb_opened_by keys bearer dir (drb_first_octet count ∷ drb_second_octet count ∷ sent)) found
-    ∙ rw (drb_ciphered-drb_ciphered keys bearer count dir text) refl
+    let pdu = drb_sealed keys bearer count dir text in
+    ap (drb_opened_by keys bearer dir pdu) (drb_count-drb_sealed keys bearer count next dir text below is_least)
+    ∙ ap Ok (drb_opened_at-drb_sealed keys bearer count dir text)
+
+-- it is two octets longer than the text
+pub length-drb_sealed : (keys : AsKeys (List ℕ)) (bearer : Bearer) (count : ℕ) (dir : Dir) (text : List ℕ)
+    → length (drb_sealed keys bearer count dir text) ≡ length text + 2
+unfolding drb_sealed drb_ciphered
+length-drb_sealed keys bearer count dir text =
+    let same = length-ciphered keys.algs.eea keys.up_enc count (bearer5_of bearer) dir text in
+    omega arith
 
 pub drb_opened-near : (keys : AsKeys (List ℕ)) (bearer : Bearer) (count next : ℕ) (dir : Dir) (text : List ℕ)
     → count < LIMIT → next ≤ count → count - next < 4096

@@ -1,3 +1,4 @@
+pub mod KeyFacts
 pub mod CountFacts
 pub mod SrbFacts
 pub mod DrbFacts

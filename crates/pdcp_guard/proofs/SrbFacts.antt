@@ -57,19 +57,52 @@ count-octets next header count sent long reserved is_least below =
     let good : nat_lt header 32 ≡ true = grind (arith, nat_tests) in
     rw (not_short, good, is_least) (in_32_bits-below count below)
 
+-- MAC-I has four octets
+length-srb_mac : (keys : AsKeys (List ℕ)) (bearer : Bearer) (count : ℕ) (dir : Dir) (covered : List ℕ)
+    → length (srb_mac keys bearer count dir covered) ≡ 4
+length-srb_mac keys bearer count dir covered = length-mac_of keys.rrc_int count (bearer5_of bearer) dir covered
+
+-- what is sent behind the header octet is four octets longer than the text
+length-sent : (keys : AsKeys (List ℕ)) (cipher : Bool) (bearer : Bearer) (count : ℕ) (dir : Dir) (text covered : List ℕ)
+    → length (srb_ciphered keys cipher bearer count dir (text ++ srb_mac keys bearer count dir covered)) ≡ length text + 4
+length-sent keys cipher bearer count dir text covered =
+    let mac = srb_mac keys bearer count dir covered in
+    length-srb_ciphered keys cipher bearer count dir (text ++ mac)
+    ∙ length-append text mac
+    ∙ ap (λ n. length text + n) (length-srb_mac keys bearer count dir covered)
+
+pub length-srb_sealed : (keys : AsKeys (List ℕ)) (cipher : Bool) (bearer : Bearer) (count : ℕ) (dir : Dir) (text : List ℕ)
+    → length (srb_sealed keys cipher bearer count dir text) ≡ length text + 5
+unfolding srb_sealed
+length-srb_sealed keys cipher bearer count dir text =
+    let sent = length-sent keys cipher bearer count dir text (srb_header count ∷ text) in
+    omega arith
+
+-- what was sealed opens at its COUNT
+pub srb_opened_at-srb_sealed : (keys : AsKeys (List ℕ)) (cipher : Bool) (bearer : Bearer) (count : ℕ) (dir : Dir) (text : List ℕ)
+    → srb_opened_at keys cipher bearer count dir (srb_sealed keys cipher bearer count dir text) ≡ Ok (record { count = count; text = text })
+unfolding srb_sealed
+srb_opened_at-srb_sealed keys cipher bearer count dir text =
+    let covered = srb_header count ∷ text in
+    let mac = srb_mac keys bearer count dir covered in
+    opened_at-plain keys cipher bearer count dir (srb_header count) (srb_ciphered keys cipher bearer count dir (text ++ mac)) text mac (srb_ciphered-srb_ciphered keys cipher bearer count dir (text ++ mac)) (length-sent keys cipher bearer count dir text covered) refl
+
+-- and its COUNT is found where it is the one expected
+srb_count-srb_sealed : (keys : AsKeys (List ℕ)) (cipher : Bool) (bearer : Bearer) (count next : ℕ) (dir : Dir) (text : List ℕ)
+    → count < LIMIT → least next (count % 32) 32 ≡ count → srb_count next (srb_sealed keys cipher bearer count dir text) ≡ Ok count
+unfolding srb_sealed
+srb_count-srb_sealed keys cipher bearer count next dir text below is_least =
+    let long = length-sent keys cipher bearer count dir text (srb_header count ∷ text) in
+    count-octets next (srb_header count) count _ (omega arith) (omega arith) (rw (mod-mod count 32) is_least) below
+
 -- what was sealed opens
 pub srb_opened-srb_sealed : (keys : AsKeys (List ℕ)) (cipher : Bool) (bearer : Bearer) (count next : ℕ) (dir : Dir) (text : List ℕ)
     → count < LIMIT → least next (count % 32) 32 ≡ count
     → srb_opened keys cipher bearer next dir (srb_sealed keys cipher bearer count dir text) ≡ Ok (record { count = count; text = text })
-unfolding srb_sealed
 srb_opened-srb_sealed keys cipher bearer count next dir text below is_least =
-    let mac = srb_mac keys bearer count dir (count % 32 ∷ text) in
-    let sent = srb_ciphered keys cipher bearer count dir (text ++ mac) in
-    let mac_long : length mac ≡ 4 = length-mac_of keys.rrc_int count (bearer5_of bearer) dir (count % 32 ∷ text) in
-    let long : length sent ≡ length text + 4 = length-srb_ciphered keys cipher bearer count dir (text ++ mac) ∙ length-append text mac ∙ ap (λ n. length text + n) mac_long in
-    let found : srb_count next (count % 32 ∷ sent) ≡ Ok count = count-octets next (count % 32) count sent (omega arith) (omega arith) (rw (mod-mod count 32) is_least) below in
-    ap (srb_opened_by keys cipher bearer dir (count % 32 ∷ sent)) found
-    ∙ opened_at-plain keys cipher bearer count dir (count % 32) sent text mac (srb_ciphered-srb_ciphered keys cipher bearer count dir (text ++ mac)) long refl
+    let pdu = srb_sealed keys cipher bearer count dir text in
+    ap (srb_opened_by keys cipher bearer dir pdu) (srb_count-srb_sealed keys cipher bearer count next dir text below is_least)
+    ∙ srb_opened_at-srb_sealed keys cipher bearer count dir text
 
 pub srb_opened-near : (keys : AsKeys (List ℕ)) (cipher : Bool) (bearer : Bearer) (count next : ℕ) (dir : Dir) (text : List ℕ)
     → count < LIMIT → next ≤ count → count - next < 32

@@ -115,14 +115,7 @@ impl AsKeys {
 }
 
 // A text under an encryption algorithm.
-fn ciphered(
-    eea: Eea,
-    key: &AlgKey,
-    bearer: Bearer,
-    count: u32,
-    dir: Dir,
-    text: &[u8],
-) -> Octets
+fn ciphered(eea: Eea, key: &AlgKey, bearer: Bearer, count: u32, dir: Dir, text: &[u8]) -> Octets
     requires { length text.now ≤ 1536 }
     ensures value { result ≡ ciphered eea key.now count (bearer5_of bearer) dir text.now }
     ensures length { length result ≡ length text.now }

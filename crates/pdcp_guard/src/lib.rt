@@ -5,11 +5,15 @@
 mod counting;
 mod drbs;
 mod keys;
+mod laws;
 mod pdus;
 mod srbs;
+#[cfg(test)]
+mod tests;
 
 pub use counting::LIMIT;
 pub use drbs::Drb;
 pub use keys::AsKeys;
+pub use laws::{as_keys_are_carried, drb_sealed_opens, srb_sealed_opens};
 pub use pdus::{PdcpFault, PdcpOpened, PdcpSent};
 pub use srbs::Srb;

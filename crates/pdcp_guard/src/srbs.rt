@@ -154,14 +154,7 @@ fn covered(header: u8, text: &[u8]) -> Octets
 
 // The PDU of a text under a COUNT.
 #[tactic(auto, unfolding(crate::specs::Srb::srb_sealed))]
-fn sealed(
-    keys: &AsKeys,
-    cipher: bool,
-    bearer: Bearer,
-    count: u32,
-    dir: Dir,
-    text: &[u8],
-) -> Octets
+fn sealed(keys: &AsKeys, cipher: bool, bearer: Bearer, count: u32, dir: Dir, text: &[u8]) -> Octets
     requires { length text.now ≤ 201 }
     ensures { result ≡ srb_sealed keys.now cipher bearer count dir text.now }
 {
