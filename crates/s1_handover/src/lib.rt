@@ -1,0 +1,5 @@
+//! An attempt at an S1 handover at its source (TS 33.401 7.2.8.4.3), each state a type of its own:
+//! only an acknowledged attempt commands the phone, and only one that has not commanded is cancelled.
+#![tactic(auto)]
+
+pub use x2_handover::Order as Order1;
