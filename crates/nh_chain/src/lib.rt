@@ -1,3 +1,15 @@
-//! The chain of NH keys of TS 33.401 7.2.8 as types that cannot be misused: a pair of NH and NCC is
-//! spent once, and only a chain that has KASME makes one.
+//! The chain of NH keys of TS 33.401 7.2.8 as types that cannot be misused: only a chain that has
+//! KASME makes an NH, a pair of NH and NCC is used once, and a station's key derives vertically where
+//! a pair is stored.
 #![tactic(auto)]
+
+mod chain;
+mod core_chain;
+mod pair;
+mod station_key;
+#[cfg(test)]
+mod tests;
+
+pub use core_chain::CoreChain;
+pub use pair::{NhPair, Spent};
+pub use station_key::StationKey;

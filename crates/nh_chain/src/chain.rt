@@ -1,0 +1,76 @@
+// The chain of NH keys below one KASME, as the core and a phone both keep it.
+ghost use Rattle.std.specs.Prelude.{◌≡◌, ◌≤◌};
+ghost use Rattle.hmac_kdf.specs.Kdf.{IsKdfInput};
+ghost use Rattle.key_model.specs.Reading.{octet_reading};
+ghost use Rattle.key_model.specs.Derivation.{nh_made};
+ghost use Rattle.nh_chain.specs.Chain.{begun, stepped};
+ghost use Rattle.nh_chain.specs.Made.{derived_of};
+
+use annex_a_keys::{Derived, Kasme, Kenb, Nh};
+use std::marker::Model;
+
+// The SYNC-input of the next NH.
+#[derive(Debug, Drop)]
+pub(crate) enum SyncInput {
+    // For the first NH.
+    First(Kenb),
+    // For each later one: the NH before.
+    Later(Nh),
+}
+
+// KASME, the SYNC-input of the next NH, and the NCC of that input.
+#[derive(Debug, Drop)]
+pub(crate) struct Chain {
+    root: Kasme,
+    sync: SyncInput,
+    ncc: u8,
+}
+
+impl Model for Chain {
+    ghost use Rattle.std.specs.Prelude.{List, ℕ, ◌≤◌};
+    ghost use Rattle.nh_chain.specs.Chain.{ChainState};
+    ghost use Rattle.nh_chain.specs.SyncInput.{sync_octets};
+
+    ghost Value = { ChainState (List ℕ) ℕ };
+
+    ghost view = { λ c. record { root = c.root; sync = sync_octets c.sync; number = c.ncc } };
+
+    ghost invariant = { λ c. c.ncc ≤ 7 };
+}
+
+impl Chain {
+    // The chain of a KeNB.
+    pub(crate) fn new(root: &Kasme, kenb: &Kenb) -> Chain
+        ensures { result ≡ begun octet_reading root.now kenb.now }
+    {
+        Chain {
+            root: *root,
+            sync: SyncInput::First(*kenb),
+            ncc: 0,
+        }
+    }
+
+    // The NCC of the present key, 0 to 7.
+    pub(crate) fn ncc(&self) -> u8
+        ensures value { result ≡ self.now.number }
+        ensures in_range { result ≤ 7 }
+    {
+        self.ncc
+    }
+
+    // The next NH.
+    pub(crate) fn step(&mut self) -> (Nh, Derived)
+        ensures chain { self.new ≡ stepped octet_reading self.old }
+        ensures nh { result.0 ≡ self.new.sync }
+        ensures derived { result.1 ≡ derived_of (nh_made octet_reading self.old.root self.old.sync) }
+        ensures input { IsKdfInput result.1.input }
+    {
+        let (nh, derived) = match &self.sync {
+            SyncInput::First(kenb) => self.root.nh_first(kenb),
+            SyncInput::Later(nh) => self.root.nh_next(nh),
+        };
+        self.sync = SyncInput::Later(nh);
+        self.ncc = (self.ncc + 1) % 8;
+        (nh, derived)
+    }
+}

@@ -1,0 +1,61 @@
+ghost use Rattle.std.specs.Prelude.{◌≡◌, ◌≤◌};
+ghost use Rattle.hmac_kdf.specs.Kdf.{IsKdfInput};
+ghost use Rattle.key_model.specs.Reading.{octet_reading};
+ghost use Rattle.key_model.specs.HandoverLines.{pair_line};
+ghost use Rattle.key_model.specs.Derivation.{kenb_made, nh_made};
+ghost use Rattle.nh_chain.specs.Chain.{begun, present_pair, stepped};
+ghost use Rattle.nh_chain.specs.Made.{derived_of};
+
+use crate::NhPair;
+use crate::chain::Chain;
+use annex_a_keys::{Derived, Kasme, Kenb};
+use std::marker::Model;
+
+/// The chain of a connection at the core, which makes each pair of NH and NCC (TS 33.401 7.2.8.1.1).
+#[derive(Debug, Drop)]
+pub struct CoreChain {
+    chain: Chain,
+}
+
+impl Model for CoreChain {
+    ghost use Rattle.std.specs.Prelude.{List, ℕ};
+    ghost use Rattle.nh_chain.specs.Chain.{ChainState};
+
+    ghost Value = { ChainState (List ℕ) ℕ };
+
+    ghost view = { λ c. c.chain };
+}
+
+impl CoreChain {
+    /// The chain of a new connection, its KeNB at an uplink NAS COUNT, and the derivation of that
+    /// (TS 33.401 A.3).
+    pub fn begin(root: &Kasme, count: u32) -> (CoreChain, Kenb, Derived)
+        ensures chain { result.0 ≡ begun octet_reading root.now result.1 }
+        ensures kenb { result.1 ≡ octet_reading.kenb root.now count }
+        ensures derived { result.2 ≡ derived_of (kenb_made octet_reading root.now count) }
+        ensures input { IsKdfInput result.2.input }
+    {
+        let (kenb, derived) = root.kenb(count);
+        let chain = Chain::new(root, &kenb);
+        (CoreChain { chain }, kenb, derived)
+    }
+
+    /// The next pair, one NH step on, and its derivation (TS 33.401 A.4, 7.2.8.4.2 and 7.2.8.4.3).
+    pub fn step(&mut self) -> (NhPair, Derived)
+        ensures chain { self.new ≡ stepped octet_reading self.old }
+        ensures pair { result.0 ≡ pair_line octet_reading self.old.root (present_pair self.old) }
+        ensures derived { result.1 ≡ derived_of (nh_made octet_reading self.old.root self.old.sync) }
+        ensures input { IsKdfInput result.1.input }
+    {
+        let (nh, derived) = self.chain.step();
+        (NhPair::new(nh, self.chain.ncc()), derived)
+    }
+
+    /// The NCC of the present key, 0 to 7.
+    pub fn ncc(&self) -> u8
+        ensures value { result ≡ self.now.number }
+        ensures in_range { result ≤ 7 }
+    {
+        self.chain.ncc()
+    }
+}
