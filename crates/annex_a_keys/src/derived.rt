@@ -31,3 +31,14 @@ impl Derived {
         }
     }
 }
+
+/// What fills the unused places of a bounded list: no derivation, all octets 0.
+impl Default for Derived {
+    fn default() -> Derived {
+        Derived {
+            key: [0; 32],
+            input: KdfInput::Kenb(0),
+            out: [0; 32],
+        }
+    }
+}

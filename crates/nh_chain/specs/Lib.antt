@@ -1,5 +1,6 @@
 pub mod Made
 pub mod Chain
+pub mod Climb
 pub mod Reach
 pub mod Station
 pub mod SyncInput

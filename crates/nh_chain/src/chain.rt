@@ -1,12 +1,16 @@
 // The chain of NH keys below one KASME, as the core and a phone both keep it.
-ghost use Rattle.std.specs.Prelude.{◌≡◌, ◌≤◌};
+ghost use Rattle.std.specs.Prelude.{◌≡◌, ◌≤◌, All, map};
+ghost use Rattle.arrayvec.specs.ArrayVec.{array_vec_len};
 ghost use Rattle.hmac_kdf.specs.Kdf.{IsKdfInput};
+ghost use Rattle.key_model.specs.HandoverLines.{steps_to};
 ghost use Rattle.key_model.specs.Reading.{octet_reading};
 ghost use Rattle.key_model.specs.Derivation.{nh_made};
-ghost use Rattle.nh_chain.specs.Chain.{begun, stepped};
+ghost use Rattle.nh_chain.specs.Chain.{begun, climbed, nhs_made, number_after, stepped};
+ghost use Rattle.nh_chain.specs.Climb.{nh_reached};
 ghost use Rattle.nh_chain.specs.Made.{derived_of};
 
 use annex_a_keys::{Derived, Kasme, Kenb, Nh};
+use arrayvec::ArrayVec;
 use std::marker::Model;
 
 // The SYNC-input of the next NH.
@@ -72,5 +76,34 @@ impl Chain {
         self.sync = SyncInput::Later(nh);
         self.ncc = (self.ncc + 1) % 8;
         (nh, derived)
+    }
+
+    // The NH steps to the least number at or above the present one with this NCC.
+    pub(crate) fn steps_to(&self, ncc: u8) -> u8
+        requires { ncc ≤ 7 }
+        ensures steps { result ≡ steps_to self.now.number ncc }
+        ensures there { number_after octet_reading self.now.number result ≡ ncc }
+        ensures few { result ≤ 7 }
+    {
+        (ncc + 8 - self.ncc) % 8
+    }
+
+    // So many NH steps: the NH reached, if there is one, and each derivation.
+    pub(crate) fn climb(&mut self, steps: u8) -> (Option<Nh>, ArrayVec<Derived, 8>)
+        requires { steps ≤ 7 }
+        ensures chain { self.new ≡ climbed octet_reading self.old steps }
+        ensures nh { result.0 ≡ nh_reached octet_reading self.old.root self.old.sync steps }
+        ensures made { result.1.items ≡ map derived_of (nhs_made octet_reading self.old.root self.old.sync steps) }
+        ensures len { array_vec_len result.1 ≡ steps }
+        ensures inputs { All (λ d. IsKdfInput d.input) result.1.items }
+    {
+        let mut reached = None;
+        let mut made = ArrayVec::new();
+        for _ in 0..steps {
+            let (nh, derived) = self.step();
+            reached = Some(nh);
+            made.push(derived);
+        }
+        (reached, made)
     }
 }

@@ -6,10 +6,12 @@
 mod chain;
 mod core_chain;
 mod pair;
+mod phone_chain;
 mod station_key;
 #[cfg(test)]
 mod tests;
 
 pub use core_chain::CoreChain;
 pub use pair::{NhPair, Spent};
+pub use phone_chain::PhoneChain;
 pub use station_key::StationKey;
