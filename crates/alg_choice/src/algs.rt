@@ -1,9 +1,10 @@
 ghost use Rattle.std.specs.Prelude.{◌≡◌};
 
 /// An EPS encryption algorithm (TS 33.401 5.1.3.2).
-#[derive(Clone, Copy, Debug, PartialEq, Eq)]
+#[derive(Clone, Copy, Debug, Default, PartialEq, Eq)]
 pub enum Eea {
     /// The null algorithm, which leaves a text as it is: identity 0.
+    #[default]
     Eea0,
     /// 128-EEA2, AES in counter mode: identity 2.
     Eea2,
@@ -25,7 +26,7 @@ impl Eea {
 
 /// The chosen algorithms. The integrity algorithm is always 128-EIA2, of identity 2 (TS 33.401
 /// 5.1.4.2).
-#[derive(Clone, Copy, Debug, PartialEq, Eq)]
+#[derive(Clone, Copy, Debug, Default, PartialEq, Eq)]
 pub struct Algs {
     /// The encryption algorithm.
     pub eea: Eea,

@@ -8,7 +8,7 @@ use hmac_kdf::KdfInput;
 use std::marker::Model;
 
 /// An algorithm key (TS 33.401 A.7): 32 octets, of which a 128-bit algorithm takes the last 16.
-#[derive(Clone, Copy, Debug, PartialEq, Eq)]
+#[derive(Clone, Copy, Debug, Default, PartialEq, Eq)]
 pub struct AlgKey {
     octets: [u8; 32],
 }

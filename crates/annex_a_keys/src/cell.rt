@@ -10,7 +10,7 @@ pub const GREATEST_EARFCN: u32 = 65535;
 
 /// A cell as the derivation of KeNB* sees it (TS 33.401 A.5): its PCI and its EARFCN-DL, both in
 /// range.
-#[derive(Clone, Copy, Debug, PartialEq, Eq)]
+#[derive(Clone, Copy, Debug, Default, PartialEq, Eq)]
 pub struct Cell {
     pci: u16,
     earfcn: u32,
