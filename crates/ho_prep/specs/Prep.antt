@@ -1,6 +1,7 @@
 -- The preparations of a target, each for a phone that may come at an air address (TS 33.401 7.2.8.4, TS 36.300
 -- 10.1.2.1.1).
-use Rattle.std.specs.Prelude.{ℕ, ◌==◌, nat_le, Bool, not, ◌&&◌, List, Option, filter, find, list_any, map}
+use Rattle.std.specs.Prelude.{ℕ, ◌==◌, nat_le, Bool, not, ◌&&◌, List, Option, None, Some, filter, find, position, remove}
+use Rattle.std.specs.List.{list_any}
 use Rattle.annex_a_keys.specs.Cell.{Place}
 use Rattle.alg_choice.specs.declared.algs.Algs.{Algs}
 use Rattle.alg_choice.specs.declared.caps.Caps.{Caps}
@@ -54,11 +55,20 @@ is_of source attempt p = (p.source == source) && (p.attempt == attempt)
 abbrev pub at_air : {K C : Type 0} → ℕ → List (Prep K C) → Option (Prep K C)
 at_air air ps = find (is_at air) ps
 
+-- a list without the item at a place
+abbrev pub without_place : {X : Type 0} → Option ℕ → List X → List X
+without_place None xs = xs
+without_place (Some place) xs = remove xs place
+
+-- the others, in order
+abbrev pub without_at : {K C : Type 0} → ℕ → List (Prep K C) → List (Prep K C)
+without_at air ps = without_place (position (is_at air) ps) ps
+
 -- whether there is one of this attempt of this source
 abbrev pub has_attempt : {K C : Type 0} → ℕ → ℕ → List (Prep K C) → Bool
 has_attempt source attempt ps = list_any (is_of source attempt) ps
 
--- the others, in order
+-- those of other attempts, in order
 abbrev pub without : {K C : Type 0} → ℕ → ℕ → List (Prep K C) → List (Prep K C)
 without source attempt ps = filter (λ p. not (is_of source attempt p)) ps
 

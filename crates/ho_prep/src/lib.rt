@@ -4,5 +4,9 @@
 #![tactic(auto)]
 
 mod origins;
+mod prep;
+mod preps;
 
 pub use origins::By;
+pub use prep::Prep;
+pub use preps::Preps;

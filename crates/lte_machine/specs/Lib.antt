@@ -13,6 +13,8 @@ pub mod PhoneStep
 pub mod StationState
 pub mod StationRows
 pub mod StationChoice
+pub mod StationKeys
+pub mod StationStep
 pub mod CoreState
 pub mod CoreRows
 pub mod CoreChoice
@@ -20,3 +22,7 @@ pub mod CoreKeys
 pub mod CoreStep
 pub mod Ladder
 pub mod Tuples
+pub mod World
+pub mod Step
+pub mod Run
+pub mod Machines

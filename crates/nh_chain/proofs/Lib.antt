@@ -1,1 +1,4 @@
 pub mod ClimbFacts
+pub mod TermFacts
+pub mod ReachFacts
+pub mod CarryFacts

@@ -1,10 +1,14 @@
-ghost use Rattle.std.specs.Prelude.{◌≡◌, ◌≤◌};
+ghost use Rattle.std.specs.Prelude.{◌≡◌, ℕ, ◌+◌, ◌≤◌};
 ghost use Rattle.hmac_kdf.specs.Kdf.{IsKdfInput};
+ghost use Rattle.key_model.specs.Term.{Term};
+ghost use Rattle.key_model.specs.Value.{value_of};
 ghost use Rattle.key_model.specs.Reading.{octet_reading};
+ghost use Rattle.key_model.specs.HandoverTable.{initial_key, next_pair};
 ghost use Rattle.key_model.specs.HandoverLines.{pair_line};
 ghost use Rattle.key_model.specs.Derivation.{kenb_made, nh_made};
 ghost use Rattle.nh_chain.specs.Chain.{begun, present_pair, stepped};
 ghost use Rattle.nh_chain.specs.Made.{derived_of};
+ghost use Rattle.nh_chain.specs.Terms.{chain_at, chain_in_octets, in_octets};
 
 use crate::NhPair;
 use crate::chain::Chain;
@@ -33,6 +37,9 @@ impl CoreChain {
         ensures chain { result.0 ≡ begun octet_reading root.now result.1 }
         ensures kenb { result.1 ≡ octet_reading.kenb root.now count }
         ensures derived { result.2 ≡ derived_of (kenb_made octet_reading root.now count) }
+        // Of a KASME that is known as a term it is that KASME's chain, at number 0.
+        ensures terms { (r : Term) → root.now ≡ value_of r →
+            (result.0 ≡ chain_in_octets (chain_at r count 0)) × (result.1 ≡ value_of (initial_key r count).key) }
         ensures input { IsKdfInput result.2.input }
     {
         let (kenb, derived) = root.kenb(count);
@@ -44,6 +51,9 @@ impl CoreChain {
     pub fn step(&mut self) -> (NhPair, Derived)
         ensures chain { self.new ≡ stepped octet_reading self.old }
         ensures pair { result.0 ≡ pair_line octet_reading self.old.root (present_pair self.old) }
+        // From chain number i it comes to i + 1, and the pair is that of i + 1.
+        ensures terms { (r : Term) (n i : ℕ) → self.old ≡ chain_in_octets (chain_at r n i) →
+            (self.new ≡ chain_in_octets (chain_at r n (i + 1))) × (result.0 ≡ in_octets (next_pair r n i)) }
         ensures derived { result.1 ≡ derived_of (nh_made octet_reading self.old.root self.old.sync) }
         ensures input { IsKdfInput result.1.input }
     {

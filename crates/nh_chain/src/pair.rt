@@ -1,9 +1,12 @@
-ghost use Rattle.std.specs.Prelude.{◌≡◌, ◌≤◌};
+ghost use Rattle.std.specs.Prelude.{◌≡◌, ℕ, ◌≤◌};
 ghost use Rattle.hmac_kdf.specs.Kdf.{IsKdfInput};
+ghost use Rattle.key_model.specs.Term.{Term};
 ghost use Rattle.key_model.specs.Reading.{octet_reading};
+ghost use Rattle.key_model.specs.HandoverTable.{chain_key, key_at_s1_target};
 ghost use Rattle.key_model.specs.HandoverLines.{star_line};
 ghost use Rattle.key_model.specs.Derivation.{star_made};
 ghost use Rattle.nh_chain.specs.Made.{derived_of};
+ghost use Rattle.nh_chain.specs.Terms.{in_octets};
 
 use annex_a_keys::{Cell, Derived, Nh, Star};
 use std::marker::Model;
@@ -71,6 +74,10 @@ impl NhPair {
     pub fn into_star(self, cell: &Cell) -> (Star, Spent, Derived)
         ensures star { result.0 ≡ (star_line octet_reading self cell.now.pci cell.now.earfcn).key }
         ensures spent { result.1 ≡ self }
+        // Of the pair of chain number i: the KeNB* of that number.
+        ensures terms { (r : Term) (n i : ℕ) → self ≡ in_octets (chain_key r n i) →
+            record { key = result.0; number = self.number }
+            ≡ in_octets (key_at_s1_target r n i cell.now.pci cell.now.earfcn) }
         ensures derived { result.2 ≡ derived_of (star_made octet_reading self.key cell.now.pci cell.now.earfcn) }
         ensures input { IsKdfInput result.2.input }
     {

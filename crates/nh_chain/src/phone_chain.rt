@@ -1,12 +1,17 @@
-ghost use Rattle.std.specs.Prelude.{◌≡◌, ◌≤◌, All, map};
+ghost use Rattle.std.specs.Prelude.{◌≡◌, ℕ, ◌≤◌, All, map};
 ghost use Rattle.hmac_kdf.specs.Kdf.{IsKdfInput};
+ghost use Rattle.key_model.specs.Term.{Term};
+ghost use Rattle.key_model.specs.Chain.{ncc_of};
+ghost use Rattle.key_model.specs.Value.{value_of};
 ghost use Rattle.key_model.specs.Reading.{octet_reading};
+ghost use Rattle.key_model.specs.HandoverTable.{key_at_phone};
 ghost use Rattle.key_model.specs.HandoverLines.{phone_line, steps_to};
 ghost use Rattle.key_model.specs.Derivation.{star_made};
 ghost use Rattle.nh_chain.specs.Chain.{begun};
 ghost use Rattle.nh_chain.specs.Climb.{base_by, way_by};
 ghost use Rattle.nh_chain.specs.Reach.{phone_of, reached};
 ghost use Rattle.nh_chain.specs.Made.{derived_of};
+ghost use Rattle.nh_chain.specs.Terms.{chain_at, chain_in_octets};
 
 use crate::chain::Chain;
 use annex_a_keys::{Cell, Derived, Kasme, Kenb, Nh, Star};
@@ -54,6 +59,12 @@ impl PhoneChain {
         ensures star { record { key = result.0; number = self.new.number }
             ≡ phone_line octet_reading (phone_of self.old active.now) ncc cell.now.pci cell.now.earfcn }
         ensures chain { self.new ≡ (reached octet_reading self.old active.now ncc cell.now).chain }
+        // At chain number p with the active KeNB t, on the NCC of chain number i, it derives the term and
+        // comes to the chain number that the phone's line of the handover table has.
+        ensures terms { (r t : Term) (n p i : ℕ) →
+            self.old ≡ chain_in_octets (chain_at r n p) → active.now ≡ value_of t → ncc ≡ ncc_of i →
+            let line = key_at_phone r n t p i cell.now.pci cell.now.earfcn in
+            (result.0 ≡ value_of line.key) × (self.new ≡ chain_in_octets (chain_at r n line.number)) }
         ensures way { result.1 ≡ (reached octet_reading self.old active.now ncc cell.now).way }
         ensures made { result.2.items ≡ map derived_of (reached octet_reading self.old active.now ncc cell.now).made }
         ensures inputs { All (λ d. IsKdfInput d.input) result.2.items }

@@ -1,7 +1,10 @@
-ghost use Rattle.std.specs.Prelude.{◌≡◌, ◌≤◌};
+ghost use Rattle.std.specs.Prelude.{◌≡◌, ℕ, ◌≤◌};
 ghost use Rattle.hmac_kdf.specs.Kdf.{IsKdfInput};
+ghost use Rattle.key_model.specs.Term.{Term};
 ghost use Rattle.key_model.specs.Reading.{octet_reading};
+ghost use Rattle.key_model.specs.HandoverTable.{active_key, chain_key, key_from_active, key_from_pair};
 ghost use Rattle.nh_chain.specs.Made.{derived_of};
+ghost use Rattle.nh_chain.specs.Terms.{in_octets};
 ghost use Rattle.nh_chain.specs.Station.{given_key, initial_key, opened, restored, stored};
 
 use crate::{NhPair, Spent};
@@ -66,6 +69,13 @@ impl StationKey {
         ensures key { self.new ≡ (opened octet_reading self.old cell.now).key }
         ensures star { record { key = result.0; number = result.2 } ≡ (opened octet_reading self.old cell.now).star }
         ensures spent { result.1 ≡ self.old.pair }
+        // With a stored pair of chain number i: the KeNB* of that number.
+        ensures vertical { (r : Term) (n i : ℕ) → self.old.pair ≡ Some (in_octets (chain_key r n i)) →
+            record { key = result.0; number = result.2 } ≡ in_octets (key_from_pair r n i cell.now.pci cell.now.earfcn) }
+        // With none and the active KeNB t: the KeNB* of its number.
+        ensures horizontal { (t : Term) → self.old.pair ≡ None →
+            record { key = self.old.kenb; number = self.old.number } ≡ in_octets (active_key t) →
+            record { key = result.0; number = result.2 } ≡ in_octets (key_from_active t cell.now.pci cell.now.earfcn) }
         ensures derived { result.3 ≡ derived_of (opened octet_reading self.old cell.now).made }
         ensures input { IsKdfInput result.3.input }
         ensures in_range { result.2 ≤ 7 }

@@ -2,4 +2,13 @@
 //! only an acknowledged attempt commands the phone, and only one that has not commanded is cancelled.
 #![tactic(auto)]
 
+mod commanded;
+mod opened;
+mod ready;
+#[cfg(test)]
+mod tests;
+
+pub use commanded::S1Commanded;
+pub use opened::S1Open;
+pub use ready::S1Ready;
 pub use x2_handover::Order as Order1;

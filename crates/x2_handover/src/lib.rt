@@ -3,6 +3,14 @@
 //! has not commanded is cancelled.
 #![tactic(auto)]
 
+mod commanded;
+mod opened;
 mod orders;
+mod ready;
+#[cfg(test)]
+mod tests;
 
+pub use commanded::X2Commanded;
+pub use opened::X2Open;
 pub use orders::Order;
+pub use ready::X2Ready;

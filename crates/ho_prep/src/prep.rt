@@ -1,0 +1,52 @@
+use crate::By;
+use alg_choice::{Algs, Caps};
+use annex_a_keys::Cell;
+use nh_chain::StationKey;
+use pdcp_guard::AsKeys;
+use std::marker::Model;
+
+/// What a target station keeps for a phone that may come to one of its cells (TS 33.401 7.2.8.4). No
+/// bearer is in it, so nothing is sent from it.
+#[derive(Debug, Default, Drop)]
+pub struct Prep {
+    /// The number of the phone's connection.
+    pub conn: u32,
+    /// The source station.
+    pub source: u8,
+    /// The number of the source's attempt.
+    pub attempt: u32,
+    /// How the preparation came.
+    pub by: By,
+    /// The target cell.
+    pub cell: Cell,
+    /// The air address that was drawn for the phone.
+    pub air: u32,
+    /// The key of the context to come.
+    pub key: StationKey,
+    /// The chosen algorithms.
+    pub algs: Algs,
+    /// The keys of the access stratum.
+    pub keys: AsKeys,
+    /// The phone's capabilities.
+    pub caps: Caps,
+}
+
+impl Model for Prep {
+    ghost use Rattle.std.specs.Prelude.{List, ℕ};
+    ghost use Rattle.ho_prep.specs.Prep.{Prep as PrepOf};
+
+    ghost Value = { PrepOf (List ℕ) ℕ };
+
+    ghost view = { λ p. record {
+      conn = p.conn;
+      source = p.source;
+      attempt = p.attempt;
+      by = p.by;
+      cell = p.cell;
+      air = p.air;
+      key = p.key;
+      algs = p.algs;
+      keys = p.keys;
+      caps = p.caps;
+    } };
+}

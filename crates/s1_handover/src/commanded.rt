@@ -1,0 +1,81 @@
+ghost use Rattle.std.specs.Prelude.{◌≡◌, ◌≤◌};
+ghost use Rattle.x2_handover.specs.InRange.{InRange};
+
+use crate::Order1;
+use annex_a_keys::Cell;
+use std::marker::Model;
+
+/// An attempt that has commanded the phone. The command may be sent again.
+#[derive(Debug, Drop)]
+pub struct S1Commanded {
+    number: u32,
+    order: Order1,
+}
+
+impl Model for S1Commanded {
+    ghost use Rattle.std.specs.Prelude.{◌≤◌};
+    ghost use Rattle.s1_handover.specs.Attempt.{S1Sent};
+
+    ghost Value = { S1Sent };
+
+    ghost use Rattle.x2_handover.specs.InRange.{InRange};
+
+    ghost view = { λ a. record {
+      number = a.number;
+      station = a.order.station;
+      cell = a.order.cell;
+      order = a.order;
+    } };
+
+    ghost invariant = { λ a. (1 ≤ a.number) × InRange a.order };
+}
+
+impl S1Commanded {
+    // The attempt of this number with the order that it gave.
+    pub(crate) fn new(number: u32, order: &Order1) -> S1Commanded
+        requires number { 1 ≤ number }
+        requires order { InRange order.now }
+        ensures { result ≡ record {
+          number = number;
+          station = order.now.station;
+          cell = order.now.cell;
+          order = order.now;
+        } }
+    {
+        S1Commanded {
+            number,
+            order: *order,
+        }
+    }
+
+    /// The same order again.
+    pub fn again(&self) -> Order1
+        ensures order { result ≡ self.now.order }
+        ensures in_range { InRange result }
+    {
+        self.order
+    }
+
+    /// The attempt's number, at least 1.
+    pub fn number(&self) -> u32
+        ensures value { result ≡ self.now.number }
+        ensures in_range { 1 ≤ result }
+    {
+        self.number
+    }
+
+    /// The target station, 0 to 7.
+    pub fn station(&self) -> u8
+        ensures value { result ≡ self.now.station }
+        ensures in_range { result ≤ 7 }
+    {
+        self.order.station
+    }
+
+    /// The target cell.
+    pub fn cell(&self) -> Cell
+        ensures { result ≡ self.now.cell }
+    {
+        self.order.cell
+    }
+}
