@@ -3,3 +3,5 @@ pub mod AnnexB
 pub mod ReachMap
 pub mod PhoneMap
 pub mod PhoneRefused
+pub mod CoreMap
+pub mod CoreRefused
