@@ -240,15 +240,15 @@ module _ {K C L D : Type 0} (r : Reading K C) (q : Reading L D) (f : K → L) (g
 
   -- what an input would open, and a step
 
-  pub phone_opens-map : (s : Phone K C) (i : PhoneInput K) → map_opening f (phone_opens r s i) ≡ phone_opens q (map_phone f g s) (map_phone_input f i)
-  phone_opens-map s i =
+  pub phone_opens_map : (s : Phone K C) (i : PhoneInput K) → map_opening f (phone_opens r s i) ≡ phone_opens q (map_phone f g s) (map_phone_input f i)
+  phone_opens_map s i =
       phone_expects-map (front_of r s i) s
       ∙ (λ j. phone_expects q (front_of-map s i j) (map_phone f g s))
 
-  pub phone_step-map : (s : Phone K C) (i : PhoneInput K) (outcome : Outcome) → map_phone_step f g (phone_step r s i outcome) ≡ phone_step q (map_phone f g s) (map_phone_input f i) outcome
-  phone_step-map s i outcome =
+  pub phone_step_map : (s : Phone K C) (i : PhoneInput K) (outcome : Outcome) → map_phone_step f g (phone_step r s i outcome) ≡ phone_step q (map_phone f g s) (map_phone_input f i) outcome
+  phone_step_map s i outcome =
       let done = phone_does-map (phone_row (plain_phone r s) (front_of r s i) outcome) (phone_root i) s
       ∙ (λ j. phone_does q (phone_row (sym (plain_phone-map s) j) (front_of-map s i j) outcome) (phone_root-map i j) (map_phone f g s)) in
       let accepted = accepted_of-map f (phone_opens r s i) outcome
-      ∙ (λ j. accepted_of (phone_opens-map s i j) outcome) in
+      ∙ (λ j. accepted_of (phone_opens_map s i j) outcome) in
       λ j. ((done j).0, finished None (accepted j) (done j).1)

@@ -62,7 +62,7 @@ pub data PhoneFront : Type 0 where
   FromNas : NasFront → PhoneFront
   FromAir : AirFront → PhoneFront
 
--- NAS messages (TS 24.301 4.4.4.2, 4.4.4.3 and 5.4.3)
+-- NAS messages (TS 24.301 4.4.3 to 4.4.5 and 5.4.3)
 
 -- a first octet of a message that the phone takes: protocol discriminator 7 and header type 1 to 3 (9.2 and 9.3.1)
 abbrev pub is_for_phone : ℕ → Bool
@@ -93,7 +93,8 @@ abbrev pub command_at : Algs → Caps → Result ℕ spent.CountSpent → NasFro
 command_at algs caps (Ok count) = AtCommand count algs caps
 command_at algs caps (Err none_left) = NasSettled (NasRefused CountSpent)
 
--- a command for the partial context (5.4.3.3). This project's own rule: KSI and algorithms are looked at before the MAC
+-- a command for the partial context (5.4.3.3). This project's own rules: KSI and algorithms are looked at before the MAC,
+-- and a text that does not read is not answered
 abbrev pub command_read : PlainPhone → ℕ → List ℕ → Result NasRecord RecFault → NasFront
 command_read s held pdu (Err fault) = NasSettled (NasRefused (BadRecord fault))
 command_read s held pdu (Ok (nas.TheVariants.SecurityModeCommand ksi algs caps)) =
@@ -204,7 +205,8 @@ start_row count algs named station air (Differs wanted got) = AirRefused (MacFai
 start_row count algs named station air (Opened text) =
     if named then LinkSecured station air algs count else AirRefused NotAddressed
 
--- a handover command (TS 36.331 5.3.5.4): on SRB1 (4.2.2), with algorithms of the phone's own
+-- a handover command (TS 36.331 5.3.5.4): on SRB1 (4.2.2), with algorithms of the phone's own. This project's own rule:
+-- after another one the connection stays as it is, and is not re-established (5.3.5.5 and 5.3.7)
 abbrev pub command_taken : Caps → Srb → ℕ → Place → ℕ → Algs → ℕ → ℕ → AirRow
 command_taken caps Signalling1 own cell ncc algs station air =
     if are_supported caps algs then HandedOver cell (steps_to own ncc) algs station air
@@ -295,7 +297,7 @@ act_row s (acts.TheVariants.SendNas text) = under_context s.context (NasSent tex
 act_row s (acts.TheVariants.Skip None n) = nas_left_out_row n s.context
 act_row s (acts.TheVariants.Skip (Some bearer) n) = bearer_left_out_row (which bearer) n s.radio
 
--- all refusals before an opening
+-- all refusals before an opening, in their order
 abbrev pub phone_front : PlainPhone → PlainInput → PhoneFront
 phone_front s (PhoneAuth ksi root) = Settled (OfAuth (Authenticated ksi))
 phone_front s (PhoneActs act) = Settled (OfAct (act_row s act))

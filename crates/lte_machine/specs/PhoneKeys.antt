@@ -30,6 +30,10 @@ use Rattle.lte_machine.specs.PhoneState.{nas_keys_of, Partial, NasContext, Link,
 use Rattle.lte_machine.specs.PhoneRows.{AuthRow, Authenticated, NasRow, NasRefused, RejectedPlain, RejectedUnder, ContextTaken, ContextTakenConnected, NasOpened, AirRow, AirRefused, LinkSecured, HandedOver, RrcOpened, PacketOpened, ActRow, ActRefused, ServiceRequested, CompleteResent, WentIdle, PacketSent, RrcSent, NasSent, NasLeftOut, BearerLeftOut, PhoneRow, OfAuth, OfNas, OfAir, OfAct}
 use Rattle.lte_machine.specs.PhoneChoice.{NasFront, NasSettled, AtCommand, AtMessage, AirFront, AirSettled, AtStart, AtSignalling, AtPacket, PhoneFront, Settled, FromNas, FromAir}
 
+-- the phone after a step, and what it gives out
+abbrev pub PhoneDone : Type 0 → Type 0 → Type 0
+PhoneDone K C = Phone K C × Reply K C
+
 -- the uses that an opening needs
 
 -- a ciphering where it is on
@@ -101,7 +105,7 @@ phone_expects r (FromAir front) s = air_expects r front s
 
 -- what a row does
 
--- a NAS text under these keys, ciphered: header type 2 (TS 24.301 9.3.1)
+-- a NAS text under these keys, ciphered: header type 2, or 4 of a new context (TS 24.301 9.3.1)
 abbrev pub nas_sealed : {K C : Type 0} → Keys K → ℕ → ℕ → NasRecord → Outgoing K C
 nas_sealed keys header count record_sent =
     SealedNas Up header (nas_use Up keys.int count) (Some (nas_ciphering_up keys count)) (nas_spelling record_sent)
@@ -132,20 +136,20 @@ sends sent = record (only Done) { sent = Some sent }
 abbrev pub opens : {K C : Type 0} → List ℕ → Reply K C
 opens text = record (only Done) { opened = Some text }
 
--- an authentication's KASME, in place of one that was not used yet (TS 24.301 4.4.2.1)
-abbrev pub authenticated : {K C : Type 0} → ℕ → Phone K C → Option K → Phone K C × Reply K C
+-- an authentication's KASME, in place of one that was not used yet (TS 24.301 4.4.2, TS 33.401 6.1.1)
+abbrev pub authenticated : {K C : Type 0} → ℕ → Phone K C → Option K → PhoneDone K C
 authenticated ksi s None = (s, only Done)
 authenticated ksi s (Some root) = (record s { partial = Some (record { ksi = ksi; root = root }) }, only Done)
 
-abbrev pub auth_does : {K C : Type 0} → AuthRow → Option K → Phone K C → Phone K C × Reply K C
+abbrev pub auth_does : {K C : Type 0} → AuthRow → Option K → Phone K C → PhoneDone K C
 auth_does (Authenticated ksi) root s = authenticated ksi s root
 
 -- a SECURITY MODE REJECT as it is, after an octet of security header type 0 (TS 24.301 4.4.4.2 and 9.3.1)
-abbrev pub plain_reject : {K C : Type 0} → ℕ → Outgoing K C
-plain_reject cause = PlainNas (first_octet 0 ∷ nas_spelling (nas.TheVariants.SecurityModeReject cause))
+abbrev pub plain_reject : ℕ → List ℕ
+plain_reject cause = first_octet 0 ∷ nas_spelling (nas.TheVariants.SecurityModeReject cause)
 
 -- one under the context in use, ciphered (5.4.3.5)
-abbrev pub rejected_under : {K C : Type 0} → Answer → ℕ → Phone K C → Option (NasContext K) → Phone K C × Reply K C
+abbrev pub rejected_under : {K C : Type 0} → Answer → ℕ → Phone K C → Option (NasContext K) → PhoneDone K C
 rejected_under answer cause s None = (s, only answer)
 rejected_under answer cause s (Some c) = (
   record s { context = Some (one_nas_sent c) },
@@ -163,7 +167,7 @@ abbrev pub complete_of : {K C : Type 0} → Reading K C → Algs → K → Outgo
 complete_of r algs root = nas_sealed (nas_keys_of r root algs) 4 0 nas.TheVariants.SecurityModeComplete
 
 -- a phone that has no connection derives KeNB of the COUNT of its SECURITY MODE COMPLETE (TS 33.401 7.2.8.1.1 and A.3)
-abbrev pub context_taken : {K C : Type 0} → Reading K C → Algs → ℕ → Phone K C → Option (Partial K) → Phone K C × Reply K C
+abbrev pub context_taken : {K C : Type 0} → Reading K C → Algs → ℕ → Phone K C → Option (Partial K) → PhoneDone K C
 context_taken r algs count s None = (s, only Done)
 context_taken r algs count s (Some p) = (
   record s {
@@ -176,7 +180,7 @@ context_taken r algs count s (Some p) = (
   },
 )
 
-abbrev pub context_taken_connected : {K C : Type 0} → Reading K C → Algs → ℕ → Phone K C → Option (Partial K) → Phone K C × Reply K C
+abbrev pub context_taken_connected : {K C : Type 0} → Reading K C → Algs → ℕ → Phone K C → Option (Partial K) → PhoneDone K C
 context_taken_connected r algs count s None = (s, only Done)
 context_taken_connected r algs count s (Some p) = (
   record s { partial = None; context = Some (context_of r algs count p.root) },
@@ -184,13 +188,13 @@ context_taken_connected r algs count s (Some p) = (
 )
 
 -- a NAS text was taken at a COUNT (TS 24.301 4.4.3.1)
-abbrev pub nas_opened : {K C : Type 0} → ℕ → List ℕ → Phone K C → Option (NasContext K) → Phone K C × Reply K C
+abbrev pub nas_opened : {K C : Type 0} → ℕ → List ℕ → Phone K C → Option (NasContext K) → PhoneDone K C
 nas_opened count text s None = (s, only Done)
 nas_opened count text s (Some c) = (record s { context = Some (record c { receive = count + 1 }) }, opens text)
 
-abbrev pub nas_does : {K C : Type 0} → Reading K C → NasRow → Phone K C → Phone K C × Reply K C
+abbrev pub nas_does : {K C : Type 0} → Reading K C → NasRow → Phone K C → PhoneDone K C
 nas_does r (NasRefused answer) s = (s, only answer)
-nas_does r (RejectedPlain answer cause) s = (s, record (only answer) { sent = Some (plain_reject cause) })
+nas_does r (RejectedPlain answer cause) s = (s, record (only answer) { sent = Some (PlainNas (plain_reject cause)) })
 nas_does r (RejectedUnder answer cause) s = rejected_under answer cause s s.context
 nas_does r (ContextTaken algs count) s = context_taken r algs count s s.partial
 nas_does r (ContextTakenConnected algs count) s = context_taken_connected r algs count s s.partial
@@ -198,7 +202,7 @@ nas_does r (NasOpened count text) s = nas_opened count text s s.context
 
 -- the security of a connection starts: the chain begins with KeNB, SecurityModeComplete goes unciphered, and all that
 -- follows is ciphered (TS 33.401 7.2.4.5 and 7.2.8.1.1, TS 36.331 5.3.4.3)
-abbrev pub link_secured : {K C : Type 0} → Reading K C → ℕ → ℕ → Algs → ℕ → Phone K C → Radio K C → Phone K C × Reply K C
+abbrev pub link_secured : {K C : Type 0} → Reading K C → ℕ → ℕ → Algs → ℕ → Phone K C → Radio K C → PhoneDone K C
 link_secured r station air algs count s (Connecting w) =
     let keys = as_keys_of r w.kenb algs in (
       record s {
@@ -231,7 +235,7 @@ link_secured r station air algs count s other = (s, only Done)
 
 -- a handover command is obeyed: KeNB* of what the chain reached, new keys, all bearers anew, and
 -- RRCConnectionReconfigurationComplete to the target (TS 33.401 7.2.8.4.4, TS 36.331 5.3.5.4, TS 36.323 5.2)
-abbrev pub arrived : {K C : Type 0} → Reading K C → Algs → ℕ → ℕ → Phone K C → Link K C → Reached K C → Phone K C × Reply K C
+abbrev pub arrived : {K C : Type 0} → Reading K C → Algs → ℕ → ℕ → Phone K C → Link K C → Reached K C → PhoneDone K C
 arrived r algs station air s l reached =
     let keys = as_keys_of r reached.star.key algs in (
       record s {
@@ -260,30 +264,30 @@ arrived r algs station air s l reached =
       },
     )
 
-abbrev pub handed_over : {K C : Type 0} → Reading K C → Place → ℕ → Algs → ℕ → ℕ → Phone K C → Radio K C → Phone K C × Reply K C
+abbrev pub handed_over : {K C : Type 0} → Reading K C → Place → ℕ → Algs → ℕ → ℕ → Phone K C → Radio K C → PhoneDone K C
 handed_over r cell steps algs station air s (Connected l) =
     arrived r algs station air s l (reached_after r l.chain l.kenb steps cell)
 handed_over r cell steps algs station air s other = (s, only Done)
 
 -- a PDU was taken at a COUNT (TS 36.323 5.1.2)
-abbrev pub rrc_opened : {K C : Type 0} → Srb → ℕ → List ℕ → Phone K C → Radio K C → Phone K C × Reply K C
+abbrev pub rrc_opened : {K C : Type 0} → Srb → ℕ → List ℕ → Phone K C → Radio K C → PhoneDone K C
 rrc_opened srb count text s (Connected l) = (record s { radio = with_bearers l (srb_taken srb count l.bearers) }, opens text)
 rrc_opened srb count text s other = (s, only Done)
 
-abbrev pub packet_opened : {K C : Type 0} → Drb → ℕ → List ℕ → Phone K C → Radio K C → Phone K C × Reply K C
+abbrev pub packet_opened : {K C : Type 0} → Drb → ℕ → List ℕ → Phone K C → Radio K C → PhoneDone K C
 packet_opened drb count text s (Connected l) = (record s { radio = with_bearers l (drb_taken drb count l.bearers) }, opens text)
 packet_opened drb count text s other = (s, only Done)
 
-abbrev pub air_does : {K C : Type 0} → Reading K C → AirRow → Phone K C → Phone K C × Reply K C
+abbrev pub air_does : {K C : Type 0} → Reading K C → AirRow → Phone K C → PhoneDone K C
 air_does r (AirRefused answer) s = (s, only answer)
 air_does r (LinkSecured station air algs count) s = link_secured r station air algs count s s.radio
 air_does r (HandedOver cell steps algs station air) s = handed_over r cell steps algs station air s s.radio
 air_does r (RrcOpened srb count text) s = rrc_opened srb count text s s.radio
 air_does r (PacketOpened drb count text) s = packet_opened drb count text s s.radio
 
--- SERVICE REQUEST, header type 1, and KeNB of its COUNT (TS 24.301 5.6.1.2, TS 33.401 7.2.8.1.1 and A.3). This project's
--- own rule: it has the form of any NAS message, and not the short one
-abbrev pub service_requested : {K C : Type 0} → Reading K C → Phone K C → Option (NasContext K) → Phone K C × Reply K C
+-- SERVICE REQUEST, header type 1, and KeNB of its COUNT (TS 24.301 5.6.1.2, TS 33.401 7.2.6.2 and A.3). This project's own
+-- rule: it has the form of any NAS message, and not the short one (TS 24.301 8.2.25)
+abbrev pub service_requested : {K C : Type 0} → Reading K C → Phone K C → Option (NasContext K) → PhoneDone K C
 service_requested r s None = (s, only Done)
 service_requested r s (Some c) = (
   record s {
@@ -296,7 +300,7 @@ service_requested r s (Some c) = (
 )
 
 -- RRCConnectionReconfigurationComplete once more, under the next COUNT. This project's own rule: no layer below repeats it
-abbrev pub complete_resent : {K C : Type 0} → Phone K C → Radio K C → Phone K C × Reply K C
+abbrev pub complete_resent : {K C : Type 0} → Phone K C → Radio K C → PhoneDone K C
 complete_resent s (Connected l) = (
   record s { radio = with_bearers l (srb_sent Signalling1 l.bearers) },
   sends (rrc_sealed l.keys l.station l.air Signalling1 l.bearers.srb1.send rrc.TheVariants.ReconfigurationComplete),
@@ -304,36 +308,36 @@ complete_resent s (Connected l) = (
 complete_resent s other = (s, only Done)
 
 -- a user packet, an RRC text, a NAS text
-abbrev pub packet_sent : {K C : Type 0} → Drb → List ℕ → Phone K C → Radio K C → Phone K C × Reply K C
+abbrev pub packet_sent : {K C : Type 0} → Drb → List ℕ → Phone K C → Radio K C → PhoneDone K C
 packet_sent drb text s (Connected l) = (
   record s { radio = with_bearers l (drb_sent drb l.bearers) },
   sends (UserPacket Up l.station l.air drb (drb_ciphering_up l.keys drb (drb_counts drb l.bearers).send) text),
 )
 packet_sent drb text s other = (s, only Done)
 
-abbrev pub rrc_sent : {K C : Type 0} → Srb → List ℕ → Phone K C → Radio K C → Phone K C × Reply K C
+abbrev pub rrc_sent : {K C : Type 0} → Srb → List ℕ → Phone K C → Radio K C → PhoneDone K C
 rrc_sent srb text s (Connected l) = (
   record s { radio = with_bearers l (srb_sent srb l.bearers) },
   sends (rrc_sealed l.keys l.station l.air srb (srb_counts srb l.bearers).send (rrc.TheVariants.RrcData text)),
 )
 rrc_sent srb text s other = (s, only Done)
 
-abbrev pub nas_sent : {K C : Type 0} → List ℕ → Phone K C → Option (NasContext K) → Phone K C × Reply K C
+abbrev pub nas_sent : {K C : Type 0} → List ℕ → Phone K C → Option (NasContext K) → PhoneDone K C
 nas_sent text s None = (s, only Done)
 nas_sent text s (Some c) =
     (record s { context = Some (one_nas_sent c) }, sends (nas_sealed c.keys 2 c.send (nas.TheVariants.NasData text)))
 
 -- COUNTs left out, as if so many records were lost on the way
-abbrev pub nas_left_out : {K C : Type 0} → ℕ → Phone K C → Option (NasContext K) → Phone K C × Reply K C
+abbrev pub nas_left_out : {K C : Type 0} → ℕ → Phone K C → Option (NasContext K) → PhoneDone K C
 nas_left_out n s None = (s, only Done)
 nas_left_out n s (Some c) = (record s { context = Some (record c { send = skipped n c.send NAS_LIMIT }) }, only Done)
 
-abbrev pub bearer_left_out : {K C : Type 0} → Which → ℕ → Phone K C → Radio K C → Phone K C × Reply K C
+abbrev pub bearer_left_out : {K C : Type 0} → Which → ℕ → Phone K C → Radio K C → PhoneDone K C
 bearer_left_out bearer n s (Connected l) = (record s { radio = with_bearers l (left_out_on bearer n l.bearers) }, only Done)
 bearer_left_out bearer n s other = (s, only Done)
 
 -- an idle phone keeps no key of its connection (TS 33.401 7.2.6.3)
-abbrev pub act_does : {K C : Type 0} → Reading K C → ActRow → Phone K C → Phone K C × Reply K C
+abbrev pub act_does : {K C : Type 0} → Reading K C → ActRow → Phone K C → PhoneDone K C
 act_does r (ActRefused answer) s = (s, only answer)
 act_does r ServiceRequested s = service_requested r s s.context
 act_does r CompleteResent s = complete_resent s s.radio
@@ -345,7 +349,7 @@ act_does r (NasLeftOut n) s = nas_left_out n s s.context
 act_does r (BearerLeftOut bearer n) s = bearer_left_out bearer n s s.radio
 
 -- a row, with the KASME of an authentication
-abbrev pub phone_does : {K C : Type 0} → Reading K C → PhoneRow → Option K → Phone K C → Phone K C × Reply K C
+abbrev pub phone_does : {K C : Type 0} → Reading K C → PhoneRow → Option K → Phone K C → PhoneDone K C
 phone_does r (OfAuth row) root s = auth_does row root s
 phone_does r (OfNas row) root s = nas_does r row s
 phone_does r (OfAir row) root s = air_does r row s
