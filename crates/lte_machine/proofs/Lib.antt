@@ -5,3 +5,7 @@ pub mod PhoneMap
 pub mod PhoneRefused
 pub mod CoreMap
 pub mod CoreRefused
+pub mod StationPlain
+pub mod StationLists
+pub mod StationMap
+pub mod StationRefused
