@@ -1,6 +1,6 @@
 -- A step that a station refuses leaves the station as it was.
 use Rattle.std.specs.Prelude.{◌≡◌, ◌≢◌, ℕ, List, Option, None, Some}
-use Rattle.std.proofs.Common.{refl}
+use Rattle.std.proofs.Common.{refl, ap}
 use Rattle.alg_choice.specs.declared.algs.Algs.{Algs}
 use Rattle.alg_choice.specs.declared.caps.Caps.{Caps}
 use Rattle.annex_a_keys.specs.Cell.{Place}
@@ -12,19 +12,19 @@ use Rattle.ho_prep.specs.Prep.{Prep, at_air}
 use Rattle.x2_handover.specs.declared.orders.Order.{Order}
 use Rattle.lte_machine.specs.Bearers.{Srb, Drb}
 use Rattle.lte_machine.specs.Opening.{Outcome}
-use Rattle.lte_machine.specs.Reply.{Origin, Reply}
+use Rattle.lte_machine.specs.Reply.{Origin, Reply, only, finished}
 use Rattle.lte_machine.specs.StationState.{Station, Context, StationInput}
 use Rattle.lte_machine.specs.StationRows.{Wanted, RecordRow, RecordRefused, ContextGiven, ContextReleased, PairTaken, PreparedByS1, PreparedByX2, AckedByS1, AckedByX2, PreparationCancelled, SourceReleased, AirRow, AirRefused, SecurityStarted, RrcTaken, PacketTaken, CompletedByS1, CompletedWithin, CompletedByX2, ActRow, ActRefused, StartedByX2, StartedByS1, StartedWithin, Commands, CancelledByX2, CancelledByS1, CancelledWithin, AsksAgain, SendsPacket, SendsRrc, LeavesOut, StationRow, OfRecord, OfAir, OfAct}
 use Rattle.lte_machine.specs.StationKeys as keys
 use Rattle.lte_machine.specs.StationStep.{station_key, station_row_of, station_step}
 
--- what a step that is not done says of the station
+-- a row that is not done leaves the station, and gives out its answer alone
 abbrev pub Unchanged : {K C : Type 0} → Station K C → Station K C × Reply K C → Type 0
-Unchanged s d = d.1.answer ≢ Done → d.0 ≡ s
+Unchanged s d = d.1.answer ≢ Done → d ≡ (s, only d.1.answer)
 
 -- a row that is done
-done : {K C : Type 0} (s t : Station K C) → Done ≢ Done → t ≡ s
-done s t h = absurd (h refl)
+done : {K C : Type 0} (s : Station K C) (d : Station K C × Reply K C) → Done ≢ Done → d ≡ (s, only d.1.answer)
+done s d h = absurd (h refl)
 
 module _ {K C : Type 0} (r : Reading K C) where
   record_unchanged : (row : RecordRow) (key : Option (NumberedKey K C)) (s : Station K C) →
@@ -126,4 +126,15 @@ module _ {K C : Type 0} (r : Reading K C) where
   -- whatever comes, and however its opening comes out
   pub station_refused : (s : Station K C) (i : StationInput K C) (outcome : Outcome) →
       (station_step r s i outcome).1.answer ≢ Done → (station_step r s i outcome).0 ≡ s
-  station_refused s i outcome = does_unchanged (station_row_of r s i outcome) (station_key i) s
+  station_refused s i outcome h =
+      ap (λ d. d.0) (does_unchanged (station_row_of r s i outcome) (station_key i) s h)
+
+  -- and nothing is sent, opened, derived or noted
+  pub station_refused_reply : (s : Station K C) (i : StationInput K C) (outcome : Outcome) →
+      (station_step r s i outcome).1.answer ≢ Done →
+      (station_step r s i outcome).1
+      ≡ finished (station_step r s i outcome).1.received (station_step r s i outcome).1.accepted
+      (only (station_step r s i outcome).1.answer)
+  station_refused_reply s i outcome h =
+      ap (λ d. finished (station_step r s i outcome).1.received (station_step r s i outcome).1.accepted d.1)
+      (does_unchanged (station_row_of r s i outcome) (station_key i) s h)
