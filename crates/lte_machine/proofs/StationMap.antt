@@ -19,18 +19,14 @@ use Rattle.lte_machine.specs.Bearers.{Srb, Drb, Which}
 use Rattle.lte_machine.specs.Wire.{KeyUse, Outgoing, map_outgoing}
 use Rattle.lte_machine.specs.Opening.{Opening, OpensNothing, OpensNas, OpensSrb, OpensDrb, Outcome, Opened as Came, Differs, map_opening, accepted_of}
 use Rattle.key_model.specs.Use.{map_use}
-use Rattle.lte_machine.specs.Reply.{Origin, Reply, finished, map_reply}
+use Rattle.lte_machine.specs.Reply.{Origin, finished}
 use Rattle.lte_machine.specs.StationState.{Station, Context, Attempt, OverX2, OverS1, Within, X2State, X2Open, X2Ready, X2Commanded, S1State, S1Open, S1Ready, S1Commanded, StationInput, StationActs, AirPdu, StationRecord, map_x2_state, map_attempt, map_context, map_preps, map_station, map_read, map_station_input}
 use Rattle.lte_machine.specs.StationRows.{Wanted, RecordRow, RecordRefused, ContextGiven, ContextReleased, PairTaken, PreparedByS1, PreparedByX2, AckedByS1, AckedByX2, PreparationCancelled, SourceReleased, AirRow, AirRefused, SecurityStarted, RrcTaken, PacketTaken, CompletedByS1, CompletedWithin, CompletedByX2, ActRow, ActRefused, StartedByX2, StartedByS1, StartedWithin, Commands, CancelledByX2, CancelledByS1, CancelledWithin, AsksAgain, SendsPacket, SendsRrc, LeavesOut, StationRow, OfRecord, OfAir, OfAct}
 use Rattle.lte_machine.specs.StationChoice.{AirFront, AirSettled, OnStarting, OnSignalling, OnUser, OnPrepared, StationFront, Settled, FromAir, station_front, station_row}
 use Rattle.lte_machine.specs.StationKeys as keys
-use Rattle.lte_machine.specs.StationStep.{key_read, station_key, plain_station, station_front_of, station_opens, station_row_of, station_step}
+use Rattle.lte_machine.specs.StationStep.{key_read, station_key, plain_station, station_front_of, station_opens, station_row_of, station_step, map_station_done}
 use Rattle.lte_machine.proofs.StationPlain.{station_plain, input_plain}
 use Rattle.lte_machine.proofs.StationLists.{at_air_map, without_map, drop_below_map, push_map}
-
--- a station and a reply, their keys read in another way
-abbrev pub map_station_out : {K C L D : Type 0} → (K → L) → (C → D) → Station K C × Reply K C → Station L D × Reply L D
-map_station_out f g d = (map_station f g d.0, map_reply f g d.1)
 
 -- what a handover opens with, its keys read in another way
 abbrev map_opened : {K C L D : Type 0} → (K → L) → (C → D) → Opened K C → Opened L D
@@ -97,7 +93,7 @@ module _ {K C L D : Type 0} {r : Reading K C} {q : Reading L D} {f : K → L} {g
 
   context_given_map : (conn : ℕ) (cell : Place) (caps : Caps) (algs : Algs) (air : ℕ) (key : Option (NumberedKey K C))
       (s : Station K C) →
-      map_station_out f g (keys.context_given r conn cell caps algs air key s)
+      map_station_done f g (keys.context_given r conn cell caps algs air key s)
       ≡ keys.context_given q conn cell caps algs air (option_map (map_numbered f g) key) (map_station f g s)
   context_given_map conn cell caps algs air None s = refl
   context_given_map conn cell caps algs air (Some x) s =
@@ -115,7 +111,7 @@ module _ {K C L D : Type 0} {r : Reading K C} {q : Reading L D} {f : K → L} {g
   release_map conn (Some o) = refl
 
   pair_taken_map : (conn : ℕ) (origin : Option Origin) (key : Option (NumberedKey K C)) (s : Station K C) →
-      map_station_out f g (keys.pair_taken conn origin key s)
+      map_station_done f g (keys.pair_taken conn origin key s)
       ≡ keys.pair_taken conn origin (option_map (map_numbered f g) key) (map_station f g s)
   pair_taken_map conn origin None s = refl
   pair_taken_map conn origin (Some pair) s = rw (with_pair_map pair s.context, release_map conn origin) refl
@@ -126,14 +122,14 @@ module _ {K C L D : Type 0} {r : Reading K C} {q : Reading L D} {f : K → L} {g
       rw (push_map f g (drop_below w.conn s.preps) p, ← drop_below_map f g w.conn s.preps) refl
 
   prepared_by_x2_map : (w : Wanted) (key : Option (NumberedKey K C)) (s : Station K C) →
-      map_station_out f g (keys.prepared_by_x2 r w key s)
+      map_station_done f g (keys.prepared_by_x2 r w key s)
       ≡ keys.prepared_by_x2 q w (option_map (map_numbered f g) key) (map_station f g s)
   prepared_by_x2_map w None s = refl
   prepared_by_x2_map w (Some star) s =
       rw (wanted_preps_map w (keys.wanted_prep r w By.X2 star) s, c.alg star.key 3 (identity_of w.algs.eea), c.alg star.key 4 eia2_identity, c.alg star.key 5 (identity_of w.algs.eea), c.ncc star.number) refl
 
   prepared_by_s1_with_map : (w : Wanted) (made : Derivation K) (star : NumberedKey K C) (s : Station K C) →
-      map_station_out f g (keys.prepared_by_s1_with r w made star s)
+      map_station_done f g (keys.prepared_by_s1_with r w made star s)
       ≡ keys.prepared_by_s1_with q w (map_derivation f made) (map_numbered f g star) (map_station f g s)
   prepared_by_s1_with_map w made star s =
       rw (wanted_preps_map w (keys.wanted_prep r w By.S1 star) s, c.alg star.key 3 (identity_of w.algs.eea), c.alg star.key 4 eia2_identity, c.alg star.key 5 (identity_of w.algs.eea), c.ncc star.number) refl
@@ -147,7 +143,7 @@ module _ {K C L D : Type 0} {r : Reading K C} {q : Reading L D} {f : K → L} {g
   star_made_map base cell = rw (c.star base cell.pci cell.earfcn) refl
 
   prepared_by_s1_map : (w : Wanted) (key : Option (NumberedKey K C)) (s : Station K C) →
-      map_station_out f g (keys.prepared_by_s1 r w key s)
+      map_station_done f g (keys.prepared_by_s1 r w key s)
       ≡ keys.prepared_by_s1 q w (option_map (map_numbered f g) key) (map_station f g s)
   prepared_by_s1_map w None s = refl
   prepared_by_s1_map w (Some pair) s =
@@ -189,7 +185,7 @@ module _ {K C L D : Type 0} {r : Reading K C} {q : Reading L D} {f : K → L} {g
   with_x2_ack_map algs air (Some x) = rw (x2_acked_map algs air x.attempt) refl
 
   record_does_map : (row : RecordRow) (key : Option (NumberedKey K C)) (s : Station K C) →
-      map_station_out f g (keys.record_does r row key s)
+      map_station_done f g (keys.record_does r row key s)
       ≡ keys.record_does q row (option_map (map_numbered f g) key) (map_station f g s)
   record_does_map (RecordRefused answer) key s = refl
   record_does_map (ContextGiven conn cell caps algs air) key s = context_given_map conn cell caps algs air key s
@@ -223,25 +219,25 @@ module _ {K C L D : Type 0} {r : Reading K C} {q : Reading L D} {f : K → L} {g
   with_packet_taken_map drb count (Some x) = refl
 
   completed_by_s1_map : (count : ℕ) (o : Option (Prep K C)) (s : Station K C) →
-      map_station_out f g (keys.completed_by_s1 r count o s)
+      map_station_done f g (keys.completed_by_s1 r count o s)
       ≡ keys.completed_by_s1 q count (option_map (map_prep f g) o) (map_station f g s)
   completed_by_s1_map count None s = refl
   completed_by_s1_map count (Some p) s = rw (c.ncc p.key.number) refl
 
   completed_within_map : (count : ℕ) (origin : Option Origin) (o : Option (Prep K C)) (s : Station K C) →
-      map_station_out f g (keys.completed_within r count origin o s)
+      map_station_done f g (keys.completed_within r count origin o s)
       ≡ keys.completed_within q count origin (option_map (map_prep f g) o) (map_station f g s)
   completed_within_map count origin None s = refl
   completed_within_map count origin (Some p) s = rw (c.ncc p.key.number) refl
 
   completed_by_x2_map : (count number : ℕ) (o : Option (Prep K C)) (s : Station K C) →
-      map_station_out f g (keys.completed_by_x2 r count number o s)
+      map_station_done f g (keys.completed_by_x2 r count number o s)
       ≡ keys.completed_by_x2 q count number (option_map (map_prep f g) o) (map_station f g s)
   completed_by_x2_map count number None s = refl
   completed_by_x2_map count number (Some p) s = rw (c.ncc p.key.number) refl
 
   air_does_map : (row : AirRow) (s : Station K C) →
-      map_station_out f g (keys.air_does r row s) ≡ keys.air_does q row (map_station f g s)
+      map_station_done f g (keys.air_does r row s) ≡ keys.air_does q row (map_station f g s)
   air_does_map (AirRefused answer) s = refl
   air_does_map (SecurityStarted count) s = rw (with_security_map count s.context) refl
   air_does_map (RrcTaken srb count text) s = rw (with_rrc_taken_map srb count s.context) refl
@@ -265,12 +261,12 @@ module _ {K C L D : Type 0} {r : Reading K C} {q : Reading L D} {f : K → L} {g
       by_pair (Some pair) = rw (c.star pair.key cell.pci cell.earfcn) refl
 
   started_by_x2_with_map : (number target : ℕ) (cell : Place) (x : Context K C) (o : Opened K C) (s : Station K C) →
-      map_station_out f g (keys.started_by_x2_with r number target cell x o s)
+      map_station_done f g (keys.started_by_x2_with r number target cell x o s)
       ≡ keys.started_by_x2_with q number target cell (map_context f g x) (map_opened f g o) (map_station f g s)
   started_by_x2_with_map number target cell x o s = rw (c.ncc o.star.number) refl
 
   started_by_x2_map : (number target : ℕ) (cell : Place) (o : Option (Context K C)) (s : Station K C) →
-      map_station_out f g (keys.started_by_x2 r number target cell o s)
+      map_station_done f g (keys.started_by_x2 r number target cell o s)
       ≡ keys.started_by_x2 q number target cell (option_map (map_context f g) o) (map_station f g s)
   started_by_x2_map number target cell None s = refl
   started_by_x2_map number target cell (Some x) s =
@@ -278,7 +274,7 @@ module _ {K C L D : Type 0} {r : Reading K C} {q : Reading L D} {f : K → L} {g
       ∙ (λ j. keys.started_by_x2_with q number target cell (map_context f g x) (opened_map x.key cell j) (map_station f g s))
 
   started_by_s1_map : (number target : ℕ) (cell : Place) (o : Option (Context K C)) (s : Station K C) →
-      map_station_out f g (keys.started_by_s1 number target cell o s)
+      map_station_done f g (keys.started_by_s1 number target cell o s)
       ≡ keys.started_by_s1 number target cell (option_map (map_context f g) o) (map_station f g s)
   started_by_s1_map number target cell None s = refl
   started_by_s1_map number target cell (Some x) s = refl
@@ -290,13 +286,13 @@ module _ {K C L D : Type 0} {r : Reading K C} {q : Reading L D} {f : K → L} {g
       rw (c.alg star.key 3 (identity_of x.algs.eea), c.alg star.key 4 eia2_identity, c.alg star.key 5 (identity_of x.algs.eea)) refl
 
   started_within_with_map : (number air : ℕ) (cell : Place) (x : Context K C) (o : Opened K C) (s : Station K C) →
-      map_station_out f g (keys.started_within_with r number air cell x o s)
+      map_station_done f g (keys.started_within_with r number air cell x o s)
       ≡ keys.started_within_with q number air cell (map_context f g x) (map_opened f g o) (map_station f g s)
   started_within_with_map number air cell x o s =
       rw (push_map f g s.preps (keys.own_prep r s.id number air cell x o.star), c.alg o.star.key 3 (identity_of x.algs.eea), c.alg o.star.key 4 eia2_identity, c.alg o.star.key 5 (identity_of x.algs.eea), c.ncc o.star.number) refl
 
   started_within_map : (number air : ℕ) (cell : Place) (o : Option (Context K C)) (s : Station K C) →
-      map_station_out f g (keys.started_within r number air cell o s)
+      map_station_done f g (keys.started_within r number air cell o s)
       ≡ keys.started_within q number air cell (option_map (map_context f g) o) (map_station f g s)
   started_within_map number air cell None s = refl
   started_within_map number air cell (Some x) s =
@@ -318,7 +314,7 @@ module _ {K C L D : Type 0} {r : Reading K C} {q : Reading L D} {f : K → L} {g
   commanded_map order (Some (Within state)) = λ j. Some (Within (x2_commanded_map order state j))
 
   commands_map : (order : Order) (count : ℕ) (o : Option (Context K C)) (s : Station K C) →
-      map_station_out f g (keys.commands order count o s)
+      map_station_done f g (keys.commands order count o s)
       ≡ keys.commands order count (option_map (map_context f g) o) (map_station f g s)
   commands_map order count None s = refl
   commands_map order count (Some x) s = rw (commanded_map order x.attempt) refl
@@ -349,19 +345,19 @@ module _ {K C L D : Type 0} {r : Reading K C} {q : Reading L D} {f : K → L} {g
   given_up_map (Some x) = rw (← spent_in_map x.attempt, restored_map x.key.kenb x.key.number x.key.pair (keys.spent_in x.attempt)) refl
 
   asks_again_map : (number : ℕ) (o : Option (Context K C)) (s : Station K C) →
-      map_station_out f g (keys.asks_again number o s)
+      map_station_done f g (keys.asks_again number o s)
       ≡ keys.asks_again number (option_map (map_context f g) o) (map_station f g s)
   asks_again_map number None s = refl
   asks_again_map number (Some x) s = refl
 
   sends_packet_map : (drb : Drb) (count : ℕ) (text : List ℕ) (o : Option (Context K C)) (s : Station K C) →
-      map_station_out f g (keys.sends_packet drb count text o s)
+      map_station_done f g (keys.sends_packet drb count text o s)
       ≡ keys.sends_packet drb count text (option_map (map_context f g) o) (map_station f g s)
   sends_packet_map drb count text None s = refl
   sends_packet_map drb count text (Some x) s = refl
 
   sends_rrc_map : (srb : Srb) (count : ℕ) (text : List ℕ) (o : Option (Context K C)) (s : Station K C) →
-      map_station_out f g (keys.sends_rrc srb count text o s)
+      map_station_done f g (keys.sends_rrc srb count text o s)
       ≡ keys.sends_rrc srb count text (option_map (map_context f g) o) (map_station f g s)
   sends_rrc_map srb count text None s = refl
   sends_rrc_map srb count text (Some x) s = refl
@@ -373,7 +369,7 @@ module _ {K C L D : Type 0} {r : Reading K C} {q : Reading L D} {f : K → L} {g
   with_left_out_map on n (Some x) = refl
 
   act_does_map : (row : ActRow) (s : Station K C) →
-      map_station_out f g (keys.act_does r row s) ≡ keys.act_does q row (map_station f g s)
+      map_station_done f g (keys.act_does r row s) ≡ keys.act_does q row (map_station f g s)
   act_does_map (ActRefused answer) s = refl
   act_does_map (StartedByX2 number target cell) s = started_by_x2_map number target cell s.context s
   act_does_map (StartedByS1 number target cell) s = started_by_s1_map number target cell s.context s
@@ -392,7 +388,7 @@ module _ {K C L D : Type 0} {r : Reading K C} {q : Reading L D} {f : K → L} {g
 
   -- every row does the same
   pub station_does_map : (row : StationRow) (key : Option (NumberedKey K C)) (s : Station K C) →
-      map_station_out f g (keys.station_does r row key s)
+      map_station_done f g (keys.station_does r row key s)
       ≡ keys.station_does q row (option_map (map_numbered f g) key) (map_station f g s)
   station_does_map (OfRecord row) key s = record_does_map row key s
   station_does_map (OfAir row) key s = air_does_map row s
@@ -424,7 +420,7 @@ module _ {K C L D : Type 0} {r : Reading K C} {q : Reading L D} {f : K → L} {g
   received_map (Some x) = refl
 
   does_step_map : (s : Station K C) (i : StationInput K C) (outcome : Outcome) →
-      map_station_out f g (keys.station_does r (station_row_of r s i outcome) (station_key i) s)
+      map_station_done f g (keys.station_does r (station_row_of r s i outcome) (station_key i) s)
       ≡ keys.station_does q (station_row_of q (map_station f g s) (map_station_input f g i) outcome)
       (station_key (map_station_input f g i)) (map_station f g s)
   does_step_map s i outcome =
@@ -442,7 +438,7 @@ module _ {K C L D : Type 0} {r : Reading K C} {q : Reading L D} {f : K → L} {g
   received_step_map i = received_map (station_key i) ∙ (λ j. option_map (λ x. x.key) (station_key_map i j))
 
   pub station_step_map : (s : Station K C) (i : StationInput K C) (outcome : Outcome) →
-      map_station_out f g (station_step r s i outcome)
+      map_station_done f g (station_step r s i outcome)
       ≡ station_step q (map_station f g s) (map_station_input f g i) outcome
   station_step_map s i outcome = λ j. (
     (does_step_map s i outcome j).0,
