@@ -18,7 +18,7 @@ use Rattle.pdcp_guard.specs.Counts.{Counts}
 use Rattle.pdcp_guard.specs.Srb.{srb_count}
 use Rattle.pdcp_guard.specs.Drb.{drb_count}
 use Rattle.rrc_rec.specs.declared.records.RrcRecord.{RrcRecord}
-use Rattle.rrc_rec.specs.declared.records.RrcRecord.TheVariants.{SecurityModeCommand, SecurityModeComplete, Reconfiguration, ReconfigurationComplete, RrcData}
+use Rattle.rrc_rec.specs.declared.records.RrcRecord.TheVariants.{SecurityModeComplete, ReconfigurationComplete, RrcData}
 use Rattle.rrc_rec.specs.Reading.{read_rrc}
 use Rattle.s1x2_rec.specs.Fields.{Fields, kind_of, InitialContext, ContextRelease, PathSwitchAnswer, HandoverRequest, HandoverCommand, HandoverCancel, X2Request, X2Ack, X2Cancel, X2Release}
 use Rattle.s1x2_rec.specs.Content.{Content}
@@ -30,6 +30,7 @@ use Rattle.s1_handover.specs.Attempt.{s1_order}
 use Rattle.lte_machine.specs.Bearers.{Srb, Signalling1, Signalling2, Drb, Which, OnSrb, OnDrb, which, Bearers, srb_counts, drb_counts, is_spent}
 use Rattle.lte_machine.specs.Opening.{Outcome, Opened, Differs}
 use Rattle.lte_machine.specs.Refusals.{of_pdcp}
+use Rattle.lte_machine.specs.Kinds.{rrc_kind}
 use Rattle.lte_machine.specs.Reply.{Origin}
 use Rattle.lte_machine.specs.StationState.{Station, Context, Attempt, OverX2, OverS1, Within, X2State, X2Open, X2Ready, X2Commanded, S1State, S1Open, S1Ready, S1Commanded, Interface, OnS1, OnX2, StationInput, StationActs, AirPdu, StationRecord}
 use Rattle.lte_machine.specs.StationRows.{Wanted, RecordRow, RecordRefused, ContextGiven, ContextReleased, PairTaken, PreparedByS1, PreparedByX2, AckedByS1, AckedByX2, PreparationCancelled, SourceReleased, AirRow, AirRefused, SecurityStarted, RrcTaken, PacketTaken, CompletedByS1, CompletedWithin, CompletedByX2, ActRow, ActRefused, StartedByX2, StartedByS1, StartedWithin, Commands, CancelledByX2, CancelledByS1, CancelledWithin, AsksAgain, SendsPacket, SendsRrc, LeavesOut, StationRow, OfRecord, OfAir, OfAct}
@@ -60,14 +61,6 @@ is_station id (Some station) = station == id
 -- the cell is one of the station's own
 abbrev pub is_own : PlainStation → Place → Bool
 is_own s cell = is_station s.id (station_of cell s.cells)
-
--- the kind of an RRC text, its first octet
-abbrev pub rrc_kind : RrcRecord → ℕ
-rrc_kind (SecurityModeCommand algs station air) = 0x01
-rrc_kind SecurityModeComplete = 0x02
-rrc_kind (Reconfiguration cell ncc algs station air) = 0x03
-rrc_kind ReconfigurationComplete = 0x04
-rrc_kind (RrcData text) = 0x05
 
 -- the number of an attempt
 abbrev pub x2_number : X2State (Unit {0}) ℕ → ℕ

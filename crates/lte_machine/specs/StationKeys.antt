@@ -1,0 +1,478 @@
+-- What a station does in each row, with its keys: every key is a derivation of a key that it holds or that a record gave
+-- it, or is such a key moved (TS 33.401 7.2.8.4 and Annex A).
+use Rattle.std.specs.Prelude.{ℕ, ◌+◌, Bool, true, false, List, [], ◌∷◌, ◌++◌, slice_set, Option, Some, None, option_map}
+use Rattle.alg_choice.specs.declared.algs.Algs.{Algs}
+use Rattle.alg_choice.specs.declared.caps.Caps.{Caps}
+use Rattle.annex_a_keys.specs.Cell.{Place}
+use Rattle.rec_base.specs.declared.uses.Dir.TheVariants.{Up, Down}
+use Rattle.rec_base.specs.declared.ways.Way.{Way}
+use Rattle.rec_base.specs.declared.ways.Way.TheVariants.{Vertical, Given, Completed}
+use Rattle.lte_events.specs.declared.addresses.Address.TheVariants.{CoreS1, StationX2}
+use Rattle.lte_events.specs.declared.answers.Answer.TheVariants.{Done}
+use Rattle.key_model.specs.Reading.{Reading}
+use Rattle.key_model.specs.HandoverTable.{NumberedKey}
+use Rattle.key_model.specs.HandoverLines.{star_line}
+use Rattle.key_model.specs.Derivation.{Derivation, star_made}
+use Rattle.nh_chain.specs.Station.{StationKey, initial_key, given_key, stored, restored_if, Opened, opened}
+use Rattle.pdcp_guard.specs.AsKeys.{AsKeys, as_keys_of, as_derivations}
+use Rattle.rrc_rec.specs.declared.records.RrcRecord.TheVariants.{SecurityModeCommand, Reconfiguration, RrcData}
+use Rattle.rrc_rec.specs.Spelling.{spelling_of}
+use Rattle.s1x2_rec.specs.Fields.{Fields, PathSwitchRequest, HandoverRequired, HandoverRequestAck, HandoverNotify, HandoverCancel, X2Request, X2Ack, X2Cancel, X2Release}
+use Rattle.ho_prep.specs.declared.origins.By.{By}
+use Rattle.ho_prep.specs.Prep.{Prep, at_air, without, drop_below}
+use Rattle.x2_handover.specs.declared.orders.Order.{Order}
+use Rattle.x2_handover.specs.Attempt.{X2Start}
+use Rattle.lte_machine.specs.Bearers.{Srb, Signalling1, Drb, Which, new_bearers, srb_sent, drb_sent, srb_taken, drb_taken, left_out_on}
+use Rattle.lte_machine.specs.Wire.{Outgoing, SealedRrc, UserPacket, Between, srb_use, drb_use, ciphering_by}
+use Rattle.lte_machine.specs.Opening.{Opening, OpensNothing, OpensSrb, OpensDrb}
+use Rattle.lte_machine.specs.Reply.{Note, Origin, Made, Reply, only}
+use Rattle.lte_machine.specs.StationState.{Station, Context, Attempt, OverX2, OverS1, Within, X2State, X2Open, X2Ready, X2Commanded, S1State, S1Open, S1Ready, S1Commanded}
+use Rattle.lte_machine.specs.StationRows.{Wanted, RecordRow, RecordRefused, ContextGiven, ContextReleased, PairTaken, PreparedByS1, PreparedByX2, AckedByS1, AckedByX2, PreparationCancelled, SourceReleased, AirRow, AirRefused, SecurityStarted, RrcTaken, PacketTaken, CompletedByS1, CompletedWithin, CompletedByX2, ActRow, ActRefused, StartedByX2, StartedByS1, StartedWithin, Commands, CancelledByX2, CancelledByS1, CancelledWithin, AsksAgain, SendsPacket, SendsRrc, LeavesOut, StationRow, OfRecord, OfAir, OfAct}
+use Rattle.lte_machine.specs.StationChoice.{AirFront, AirSettled, OnStarting, OnSignalling, OnUser, OnPrepared, StationFront, Settled, FromAir}
+
+-- OPENING: WHICH USES A STATION EXPECTS (TS 36.323 5.6 and 5.7)
+
+-- on an SRB: ciphered from the Security Mode Complete on (TS 36.331 5.3.4.3)
+abbrev pub signalling_opening : {K : Type 0} → AsKeys K → Srb → ℕ → Opening K
+signalling_opening keys srb count =
+    OpensSrb (srb_use Up keys.rrc_int srb count) (Some (ciphering_by keys.algs.eea (srb_use Up keys.rrc_enc srb count)))
+
+abbrev pub user_opening : {K : Type 0} → AsKeys K → Drb → ℕ → Opening K
+user_opening keys drb count = OpensDrb (ciphering_by keys.algs.eea (drb_use Up keys.up_enc drb count))
+
+abbrev pub starting_expects : {K C : Type 0} → ℕ → Option (Context K C) → Opening K
+starting_expects count None = OpensNothing
+starting_expects count (Some c) = OpensSrb (srb_use Up c.keys.rrc_int Signalling1 count) None
+
+abbrev pub signalling_expects : {K C : Type 0} → Srb → ℕ → Option (Context K C) → Opening K
+signalling_expects srb count None = OpensNothing
+signalling_expects srb count (Some c) = signalling_opening c.keys srb count
+
+abbrev pub user_expects : {K C : Type 0} → Drb → ℕ → Option (Context K C) → Opening K
+user_expects drb count None = OpensNothing
+user_expects drb count (Some c) = user_opening c.keys drb count
+
+-- the keys of the preparation at the air address
+abbrev pub prepared_expects : {K C : Type 0} → ℕ → Option (Prep K C) → Opening K
+prepared_expects count None = OpensNothing
+prepared_expects count (Some p) = signalling_opening p.keys Signalling1 count
+
+abbrev pub air_expects : {K C : Type 0} → AirFront → Station K C → Opening K
+air_expects (AirSettled row) s = OpensNothing
+air_expects (OnStarting count) s = starting_expects count s.context
+air_expects (OnSignalling srb count) s = signalling_expects srb count s.context
+air_expects (OnUser drb count) s = user_expects drb count s.context
+air_expects (OnPrepared air by count) s = prepared_expects count (at_air air s.preps)
+
+abbrev pub station_expects : {K C : Type 0} → StationFront → Station K C → Opening K
+station_expects (Settled row) s = OpensNothing
+station_expects (FromAir front) s = air_expects front s
+
+-- SENDING (TS 36.323 5.6 and 5.7)
+
+-- the Security Mode Command of a new context: COUNT 0 on SRB1, not ciphered (TS 36.331 5.3.4.1)
+abbrev pub security_command : {K C : Type 0} → ℕ → ℕ → AsKeys K → Outgoing K C
+security_command id air keys =
+    SealedRrc Down id air Signalling1 (srb_use Down keys.rrc_int Signalling1 0) None
+    (spelling_of (SecurityModeCommand keys.algs id air))
+
+abbrev pub signalling_sent : {K C : Type 0} → ℕ → ℕ → AsKeys K → Srb → ℕ → List ℕ → Outgoing K C
+signalling_sent id air keys srb count text =
+    SealedRrc Down id air srb (srb_use Down keys.rrc_int srb count)
+    (Some (ciphering_by keys.algs.eea (srb_use Down keys.rrc_enc srb count))) text
+
+abbrev pub packet_sent : {K C : Type 0} → ℕ → ℕ → AsKeys K → Drb → ℕ → List ℕ → Outgoing K C
+packet_sent id air keys drb count text =
+    UserPacket Down id air drb (ciphering_by keys.algs.eea (drb_use Down keys.up_enc drb count)) text
+
+-- the handover command (TS 36.331 5.3.5.4)
+abbrev pub order_text : Order → List ℕ
+order_text o = spelling_of (Reconfiguration o.cell o.ncc o.algs o.station o.air)
+
+-- a record with no key, to the core or to a station
+abbrev pub to_core : {K C : Type 0} → Fields → Outgoing K C
+to_core fields = Between CoreS1 fields None
+
+abbrev pub to_station : {K C : Type 0} → ℕ → Fields → Outgoing K C
+to_station station fields = Between (StationX2 station) fields None
+
+-- what is told of a key
+abbrev pub note_of : {K C : Type 0} → Reading K C → Way → NumberedKey K C → Note K
+note_of r way key = record { ncc = r.ncc key.number; way = way; key = key.key }
+
+-- ROWS BY A RECORD
+
+-- a context by Initial Context Setup: KeNB of the first number (TS 33.401 7.2.8.1.1), its AS keys (A.7)
+abbrev pub initial_context : {K C : Type 0} → Reading K C → ℕ → Place → Caps → Algs → ℕ → K → Context K C
+initial_context r conn cell caps algs air kenb = record {
+  conn = conn; cell = cell; air = air; key = initial_key r kenb; algs = algs; keys = as_keys_of r kenb algs; caps = caps;
+  starting = true; bearers = srb_sent Signalling1 new_bearers; attempt = None; outstanding = None; origin = None;
+}
+
+abbrev pub context_given : {K C : Type 0} →
+    Reading K C → ℕ → Place → Caps → Algs → ℕ → Option (NumberedKey K C) → Station K C → Station K C × Reply K C
+context_given r conn cell caps algs air None s = (s, only Done)
+context_given r conn cell caps algs air (Some received) s =
+    let kenb = received.key in
+    (
+      record s { next = air + 1; last = conn; context = Some (initial_context r conn cell caps algs air kenb); preps = [] },
+      record (only Done) {
+        sent = Some (security_command s.id air (as_keys_of r kenb algs));
+        derived = as_derivations r kenb algs;
+        note = Some (note_of r Given (record { key = kenb; number = r.first }));
+        made = Some (record {
+          station = s.id; air = air; conn = conn; cell = cell; key = kenb; number = r.first; algs = algs;
+          from_attempt = None;
+        });
+      }
+    )
+
+-- the pair of a path switch answer replaces any other, and no answer is outstanding (TS 33.401 7.2.8.4.2)
+abbrev pub with_pair : {K C : Type 0} → NumberedKey K C → Context K C → Context K C
+with_pair pair c = record c { key = stored c.key pair; outstanding = None }
+
+-- this project's own rule: with the answer the X2 source is told to release its context (TS 36.423 8.2.2)
+abbrev pub source_release : {K C : Type 0} → ℕ → Option Origin → Option (Outgoing K C)
+source_release conn None = None
+source_release conn (Some o) = Some (to_station o.source (X2Release conn o.attempt))
+
+abbrev pub pair_taken : {K C : Type 0} →
+    ℕ → Option Origin → Option (NumberedKey K C) → Station K C → Station K C × Reply K C
+pair_taken conn origin None s = (s, only Done)
+pair_taken conn origin (Some pair) s =
+    (record s { context = option_map (with_pair pair) s.context }, record (only Done) { sent = source_release conn origin })
+
+-- a preparation with a KeNB* and its AS keys (TS 33.401 7.2.8.4.2, 7.2.8.4.3, A.7)
+abbrev pub wanted_prep : {K C : Type 0} → Reading K C → Wanted → By → NumberedKey K C → Prep K C
+wanted_prep r w by star = record {
+  conn = w.conn; source = w.from.source; attempt = w.from.attempt; by = by; cell = w.cell; air = w.air;
+  key = given_key star; algs = w.algs; keys = as_keys_of r star.key w.algs; caps = w.caps;
+}
+
+-- with it preparations of older connections are dropped
+abbrev pub with_wanted : {K C : Type 0} → Wanted → Prep K C → Station K C → Station K C
+with_wanted w prep s = record s {
+  next = w.air + 1; last = w.conn; seen = slice_set s.seen w.from.source w.from.attempt;
+  preps = drop_below w.conn s.preps ++ prep ∷ [];
+}
+
+abbrev pub wanted_made : {K C : Type 0} → ℕ → Wanted → NumberedKey K C → Made K C
+wanted_made id w star = record {
+  station = id; air = w.air; conn = w.conn; cell = w.cell; key = star.key; number = star.number; algs = w.algs;
+  from_attempt = Some w.from;
+}
+
+-- on S1 the target derives KeNB* of the NH received: vertical (TS 33.401 7.2.8.4.3)
+abbrev pub prepared_by_s1_with : {K C : Type 0} →
+    Reading K C → Wanted → Derivation K → NumberedKey K C → Station K C → Station K C × Reply K C
+prepared_by_s1_with r w made star s = (
+  with_wanted w (wanted_prep r w By.S1 star) s,
+  record (only Done) {
+    sent = Some (to_core (HandoverRequestAck w.conn w.from.source w.from.attempt w.cell (r.ncc star.number) w.algs w.air));
+    derived = made ∷ as_derivations r star.key w.algs;
+    note = Some (note_of r Vertical star);
+    made = Some (wanted_made s.id w star);
+  }
+)
+
+abbrev pub prepared_by_s1 : {K C : Type 0} →
+    Reading K C → Wanted → Option (NumberedKey K C) → Station K C → Station K C × Reply K C
+prepared_by_s1 r w None s = (s, only Done)
+prepared_by_s1 r w (Some pair) s =
+    prepared_by_s1_with r w (star_made r pair.key w.cell.pci w.cell.earfcn) (star_line r pair w.cell.pci w.cell.earfcn) s
+
+-- on X2 the target takes the KeNB* received (TS 33.401 7.2.8.4.2)
+abbrev pub prepared_by_x2 : {K C : Type 0} →
+    Reading K C → Wanted → Option (NumberedKey K C) → Station K C → Station K C × Reply K C
+prepared_by_x2 r w None s = (s, only Done)
+prepared_by_x2 r w (Some star) s = (
+  with_wanted w (wanted_prep r w By.X2 star) s,
+  record (only Done) {
+    sent = Some (to_station w.from.source (X2Ack w.conn w.from.attempt w.cell w.algs w.air));
+    derived = as_derivations r star.key w.algs;
+    note = Some (note_of r Given star);
+    made = Some (wanted_made s.id w star);
+  }
+)
+
+-- an open attempt is acknowledged
+abbrev pub s1_acked : {K C : Type 0} → ℕ → Algs → ℕ → Attempt K C → Attempt K C
+s1_acked ncc algs air (OverS1 (S1Open start)) =
+    OverS1 (S1Ready (record { start = start; ncc = ncc; algs = algs; air = air }))
+s1_acked ncc algs air other = other
+
+abbrev pub x2_acked : {K C : Type 0} → Algs → ℕ → Attempt K C → Attempt K C
+x2_acked algs air (OverX2 (X2Open start)) = OverX2 (X2Ready (record { start = start; algs = algs; air = air }))
+x2_acked algs air other = other
+
+abbrev pub with_s1_ack : {K C : Type 0} → ℕ → Algs → ℕ → Context K C → Context K C
+with_s1_ack ncc algs air c = record c { attempt = option_map (s1_acked ncc algs air) c.attempt }
+
+abbrev pub with_x2_ack : {K C : Type 0} → Algs → ℕ → Context K C → Context K C
+with_x2_ack algs air c = record c { attempt = option_map (x2_acked algs air) c.attempt }
+
+abbrev pub record_does : {K C : Type 0} →
+    Reading K C → RecordRow → Option (NumberedKey K C) → Station K C → Station K C × Reply K C
+record_does r (RecordRefused answer) key s = (s, only answer)
+record_does r (ContextGiven conn cell caps algs air) key s = context_given r conn cell caps algs air key s
+record_does r ContextReleased key s = (record s { context = None; preps = [] }, only Done)
+record_does r (PairTaken conn origin) key s = pair_taken conn origin key s
+record_does r (PreparedByS1 w) key s = prepared_by_s1 r w key s
+record_does r (PreparedByX2 w) key s = prepared_by_x2 r w key s
+record_does r (AckedByS1 ncc algs air) key s =
+    (record s { context = option_map (with_s1_ack ncc algs air) s.context }, only Done)
+record_does r (AckedByX2 algs air) key s = (record s { context = option_map (with_x2_ack algs air) s.context }, only Done)
+record_does r (PreparationCancelled from) key s =
+    (record s { preps = without from.source from.attempt s.preps }, only Done)
+record_does r SourceReleased key s = (record s { context = None }, only Done)
+
+-- ROWS BY A PDU
+
+abbrev pub with_security : {K C : Type 0} → ℕ → Context K C → Context K C
+with_security count c = record c { starting = false; bearers = srb_taken Signalling1 count c.bearers }
+
+abbrev pub with_rrc_taken : {K C : Type 0} → Srb → ℕ → Context K C → Context K C
+with_rrc_taken srb count c = record c { bearers = srb_taken srb count c.bearers }
+
+abbrev pub with_packet_taken : {K C : Type 0} → Drb → ℕ → Context K C → Context K C
+with_packet_taken drb count c = record c { bearers = drb_taken drb count c.bearers }
+
+-- a preparation becomes the context: its key is the KeNB now, and all COUNTs start at 0 (TS 33.401 7.2.8.4, TS 36.323 5.2)
+abbrev pub arrived : {K C : Type 0} → ℕ → Option ℕ → Option Origin → Prep K C → Context K C
+arrived count outstanding origin p = record {
+  conn = p.conn; cell = p.cell; air = p.air; key = p.key; algs = p.algs; keys = p.keys; caps = p.caps; starting = false;
+  bearers = srb_taken Signalling1 count new_bearers; attempt = None; outstanding = outstanding; origin = origin;
+}
+
+-- what is told of it, and what is sent
+abbrev pub arrival : {K C : Type 0} → Reading K C → Option (Outgoing K C) → StationKey K C → Reply K C
+arrival r sent key = record (only Done) {
+  sent = sent; note = Some (note_of r Completed (record { key = key.kenb; number = key.number }));
+}
+
+-- the old context and all other preparations are dropped
+abbrev pub completed_by_s1 : {K C : Type 0} →
+    Reading K C → ℕ → Option (Prep K C) → Station K C → Station K C × Reply K C
+completed_by_s1 r count None s = (s, only Done)
+completed_by_s1 r count (Some p) s = (
+  record s { context = Some (arrived count None None p); preps = [] },
+  arrival r (Some (to_core (HandoverNotify p.conn s.id p.cell))) p.key
+)
+
+abbrev pub completed_within : {K C : Type 0} →
+    Reading K C → ℕ → Option Origin → Option (Prep K C) → Station K C → Station K C × Reply K C
+completed_within r count origin None s = (s, only Done)
+completed_within r count origin (Some p) s =
+    (record s { context = Some (arrived count None origin p); preps = [] }, arrival r None p.key)
+
+-- after X2 the core is asked for a pair (TS 36.413 8.4.4, TS 33.401 7.2.8.4.2)
+abbrev pub completed_by_x2 : {K C : Type 0} →
+    Reading K C → ℕ → ℕ → Option (Prep K C) → Station K C → Station K C × Reply K C
+completed_by_x2 r count number None s = (s, only Done)
+completed_by_x2 r count number (Some p) s = (
+  record s {
+    next = number + 1;
+    context = Some (arrived count (Some number) (Some (record { source = p.source; attempt = p.attempt })) p);
+    preps = [];
+  },
+  arrival r (Some (to_core (PathSwitchRequest p.conn s.id number p.cell p.caps))) p.key
+)
+
+abbrev pub air_does : {K C : Type 0} → Reading K C → AirRow → Station K C → Station K C × Reply K C
+air_does r (AirRefused answer) s = (s, only answer)
+air_does r (SecurityStarted count) s = (record s { context = option_map (with_security count) s.context }, only Done)
+air_does r (RrcTaken srb count text) s =
+    (record s { context = option_map (with_rrc_taken srb count) s.context }, record (only Done) { opened = text })
+air_does r (PacketTaken drb count text) s =
+    (record s { context = option_map (with_packet_taken drb count) s.context }, record (only Done) { opened = Some text })
+air_does r (CompletedByS1 air count) s = completed_by_s1 r count (at_air air s.preps) s
+air_does r (CompletedWithin air count origin) s = completed_within r count origin (at_air air s.preps) s
+air_does r (CompletedByX2 air count number) s = completed_by_x2 r count number (at_air air s.preps) s
+
+-- ROWS BY AN ACT
+
+-- KeNB* comes from the stored pair, which moves into the attempt, and is vertical; with none from the active KeNB, and is
+-- horizontal (TS 33.401 7.2.8.4.1, 7.2.8.4.2)
+abbrev pub x2_start : {K C : Type 0} → ℕ → ℕ → Place → Opened K C → X2Start K C
+x2_start number target cell o = record { number = number; station = target; cell = cell; star = o.star; spent = o.spent }
+
+-- X2 Handover Request with KeNB* and its NCC (TS 36.423 8.2.1)
+abbrev pub started_by_x2_with : {K C : Type 0} →
+    Reading K C → ℕ → ℕ → Place → Context K C → Opened K C → Station K C → Station K C × Reply K C
+started_by_x2_with r number target cell c o s = (
+  record s {
+    next = number + 1;
+    context = Some (record c { key = o.key; attempt = Some (OverX2 (X2Open (x2_start number target cell o))) });
+  },
+  record (only Done) {
+    sent = Some (Between (StationX2 target) (X2Request c.conn s.id number cell c.caps) (Some o.star));
+    derived = o.made ∷ [];
+    note = Some (note_of r o.way o.star);
+    tried = Some (record {
+      station = s.id; attempt = number; target = target; conn = c.conn; cell = cell; key = c.key.kenb;
+      number = c.key.number; given = Some o.star;
+    });
+  }
+)
+
+abbrev pub started_by_x2 : {K C : Type 0} →
+    Reading K C → ℕ → ℕ → Place → Option (Context K C) → Station K C → Station K C × Reply K C
+started_by_x2 r number target cell None s = (s, only Done)
+started_by_x2 r number target cell (Some c) s = started_by_x2_with r number target cell c (opened r c.key cell) s
+
+-- Handover Required: the core gives the target its pair, and the stored pair stays (TS 36.413 8.4.1, TS 33.401 7.2.8.4.3)
+abbrev pub started_by_s1 : {K C : Type 0} →
+    ℕ → ℕ → Place → Option (Context K C) → Station K C → Station K C × Reply K C
+started_by_s1 number target cell None s = (s, only Done)
+started_by_s1 number target cell (Some c) s = (
+  record s {
+    next = number + 1;
+    context = Some (record c {
+      attempt = Some (OverS1 (S1Open (record { number = number; station = target; cell = cell })));
+    });
+  },
+  record (only Done) {
+    sent = Some (to_core (HandoverRequired c.conn s.id number cell));
+    tried = Some (record {
+      station = s.id; attempt = number; target = target; conn = c.conn; cell = cell; key = c.key.kenb;
+      number = c.key.number; given = None;
+    });
+  }
+)
+
+-- within the station: the preparation is added, and the attempt is ready at once (TS 33.401 7.2.8.4.1)
+abbrev pub own_prep : {K C : Type 0} → Reading K C → ℕ → ℕ → ℕ → Place → Context K C → NumberedKey K C → Prep K C
+own_prep r id number air cell c star = record {
+  conn = c.conn; source = id; attempt = number; by = By.Intra (option_map (λ o. (o.source, o.attempt)) c.origin);
+  cell = cell; air = air; key = given_key star; algs = c.algs; keys = as_keys_of r star.key c.algs; caps = c.caps;
+}
+
+abbrev pub started_within_with : {K C : Type 0} →
+    Reading K C → ℕ → ℕ → Place → Context K C → Opened K C → Station K C → Station K C × Reply K C
+started_within_with r number air cell c o s = (
+  record s {
+    next = air + 1;
+    context = Some (record c {
+      key = o.key;
+      attempt = Some (Within (X2Ready (record { start = x2_start number s.id cell o; algs = c.algs; air = air })));
+    });
+    preps = s.preps ++ own_prep r s.id number air cell c o.star ∷ [];
+  },
+  record (only Done) {
+    derived = o.made ∷ as_derivations r o.star.key c.algs;
+    note = Some (note_of r o.way o.star);
+    made = Some (record {
+      station = s.id; air = air; conn = c.conn; cell = cell; key = o.star.key; number = o.star.number; algs = c.algs;
+      from_attempt = Some (record { source = s.id; attempt = number });
+    });
+    tried = Some (record {
+      station = s.id; attempt = number; target = s.id; conn = c.conn; cell = cell; key = c.key.kenb;
+      number = c.key.number; given = Some o.star;
+    });
+  }
+)
+
+abbrev pub started_within : {K C : Type 0} →
+    Reading K C → ℕ → ℕ → Place → Option (Context K C) → Station K C → Station K C × Reply K C
+started_within r number air cell None s = (s, only Done)
+started_within r number air cell (Some c) s = started_within_with r number air cell c (opened r c.key cell) s
+
+-- a ready attempt is commanded; a commanded one stays so
+abbrev pub x2_commanded : {K C : Type 0} → Order → X2State K C → X2State K C
+x2_commanded order (X2Ready acked) = X2Commanded (record {
+  number = acked.start.number; station = acked.start.station; cell = acked.start.cell; order = order;
+})
+x2_commanded order other = other
+
+abbrev pub s1_commanded : Order → S1State → S1State
+s1_commanded order (S1Ready acked) = S1Commanded (record {
+  number = acked.start.number; station = acked.start.station; cell = acked.start.cell; order = order;
+})
+s1_commanded order other = other
+
+abbrev pub commanded : {K C : Type 0} → Order → Attempt K C → Attempt K C
+commanded order (OverX2 state) = OverX2 (x2_commanded order state)
+commanded order (OverS1 state) = OverS1 (s1_commanded order state)
+commanded order (Within state) = Within (x2_commanded order state)
+
+abbrev pub commands : {K C : Type 0} → Order → ℕ → Option (Context K C) → Station K C → Station K C × Reply K C
+commands order count None s = (s, only Done)
+commands order count (Some c) s = (
+  record s {
+    context = Some (record c {
+      bearers = srb_sent Signalling1 c.bearers; attempt = option_map (commanded order) c.attempt;
+    });
+  },
+  record (only Done) { sent = Some (signalling_sent s.id c.air c.keys Signalling1 count (order_text order)) }
+)
+
+-- the pair that an attempt used
+abbrev pub x2_spent : {K C : Type 0} → X2State K C → Option (NumberedKey K C)
+x2_spent (X2Open start) = start.spent
+x2_spent (X2Ready acked) = acked.start.spent
+x2_spent (X2Commanded sent) = None
+
+abbrev pub spent_in : {K C : Type 0} → Option (Attempt K C) → Option (NumberedKey K C)
+spent_in None = None
+spent_in (Some (OverX2 state)) = x2_spent state
+spent_in (Some (OverS1 state)) = None
+spent_in (Some (Within state)) = x2_spent state
+
+-- this project's own rule: it goes back, unless another is stored by now
+abbrev pub given_up : {K C : Type 0} → Context K C → Context K C
+given_up c = record c { key = restored_if c.key (spent_in c.attempt); attempt = None }
+
+-- Path Switch Request under a new number, whose answer alone is taken now
+abbrev pub asks_again : {K C : Type 0} → ℕ → Option (Context K C) → Station K C → Station K C × Reply K C
+asks_again number None s = (s, only Done)
+asks_again number (Some c) s = (
+  record s { next = number + 1; context = Some (record c { outstanding = Some number }) },
+  record (only Done) { sent = Some (to_core (PathSwitchRequest c.conn s.id number c.cell c.caps)) }
+)
+
+abbrev pub sends_packet : {K C : Type 0} →
+    Drb → ℕ → List ℕ → Option (Context K C) → Station K C → Station K C × Reply K C
+sends_packet drb count text None s = (s, only Done)
+sends_packet drb count text (Some c) s = (
+  record s { context = Some (record c { bearers = drb_sent drb c.bearers }) },
+  record (only Done) { sent = Some (packet_sent s.id c.air c.keys drb count text) }
+)
+
+abbrev pub sends_rrc : {K C : Type 0} →
+    Srb → ℕ → List ℕ → Option (Context K C) → Station K C → Station K C × Reply K C
+sends_rrc srb count text None s = (s, only Done)
+sends_rrc srb count text (Some c) s = (
+  record s { context = Some (record c { bearers = srb_sent srb c.bearers }) },
+  record (only Done) { sent = Some (signalling_sent s.id c.air c.keys srb count (spelling_of (RrcData text))) }
+)
+
+abbrev pub with_left_out : {K C : Type 0} → Which → ℕ → Context K C → Context K C
+with_left_out on n c = record c { bearers = left_out_on on n c.bearers }
+
+abbrev pub act_does : {K C : Type 0} → Reading K C → ActRow → Station K C → Station K C × Reply K C
+act_does r (ActRefused answer) s = (s, only answer)
+act_does r (StartedByX2 number target cell) s = started_by_x2 r number target cell s.context s
+act_does r (StartedByS1 number target cell) s = started_by_s1 number target cell s.context s
+act_does r (StartedWithin number air cell) s = started_within r number air cell s.context s
+act_does r (Commands order count) s = commands order count s.context s
+act_does r (CancelledByX2 conn number target) s = (
+  record s { context = option_map given_up s.context },
+  record (only Done) { sent = Some (to_station target (X2Cancel conn s.id number)) }
+)
+act_does r (CancelledByS1 conn number cell) s = (
+  record s { context = option_map given_up s.context },
+  record (only Done) { sent = Some (to_core (HandoverCancel conn s.id number cell)) }
+)
+act_does r (CancelledWithin number) s =
+    (record s { context = option_map given_up s.context; preps = without s.id number s.preps }, only Done)
+act_does r (AsksAgain number) s = asks_again number s.context s
+act_does r (SendsPacket drb count text) s = sends_packet drb count text s.context s
+act_does r (SendsRrc srb count text) s = sends_rrc srb count text s.context s
+act_does r (LeavesOut on n) s = (record s { context = option_map (with_left_out on n) s.context }, only Done)
+
+-- the row, where the key of the record that was read is this
+abbrev pub station_does : {K C : Type 0} →
+    Reading K C → StationRow → Option (NumberedKey K C) → Station K C → Station K C × Reply K C
+station_does r (OfRecord row) key s = record_does r row key s
+station_does r (OfAir row) key s = air_does r row s
+station_does r (OfAct row) key s = act_does r row s
