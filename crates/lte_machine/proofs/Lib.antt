@@ -5,3 +5,4 @@ pub mod PhoneMap
 pub mod PhoneRefused
 pub mod CoreMap
 pub mod CoreRefused
+pub mod CoreExamples
