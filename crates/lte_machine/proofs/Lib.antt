@@ -5,4 +5,5 @@ pub mod PhoneMap
 pub mod PhoneRefused
 pub mod CoreMap
 pub mod CoreRefused
+pub mod CoreBeside
 pub mod CoreExamples
