@@ -3,6 +3,14 @@ pub mod AnnexB
 pub mod ReachMap
 pub mod PhoneMap
 pub mod PhoneRefused
+pub mod StationLists
+pub mod StationPlain
+pub mod StationMap
+pub mod StationRefused
 pub mod CoreMap
 pub mod CoreRefused
+pub mod LadderMap
+pub mod WorldMap
+pub mod NextSame
+pub mod ReplayMap
 mod PhoneExamples

@@ -7,7 +7,9 @@ use Rattle.rec_base.specs.declared.uses.Dir.{Dir}
 use Rattle.nas_guard.specs.Seal.{first_octet}
 use Rattle.nas_guard.specs.Open.{mac_in, covered_in, sent_in}
 use Rattle.lte_machine.specs.Wire.{KeyUse, Ciphering, Outgoing, SealedNas, PlainNas, SealedRrc, UserPacket, Between, integrity_of}
-use Rattle.lte_machine.specs.Ciphers.{Ciphers, AreCiphers, ciphered_by, nas_octets, srb_octets, drb_octets}
+use Rattle.lte_machine.specs.Ciphers.{Ciphers, AreCiphers, ciphered_by, nas_octets, srb_octets, drb_octets, octets_of}
+use Rattle.key_model.specs.HandoverTable.{NumberedKey}
+use Rattle.s1x2_rec.specs.Fields.{Fields}
 use Rattle.lte_machine.specs.Opening.{Opening, OpensNothing, OpensNas, OpensSrb, OpensDrb, Outcome, Opened, Differs, accepted_of, by_macs, decided, open_octets, open_foreign, open_by_uses, open_case, judged, nas_sender, srb_sender, same_uses, same_ciphering, nas_wanted, srb_wanted, srb_got, srb_text, Sender}
 use Rattle.lte_machine.specs.Tuples.{Chance, Tuples, tuple_chance, same_sender, tuples_unless}
 
@@ -115,23 +117,12 @@ module _ {K : Type 0} (c : Ciphers K) (same : K → K → Bool) where
       by_test false h = refl
 
 -- a record opens alike by the uses of its sender and by its octets, where that is no coincidence
-module _ {K C : Type 0} (c : Ciphers K) (good : AreCiphers c) (same : K → K → Bool) (respects : Respects same c) (between : List ℕ) where
-  -- the octets that came
-  abbrev octets_came : Outgoing K C → List ℕ
-  octets_came (SealedNas dir header i f text) = nas_octets c header i f text
-  octets_came (PlainNas octets) = octets
-  octets_came (SealedRrc dir station air srb i f text) = srb_octets c i f text
-  octets_came (UserPacket dir station air drb e text) = drb_octets c e text
-  octets_came (Between to fields key) = between
-
+module _ {K C : Type 0} (c : Ciphers K) (good : AreCiphers c) (same : K → K → Bool) (respects : Respects same c) (between : Fields → Option (NumberedKey K C) → List ℕ) where
   pub nas_alike : (u : KeyUse K) (e : Option (Ciphering K)) (x : Outgoing K C)
-      → tuple_chance same (integrity_of x) (accepted_of (OpensNas u e) (open_octets c (OpensNas u e) (octets_came x))) ≡ None
-      → open_by_uses same c (OpensNas u e) (octets_came x) (Some x) ≡ open_octets c (OpensNas u e) (octets_came x)
+      → tuple_chance same (integrity_of x) (accepted_of (OpensNas u e) (open_octets c (OpensNas u e) (octets_of c between x))) ≡ None
+      → open_by_uses same c (OpensNas u e) (octets_of c between x) (Some x) ≡ open_octets c (OpensNas u e) (octets_of c between x)
   nas_alike u e (SealedNas dir header i f text) calm = by_tests (same_uses same u i) (same_ciphering same e f) refl refl
     where
-      pdu : List ℕ
-      pdu = nas_octets c header i f text
-
       by_tests : (a b : Bool) → same_uses same u i ≡ a → same_ciphering same e f ≡ b
           → open_case c (OpensNas u e) (nas_octets c header i f text) (judged a b text) ≡ open_octets c (OpensNas u e) (nas_octets c header i f text)
       by_tests true true one two = sym (nas_opens c good header i u f e text (respects.macs u i one) (respects.crypts e f two))
@@ -145,11 +136,11 @@ module _ {K C : Type 0} (c : Ciphers K) (good : AreCiphers c) (same : K → K �
       by_test false one = nas_foreign c same u e (srb_octets c i f text) (Some i) one calm
   nas_alike u e (PlainNas octets) calm = nas_foreign c same u e octets None refl calm
   nas_alike u e (UserPacket dir station air drb f text) calm = nas_foreign c same u e (drb_octets c f text) None refl calm
-  nas_alike u e (Between to fields key) calm = nas_foreign c same u e between None refl calm
+  nas_alike u e (Between to fields key) calm = nas_foreign c same u e (between fields key) None refl calm
 
   pub srb_alike : (u : KeyUse K) (e : Option (Ciphering K)) (x : Outgoing K C)
-      → tuple_chance same (integrity_of x) (accepted_of (OpensSrb u e) (open_octets c (OpensSrb u e) (octets_came x))) ≡ None
-      → open_by_uses same c (OpensSrb u e) (octets_came x) (Some x) ≡ open_octets c (OpensSrb u e) (octets_came x)
+      → tuple_chance same (integrity_of x) (accepted_of (OpensSrb u e) (open_octets c (OpensSrb u e) (octets_of c between x))) ≡ None
+      → open_by_uses same c (OpensSrb u e) (octets_of c between x) (Some x) ≡ open_octets c (OpensSrb u e) (octets_of c between x)
   srb_alike u e (SealedRrc dir station air srb i f text) calm = by_tests (same_uses same u i) (same_ciphering same e f) refl refl
     where
       by_tests : (a b : Bool) → same_uses same u i ≡ a → same_ciphering same e f ≡ b
@@ -165,4 +156,20 @@ module _ {K C : Type 0} (c : Ciphers K) (good : AreCiphers c) (same : K → K �
       by_test false one = srb_foreign c same u e (nas_octets c header i f text) (Some i) one calm
   srb_alike u e (PlainNas octets) calm = srb_foreign c same u e octets None refl calm
   srb_alike u e (UserPacket dir station air drb f text) calm = srb_foreign c same u e (drb_octets c f text) None refl calm
-  srb_alike u e (Between to fields key) calm = srb_foreign c same u e between None refl calm
+  srb_alike u e (Between to fields key) calm = srb_foreign c same u e (between fields key) None refl calm
+
+  -- and so does what nobody sent
+  pub unsent_alike : (p : Opening K) (pdu : List ℕ) → tuple_chance same None (accepted_of p (open_octets c p pdu)) ≡ None
+      → open_by_uses {C = C} same c p pdu None ≡ open_octets c p pdu
+  unsent_alike OpensNothing pdu calm = refl
+  unsent_alike (OpensNas u e) pdu calm = nas_foreign c same u e pdu None refl calm
+  unsent_alike (OpensSrb u e) pdu calm = srb_foreign c same u e pdu None refl calm
+  unsent_alike (OpensDrb e) pdu calm = refl
+
+  pub sent_alike : (p : Opening K) (x : Outgoing K C)
+      → tuple_chance same (integrity_of x) (accepted_of p (open_octets c p (octets_of c between x))) ≡ None
+      → open_by_uses same c p (octets_of c between x) (Some x) ≡ open_octets c p (octets_of c between x)
+  sent_alike OpensNothing x calm = refl
+  sent_alike (OpensNas u e) x calm = nas_alike u e x calm
+  sent_alike (OpensSrb u e) x calm = srb_alike u e x calm
+  sent_alike (OpensDrb e) x calm = refl

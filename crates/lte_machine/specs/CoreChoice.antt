@@ -20,11 +20,12 @@ use Rattle.nas_guard.specs.Keys.{Keys}
 use Rattle.nas_guard.specs.Open.{first_in, header_in, sn_in}
 use Rattle.nas_rec.specs.Reading.{read_nas}
 use Rattle.nas_rec.specs.declared.records.NasRecord.{NasRecord}
-use Rattle.nas_rec.specs.declared.records.NasRecord.TheVariants.{SecurityModeCommand, SecurityModeComplete, SecurityModeReject, ServiceRequest, NasData}
+use Rattle.nas_rec.specs.declared.records.NasRecord.TheVariants.{SecurityModeComplete, SecurityModeReject, ServiceRequest, NasData}
 use Rattle.s1x2_rec.specs.Content.{Content}
 use Rattle.s1x2_rec.specs.Fields.{Fields, PathSwitchRequest, HandoverRequired, HandoverRequestAck, HandoverNotify, HandoverCancel, kind_of}
 use Rattle.lte_machine.specs.CoreState.{Core, CorePartial, CoreContext, CoreLink, CoreInput, CoreAuth, CoreActs, CoreNasPdu, CoreRecord}
 use Rattle.lte_machine.specs.CoreRows.{CoreNasRow, NasRefused, PlainReject, SmcComplete, ServiceAsked, NasOpened, SealedReject, CoreRecordRow, RecordRefused, PathSwitched, HandoverAsked, HandoverOrdered, HandoverNotified, HandoverCancelled, CoreActRow, ActRefused, SmcStarted, ContextSetUp, ContextReleased, NasSent, NasSkipped, CoreRow, OfNas, OfRecord, OfAct, OfAuth}
+use Rattle.lte_machine.specs.Kinds.{nas_kind}
 use Rattle.lte_machine.specs.Opening.{Outcome, Opened, Differs}
 
 -- the core, and what it gets, with keys out of sight and chain numbers seen by their NCCs
@@ -50,21 +51,13 @@ pub data CoreFront : Type 0 where
 
 -- NAS messages (TS 24.301 4.4, 5.4.3 and 5.6.1)
 
--- the octet of a NAS text's kind
-abbrev pub nas_kind : NasRecord → ℕ
-nas_kind (SecurityModeCommand ksi algs caps) = 0x01
-nas_kind SecurityModeComplete = 0x02
-nas_kind (SecurityModeReject cause) = 0x03
-nas_kind ServiceRequest = 0x04
-nas_kind (NasData text) = 0x05
-
 -- whether the core takes a first octet: the protocol discriminator 7 below the security header type 0, 1, 2 or 4
 -- (TS 24.301 9.2 and 9.3.1)
 abbrev pub core_takes : ℕ → Bool
 core_takes octet =
     (octet % 16 == 7) && ((octet / 16 == 0) || ((octet / 16 == 1) || ((octet / 16 == 2) || (octet / 16 == 4))))
 
--- the security header type of a message: 0, 1, 2 or 4
+-- the security header type of a message: 0, 1, 2 or 4, in the first of its octets
 unfoldable pub core_header : List ℕ → Result ℕ Answer
 core_header pdu =
     if length pdu == 0 then Err Short
@@ -87,7 +80,8 @@ abbrev pub opens_complete : Result ℕ NoneLeft → CoreNasFront
 opens_complete (Err spent) = NasSettled (NasRefused CountSpent)
 opens_complete (Ok count) = OpensComplete count
 
--- a message of header type 4: the COUNTs of a new context start at 0 (TS 24.301 4.4.3.1)
+-- a message of header type 4: the COUNTs of a new context start at 0 (TS 24.301 4.4.3.1), so that its COUNT is the sequence
+-- number, and never spent
 abbrev pub complete_front : Option (Keys (Unit {0})) → List ℕ → CoreNasFront
 complete_front None pdu = NasSettled (NasRefused NoSmc)
 complete_front (Some keys) pdu = opens_complete (estimate_of 0 (sn_in pdu))
@@ -120,7 +114,7 @@ abbrev pub reject_row : Option (Keys (Unit {0})) → ℕ → CoreNasRow
 reject_row None count = NasRefused NoSmc
 reject_row (Some keys) count = SealedReject count
 
--- the text of a message of header type 1 or 2, which differ in ciphering alone
+-- the text of a message of header type 1 or 2, which differ in ciphering alone (TS 24.301 9.3.1)
 abbrev pub protected_row : Option (Keys (Unit {0})) → ℕ → Result NasRecord RecFault → CoreNasRow
 protected_row procedure count (Err fault) = NasRefused (BadRecord fault)
 protected_row procedure count (Ok ServiceRequest) = ServiceAsked count
@@ -128,7 +122,7 @@ protected_row procedure count (Ok (NasData text)) = NasOpened count text
 protected_row procedure count (Ok (SecurityModeReject cause)) = reject_row procedure count
 protected_row procedure count (Ok other) = NasRefused (WrongKind (nas_kind other))
 
--- a message as it opened
+-- a message as it opened, or with a MAC that differs (TS 24.301 4.4.4.3)
 abbrev pub core_nas_row : PlainCore → CoreNasFront → Outcome → CoreNasRow
 core_nas_row s (NasSettled row) outcome = row
 core_nas_row s (OpensComplete count) (Differs wanted got) = NasRefused (MacFails count wanted got)
@@ -146,15 +140,15 @@ station_at_cell cell sites = option_map (λ site. site.station) (find (is_site c
 abbrev pub caps_differ : Caps → Caps → Bool
 caps_differ a b = not ((a.eea == b.eea) && (a.eia == b.eia))
 
--- a Path Switch Request: this project's own rule takes each number of a station once. Capabilities that differ from
--- those of the latest authentication raise an alarm and change nothing else (TS 33.401 7.2.4.2.2)
+-- a Path Switch Request (TS 36.413 8.4.4). This project's own rule: a number of a station is taken once. Capabilities
+-- that differ from those of the latest authentication raise an alarm and change nothing else (TS 33.401 7.2.4.2.2)
 abbrev pub path_switch_row : PlainCore → ℕ → ℕ → ℕ → Caps → CoreRecordRow
 path_switch_row s conn station number caps =
     let seen = slice_index s.requests station in
     if nat_le number seen then RecordRefused (Repeated seen number)
     else PathSwitched conn station number (caps_differ caps s.latest)
 
--- the capabilities of the context in use, beside which a connection always stands
+-- the capabilities of the context in use; a connection never stands without one
 abbrev pub caps_in_use : Option (CoreContext (Unit {0})) → Caps
 caps_in_use None = record { eea = 0; eia = 0 }
 caps_in_use (Some context) = context.caps
@@ -163,7 +157,7 @@ abbrev pub asked_at : ℕ → ℕ → ℕ → Place → Caps → Option ℕ → 
 asked_at conn source attempt cell caps None = RecordRefused UnknownCell
 asked_at conn source attempt cell caps (Some target) = HandoverAsked conn source attempt cell target caps
 
--- a Handover Required: this project's own rule takes each attempt of a station once
+-- a Handover Required (TS 36.413 8.4.1). This project's own rule: an attempt of a station is taken once
 abbrev pub required_row : PlainCore → ℕ → ℕ → ℕ → Place → CoreRecordRow
 required_row s conn source attempt cell =
     let seen = slice_index s.attempts source in
@@ -174,12 +168,12 @@ abbrev pub cancelled_at : ℕ → ℕ → ℕ → Place → Option ℕ → CoreR
 cancelled_at conn source attempt cell None = RecordRefused UnknownCell
 cancelled_at conn source attempt cell (Some target) = HandoverCancelled conn source attempt cell target
 
--- a record of the connection; any other names an old one
+-- a record of the connection. This project's own rule: the number of a connection tells it from those before it
 abbrev pub of_link : Option (CoreLink (Unit {0}) ℕ) → ℕ → CoreRecordRow → CoreRecordRow
 of_link None conn row = RecordRefused (OldConnection 0 conn)
 of_link (Some link) conn row = if link.conn == conn then row else RecordRefused (OldConnection link.conn conn)
 
--- the kinds that go to the core
+-- the kinds that go to the core, each from a station (TS 36.413 9.1.5)
 abbrev pub core_fields_row : PlainCore → Fields → CoreRecordRow
 core_fields_row s (PathSwitchRequest conn station number cell caps) =
     of_link s.link conn (path_switch_row s conn station number caps)
@@ -210,7 +204,7 @@ start_smc_row priority None procedure = ActRefused NoContext
 start_smc_row priority (Some partial) (Some keys) = ActRefused SmcOpen
 start_smc_row priority (Some partial) None = smc_row partial (choice_of priority partial.caps)
 
--- the numbers of connections end at 2^32 - 1
+-- this project's own rule: connections are numbered, by a counter that ends at 2^32 - 1 and never goes back
 abbrev pub NUMBERS : ℕ
 NUMBERS = 4294967296
 
@@ -218,14 +212,15 @@ abbrev pub set_up_row : ℕ → Place → ℕ → Caps → ℕ → CoreActRow
 set_up_row next cell target caps count =
     if nat_le NUMBERS next then ActRefused NumberSpent else ContextSetUp next cell target caps count
 
--- a connection in a cell, for the COUNT of the trigger: this project's own rule lets each trigger serve for one
--- connection (TS 33.401 7.2.8.1.1)
+-- a connection in a cell, for the COUNT of the latest trigger (TS 33.401 7.2.6.2). This project's own rule: a trigger
+-- serves for one connection
 abbrev pub connect_row : ℕ → Place → Option ℕ → Option (CoreContext (Unit {0})) → Option ℕ → CoreActRow
 connect_row next cell None context trigger = ActRefused UnknownCell
 connect_row next cell (Some target) None trigger = ActRefused NoContext
 connect_row next cell (Some target) (Some context) None = ActRefused NoTrigger
 connect_row next cell (Some target) (Some context) (Some count) = set_up_row next cell target context.caps count
 
+-- TS 36.413 8.3.3
 abbrev pub release_row : Option (CoreLink (Unit {0}) ℕ) → CoreActRow
 release_row None = ActRefused NoUe
 release_row (Some link) = ContextReleased link.conn link.station
@@ -236,6 +231,7 @@ send_nas_row None text = ActRefused NoContext
 send_nas_row (Some context) text =
     if nat_le LIMIT context.nas.send then ActRefused CountSpent else NasSent context.nas.send text
 
+-- downlink messages that are lost, each with its COUNT
 abbrev pub skip_nas_row : Option (CoreContext (Unit {0})) → ℕ → CoreActRow
 skip_nas_row None n = ActRefused NoContext
 skip_nas_row (Some context) n = NasSkipped n

@@ -26,3 +26,4 @@ pub mod World
 pub mod Step
 pub mod Run
 pub mod Machines
+pub mod Ranges

@@ -2,7 +2,7 @@
 use Rattle.std.specs.Prelude.{ℕ, Bool, List, [], Option, Some, None}
 use Rattle.lte_events.specs.declared.addresses.Address.{Address}
 use Rattle.lte_events.specs.declared.events.Event.{Event}
-use Rattle.std.specs.List.{position}
+use Rattle.std.specs.List.{position_from}
 use Rattle.lte_machine.specs.Opening.{Opening, OpensNothing, Outcome, accepted_of}
 use Rattle.lte_machine.specs.Tuples.{Chance, Rows, tuple_chance}
 use Rattle.lte_machine.specs.Ladder.{Clash, ladder_of, add_rows}
@@ -63,7 +63,7 @@ attempted m w (Event.Phone act) = phone_attempts m w (PhoneActs act) None
 attempted m w (Event.Station id act) = station_attempts m w id (StationActs act) None
 attempted m w (Event.Core act) = core_attempts m w (CoreActs act) None
 attempted m w (Event.Deliver i) = delivery_attempts m w (chosen i w.sent)
-attempted m w (Event.Inject to octets) = injection_attempts m w to octets (position (is_sent m (class_of to) octets) w.sent)
+attempted m w (Event.Inject to octets) = injection_attempts m w to octets (position_from (is_sent m (class_of to) octets) 0 w.sent)
 
 -- whether the octets are accepted, by this opener of octets, and not as their sender sealed them
 abbrev pub opening_chance : {K C S : Type 0} → (Opening K → List ℕ → Outcome) → Machine K C S → Attempted K S → Option (Chance K)

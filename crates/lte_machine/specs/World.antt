@@ -1,7 +1,7 @@
 -- The network: all actors, every record ever sent, and what one event does. Any record may be delivered at any later time,
 -- again, or never; nothing orders the events.
 use Rattle.std.specs.Prelude.{ℕ, ◌+◌, ◌-◌, ◌==◌, ◌&&◌, nat_lt, Bool, true, false, cond, ℤ, pos, negsuc, List, [], ◌∷◌, ◌++◌, length, map, drop, filter, find, Option, Some, None, slice_get, Result, Ok, Err}
-use Rattle.std.specs.List.{position}
+use Rattle.std.specs.List.{position_from}
 use Rattle.std.specs.Str.{bytes_eq}
 use Rattle.alg_choice.specs.declared.caps.Caps.{Caps}
 use Rattle.rec_base.specs.declared.faults.RecFault.{RecFault}
@@ -258,4 +258,4 @@ happens m w (Event.Station id act) = station_turn m w id (StationActs act) None
 happens m w (Event.Core act) = core_turn m w (CoreActs act) None
 happens m w (Event.Deliver i) = delivered m w (chosen i w.sent)
 happens m w (Event.Inject to octets) =
-    injected m w to octets (position (is_sent m (class_of to) octets) w.sent)
+    injected m w to octets (position_from (is_sent m (class_of to) octets) 0 w.sent)

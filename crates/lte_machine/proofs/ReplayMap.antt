@@ -1,0 +1,211 @@
+-- A run in octets is the value of the run in terms: coincidences, lines and all.
+use Rattle.std.proofs.Common.{◌≡◌, ℕ, Bool, true, false, List, [], ◌∷◌, map, Option, Some, None, refl, ap, sym, ◌∙◌}
+use Rattle.std.specs.Prelude.{option_map, ◌&&◌, ◌==◌}
+use Rattle.std.specs.List.{position_from}
+use Rattle.lte_events.specs.declared.addresses.Address.{Address}
+use Rattle.lte_events.specs.declared.events.Event.{Event}
+use Rattle.key_model.specs.Use.{map_use}
+use Rattle.lte_machine.specs.Wire.{KeyUse, Outgoing}
+use Rattle.lte_machine.specs.Opening.{Opening, OpensNothing, OpensNas, OpensSrb, OpensDrb, map_opening, Outcome, Opened, Differs, accepted_of, same_dir, same_uses}
+use Rattle.lte_machine.specs.Ladder.{Clash, ladder_of, map_row}
+use Rattle.lte_machine.specs.Tuples.{Chance, Tuples, Rows, tuples_unless, same_sender, tuple_chance}
+use Rattle.lte_machine.specs.PhoneState.{PhoneInput, PhoneActs, PhoneNasPdu, PhoneAirPdu, map_phone_input}
+use Rattle.lte_machine.specs.PhoneStep.{phone_pdu_in}
+use Rattle.lte_machine.specs.StationState.{Station, StationInput, StationActs, AirPdu, StationRecord, OnS1, OnX2, map_station, map_station_input}
+use Rattle.lte_machine.specs.StationStep.{station_pdu_in}
+use Rattle.lte_machine.specs.CoreState.{CoreInput, CoreActs, CoreNasPdu, CoreRecord, map_core_input}
+use Rattle.lte_machine.specs.CoreStep.{core_pdu_in}
+use Rattle.lte_machine.specs.World.{Machine, World, Line, station_of_id, content_in, chosen, is_sent, class_of, happens}
+use Rattle.lte_machine.specs.Step.{Attempted, opens_none, attempted, phone_attempts, core_attempts, attempts_at, station_attempts, arrival_attempts, delivery_attempts, injection_attempts, opening_chance, Next, Goes, Ends, by_ladder, by_chance, next}
+use Rattle.lte_machine.specs.Run.{Ran, Still, Over, after, turn, replay, Said, Tells, Meets, said, says, tale}
+use Rattle.lte_machine.specs.Ranges.{AllOf, IsEvent}
+use Rattle.lte_machine.proofs.PhoneMap.{phone_opens-map}
+use Rattle.lte_machine.proofs.CoreMap.{core_opens_map}
+use Rattle.lte_machine.proofs.StationMap.{station_opens_map}
+use Rattle.lte_machine.proofs.LadderMap.{map_clash, ladder_of-map}
+use Rattle.lte_machine.proofs.WorldMap.{Agree, map_world, map_line, map_told, station_of_id-map, chosen-map, found-map, BackAt, BackIf, BackOf, happens-map}
+
+abbrev pub map_chance : {K L : Type 0} → (K → L) → Chance K → Chance L
+map_chance f (Tuples sender receiver) = Tuples (option_map (map_use f) sender) (map_use f receiver)
+map_chance f (Rows clash) = Rows (map_clash f clash)
+
+abbrev map_attempted : {K S L T : Type 0} → (K → L) → (S → T) → Attempted K S → Attempted L T
+map_attempted f z a = record { opening = map_opening f a.opening; octets = a.octets; came = option_map z a.came }
+
+module _ {K C S L D T : Type 0} (m : Machine K C S) (q : Machine L D T) (f : K → L) (g : C → D) (z : S → T) (a : Agree m q f g z)
+    (by_octets : Opening K → List ℕ → Outcome) (by_octets' : Opening L → List ℕ → Outcome) (opens : (p : Opening K) (pdu : List ℕ) → by_octets' (map_opening f p) pdu ≡ by_octets p pdu) where
+  abbrev pub map_next : Next K C S → Next L D T
+  map_next (Goes w line) = Goes (map_world f g z w) (map_line f line)
+  map_next (Ends chance) = Ends (map_chance f chance)
+
+  abbrev pub map_ran : Ran K C S → Ran L D T
+  map_ran (Still w) = Still (map_world f g z w)
+  map_ran (Over chance) = Over (map_chance f chance)
+
+  abbrev pub map_said : Said K → Said L
+  map_said (Tells line) = Tells (map_line f line)
+  map_said (Meets chance) = Meets (map_chance f chance)
+
+  accepted-map : (p : Opening K) (o : Outcome) → option_map (map_use f) (accepted_of p o) ≡ accepted_of (map_opening f p) o
+  accepted-map OpensNothing o = refl
+  accepted-map (OpensNas u e) (Opened text) = refl
+  accepted-map (OpensNas u e) (Differs wanted got) = refl
+  accepted-map (OpensSrb u e) (Opened text) = refl
+  accepted-map (OpensSrb u e) (Differs wanted got) = refl
+  accepted-map (OpensDrb e) o = refl
+
+  same_uses-map : (u v : KeyUse K) → same_uses m.reading.same u v ≡ same_uses q.reading.same (map_use f u) (map_use f v)
+  same_uses-map u v = ap (λ b. b && (u.count == v.count) && (u.bearer == v.bearer) && same_dir u.dir v.dir) (sym (a.carries.same u.key v.key))
+
+  same_sender-map : (o : Option (KeyUse K)) (u : KeyUse K) → same_sender m.reading.same o u ≡ same_sender q.reading.same (option_map (map_use f) o) (map_use f u)
+  same_sender-map None u = refl
+  same_sender-map (Some v) u = same_uses-map u v
+
+  tuples-map : (b : Bool) (o : Option (KeyUse K)) (u : KeyUse K) → option_map (map_chance f) (tuples_unless b o u) ≡ tuples_unless b (option_map (map_use f) o) (map_use f u)
+  tuples-map true o u = refl
+  tuples-map false o u = refl
+
+  tuple_chance-map : (o accepted : Option (KeyUse K)) → option_map (map_chance f) (tuple_chance m.reading.same o accepted) ≡ tuple_chance q.reading.same (option_map (map_use f) o) (option_map (map_use f) accepted)
+  tuple_chance-map o None = refl
+  tuple_chance-map o (Some u) = tuples-map (same_sender m.reading.same o u) o u ∙ ap (λ b. tuples_unless b (option_map (map_use f) o) (map_use f u)) (same_sender-map o u)
+
+  chance-map : (x : Attempted K S) → option_map (map_chance f) (opening_chance by_octets m x) ≡ opening_chance by_octets' q (map_attempted f z x)
+  chance-map x =
+      tuple_chance-map (m.sender x.came) (accepted_of x.opening (by_octets x.opening x.octets))
+      ∙ (λ j. tuple_chance q.reading.same (sym (a.sender x.came) j) ((accepted-map x.opening (by_octets x.opening x.octets) ∙ ap (accepted_of (map_opening f x.opening)) (sym (opens x.opening x.octets))) j))
+
+  phone_attempts-map : (w : World K C S) (i : PhoneInput K) (pdu : List ℕ) → phone_pdu_in i ≡ pdu → phone_pdu_in (map_phone_input f i) ≡ pdu → (o : Option S)
+      → map_attempted f z (phone_attempts m w i o) ≡ phone_attempts q (map_world f g z w) (map_phone_input f i) (option_map z o)
+  phone_attempts-map w i pdu e e' o = λ j. record {
+    opening = phone_opens-map m.reading q.reading f g a.carries w.phone i j; octets = (e ∙ sym e') j; came = option_map z o;
+  }
+
+  core_attempts-map : (w : World K C S) (i : CoreInput K C) (pdu : List ℕ) → core_pdu_in i ≡ pdu → core_pdu_in (map_core_input f g i) ≡ pdu → (o : Option S)
+      → map_attempted f z (core_attempts m w i o) ≡ core_attempts q (map_world f g z w) (map_core_input f g i) (option_map z o)
+  core_attempts-map w i pdu e e' o = λ j. record {
+    opening = core_opens_map m.reading q.reading f g a.carries w.core i j; octets = (e ∙ sym e') j; came = option_map z o;
+  }
+
+  attempts_at-map : (i : StationInput K C) (pdu : List ℕ) → station_pdu_in i ≡ pdu → station_pdu_in (map_station_input f g i) ≡ pdu → (o : Option S) (s : Option (Station K C))
+      → map_attempted f z (attempts_at m i o s) ≡ attempts_at q (map_station_input f g i) (option_map z o) (option_map (map_station f g) s)
+  attempts_at-map i pdu e e' o None = refl
+  attempts_at-map i pdu e e' o (Some s) = λ j. record {
+    opening = station_opens_map a.carries s i j; octets = (e ∙ sym e') j; came = option_map z o;
+  }
+
+  station_attempts-map : (w : World K C S) (id : ℕ) (i : StationInput K C) (pdu : List ℕ) → station_pdu_in i ≡ pdu → station_pdu_in (map_station_input f g i) ≡ pdu → (o : Option S)
+      → map_attempted f z (station_attempts m w id i o) ≡ station_attempts q (map_world f g z w) id (map_station_input f g i) (option_map z o)
+  station_attempts-map w id i pdu e e' o =
+      attempts_at-map i pdu e e' o (station_of_id id w.stations)
+      ∙ ap (attempts_at q (map_station_input f g i) (option_map z o)) (station_of_id-map m q f g z a id w.stations)
+
+  arrival-map : (w : World K C S) (to : Address) (pdu : List ℕ) (o : Option S) → BackAt m q f g z a to o → map_attempted f z (arrival_attempts m w to pdu o) ≡ arrival_attempts q (map_world f g z w) to pdu (option_map z o)
+  arrival-map w Address.PhoneNas pdu o back = phone_attempts-map w (PhoneNasPdu pdu) pdu refl refl o
+  arrival-map w (Address.Phone station air bearer) pdu o back = phone_attempts-map w (PhoneAirPdu station air bearer pdu) pdu refl refl o
+  arrival-map w Address.CoreNas pdu o back = core_attempts-map w (CoreNasPdu pdu) pdu refl refl o
+  arrival-map w Address.CoreS1 pdu o back =
+      core_attempts-map w (CoreRecord (content_in m o)) [] refl refl o ∙ ap (λ c. core_attempts q (map_world f g z w) (CoreRecord c) (option_map z o)) (sym back)
+  arrival-map w (Address.StationAir station air bearer) pdu o back = station_attempts-map w station (AirPdu air bearer pdu) pdu refl refl o
+  arrival-map w (Address.StationS1 station) pdu o back =
+      station_attempts-map w station (StationRecord OnS1 (content_in m o)) [] refl refl o
+      ∙ ap (λ c. station_attempts q (map_world f g z w) station (StationRecord OnS1 c) (option_map z o)) (sym back)
+  arrival-map w (Address.StationX2 station) pdu o back =
+      station_attempts-map w station (StationRecord OnX2 (content_in m o)) [] refl refl o
+      ∙ ap (λ c. station_attempts q (map_world f g z w) station (StationRecord OnX2 c) (option_map z o)) (sym back)
+
+  delivery-map : (w : World K C S) (o : Option S) → BackIf m q f g z a o → map_attempted f z (delivery_attempts m w o) ≡ delivery_attempts q (map_world f g z w) (option_map z o)
+  delivery-map w None back = refl
+  delivery-map w (Some x) back =
+      arrival-map w (m.address x) (m.octets x) (Some x) back
+      ∙ (λ j. arrival_attempts q (map_world f g z w) (sym (a.address x) j) (sym (a.octets x) j) (Some (z x)))
+
+  none_back : (to : Address) → BackAt m q f g z a to None
+  none_back Address.PhoneNas = tt
+  none_back (Address.Phone station air bearer) = tt
+  none_back Address.CoreNas = tt
+  none_back Address.CoreS1 = refl
+  none_back (Address.StationAir station air bearer) = tt
+  none_back (Address.StationS1 station) = refl
+  none_back (Address.StationX2 station) = refl
+
+  injection-map : (w : World K C S) (to : Address) (octets : List ℕ) (o : Option ℕ) → map_attempted f z (injection_attempts m w to octets o) ≡ injection_attempts q (map_world f g z w) to octets o
+  injection-map w to octets None = arrival-map w to octets None (none_back to)
+  injection-map w to octets (Some number) = refl
+
+  attempted-map : (w : World K C S) (e : Event) → BackOf m q f g z a w e → map_attempted f z (attempted m w e) ≡ attempted q (map_world f g z w) e
+  attempted-map w (Event.Auth ksi octets caps) back = refl
+  attempted-map w (Event.Phone act) back = phone_attempts-map w (PhoneActs act) [] refl refl None
+  attempted-map w (Event.Station id act) back = station_attempts-map w id (StationActs act) [] refl refl None
+  attempted-map w (Event.Core act) back = core_attempts-map w (CoreActs act) [] refl refl None
+  attempted-map w (Event.Deliver i) back = delivery-map w (chosen i w.sent) back ∙ ap (delivery_attempts q (map_world f g z w)) (chosen-map m q f g z a i w.sent)
+  attempted-map w (Event.Inject to octets) back =
+      injection-map w to octets (position_from (is_sent m (class_of to) octets) 0 w.sent)
+      ∙ ap (injection_attempts q (map_world f g z w) to octets) (found-map m q f g z a (class_of to) octets 0 w.sent)
+
+  ladder-map : (o : Option (Clash K)) (h : World K C S × Line K) → map_next (by_ladder o h) ≡ by_ladder (option_map (map_clash f) o) (map_told f g z h)
+  ladder-map None h = refl
+  ladder-map (Some clash) h = refl
+
+  by_chance-map : (o : Option (Chance K)) (h : World K C S × Line K) → map_next (by_chance m.reading.same o h) ≡ by_chance q.reading.same (option_map (map_chance f) o) (map_told f g z h)
+  by_chance-map (Some chance) h = refl
+  by_chance-map None h =
+      ladder-map (ladder_of m.reading.same h.0.history).clash h
+      ∙ ap (λ l. by_ladder l.clash (map_told f g z h)) (ladder_of-map m.reading.same q.reading.same f a.carries.same h.0.history)
+
+  -- what comes of an event is carried
+  pub next-map : (w : World K C S) (e : Event) → BackOf m q f g z a w e → map_next (next by_octets m w e) ≡ next by_octets' q (map_world f g z w) e
+  next-map w e back =
+      by_chance-map (opening_chance by_octets m (attempted m w e)) (happens m w e)
+      ∙ (λ j. by_chance q.reading.same
+          ((chance-map (attempted m w e) ∙ ap (opening_chance by_octets' q) (attempted-map w e back)) j)
+          (happens-map m q f g z a w e back j))
+
+  after-map : (n : Next K C S) → map_ran (after n) ≡ after (map_next n)
+  after-map (Goes w line) = refl
+  after-map (Ends chance) = refl
+
+  said-map : (n : Next K C S) → map_said (said n) ≡ said (map_next n)
+  said-map (Goes w line) = refl
+  said-map (Ends chance) = refl
+
+  -- a property of worlds that every event keeps, and by which what was sent reads back
+  pub record Keeps (I : World K C S → Type 0) : Type 0 where
+    pub keeps : (w : World K C S) (e : Event) → IsEvent e → I w → I (happens m w e).0
+    pub back : (w : World K C S) (e : Event) → IsEvent e → I w → BackOf m q f g z a w e
+
+  module _ (I : World K C S → Type 0) (k : Keeps I) where
+    abbrev pub Holds : Ran K C S → Type 0
+    Holds (Still w) = I w
+    Holds (Over chance) = Unit {0}
+
+    next_holds : (h : World K C S × Line K) (o : Option (Clash K)) → I h.0 → Holds (after (by_ladder o h))
+    next_holds h None i = i
+    next_holds h (Some clash) i = tt
+
+    chance_holds : (o : Option (Chance K)) (h : World K C S × Line K) → I h.0 → Holds (after (by_chance m.reading.same o h))
+    chance_holds None h i = next_holds h (ladder_of m.reading.same h.0.history).clash i
+    chance_holds (Some chance) h i = tt
+
+    pub turn_holds : (r : Ran K C S) (e : Event) → IsEvent e → Holds r → Holds (turn by_octets m r e)
+    turn_holds (Over chance) e is i = tt
+    turn_holds (Still w) e is i = chance_holds (opening_chance by_octets m (attempted m w e)) (happens m w e) (k.keeps w e is i)
+
+    turn-map : (r : Ran K C S) (e : Event) → IsEvent e → Holds r → map_ran (turn by_octets m r e) ≡ turn by_octets' q (map_ran r) e
+    turn-map (Over chance) e is i = refl
+    turn-map (Still w) e is i = after-map (next by_octets m w e) ∙ ap after (next-map w e (k.back w e is i))
+
+    pub replay-map : (r : Ran K C S) (es : List Event) → AllOf IsEvent es → Holds r → map_ran (replay by_octets m r es) ≡ replay by_octets' q (map_ran r) es
+    replay-map r [] are i = refl
+    replay-map r (e ∷ es) are i =
+        replay-map (turn by_octets m r e) es are.1 (turn_holds r e are.0 i)
+        ∙ ap (λ x. replay by_octets' q x es) (turn-map r e are.0 i)
+
+    says-map : (r : Ran K C S) (e : Event) → IsEvent e → Holds r → map_said (says by_octets m r e) ≡ says by_octets' q (map_ran r) e
+    says-map (Over chance) e is i = refl
+    says-map (Still w) e is i = said-map (next by_octets m w e) ∙ ap said (next-map w e (k.back w e is i))
+
+    pub tale-map : (r : Ran K C S) (es : List Event) → AllOf IsEvent es → Holds r → map map_said (tale by_octets m r es) ≡ tale by_octets' q (map_ran r) es
+    tale-map r [] are i = refl
+    tale-map r (e ∷ es) are i = λ j.
+        says-map r e are.0 i j
+        ∷ (tale-map (turn by_octets m r e) es are.1 (turn_holds r e are.0 i) ∙ ap (λ x. tale by_octets' q x es) (turn-map r e are.0 i)) j
