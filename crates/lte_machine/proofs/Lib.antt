@@ -14,3 +14,5 @@ pub mod WorldMap
 pub mod NextSame
 pub mod ReplayMap
 mod PhoneExamples
+pub mod CoreBeside
+mod CoreExamples

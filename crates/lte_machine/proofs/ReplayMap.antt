@@ -19,7 +19,7 @@ use Rattle.lte_machine.specs.World.{Machine, World, Line, station_of_id, content
 use Rattle.lte_machine.specs.Step.{Attempted, opens_none, attempted, phone_attempts, core_attempts, attempts_at, station_attempts, arrival_attempts, delivery_attempts, injection_attempts, opening_chance, Next, Goes, Ends, by_ladder, by_chance, next}
 use Rattle.lte_machine.specs.Run.{Ran, Still, Over, after, turn, replay, Said, Tells, Meets, said, says, tale}
 use Rattle.lte_machine.specs.Ranges.{AllOf, IsEvent}
-use Rattle.lte_machine.proofs.PhoneMap.{phone_opens-map}
+use Rattle.lte_machine.proofs.PhoneMap.{phone_opens_map}
 use Rattle.lte_machine.proofs.CoreMap.{core_opens_map}
 use Rattle.lte_machine.proofs.StationMap.{station_opens_map}
 use Rattle.lte_machine.proofs.LadderMap.{map_clash, ladder_of-map}
@@ -77,7 +77,7 @@ module _ {K C S L D T : Type 0} (m : Machine K C S) (q : Machine L D T) (f : K �
   phone_attempts-map : (w : World K C S) (i : PhoneInput K) (pdu : List ℕ) → phone_pdu_in i ≡ pdu → phone_pdu_in (map_phone_input f i) ≡ pdu → (o : Option S)
       → map_attempted f z (phone_attempts m w i o) ≡ phone_attempts q (map_world f g z w) (map_phone_input f i) (option_map z o)
   phone_attempts-map w i pdu e e' o = λ j. record {
-    opening = phone_opens-map m.reading q.reading f g a.carries w.phone i j; octets = (e ∙ sym e') j; came = option_map z o;
+    opening = phone_opens_map m.reading q.reading f g a.carries w.phone i j; octets = (e ∙ sym e') j; came = option_map z o;
   }
 
   core_attempts-map : (w : World K C S) (i : CoreInput K C) (pdu : List ℕ) → core_pdu_in i ≡ pdu → core_pdu_in (map_core_input f g i) ≡ pdu → (o : Option S)

@@ -27,7 +27,7 @@ use Rattle.lte_machine.specs.StationStep.{station_step, station_opens, station_p
 use Rattle.lte_machine.specs.CoreState.{Core, CoreInput, CoreAuth, CoreActs, CoreNasPdu, CoreRecord, map_core, map_core_input}
 use Rattle.lte_machine.specs.CoreStep.{core_step, core_opens, core_pdu_in}
 use Rattle.lte_machine.specs.World.{Machine, World, Line, Holder, AtPhone, AtCore, AtStation, Holding, with_one, uses_in, holds, kept, class_of, sent_line, line_of, phone_after, core_after, put_if, put_station, station_after, by_world, phone_turn, core_turn, station_of_id, turn_of, station_turn, authenticated, auth_unless, is_root_row, next_root, known_root, content_in, arrives, newest_if, chosen, delivered, told_in, same_class, is_sent, injected, happens}
-use Rattle.lte_machine.proofs.PhoneMap.{phone_opens-map, phone_step-map}
+use Rattle.lte_machine.proofs.PhoneMap.{phone_opens_map, phone_step_map}
 use Rattle.lte_machine.proofs.CoreMap.{core_opens_map, core_step_map}
 use Rattle.lte_machine.proofs.StationMap.{station_opens_map, station_step_map}
 use Rattle.lte_machine.proofs.LadderMap.{ladder_of-map, root_row-map, rows-map}
@@ -182,9 +182,9 @@ module _ {K C S L D T : Type 0} (m : Machine K C S) (q : Machine L D T) (f : K �
       → map_told f g z (phone_turn m w i o) ≡ phone_turn q (map_world f g z w) (map_phone_input f i) (option_map z o)
   phone_turn-map w i pdu e e' o =
       phone_after-map w (phone_step m.reading w.phone i (m.opener (phone_opens m.reading w.phone i) (phone_pdu_in i) o))
-      ∙ ap (phone_after q (map_world f g z w)) (phone_step-map m.reading q.reading f g a.carries w.phone i (m.opener (phone_opens m.reading w.phone i) (phone_pdu_in i) o))
+      ∙ ap (phone_after q (map_world f g z w)) (phone_step_map m.reading q.reading f g a.carries w.phone i (m.opener (phone_opens m.reading w.phone i) (phone_pdu_in i) o))
       ∙ ap (λ x. phone_after q (map_world f g z w) (phone_step q.reading (map_phone f g w.phone) (map_phone_input f i) x))
-        (opened-map (phone_opens m.reading w.phone i) (phone_opens q.reading (map_phone f g w.phone) (map_phone_input f i)) (phone_pdu_in i) o (phone_opens-map m.reading q.reading f g a.carries w.phone i)
+        (opened-map (phone_opens m.reading w.phone i) (phone_opens q.reading (map_phone f g w.phone) (map_phone_input f i)) (phone_pdu_in i) o (phone_opens_map m.reading q.reading f g a.carries w.phone i)
          ∙ ap (λ x. q.opener (phone_opens q.reading (map_phone f g w.phone) (map_phone_input f i)) x (option_map z o)) (e ∙ sym e'))
 
   core_turn-map : (w : World K C S) (i : CoreInput K C) (pdu : List ℕ) → core_pdu_in i ≡ pdu → core_pdu_in (map_core_input f g i) ≡ pdu → (o : Option S)
@@ -224,7 +224,7 @@ module _ {K C S L D T : Type 0} (m : Machine K C S) (q : Machine L D T) (f : K �
   authenticated-map w ksi root caps = λ j. (
     record (map_world f g z w) {
       events = w.events + 1;
-      phone = (phone_step-map m.reading q.reading f g a.carries w.phone (PhoneAuth ksi root) (Opened []) j).0;
+      phone = (phone_step_map m.reading q.reading f g a.carries w.phone (PhoneAuth ksi root) (Opened []) j).0;
       core = (core_step_map m.reading q.reading f g a.carries w.core (CoreAuth ksi root caps) (Opened []) j).0;
       history = map-append (map_row f) w.history (OfRoot root ∷ []) j;
       held = map-append (map_holding f) w.held (record { holder = AtPhone; key = root } ∷ record { holder = AtCore; key = root } ∷ []) j;
