@@ -3,10 +3,8 @@ use Rattle.std.proofs.Common.{◌≡◌, ℕ, ◌+◌, ◌==◌, Bool, true, fal
 use Rattle.std.specs.Prelude.{option_map, ◌&&◌}
 use Rattle.std.proofs.lemmas.List.{map-append}
 use Rattle.key_model.specs.Derivation.{Input, FromCount, FromSync, FromCell, FromAlg, Derivation, map_input, map_derivation}
+use Rattle.lte_machine.specs.Carried.{map_clash}
 use Rattle.lte_machine.specs.Ladder.{RowOrigin, OfRoot, Of, map_row, row_key, same_input, same_origin, Clash, Ladder, Hit, hit_if, hit_from, hit, stands_or_not, added_at, add_row, added_unless, add_next, add_rows, no_rows, ladder_of, root_place, root_if, root_row}
-
-abbrev pub map_clash : {K L : Type 0} → (K → L) → Clash K → Clash L
-map_clash f c = record { row = c.row; origin = map_row f c.origin }
 
 abbrev pub map_ladder : {K L : Type 0} → (K → L) → Ladder K → Ladder L
 map_ladder f l = record { rows = map (map_row f) l.rows; clash = option_map (map_clash f) l.clash }

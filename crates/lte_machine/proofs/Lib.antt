@@ -16,3 +16,4 @@ pub mod ReplayMap
 mod PhoneExamples
 pub mod CoreBeside
 mod CoreExamples
+pub mod InOctets

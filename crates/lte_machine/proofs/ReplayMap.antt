@@ -19,33 +19,22 @@ use Rattle.lte_machine.specs.World.{Machine, World, Line, station_of_id, content
 use Rattle.lte_machine.specs.Step.{Attempted, opens_none, attempted, phone_attempts, core_attempts, attempts_at, station_attempts, arrival_attempts, delivery_attempts, injection_attempts, opening_chance, Next, Goes, Ends, by_ladder, by_chance, next}
 use Rattle.lte_machine.specs.Run.{Ran, Still, Over, after, turn, replay, Said, Tells, Meets, said, says, tale}
 use Rattle.lte_machine.specs.Ranges.{AllOf, IsEvent}
+use Rattle.lte_machine.specs.Carried.{map_world, map_line, map_clash, map_chance, map_ran, map_said}
 use Rattle.lte_machine.proofs.PhoneMap.{phone_opens_map}
 use Rattle.lte_machine.proofs.CoreMap.{core_opens_map}
 use Rattle.lte_machine.proofs.StationMap.{station_opens_map}
-use Rattle.lte_machine.proofs.LadderMap.{map_clash, ladder_of-map}
-use Rattle.lte_machine.proofs.WorldMap.{Agree, map_world, map_line, map_told, station_of_id-map, chosen-map, found-map, BackAt, BackIf, BackOf, happens-map}
-
-abbrev pub map_chance : {K L : Type 0} → (K → L) → Chance K → Chance L
-map_chance f (Tuples sender receiver) = Tuples (option_map (map_use f) sender) (map_use f receiver)
-map_chance f (Rows clash) = Rows (map_clash f clash)
+use Rattle.lte_machine.proofs.LadderMap.{ladder_of-map}
+use Rattle.lte_machine.proofs.WorldMap.{Agree, map_told, station_of_id-map, chosen-map, found-map, BackAt, BackIf, BackOf, happens-map}
 
 abbrev map_attempted : {K S L T : Type 0} → (K → L) → (S → T) → Attempted K S → Attempted L T
 map_attempted f z a = record { opening = map_opening f a.opening; octets = a.octets; came = option_map z a.came }
 
+abbrev map_next : {K C S L D T : Type 0} → (K → L) → (C → D) → (S → T) → Next K C S → Next L D T
+map_next f g z (Goes w line) = Goes (map_world f g z w) (map_line f line)
+map_next f g z (Ends chance) = Ends (map_chance f chance)
+
 module _ {K C S L D T : Type 0} (m : Machine K C S) (q : Machine L D T) (f : K → L) (g : C → D) (z : S → T) (a : Agree m q f g z)
     (by_octets : Opening K → List ℕ → Outcome) (by_octets' : Opening L → List ℕ → Outcome) (opens : (p : Opening K) (pdu : List ℕ) → by_octets' (map_opening f p) pdu ≡ by_octets p pdu) where
-  abbrev pub map_next : Next K C S → Next L D T
-  map_next (Goes w line) = Goes (map_world f g z w) (map_line f line)
-  map_next (Ends chance) = Ends (map_chance f chance)
-
-  abbrev pub map_ran : Ran K C S → Ran L D T
-  map_ran (Still w) = Still (map_world f g z w)
-  map_ran (Over chance) = Over (map_chance f chance)
-
-  abbrev pub map_said : Said K → Said L
-  map_said (Tells line) = Tells (map_line f line)
-  map_said (Meets chance) = Meets (map_chance f chance)
-
   accepted-map : (p : Opening K) (o : Outcome) → option_map (map_use f) (accepted_of p o) ≡ accepted_of (map_opening f p) o
   accepted-map OpensNothing o = refl
   accepted-map (OpensNas u e) (Opened text) = refl
@@ -142,29 +131,29 @@ module _ {K C S L D T : Type 0} (m : Machine K C S) (q : Machine L D T) (f : K �
       injection-map w to octets (position_from (is_sent m (class_of to) octets) 0 w.sent)
       ∙ ap (injection_attempts q (map_world f g z w) to octets) (found-map m q f g z a (class_of to) octets 0 w.sent)
 
-  ladder-map : (o : Option (Clash K)) (h : World K C S × Line K) → map_next (by_ladder o h) ≡ by_ladder (option_map (map_clash f) o) (map_told f g z h)
+  ladder-map : (o : Option (Clash K)) (h : World K C S × Line K) → map_next f g z (by_ladder o h) ≡ by_ladder (option_map (map_clash f) o) (map_told f g z h)
   ladder-map None h = refl
   ladder-map (Some clash) h = refl
 
-  by_chance-map : (o : Option (Chance K)) (h : World K C S × Line K) → map_next (by_chance m.reading.same o h) ≡ by_chance q.reading.same (option_map (map_chance f) o) (map_told f g z h)
+  by_chance-map : (o : Option (Chance K)) (h : World K C S × Line K) → map_next f g z (by_chance m.reading.same o h) ≡ by_chance q.reading.same (option_map (map_chance f) o) (map_told f g z h)
   by_chance-map (Some chance) h = refl
   by_chance-map None h =
       ladder-map (ladder_of m.reading.same h.0.history).clash h
       ∙ ap (λ l. by_ladder l.clash (map_told f g z h)) (ladder_of-map m.reading.same q.reading.same f a.carries.same h.0.history)
 
   -- what comes of an event is carried
-  pub next-map : (w : World K C S) (e : Event) → BackOf m q f g z a w e → map_next (next by_octets m w e) ≡ next by_octets' q (map_world f g z w) e
+  pub next-map : (w : World K C S) (e : Event) → BackOf m q f g z a w e → map_next f g z (next by_octets m w e) ≡ next by_octets' q (map_world f g z w) e
   next-map w e back =
       by_chance-map (opening_chance by_octets m (attempted m w e)) (happens m w e)
       ∙ (λ j. by_chance q.reading.same
           ((chance-map (attempted m w e) ∙ ap (opening_chance by_octets' q) (attempted-map w e back)) j)
           (happens-map m q f g z a w e back j))
 
-  after-map : (n : Next K C S) → map_ran (after n) ≡ after (map_next n)
+  after-map : (n : Next K C S) → map_ran f g z (after n) ≡ after (map_next f g z n)
   after-map (Goes w line) = refl
   after-map (Ends chance) = refl
 
-  said-map : (n : Next K C S) → map_said (said n) ≡ said (map_next n)
+  said-map : (n : Next K C S) → map_said f (said n) ≡ said (map_next f g z n)
   said-map (Goes w line) = refl
   said-map (Ends chance) = refl
 
@@ -190,21 +179,21 @@ module _ {K C S L D T : Type 0} (m : Machine K C S) (q : Machine L D T) (f : K �
     turn_holds (Over chance) e is i = tt
     turn_holds (Still w) e is i = chance_holds (opening_chance by_octets m (attempted m w e)) (happens m w e) (k.keeps w e is i)
 
-    turn-map : (r : Ran K C S) (e : Event) → IsEvent e → Holds r → map_ran (turn by_octets m r e) ≡ turn by_octets' q (map_ran r) e
+    turn-map : (r : Ran K C S) (e : Event) → IsEvent e → Holds r → map_ran f g z (turn by_octets m r e) ≡ turn by_octets' q (map_ran f g z r) e
     turn-map (Over chance) e is i = refl
     turn-map (Still w) e is i = after-map (next by_octets m w e) ∙ ap after (next-map w e (k.back w e is i))
 
-    pub replay-map : (r : Ran K C S) (es : List Event) → AllOf IsEvent es → Holds r → map_ran (replay by_octets m r es) ≡ replay by_octets' q (map_ran r) es
+    pub replay-map : (r : Ran K C S) (es : List Event) → AllOf IsEvent es → Holds r → map_ran f g z (replay by_octets m r es) ≡ replay by_octets' q (map_ran f g z r) es
     replay-map r [] are i = refl
     replay-map r (e ∷ es) are i =
         replay-map (turn by_octets m r e) es are.1 (turn_holds r e are.0 i)
         ∙ ap (λ x. replay by_octets' q x es) (turn-map r e are.0 i)
 
-    says-map : (r : Ran K C S) (e : Event) → IsEvent e → Holds r → map_said (says by_octets m r e) ≡ says by_octets' q (map_ran r) e
+    says-map : (r : Ran K C S) (e : Event) → IsEvent e → Holds r → map_said f (says by_octets m r e) ≡ says by_octets' q (map_ran f g z r) e
     says-map (Over chance) e is i = refl
     says-map (Still w) e is i = said-map (next by_octets m w e) ∙ ap said (next-map w e (k.back w e is i))
 
-    pub tale-map : (r : Ran K C S) (es : List Event) → AllOf IsEvent es → Holds r → map map_said (tale by_octets m r es) ≡ tale by_octets' q (map_ran r) es
+    pub tale-map : (r : Ran K C S) (es : List Event) → AllOf IsEvent es → Holds r → map (map_said f) (tale by_octets m r es) ≡ tale by_octets' q (map_ran f g z r) es
     tale-map r [] are i = refl
     tale-map r (e ∷ es) are i = λ j.
         says-map r e are.0 i j

@@ -27,6 +27,7 @@ use Rattle.lte_machine.specs.StationStep.{station_step, station_opens, station_p
 use Rattle.lte_machine.specs.CoreState.{Core, CoreInput, CoreAuth, CoreActs, CoreNasPdu, CoreRecord, map_core, map_core_input}
 use Rattle.lte_machine.specs.CoreStep.{core_step, core_opens, core_pdu_in}
 use Rattle.lte_machine.specs.World.{Machine, World, Line, Holder, AtPhone, AtCore, AtStation, Holding, with_one, uses_in, holds, kept, class_of, sent_line, line_of, phone_after, core_after, put_if, put_station, station_after, by_world, phone_turn, core_turn, station_of_id, turn_of, station_turn, authenticated, auth_unless, is_root_row, next_root, known_root, content_in, arrives, newest_if, chosen, delivered, told_in, same_class, is_sent, injected, happens}
+use Rattle.lte_machine.specs.Carried.{map_holding, map_stations, map_world, map_line}
 use Rattle.lte_machine.proofs.PhoneMap.{phone_opens_map, phone_step_map}
 use Rattle.lte_machine.proofs.CoreMap.{core_opens_map, core_step_map}
 use Rattle.lte_machine.proofs.StationMap.{station_opens_map, station_step_map}
@@ -41,27 +42,6 @@ pub record Agree {K C S L D T : Type 0} (m : Machine K C S) (q : Machine L D T) 
   pub address : (x : S) → q.address (z x) ≡ m.address x
   pub sender : (o : Option S) → q.sender (option_map z o) ≡ option_map (map_use f) (m.sender o)
   pub opener : (p : Opening K) (pdu : List ℕ) (o : Option S) → q.opener (map_opening f p) pdu (option_map z o) ≡ m.opener p pdu o
-
-abbrev pub map_holding : {K L : Type 0} → (K → L) → Holding K → Holding L
-map_holding f h = record { holder = h.holder; key = f h.key }
-
-abbrev pub map_stations : {K C L D : Type 0} → (K → L) → (C → D) → List (Station K C) → List (Station L D)
-map_stations f g [] = []
-map_stations f g (s ∷ ss) = map_station f g s ∷ map_stations f g ss
-
--- a world in another reading
-abbrev pub map_world : {K C S L D T : Type 0} → (K → L) → (C → D) → (S → T) → World K C S → World L D T
-map_world f g z w = record {
-  events = w.events; phone = map_phone f g w.phone; core = map_core f g w.core; stations = map_stations f g w.stations;
-  sent = map z w.sent; uses = map (map_use f) w.uses; history = map (map_row f) w.history; held = map (map_holding f) w.held;
-  made = map (map_made f g) w.made; tried = map (map_tried f g) w.tried; took = map (map_took f g) w.took;
-}
-
-abbrev pub map_line : {K L : Type 0} → (K → L) → Line K → Line L
-map_line f l = record {
-  step = l.step; who = l.who; answer = l.answer; sent = l.sent; opened = l.opened; note = option_map (map_note f) l.note;
-  alarm = l.alarm;
-}
 
 abbrev pub map_told : {K C S L D T : Type 0} → (K → L) → (C → D) → (S → T) → World K C S × Line K → World L D T × Line L
 map_told f g z t = (map_world f g z t.0, map_line f t.1)

@@ -26,4 +26,5 @@ pub mod World
 pub mod Step
 pub mod Run
 pub mod Machines
+pub mod Carried
 pub mod Ranges

@@ -1,0 +1,119 @@
+-- The machine over terms and the machine in octets agree; so the run in octets is the value of the run in terms.
+use Rattle.std.proofs.Common.{◌≡◌, ℕ, List, [], ◌∷◌, map, Option, Some, None, refl, ap, sym, ◌∙◌}
+use Rattle.std.specs.Prelude.{option_map}
+use Rattle.lte_events.specs.declared.events.Event.{Event}
+use Rattle.rec_base.specs.declared.uses.Dir.{Dir}
+use Rattle.rec_base.specs.declared.uses.Dir.TheVariants.{Up, Down}
+use Rattle.key_model.specs.Chain.{ncc_of}
+use Rattle.key_model.specs.HandoverLines.{map_numbered}
+use Rattle.key_model.specs.HandoverTable.{NumberedKey}
+use Rattle.key_model.specs.Term.{Term, Root}
+use Rattle.key_model.specs.Use.{map_use}
+use Rattle.key_model.specs.Value.{value_of, same_value}
+use Rattle.key_model.proofs.ReadingFacts.{values_carry}
+use Rattle.lte_machine.specs.Wire.{KeyUse, Ciphering, map_ciphering, Outgoing, SealedNas, PlainNas, SealedRrc, UserPacket, Between, map_outgoing, address_of, integrity_of}
+use Rattle.lte_machine.specs.Ciphers.{Ciphers, AreCiphers, under_keys, ciphered_by, nas_octets, srb_octets, drb_octets, octets_of, written}
+use Rattle.lte_machine.specs.Opening.{Opening, OpensNothing, OpensNas, OpensSrb, OpensDrb, map_opening, Outcome, open_octets}
+use Rattle.lte_machine.specs.Carried.{run_value, told_value}
+use Rattle.lte_machine.specs.Machines.{Kept, kept_of, tuple_of, machine_in_octets, sender_of, opening_by_octets, written_machine, written_in_values, kept_in_values}
+use Rattle.lte_machine.specs.Ranges.{AllOf, IsEvent}
+use Rattle.lte_machine.specs.Run.{Ran, replay, Said, tale}
+use Rattle.lte_machine.specs.World.{Machine, World}
+use Rattle.lte_machine.proofs.AnnexB.{under_keys_ciphers, values_respect}
+use Rattle.lte_machine.proofs.NextSame.{replay_same, tale_same}
+use Rattle.lte_machine.proofs.ReplayMap.{Keeps, Holds, replay-map, tale-map}
+use Rattle.lte_machine.proofs.WorldMap.{Agree}
+
+module _ {K L : Type 0} (f : K → L) (c : Ciphers L) where
+  ciphered_by-map : (e : Option (Ciphering K)) (text : List ℕ) → ciphered_by c (option_map (map_ciphering f) e) text ≡ ciphered_by (under_keys f c) e text
+  ciphered_by-map None text = refl
+  ciphered_by-map (Some e) text = refl
+
+  nas_octets-map : (header : ℕ) (u : KeyUse K) (e : Option (Ciphering K)) (text : List ℕ) → nas_octets c header (map_use f u) (option_map (map_ciphering f) e) text ≡ nas_octets (under_keys f c) header u e text
+  unfolding nas_octets
+  nas_octets-map header u None text = refl
+  nas_octets-map header u (Some e) text = refl
+
+  srb_octets-map : (u : KeyUse K) (e : Option (Ciphering K)) (text : List ℕ) → srb_octets c (map_use f u) (option_map (map_ciphering f) e) text ≡ srb_octets (under_keys f c) u e text
+  unfolding srb_octets
+  srb_octets-map u None text = refl
+  srb_octets-map u (Some e) text = refl
+
+  drb_octets-map : (e : Ciphering K) (text : List ℕ) → drb_octets c (map_ciphering f e) text ≡ drb_octets (under_keys f c) e text
+  unfolding drb_octets
+  drb_octets-map e text = refl
+
+  pub open_octets-map : (p : Opening K) (pdu : List ℕ) → open_octets c (map_opening f p) pdu ≡ open_octets (under_keys f c) p pdu
+  unfolding open_octets
+  open_octets-map OpensNothing pdu = refl
+  open_octets-map (OpensNas u None) pdu = refl
+  open_octets-map (OpensNas u (Some e)) pdu = refl
+  open_octets-map (OpensSrb u None) pdu = refl
+  open_octets-map (OpensSrb u (Some e)) pdu = refl
+  open_octets-map (OpensDrb e) pdu = refl
+
+module _ (c : Ciphers (List ℕ)) where
+  -- the machine over terms that opens by octets, and the machine in octets
+  abbrev m : Machine Term ℕ (Outgoing Term ℕ)
+  m = opening_by_octets same_value (under_keys value_of c) written_in_values
+
+  abbrev q : Machine (List ℕ) ℕ Kept
+  q = machine_in_octets c
+
+  kept-map : (o : Option (Outgoing Term ℕ)) → option_map (kept_in_values c) (m.keep o) ≡ q.keep (option_map (map_outgoing value_of ncc_of) o)
+  kept-map None = refl
+  kept-map (Some x) = refl
+
+  octets-map : (x : Outgoing Term ℕ) → q.octets (kept_in_values c x) ≡ m.octets x
+  octets-map (SealedNas dir header u e text) = nas_octets-map value_of c header u e text
+  octets-map (PlainNas octets) = refl
+  octets-map (SealedRrc dir station air srb u e text) = srb_octets-map value_of c u e text
+  octets-map (UserPacket dir station air drb e text) = drb_octets-map value_of c e text
+  octets-map (Between to fields key) = refl
+
+  address-map : (x : Outgoing Term ℕ) → q.address (kept_in_values c x) ≡ m.address x
+  address-map (SealedNas dir header u e text) = refl
+  address-map (PlainNas octets) = refl
+  address-map (SealedRrc dir station air srb u e text) = refl
+  address-map (UserPacket dir station air drb e text) = refl
+  address-map (Between to fields key) = refl
+
+  sender-map : (o : Option (Outgoing Term ℕ)) → q.sender (option_map (kept_in_values c) o) ≡ option_map (map_use value_of) (m.sender o)
+  sender-map None = refl
+  sender-map (Some (SealedNas dir header u e text)) = refl
+  sender-map (Some (PlainNas octets)) = refl
+  sender-map (Some (SealedRrc dir station air srb u e text)) = refl
+  sender-map (Some (UserPacket dir station air drb e text)) = refl
+  sender-map (Some (Between to fields key)) = refl
+
+  pub agree : Agree m q value_of ncc_of (kept_in_values c)
+  agree = record {
+    carries = values_carry;
+    root = λ number octets. refl;
+    keep = kept-map;
+    octets = octets-map;
+    address = address-map;
+    sender = sender-map;
+    opener = λ p pdu o. open_octets-map value_of c p pdu;
+  }
+
+  abbrev pub KeepsBack : (World Term ℕ (Outgoing Term ℕ) → Type 0) → Type 0
+  KeepsBack I = Keeps m q value_of ncc_of (kept_in_values c) agree (open_octets (under_keys value_of c)) (open_octets c) (open_octets-map value_of c) I
+
+  module _ (good : AreCiphers c) (I : World Term ℕ (Outgoing Term ℕ) → Type 0) (k : KeepsBack I) where
+    abbrev Is : Ran Term ℕ (Outgoing Term ℕ) → Type 0
+    Is r = Holds m q value_of ncc_of (kept_in_values c) agree (open_octets (under_keys value_of c)) (open_octets c) (open_octets-map value_of c) I k r
+
+    -- the run in octets is the value of the run of the written machine
+    pub run_in_octets : (r : Ran Term ℕ (Outgoing Term ℕ)) (es : List Event) → AllOf IsEvent es → Is r
+        → replay (open_octets c) (machine_in_octets c) (run_value c r) es ≡ run_value c (replay (open_octets (under_keys value_of c)) (written_machine c) r es)
+    run_in_octets r es are i =
+        sym (replay-map m q value_of ncc_of (kept_in_values c) agree (open_octets (under_keys value_of c)) (open_octets c) (open_octets-map value_of c) I k r es are i)
+        ∙ ap (run_value c) (sym (replay_same same_value (under_keys value_of c) (under_keys_ciphers value_of c good) (values_respect c) written_in_values r es))
+
+    -- and what is told of its events is the value of what is told of the written machine's
+    pub tale_in_octets : (r : Ran Term ℕ (Outgoing Term ℕ)) (es : List Event) → AllOf IsEvent es → Is r
+        → tale (open_octets c) (machine_in_octets c) (run_value c r) es ≡ map told_value (tale (open_octets (under_keys value_of c)) (written_machine c) r es)
+    tale_in_octets r es are i =
+        sym (tale-map m q value_of ncc_of (kept_in_values c) agree (open_octets (under_keys value_of c)) (open_octets c) (open_octets-map value_of c) I k r es are i)
+        ∙ ap (map told_value) (sym (tale_same same_value (under_keys value_of c) (under_keys_ciphers value_of c good) (values_respect c) written_in_values r es))

@@ -1,0 +1,60 @@
+-- A world, a run and what is told of it, in another reading of keys, chain numbers and records that were sent.
+use Rattle.std.specs.Prelude.{ℕ, List, [], ◌∷◌, map, Option, option_map}
+use Rattle.key_model.specs.Chain.{ncc_of}
+use Rattle.key_model.specs.Term.{Term}
+use Rattle.key_model.specs.Use.{map_use}
+use Rattle.key_model.specs.Value.{value_of}
+use Rattle.lte_machine.specs.Wire.{Outgoing}
+use Rattle.lte_machine.specs.Ciphers.{Ciphers}
+use Rattle.lte_machine.specs.Reply.{map_note, map_made, map_tried, map_took}
+use Rattle.lte_machine.specs.Ladder.{Clash, map_row}
+use Rattle.lte_machine.specs.Tuples.{Chance, Tuples, Rows}
+use Rattle.lte_machine.specs.PhoneState.{map_phone}
+use Rattle.lte_machine.specs.StationState.{Station, map_station}
+use Rattle.lte_machine.specs.CoreState.{map_core}
+use Rattle.lte_machine.specs.World.{World, Line, Holding}
+use Rattle.lte_machine.specs.Run.{Ran, Still, Over, Said, Tells, Meets}
+use Rattle.lte_machine.specs.Machines.{Kept, kept_in_values}
+
+abbrev pub map_holding : {K L : Type 0} → (K → L) → Holding K → Holding L
+map_holding f h = record { holder = h.holder; key = f h.key }
+
+abbrev pub map_stations : {K C L D : Type 0} → (K → L) → (C → D) → List (Station K C) → List (Station L D)
+map_stations f g [] = []
+map_stations f g (s ∷ ss) = map_station f g s ∷ map_stations f g ss
+
+-- a world in another reading
+abbrev pub map_world : {K C S L D T : Type 0} → (K → L) → (C → D) → (S → T) → World K C S → World L D T
+map_world f g z w = record {
+  events = w.events; phone = map_phone f g w.phone; core = map_core f g w.core; stations = map_stations f g w.stations;
+  sent = map z w.sent; uses = map (map_use f) w.uses; history = map (map_row f) w.history; held = map (map_holding f) w.held;
+  made = map (map_made f g) w.made; tried = map (map_tried f g) w.tried; took = map (map_took f g) w.took;
+}
+
+abbrev pub map_line : {K L : Type 0} → (K → L) → Line K → Line L
+map_line f l = record {
+  step = l.step; who = l.who; answer = l.answer; sent = l.sent; opened = l.opened; note = option_map (map_note f) l.note;
+  alarm = l.alarm;
+}
+
+abbrev pub map_clash : {K L : Type 0} → (K → L) → Clash K → Clash L
+map_clash f c = record { row = c.row; origin = map_row f c.origin }
+
+abbrev pub map_chance : {K L : Type 0} → (K → L) → Chance K → Chance L
+map_chance f (Tuples sender receiver) = Tuples (option_map (map_use f) sender) (map_use f receiver)
+map_chance f (Rows clash) = Rows (map_clash f clash)
+
+abbrev pub map_ran : {K C S L D T : Type 0} → (K → L) → (C → D) → (S → T) → Ran K C S → Ran L D T
+map_ran f g z (Still w) = Still (map_world f g z w)
+map_ran f g z (Over chance) = Over (map_chance f chance)
+
+abbrev pub map_said : {K L : Type 0} → (K → L) → Said K → Said L
+map_said f (Tells line) = Tells (map_line f line)
+map_said f (Meets chance) = Meets (map_chance f chance)
+
+-- the value of a run over terms: keys by their octets, chain numbers by their NCCs, records by their octets, COUNTs kept
+abbrev pub run_value : Ciphers (List ℕ) → Ran Term ℕ (Outgoing Term ℕ) → Ran (List ℕ) ℕ Kept
+run_value c r = map_ran value_of ncc_of (kept_in_values c) r
+
+abbrev pub told_value : Said Term → Said (List ℕ)
+told_value s = map_said value_of s
