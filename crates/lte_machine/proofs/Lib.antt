@@ -9,3 +9,4 @@ pub mod StationPlain
 pub mod StationLists
 pub mod StationMap
 pub mod StationRefused
+pub mod StationRuns
