@@ -17,3 +17,4 @@ mod PhoneExamples
 pub mod CoreBeside
 mod CoreExamples
 pub mod InOctets
+pub mod StationRuns

@@ -1,5 +1,5 @@
 -- Lists of preparations under a change of the reading: a plain question has the same answer.
-use Rattle.std.specs.Prelude.{◌≡◌, ℕ, nat_le, Bool, true, false, not, cond, List, [], ◌∷◌, ◌++◌, Option, Some, None, option_map, find}
+use Rattle.std.specs.Prelude.{◌≡◌, ℕ, nat_le, Bool, true, false, not, cond, List, [], ◌∷◌, ◌++◌, Option, Some, option_map}
 use Rattle.std.proofs.Common.{refl, ap, ◌∙◌}
 use Rattle.ho_prep.specs.Prep.{Prep, map_prep, is_at, is_of, at_air, without, drop_below}
 use Rattle.lte_machine.specs.StationState.{map_preps}

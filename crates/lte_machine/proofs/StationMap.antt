@@ -1,5 +1,5 @@
 -- One step of a station, its keys read in another way, is the step of the station read so: opening and keys alike.
-use Rattle.std.specs.Prelude.{◌≡◌, ℕ, ◌+◌, List, [], ◌∷◌, ◌++◌, Option, Some, None, option_map, Result, Ok, Err}
+use Rattle.std.specs.Prelude.{◌≡◌, ℕ, List, Option, Some, None, option_map, Result, Ok, Err}
 use Rattle.std.proofs.Common.{refl, sym, ap, ◌∙◌}
 use Rattle.alg_choice.specs.declared.algs.Algs.{Algs}
 use Rattle.alg_choice.specs.declared.caps.Caps.{Caps}
@@ -10,33 +10,35 @@ use Rattle.key_model.specs.Reading.{Reading, Carries}
 use Rattle.key_model.specs.HandoverTable.{NumberedKey}
 use Rattle.key_model.specs.HandoverLines.{map_numbered, star_line}
 use Rattle.key_model.specs.Derivation.{Derivation, map_derivation, star_made}
-use Rattle.nh_chain.specs.Station.{StationKey, map_station_key, map_pair, restored_if, base_of, way_of, Opened, opened}
-use Rattle.s1x2_rec.specs.Content.{Content, map_content}
-use Rattle.ho_prep.specs.Prep.{Prep, map_prep, at_air, without, drop_below}
+use Rattle.nh_chain.specs.Station.{StationKey, map_station_key, map_pair, restored_if, Opened, opened}
+use Rattle.s1x2_rec.specs.Content.{Content}
+use Rattle.ho_prep.specs.Prep.{Prep, map_prep, at_air, drop_below}
 use Rattle.ho_prep.specs.declared.origins.By.{By}
 use Rattle.x2_handover.specs.declared.orders.Order.{Order}
 use Rattle.lte_machine.specs.Bearers.{Srb, Drb, Which}
-use Rattle.lte_machine.specs.Wire.{KeyUse, Outgoing, map_outgoing}
+use Rattle.lte_machine.specs.Wire.{map_outgoing}
 use Rattle.lte_machine.specs.Opening.{Opening, OpensNothing, OpensNas, OpensSrb, OpensDrb, Outcome, Opened as Came, Differs, map_opening, accepted_of}
 use Rattle.key_model.specs.Use.{map_use}
 use Rattle.lte_machine.specs.Reply.{Origin, finished}
-use Rattle.lte_machine.specs.StationState.{Station, Context, Attempt, OverX2, OverS1, Within, X2State, X2Open, X2Ready, X2Commanded, S1State, S1Open, S1Ready, S1Commanded, StationInput, StationActs, AirPdu, StationRecord, map_x2_state, map_attempt, map_context, map_preps, map_station, map_read, map_station_input}
+use Rattle.lte_machine.specs.StationState.{Station, Context, Attempt, OverX2, OverS1, Within, X2State, X2Open, X2Ready, X2Commanded, S1Open, S1Ready, S1Commanded, StationInput, StationActs, AirPdu, StationRecord, map_x2_state, map_attempt, map_context, map_station, map_read, map_station_input}
 use Rattle.lte_machine.specs.StationRows.{Wanted, RecordRow, RecordRefused, ContextGiven, ContextReleased, PairTaken, PreparedByS1, PreparedByX2, AckedByS1, AckedByX2, PreparationCancelled, SourceReleased, AirRow, AirRefused, SecurityStarted, RrcTaken, PacketTaken, CompletedByS1, CompletedWithin, CompletedByX2, ActRow, ActRefused, StartedByX2, StartedByS1, StartedWithin, Commands, CancelledByX2, CancelledByS1, CancelledWithin, AsksAgain, SendsPacket, SendsRrc, LeavesOut, StationRow, OfRecord, OfAir, OfAct}
 use Rattle.lte_machine.specs.StationChoice.{AirFront, AirSettled, OnStarting, OnSignalling, OnUser, OnPrepared, StationFront, Settled, FromAir, station_front, station_row}
 use Rattle.lte_machine.specs.StationKeys as keys
-use Rattle.lte_machine.specs.StationStep.{key_read, station_key, plain_station, station_front_of, station_opens, station_row_of, station_step, map_station_done}
+use Rattle.lte_machine.specs.StationStep.{key_read, station_key, station_front_of, station_opens, station_row_of, station_step, map_station_done}
 use Rattle.lte_machine.proofs.StationPlain.{station_plain, input_plain}
 use Rattle.lte_machine.proofs.StationLists.{at_air_map, without_map, drop_below_map, push_map}
 
 -- what a handover opens with, its keys read in another way
 abbrev map_opened : {K C L D : Type 0} → (K → L) → (C → D) → Opened K C → Opened L D
 map_opened f g o = record {
-  key = map_station_key f g o.key; star = map_numbered f g o.star; spent = map_pair f g o.spent; way = o.way;
+  key = map_station_key f g o.key;
+  star = map_numbered f g o.star;
+  spent = map_pair f g o.spent;
+  way = o.way;
   made = map_derivation f o.made;
 }
 
 module _ {K C L D : Type 0} {r : Reading K C} {q : Reading L D} {f : K → L} {g : C → D} (c : Carries r q f g) where
-
   -- OPENING
 
   starting_expects_map : (count : ℕ) (o : Option (Context K C)) →
@@ -442,5 +444,5 @@ module _ {K C L D : Type 0} {r : Reading K C} {q : Reading L D} {f : K → L} {g
       ≡ station_step q (map_station f g s) (map_station_input f g i) outcome
   station_step_map s i outcome = λ j. (
     (does_step_map s i outcome j).0,
-    finished (received_step_map i j) (accepted_step_map s i outcome j) (does_step_map s i outcome j).1
+    finished (received_step_map i j) (accepted_step_map s i outcome j) (does_step_map s i outcome j).1,
   )

@@ -1,5 +1,5 @@
 -- A station and its inputs look the same to the choice of a row in every reading.
-use Rattle.std.specs.Prelude.{◌≡◌, ℕ, List, [], ◌∷◌, Option, Some, None, option_map, Result, Ok, Err}
+use Rattle.std.specs.Prelude.{◌≡◌, List, [], ◌∷◌, Option, Some, None, option_map, Result, Ok, Err}
 use Rattle.std.proofs.Common.{refl, ap}
 use Rattle.key_model.specs.Reading.{Reading, Carries}
 use Rattle.key_model.specs.HandoverTable.{NumberedKey}
@@ -11,7 +11,6 @@ use Rattle.ho_prep.specs.Prep.{Prep, map_prep}
 use Rattle.x2_handover.specs.Attempt.{X2Start, map_x2_start}
 use Rattle.lte_machine.specs.Reply.{unseen}
 use Rattle.lte_machine.specs.StationState.{Context, Attempt, OverX2, OverS1, Within, X2State, X2Open, X2Ready, X2Commanded, Station, StationInput, StationActs, AirPdu, StationRecord, map_x2_state, map_attempt, map_context, map_preps, map_station, map_read, map_station_input}
-use Rattle.lte_machine.specs.StationChoice.{PlainStation}
 use Rattle.lte_machine.specs.StationStep.{plain_station}
 
 module _ {K C L D : Type 0} {r : Reading K C} {q : Reading L D} {f : K → L} {g : C → D} (c : Carries r q f g) where

@@ -7,7 +7,6 @@ use Rattle.alg_choice.specs.declared.choices.NoAlgorithm.{NoAlgorithm as Unmatch
 use Rattle.alg_choice.specs.Choice.{choice_of}
 use Rattle.annex_a_keys.specs.Cell.{Place}
 use Rattle.rec_base.specs.declared.faults.RecFault.{RecFault}
-use Rattle.lte_events.specs.declared.answers.Answer.{Answer}
 use Rattle.lte_events.specs.declared.answers.Answer.TheVariants.{Done, MacFails, CountSpent, NoAlgorithm, BadRecord, WrongKind, NotAddressed, NoUe, Stale, OldConnection, NotActive, UnknownCell, NoPathSwitch, AttemptOpen, NoAttempt, CommandSent, Repeated, PrepFull, NotReady, NumberSpent}
 use Rattle.lte_events.specs.declared.acts.StationAct.{StationAct}
 use Rattle.lte_events.specs.declared.acts.StationAct.TheVariants.{Start, Command, Cancel, Ask, SendUser, SendRrc, Skip}
@@ -27,7 +26,7 @@ use Rattle.ho_prep.specs.Prep.{Prep, at_air, has_attempt, most}
 use Rattle.x2_handover.specs.declared.orders.Order.{Order}
 use Rattle.x2_handover.specs.Attempt.{x2_order}
 use Rattle.s1_handover.specs.Attempt.{s1_order}
-use Rattle.lte_machine.specs.Bearers.{Srb, Signalling1, Signalling2, Drb, Which, OnSrb, OnDrb, which, Bearers, srb_counts, drb_counts, is_spent}
+use Rattle.lte_machine.specs.Bearers.{Srb, Signalling1, Drb, Which, OnSrb, OnDrb, which, Bearers, srb_counts, drb_counts, is_spent}
 use Rattle.lte_machine.specs.Opening.{Outcome, Opened, Differs}
 use Rattle.lte_machine.specs.Refusals.{of_pdcp}
 use Rattle.lte_machine.specs.Kinds.{rrc_kind}
@@ -80,13 +79,14 @@ attempt_number (Within state) = x2_number state
 
 -- RECORDS
 
--- Initial Context Setup Request (TS 36.413 8.3.1; 33.401 7.2.4.2.1 for the algorithms). This project's own rule: each
--- connection has a number, and one that is not above the last is old
+-- the algorithms are chosen, and an air address is drawn (TS 33.401 7.2.4.2.1)
 abbrev pub initial_chosen : PlainStation → ℕ → Place → Caps → Result Algs Unmatched → RecordRow
 initial_chosen s conn cell caps (Err none) = RecordRefused NoAlgorithm
 initial_chosen s conn cell caps (Ok algs) =
     if runs_out 1 s.next then RecordRefused NumberSpent else ContextGiven conn cell caps algs s.next
 
+-- Initial Context Setup Request (TS 36.413 8.3.1). This project's own rule: connections are numbered, and one that is not
+-- above the last is old
 abbrev pub initial_row : PlainStation → ℕ → Place → Caps → RecordRow
 initial_row s conn cell caps =
     if nat_le conn s.last then RecordRefused (OldConnection s.last conn)
@@ -109,23 +109,29 @@ abbrev pub answer_row : ℕ → Option PlainContext → RecordRow
 answer_row number None = RecordRefused NoUe
 answer_row number (Some c) = answer_row_by number c.outstanding (PairTaken c.conn c.origin)
 
--- Handover Request on S1 or X2 (TS 36.413 8.4.2, TS 36.423 8.2.1). This project's own rules: requests of an older
--- connection, and attempts of a source that are not above its greatest, are not taken; there are at most eight
--- preparations. The row is that of the interface
+-- the algorithms are chosen, and an air address is drawn (TS 33.401 7.2.4.2.2 and 7.2.4.2.3); the row is that of the
+-- interface
 abbrev pub wanted_chosen : PlainStation → ℕ → Origin → Place → Caps → (Wanted → RecordRow) → Result Algs Unmatched → RecordRow
 wanted_chosen s conn from cell caps row (Err none) = RecordRefused NoAlgorithm
 wanted_chosen s conn from cell caps row (Ok algs) =
     if runs_out 1 s.next then RecordRefused NumberSpent
     else row (record { conn = conn; from = from; cell = cell; caps = caps; algs = algs; air = s.next })
 
+-- as many preparations stand as may
 abbrev pub is_full : PlainStation → Bool
 is_full s = nat_le most (length s.preps)
 
+-- the greatest attempt seen of a source
+abbrev pub greatest : PlainStation → ℕ → ℕ
+greatest s source = slice_index s.seen source
+
+-- Handover Request on S1 or X2 (TS 36.413 8.4.2, TS 36.423 8.2.1). This project's own rules: the connection is not below
+-- the last, the attempt is above the greatest seen of its source, and at most eight preparations stand
 abbrev pub wanted_row : PlainStation → ℕ → Origin → Place → Caps → (Wanted → RecordRow) → RecordRow
 wanted_row s conn from cell caps row =
     if nat_lt conn s.last then RecordRefused (OldConnection s.last conn)
     else (if not (is_own s cell) then RecordRefused UnknownCell
-    else (if nat_le from.attempt (slice_index s.seen from.source) then RecordRefused (Repeated (slice_index s.seen from.source) from.attempt)
+    else (if nat_le from.attempt (greatest s from.source) then RecordRefused (Repeated (greatest s from.source) from.attempt)
     else (if (conn == s.last) && is_full s then RecordRefused PrepFull
     else wanted_chosen s conn from cell caps row (choice_of s.priority caps))))
 
@@ -158,12 +164,13 @@ abbrev pub x2_ack_row : ℕ → Algs → ℕ → Option PlainContext → RecordR
 x2_ack_row number algs air None = RecordRefused NoUe
 x2_ack_row number algs air (Some c) = x2_acked_row number (AckedByX2 algs air) c.attempt
 
--- Handover Cancel (TS 36.413 8.4.5, TS 36.423 8.2.3)
+-- Handover Cancel (TS 36.423 8.2.4). This project's own rule: on S1 the core passes it on, with this name, and the target
+-- is released by it (in TS 36.413 8.4.5 by a UE Context Release)
 abbrev pub cancel_row : PlainStation → Origin → RecordRow
 cancel_row s from =
     if has_attempt from.source from.attempt s.preps then PreparationCancelled from else RecordRefused NoAttempt
 
--- UE Context Release on X2 (TS 36.423 8.2.2). This project's own rule: only after the command was sent
+-- UE Context Release on X2 (TS 36.423 8.2.3). This project's own rule: only after the command was sent
 abbrev pub x2_released_row : ℕ → Option PlainAttempt → RecordRow
 x2_released_row number (Some (OverX2 (X2Commanded sent))) =
     if sent.number == number then SourceReleased else RecordRefused NoAttempt
@@ -326,7 +333,7 @@ start_row s kind cell None = ActRefused NoUe
 start_row s kind cell (Some c) =
     active_row c.starting (target_row s c.attempt cell kind (station_of cell s.cells))
 
--- the command, for the first time or again (TS 36.331 5.3.5.3)
+-- the command (TS 36.331 5.3.5.4). This project's own rule: it may be sent again
 abbrev pub ordered_row : Order → Counts → ActRow
 ordered_row order counts = unless_spent counts (Commands order counts.send)
 
@@ -350,7 +357,7 @@ abbrev pub command_row : Option PlainContext → ActRow
 command_row None = ActRefused NoUe
 command_row (Some c) = attempt_command_row c.attempt c.bearers.srb1
 
--- giving an attempt up (TS 36.413 8.4.5, TS 36.423 8.2.3). This project's own rule: until its command was sent
+-- giving an attempt up (TS 36.413 8.4.5, TS 36.423 8.2.4). This project's own rule: until its command was sent
 abbrev pub x2_cancel_row : ℕ → X2State (Unit {0}) ℕ → ActRow
 x2_cancel_row conn (X2Open start) = CancelledByX2 conn start.number start.station
 x2_cancel_row conn (X2Ready acked) = CancelledByX2 conn acked.start.number acked.start.station

@@ -1,6 +1,6 @@
 -- What a station does in each row, with its keys: every key is a derivation of a key that it holds or that a record gave
 -- it, or is such a key moved (TS 33.401 7.2.8.4 and Annex A).
-use Rattle.std.specs.Prelude.{ℕ, ◌+◌, Bool, true, false, List, [], ◌∷◌, ◌++◌, slice_set, Option, Some, None, option_map}
+use Rattle.std.specs.Prelude.{ℕ, ◌+◌, true, false, List, [], ◌∷◌, ◌++◌, slice_set, Option, Some, None, option_map}
 use Rattle.alg_choice.specs.declared.algs.Algs.{Algs}
 use Rattle.alg_choice.specs.declared.caps.Caps.{Caps}
 use Rattle.annex_a_keys.specs.Cell.{Place}
@@ -70,7 +70,7 @@ station_expects (FromAir front) s = air_expects front s
 
 -- SENDING (TS 36.323 5.6 and 5.7)
 
--- the Security Mode Command of a new context: COUNT 0 on SRB1, not ciphered (TS 36.331 5.3.4.1)
+-- the Security Mode Command of a new context: COUNT 0 on SRB1, not ciphered (TS 36.331 5.3.4.2)
 abbrev pub security_command : {K C : Type 0} → ℕ → ℕ → AsKeys K → Outgoing K C
 security_command id air keys =
     SealedRrc Down id air Signalling1 (srb_use Down keys.rrc_int Signalling1 0) None
@@ -105,33 +105,48 @@ note_of r way key = record { ncc = r.ncc key.number; way = way; key = key.key }
 -- a context by Initial Context Setup: KeNB of the first number (TS 33.401 7.2.8.1.1), its AS keys (A.7)
 abbrev pub initial_context : {K C : Type 0} → Reading K C → ℕ → Place → Caps → Algs → ℕ → K → Context K C
 initial_context r conn cell caps algs air kenb = record {
-  conn = conn; cell = cell; air = air; key = initial_key r kenb; algs = algs; keys = as_keys_of r kenb algs; caps = caps;
-  starting = true; bearers = srb_sent Signalling1 new_bearers; attempt = None; outstanding = None; origin = None;
+  conn = conn;
+  cell = cell;
+  air = air;
+  key = initial_key r kenb;
+  algs = algs;
+  keys = as_keys_of r kenb algs;
+  caps = caps;
+  starting = true;
+  bearers = srb_sent Signalling1 new_bearers;
+  attempt = None;
+  outstanding = None;
+  origin = None;
 }
 
 abbrev pub context_given : {K C : Type 0} →
     Reading K C → ℕ → Place → Caps → Algs → ℕ → Option (NumberedKey K C) → Station K C → Station K C × Reply K C
 context_given r conn cell caps algs air None s = (s, only Done)
 context_given r conn cell caps algs air (Some received) s =
-    let kenb = received.key in
-    (
+    let kenb = received.key in (
       record s { next = air + 1; last = conn; context = Some (initial_context r conn cell caps algs air kenb); preps = [] },
       record (only Done) {
         sent = Some (security_command s.id air (as_keys_of r kenb algs));
         derived = as_derivations r kenb algs;
         note = Some (note_of r Given (record { key = kenb; number = r.first }));
         made = Some (record {
-          station = s.id; air = air; conn = conn; cell = cell; key = kenb; number = r.first; algs = algs;
+          station = s.id;
+          air = air;
+          conn = conn;
+          cell = cell;
+          key = kenb;
+          number = r.first;
+          algs = algs;
           from_attempt = None;
         });
-      }
+      },
     )
 
 -- the pair of a path switch answer replaces any other, and no answer is outstanding (TS 33.401 7.2.8.4.2)
 abbrev pub with_pair : {K C : Type 0} → NumberedKey K C → Context K C → Context K C
 with_pair pair c = record c { key = stored c.key pair; outstanding = None }
 
--- this project's own rule: with the answer the X2 source is told to release its context (TS 36.423 8.2.2)
+-- this project's own rule: with the answer the X2 source is told to release its context (TS 36.423 8.2.3)
 abbrev pub source_release : {K C : Type 0} → ℕ → Option Origin → Option (Outgoing K C)
 source_release conn None = None
 source_release conn (Some o) = Some (to_station o.source (X2Release conn o.attempt))
@@ -145,20 +160,36 @@ pair_taken conn origin (Some pair) s =
 -- a preparation with a KeNB* and its AS keys (TS 33.401 7.2.8.4.2, 7.2.8.4.3, A.7)
 abbrev pub wanted_prep : {K C : Type 0} → Reading K C → Wanted → By → NumberedKey K C → Prep K C
 wanted_prep r w by star = record {
-  conn = w.conn; source = w.from.source; attempt = w.from.attempt; by = by; cell = w.cell; air = w.air;
-  key = given_key star; algs = w.algs; keys = as_keys_of r star.key w.algs; caps = w.caps;
+  conn = w.conn;
+  source = w.from.source;
+  attempt = w.from.attempt;
+  by = by;
+  cell = w.cell;
+  air = w.air;
+  key = given_key star;
+  algs = w.algs;
+  keys = as_keys_of r star.key w.algs;
+  caps = w.caps;
 }
 
 -- with it preparations of older connections are dropped
 abbrev pub with_wanted : {K C : Type 0} → Wanted → Prep K C → Station K C → Station K C
 with_wanted w prep s = record s {
-  next = w.air + 1; last = w.conn; seen = slice_set s.seen w.from.source w.from.attempt;
+  next = w.air + 1;
+  last = w.conn;
+  seen = slice_set s.seen w.from.source w.from.attempt;
   preps = drop_below w.conn s.preps ++ prep ∷ [];
 }
 
 abbrev pub wanted_made : {K C : Type 0} → ℕ → Wanted → NumberedKey K C → Made K C
 wanted_made id w star = record {
-  station = id; air = w.air; conn = w.conn; cell = w.cell; key = star.key; number = star.number; algs = w.algs;
+  station = id;
+  air = w.air;
+  conn = w.conn;
+  cell = w.cell;
+  key = star.key;
+  number = star.number;
+  algs = w.algs;
   from_attempt = Some w.from;
 }
 
@@ -172,7 +203,7 @@ prepared_by_s1_with r w made star s = (
     derived = made ∷ as_derivations r star.key w.algs;
     note = Some (note_of r Vertical star);
     made = Some (wanted_made s.id w star);
-  }
+  },
 )
 
 abbrev pub prepared_by_s1 : {K C : Type 0} →
@@ -192,7 +223,7 @@ prepared_by_x2 r w (Some star) s = (
     derived = as_derivations r star.key w.algs;
     note = Some (note_of r Given star);
     made = Some (wanted_made s.id w star);
-  }
+  },
 )
 
 -- an open attempt is acknowledged
@@ -240,23 +271,35 @@ with_packet_taken drb count c = record c { bearers = drb_taken drb count c.beare
 -- a preparation becomes the context: its key is the KeNB now, and all COUNTs start at 0 (TS 33.401 7.2.8.4, TS 36.323 5.2)
 abbrev pub arrived : {K C : Type 0} → ℕ → Option ℕ → Option Origin → Prep K C → Context K C
 arrived count outstanding origin p = record {
-  conn = p.conn; cell = p.cell; air = p.air; key = p.key; algs = p.algs; keys = p.keys; caps = p.caps; starting = false;
-  bearers = srb_taken Signalling1 count new_bearers; attempt = None; outstanding = outstanding; origin = origin;
+  conn = p.conn;
+  cell = p.cell;
+  air = p.air;
+  key = p.key;
+  algs = p.algs;
+  keys = p.keys;
+  caps = p.caps;
+  starting = false;
+  bearers = srb_taken Signalling1 count new_bearers;
+  attempt = None;
+  outstanding = outstanding;
+  origin = origin;
 }
 
 -- what is told of it, and what is sent
 abbrev pub arrival : {K C : Type 0} → Reading K C → Option (Outgoing K C) → StationKey K C → Reply K C
 arrival r sent key = record (only Done) {
-  sent = sent; note = Some (note_of r Completed (record { key = key.kenb; number = key.number }));
+  sent = sent;
+  note = Some (note_of r Completed (record { key = key.kenb; number = key.number }));
 }
 
--- the old context and all other preparations are dropped
+-- this project's own rule: the old context and all other preparations are dropped. After S1 the core is notified
+-- (TS 36.413 8.4.3), after a handover within the station nobody (TS 33.401 7.2.8.4.1)
 abbrev pub completed_by_s1 : {K C : Type 0} →
     Reading K C → ℕ → Option (Prep K C) → Station K C → Station K C × Reply K C
 completed_by_s1 r count None s = (s, only Done)
 completed_by_s1 r count (Some p) s = (
   record s { context = Some (arrived count None None p); preps = [] },
-  arrival r (Some (to_core (HandoverNotify p.conn s.id p.cell))) p.key
+  arrival r (Some (to_core (HandoverNotify p.conn s.id p.cell))) p.key,
 )
 
 abbrev pub completed_within : {K C : Type 0} →
@@ -275,7 +318,7 @@ completed_by_x2 r count number (Some p) s = (
     context = Some (arrived count (Some number) (Some (record { source = p.source; attempt = p.attempt })) p);
     preps = [];
   },
-  arrival r (Some (to_core (PathSwitchRequest p.conn s.id number p.cell p.caps))) p.key
+  arrival r (Some (to_core (PathSwitchRequest p.conn s.id number p.cell p.caps))) p.key,
 )
 
 abbrev pub air_does : {K C : Type 0} → Reading K C → AirRow → Station K C → Station K C × Reply K C
@@ -309,10 +352,16 @@ started_by_x2_with r number target cell c o s = (
     derived = o.made ∷ [];
     note = Some (note_of r o.way o.star);
     tried = Some (record {
-      station = s.id; attempt = number; target = target; conn = c.conn; cell = cell; key = c.key.kenb;
-      number = c.key.number; given = Some o.star;
+      station = s.id;
+      attempt = number;
+      target = target;
+      conn = c.conn;
+      cell = cell;
+      key = c.key.kenb;
+      number = c.key.number;
+      given = Some o.star;
     });
-  }
+  },
 )
 
 abbrev pub started_by_x2 : {K C : Type 0} →
@@ -334,17 +383,32 @@ started_by_s1 number target cell (Some c) s = (
   record (only Done) {
     sent = Some (to_core (HandoverRequired c.conn s.id number cell));
     tried = Some (record {
-      station = s.id; attempt = number; target = target; conn = c.conn; cell = cell; key = c.key.kenb;
-      number = c.key.number; given = None;
+      station = s.id;
+      attempt = number;
+      target = target;
+      conn = c.conn;
+      cell = cell;
+      key = c.key.kenb;
+      number = c.key.number;
+      given = None;
     });
-  }
+  },
 )
 
--- within the station: the preparation is added, and the attempt is ready at once (TS 33.401 7.2.8.4.1)
+-- within the station the preparation is added, and the attempt is ready at once; the algorithms stay (TS 33.401 7.2.8.4.1,
+-- 7.2.4.2.4)
 abbrev pub own_prep : {K C : Type 0} → Reading K C → ℕ → ℕ → ℕ → Place → Context K C → NumberedKey K C → Prep K C
 own_prep r id number air cell c star = record {
-  conn = c.conn; source = id; attempt = number; by = By.Intra (option_map (λ o. (o.source, o.attempt)) c.origin);
-  cell = cell; air = air; key = given_key star; algs = c.algs; keys = as_keys_of r star.key c.algs; caps = c.caps;
+  conn = c.conn;
+  source = id;
+  attempt = number;
+  by = By.Intra (option_map (λ o. (o.source, o.attempt)) c.origin);
+  cell = cell;
+  air = air;
+  key = given_key star;
+  algs = c.algs;
+  keys = as_keys_of r star.key c.algs;
+  caps = c.caps;
 }
 
 abbrev pub started_within_with : {K C : Type 0} →
@@ -362,14 +426,26 @@ started_within_with r number air cell c o s = (
     derived = o.made ∷ as_derivations r o.star.key c.algs;
     note = Some (note_of r o.way o.star);
     made = Some (record {
-      station = s.id; air = air; conn = c.conn; cell = cell; key = o.star.key; number = o.star.number; algs = c.algs;
+      station = s.id;
+      air = air;
+      conn = c.conn;
+      cell = cell;
+      key = o.star.key;
+      number = o.star.number;
+      algs = c.algs;
       from_attempt = Some (record { source = s.id; attempt = number });
     });
     tried = Some (record {
-      station = s.id; attempt = number; target = s.id; conn = c.conn; cell = cell; key = c.key.kenb;
-      number = c.key.number; given = Some o.star;
+      station = s.id;
+      attempt = number;
+      target = s.id;
+      conn = c.conn;
+      cell = cell;
+      key = c.key.kenb;
+      number = c.key.number;
+      given = Some o.star;
     });
-  }
+  },
 )
 
 abbrev pub started_within : {K C : Type 0} →
@@ -380,13 +456,19 @@ started_within r number air cell (Some c) s = started_within_with r number air c
 -- a ready attempt is commanded; a commanded one stays so
 abbrev pub x2_commanded : {K C : Type 0} → Order → X2State K C → X2State K C
 x2_commanded order (X2Ready acked) = X2Commanded (record {
-  number = acked.start.number; station = acked.start.station; cell = acked.start.cell; order = order;
+  number = acked.start.number;
+  station = acked.start.station;
+  cell = acked.start.cell;
+  order = order;
 })
 x2_commanded order other = other
 
 abbrev pub s1_commanded : Order → S1State → S1State
 s1_commanded order (S1Ready acked) = S1Commanded (record {
-  number = acked.start.number; station = acked.start.station; cell = acked.start.cell; order = order;
+  number = acked.start.number;
+  station = acked.start.station;
+  cell = acked.start.cell;
+  order = order;
 })
 s1_commanded order other = other
 
@@ -400,10 +482,11 @@ commands order count None s = (s, only Done)
 commands order count (Some c) s = (
   record s {
     context = Some (record c {
-      bearers = srb_sent Signalling1 c.bearers; attempt = option_map (commanded order) c.attempt;
+      bearers = srb_sent Signalling1 c.bearers;
+      attempt = option_map (commanded order) c.attempt;
     });
   },
-  record (only Done) { sent = Some (signalling_sent s.id c.air c.keys Signalling1 count (order_text order)) }
+  record (only Done) { sent = Some (signalling_sent s.id c.air c.keys Signalling1 count (order_text order)) },
 )
 
 -- the pair that an attempt used
@@ -418,7 +501,7 @@ spent_in (Some (OverX2 state)) = x2_spent state
 spent_in (Some (OverS1 state)) = None
 spent_in (Some (Within state)) = x2_spent state
 
--- this project's own rule: it goes back, unless another is stored by now
+-- this project's own rule: the pair goes back, unless another is stored by now
 abbrev pub given_up : {K C : Type 0} → Context K C → Context K C
 given_up c = record c { key = restored_if c.key (spent_in c.attempt); attempt = None }
 
@@ -427,7 +510,7 @@ abbrev pub asks_again : {K C : Type 0} → ℕ → Option (Context K C) → Stat
 asks_again number None s = (s, only Done)
 asks_again number (Some c) s = (
   record s { next = number + 1; context = Some (record c { outstanding = Some number }) },
-  record (only Done) { sent = Some (to_core (PathSwitchRequest c.conn s.id number c.cell c.caps)) }
+  record (only Done) { sent = Some (to_core (PathSwitchRequest c.conn s.id number c.cell c.caps)) },
 )
 
 abbrev pub sends_packet : {K C : Type 0} →
@@ -435,7 +518,7 @@ abbrev pub sends_packet : {K C : Type 0} →
 sends_packet drb count text None s = (s, only Done)
 sends_packet drb count text (Some c) s = (
   record s { context = Some (record c { bearers = drb_sent drb c.bearers }) },
-  record (only Done) { sent = Some (packet_sent s.id c.air c.keys drb count text) }
+  record (only Done) { sent = Some (packet_sent s.id c.air c.keys drb count text) },
 )
 
 abbrev pub sends_rrc : {K C : Type 0} →
@@ -443,7 +526,7 @@ abbrev pub sends_rrc : {K C : Type 0} →
 sends_rrc srb count text None s = (s, only Done)
 sends_rrc srb count text (Some c) s = (
   record s { context = Some (record c { bearers = srb_sent srb c.bearers }) },
-  record (only Done) { sent = Some (signalling_sent s.id c.air c.keys srb count (spelling_of (RrcData text))) }
+  record (only Done) { sent = Some (signalling_sent s.id c.air c.keys srb count (spelling_of (RrcData text))) },
 )
 
 abbrev pub with_left_out : {K C : Type 0} → Which → ℕ → Context K C → Context K C
@@ -457,11 +540,11 @@ act_does r (StartedWithin number air cell) s = started_within r number air cell 
 act_does r (Commands order count) s = commands order count s.context s
 act_does r (CancelledByX2 conn number target) s = (
   record s { context = option_map given_up s.context },
-  record (only Done) { sent = Some (to_station target (X2Cancel conn s.id number)) }
+  record (only Done) { sent = Some (to_station target (X2Cancel conn s.id number)) },
 )
 act_does r (CancelledByS1 conn number cell) s = (
   record s { context = option_map given_up s.context },
-  record (only Done) { sent = Some (to_core (HandoverCancel conn s.id number cell)) }
+  record (only Done) { sent = Some (to_core (HandoverCancel conn s.id number cell)) },
 )
 act_does r (CancelledWithin number) s =
     (record s { context = option_map given_up s.context; preps = without s.id number s.preps }, only Done)

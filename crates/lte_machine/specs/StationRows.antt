@@ -10,7 +10,7 @@ use Rattle.lte_machine.specs.Bearers.{Srb, Drb, Which}
 use Rattle.lte_machine.specs.Reply.{Origin}
 
 -- a handover request that is taken (TS 36.413 8.4.2, TS 36.423 8.2.1): connection, source and attempt, cell,
--- capabilities, the algorithms chosen and the air address drawn
+-- capabilities, the algorithms chosen (TS 33.401 7.2.4.2.2 and 7.2.4.2.3) and the air address drawn
 pub record Wanted : Type 0 where
   pub conn : ℕ
   pub from : Origin
@@ -36,15 +36,15 @@ pub data RecordRow : Type 0 where
   AckedByS1 : ℕ → Algs → ℕ → RecordRow
   -- Handover Request Acknowledge on X2 (TS 36.423 8.2.1): algorithms, air address
   AckedByX2 : Algs → ℕ → RecordRow
-  -- Handover Cancel (TS 36.413 8.4.5, TS 36.423 8.2.3)
+  -- Handover Cancel (TS 36.413 8.4.5, TS 36.423 8.2.4)
   PreparationCancelled : Origin → RecordRow
-  -- UE Context Release on X2 (TS 36.423 8.2.2)
+  -- UE Context Release on X2 (TS 36.423 8.2.3)
   SourceReleased : RecordRow
 
 -- by a PDU of a radio bearer
 pub data AirRow : Type 0 where
   AirRefused : Answer → AirRow
-  -- Security Mode Complete (TS 36.331 5.3.4): its COUNT on SRB1
+  -- Security Mode Complete (TS 36.331 5.3.4.3): its COUNT on SRB1
   SecurityStarted : ℕ → AirRow
   -- an RRC text: bearer and COUNT; the data in it, or none of a Reconfiguration Complete that came again
   RrcTaken : Srb → ℕ → Option (List ℕ) → AirRow
@@ -65,15 +65,16 @@ pub data ActRow : Type 0 where
   StartedByS1 : ℕ → ℕ → Place → ActRow
   -- within the station: the attempt drawn, the air address drawn, target cell
   StartedWithin : ℕ → ℕ → Place → ActRow
-  -- Reconfiguration on SRB1 (TS 36.331 5.3.5): what it orders, its COUNT
+  -- Reconfiguration on SRB1 (TS 36.331 5.3.5.4): what it orders, its COUNT
   Commands : Order → ℕ → ActRow
-  -- an attempt is given up: connection, attempt, and the target station on X2 or the cell on S1
+  -- an attempt is given up (TS 36.423 8.2.4, TS 36.413 8.4.5): connection, attempt, and the target station on X2 or the
+  -- target cell on S1
   CancelledByX2 : ℕ → ℕ → ℕ → ActRow
   CancelledByS1 : ℕ → ℕ → Place → ActRow
   CancelledWithin : ℕ → ActRow
   -- Path Switch Request again (TS 36.413 8.4.4): the number drawn
   AsksAgain : ℕ → ActRow
-  -- a user packet: bearer, COUNT, text
+  -- a user packet (TS 36.323 5.1.1): bearer, COUNT, text
   SendsPacket : Drb → ℕ → List ℕ → ActRow
   -- an RRC text: bearer, COUNT, data
   SendsRrc : Srb → ℕ → List ℕ → ActRow
