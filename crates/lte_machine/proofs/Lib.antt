@@ -6,3 +6,4 @@ pub mod PhoneRefused
 pub mod CoreMap
 pub mod CoreRefused
 mod PhoneExamples
+pub mod CoreExamples
