@@ -120,7 +120,7 @@ abbrev pub reject_row : Option (Keys (Unit {0})) → ℕ → CoreNasRow
 reject_row None count = NasRefused NoSmc
 reject_row (Some keys) count = SealedReject count
 
--- the text of a message of header type 1 or 2, which differ in ciphering alone
+-- the text of a message of header type 1 or 2, which differ in ciphering alone (TS 24.301 9.3.1)
 abbrev pub protected_row : Option (Keys (Unit {0})) → ℕ → Result NasRecord RecFault → CoreNasRow
 protected_row procedure count (Err fault) = NasRefused (BadRecord fault)
 protected_row procedure count (Ok ServiceRequest) = ServiceAsked count
@@ -128,7 +128,7 @@ protected_row procedure count (Ok (NasData text)) = NasOpened count text
 protected_row procedure count (Ok (SecurityModeReject cause)) = reject_row procedure count
 protected_row procedure count (Ok other) = NasRefused (WrongKind (nas_kind other))
 
--- a message as it opened
+-- a message as it opened, or with a MAC that differs (TS 24.301 4.4.4.3)
 abbrev pub core_nas_row : PlainCore → CoreNasFront → Outcome → CoreNasRow
 core_nas_row s (NasSettled row) outcome = row
 core_nas_row s (OpensComplete count) (Differs wanted got) = NasRefused (MacFails count wanted got)
@@ -146,8 +146,8 @@ station_at_cell cell sites = option_map (λ site. site.station) (find (is_site c
 abbrev pub caps_differ : Caps → Caps → Bool
 caps_differ a b = not ((a.eea == b.eea) && (a.eia == b.eia))
 
--- a Path Switch Request: this project's own rule takes each number of a station once. Capabilities that differ from
--- those of the latest authentication raise an alarm and change nothing else (TS 33.401 7.2.4.2.2)
+-- a Path Switch Request (TS 36.413 8.4.4). This project's own rule: a number of a station is taken once. Capabilities
+-- that differ from those of the latest authentication raise an alarm and change nothing else (TS 33.401 7.2.4.2.2)
 abbrev pub path_switch_row : PlainCore → ℕ → ℕ → ℕ → Caps → CoreRecordRow
 path_switch_row s conn station number caps =
     let seen = slice_index s.requests station in
@@ -163,7 +163,7 @@ abbrev pub asked_at : ℕ → ℕ → ℕ → Place → Caps → Option ℕ → 
 asked_at conn source attempt cell caps None = RecordRefused UnknownCell
 asked_at conn source attempt cell caps (Some target) = HandoverAsked conn source attempt cell target caps
 
--- a Handover Required: this project's own rule takes each attempt of a station once
+-- a Handover Required (TS 36.413 8.4.1). This project's own rule: an attempt of a station is taken once
 abbrev pub required_row : PlainCore → ℕ → ℕ → ℕ → Place → CoreRecordRow
 required_row s conn source attempt cell =
     let seen = slice_index s.attempts source in
@@ -174,12 +174,12 @@ abbrev pub cancelled_at : ℕ → ℕ → ℕ → Place → Option ℕ → CoreR
 cancelled_at conn source attempt cell None = RecordRefused UnknownCell
 cancelled_at conn source attempt cell (Some target) = HandoverCancelled conn source attempt cell target
 
--- a record of the connection; any other names an old one
+-- a record of the connection. This project's own rule: the number of a connection tells it from those before it
 abbrev pub of_link : Option (CoreLink (Unit {0}) ℕ) → ℕ → CoreRecordRow → CoreRecordRow
 of_link None conn row = RecordRefused (OldConnection 0 conn)
 of_link (Some link) conn row = if link.conn == conn then row else RecordRefused (OldConnection link.conn conn)
 
--- the kinds that go to the core
+-- the kinds that go to the core, each from a station (TS 36.413 9.1.5)
 abbrev pub core_fields_row : PlainCore → Fields → CoreRecordRow
 core_fields_row s (PathSwitchRequest conn station number cell caps) =
     of_link s.link conn (path_switch_row s conn station number caps)
@@ -210,7 +210,7 @@ start_smc_row priority None procedure = ActRefused NoContext
 start_smc_row priority (Some partial) (Some keys) = ActRefused SmcOpen
 start_smc_row priority (Some partial) None = smc_row partial (choice_of priority partial.caps)
 
--- the numbers of connections end at 2^32 - 1
+-- this project's own rule: connections are numbered, by a counter that ends at 2^32 - 1 and never goes back
 abbrev pub NUMBERS : ℕ
 NUMBERS = 4294967296
 
@@ -218,14 +218,15 @@ abbrev pub set_up_row : ℕ → Place → ℕ → Caps → ℕ → CoreActRow
 set_up_row next cell target caps count =
     if nat_le NUMBERS next then ActRefused NumberSpent else ContextSetUp next cell target caps count
 
--- a connection in a cell, for the COUNT of the trigger: this project's own rule lets each trigger serve for one
--- connection (TS 33.401 7.2.8.1.1)
+-- a connection in a cell, for the COUNT of the latest trigger (TS 33.401 7.2.6.2). This project's own rule: a trigger
+-- serves for one connection
 abbrev pub connect_row : ℕ → Place → Option ℕ → Option (CoreContext (Unit {0})) → Option ℕ → CoreActRow
 connect_row next cell None context trigger = ActRefused UnknownCell
 connect_row next cell (Some target) None trigger = ActRefused NoContext
 connect_row next cell (Some target) (Some context) None = ActRefused NoTrigger
 connect_row next cell (Some target) (Some context) (Some count) = set_up_row next cell target context.caps count
 
+-- TS 36.413 8.3.3
 abbrev pub release_row : Option (CoreLink (Unit {0}) ℕ) → CoreActRow
 release_row None = ActRefused NoUe
 release_row (Some link) = ContextReleased link.conn link.station
@@ -236,6 +237,7 @@ send_nas_row None text = ActRefused NoContext
 send_nas_row (Some context) text =
     if nat_le LIMIT context.nas.send then ActRefused CountSpent else NasSent context.nas.send text
 
+-- downlink messages that are lost, each with its COUNT
 abbrev pub skip_nas_row : Option (CoreContext (Unit {0})) → ℕ → CoreActRow
 skip_nas_row None n = ActRefused NoContext
 skip_nas_row (Some context) n = NasSkipped n

@@ -82,7 +82,8 @@ sending_noted out derived note alarm s = (s, record (only Done) { sent = Some ou
 
 -- authentication and the Security Mode procedure
 
--- a new partial context in place of any other; the procedure is closed (TS 24.301 5.4.2.3)
+-- a new partial context in place of any other, whose COUNTs start at 0 (TS 24.301 4.4.3.1 and 5.4.2.4). This project's own
+-- rule: it closes an open procedure
 abbrev pub authenticated : {K C : Type 0} → ℕ → Caps → Option K → Core K C → CoreDone K C
 authenticated ksi caps None s = silent s
 authenticated ksi caps (Some root) s = silent (record s {
@@ -115,7 +116,8 @@ new_context partial keys count = record {
   caps = partial.caps;
 }
 
--- the new context is in use, and the Complete is the trigger for a connection; one that stands stays
+-- the new context is in use, and the Complete is the trigger for a connection (TS 33.401 7.2.6.2). A connection that stands
+-- stays, with the keys that it has
 abbrev pub smc_complete : {K C : Type 0} → ℕ → Option (CorePartial K) → Option (Keys K) → Core K C → CoreDone K C
 smc_complete count None procedure s = silent s
 smc_complete count (Some partial) None s = silent s
@@ -170,7 +172,8 @@ nas_skipped n (Some c) s = silent (record s { context = Some (nas_sent_to (skipp
 abbrev pub to_station : {K C : Type 0} → ℕ → Fields → Option (NumberedKey K C) → Outgoing K C
 to_station station fields key = Between (StationS1 station) fields key
 
--- the initial KeNB, of chain number 0, with no NH beside it (TS 33.401 7.2.8.1.1)
+-- the initial KeNB, of chain number 0, with no NH beside it (TS 33.401 7.2.8.1.1 and A.3). This project's own rule: a
+-- connection that stands is replaced without a release
 abbrev pub context_set_up : {K C : Type 0} → Reading K C → ℕ → Place → ℕ → Caps → ℕ → Option (CoreContext K) → Core K C → CoreDone K C
 context_set_up r conn cell target caps count None s = silent s
 context_set_up r conn cell target caps count (Some c) s =
@@ -195,7 +198,7 @@ nh_of r chain = nh_made r chain.root chain.sync ∷ []
 abbrev pub chained : {K C : Type 0} → Reading K C → ChainState K C → Note K
 chained r chain = record { ncc = r.ncc chain.number; way = Chained; key = chain.sync }
 
--- the chain goes one step on, and the station that asked gets the pair (TS 33.401 7.2.8.4.2)
+-- the chain goes one step on, and the station that asked gets the pair (TS 33.401 7.2.8.4.2 and A.4)
 abbrev pub path_switched : {K C : Type 0} → Reading K C → ℕ → ℕ → ℕ → Bool → Option (CoreLink K C) → Core K C → CoreDone K C
 path_switched r conn station number alarm None s = silent s
 path_switched r conn station number alarm (Some link) s =
@@ -209,7 +212,8 @@ path_switched r conn station number alarm (Some link) s =
       requests = slice_set s.requests station number;
     })
 
--- the chain goes one step on, and the target gets the pair (TS 33.401 7.2.8.4.3)
+-- the chain goes one step on, and the target gets the pair, with the capabilities of the context in use (TS 33.401
+-- 7.2.4.2.3, 7.2.8.4.3 and A.4)
 abbrev pub handover_asked : {K C : Type 0} → Reading K C → ℕ → ℕ → ℕ → Place → ℕ → Caps → Option (CoreLink K C) → Core K C → CoreDone K C
 handover_asked r conn source attempt cell target caps None s = silent s
 handover_asked r conn source attempt cell target caps (Some link) s =
