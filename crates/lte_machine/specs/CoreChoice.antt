@@ -20,11 +20,12 @@ use Rattle.nas_guard.specs.Keys.{Keys}
 use Rattle.nas_guard.specs.Open.{first_in, header_in, sn_in}
 use Rattle.nas_rec.specs.Reading.{read_nas}
 use Rattle.nas_rec.specs.declared.records.NasRecord.{NasRecord}
-use Rattle.nas_rec.specs.declared.records.NasRecord.TheVariants.{SecurityModeCommand, SecurityModeComplete, SecurityModeReject, ServiceRequest, NasData}
+use Rattle.nas_rec.specs.declared.records.NasRecord.TheVariants.{SecurityModeComplete, SecurityModeReject, ServiceRequest, NasData}
 use Rattle.s1x2_rec.specs.Content.{Content}
 use Rattle.s1x2_rec.specs.Fields.{Fields, PathSwitchRequest, HandoverRequired, HandoverRequestAck, HandoverNotify, HandoverCancel, kind_of}
 use Rattle.lte_machine.specs.CoreState.{Core, CorePartial, CoreContext, CoreLink, CoreInput, CoreAuth, CoreActs, CoreNasPdu, CoreRecord}
 use Rattle.lte_machine.specs.CoreRows.{CoreNasRow, NasRefused, PlainReject, SmcComplete, ServiceAsked, NasOpened, SealedReject, CoreRecordRow, RecordRefused, PathSwitched, HandoverAsked, HandoverOrdered, HandoverNotified, HandoverCancelled, CoreActRow, ActRefused, SmcStarted, ContextSetUp, ContextReleased, NasSent, NasSkipped, CoreRow, OfNas, OfRecord, OfAct, OfAuth}
+use Rattle.lte_machine.specs.Kinds.{nas_kind}
 use Rattle.lte_machine.specs.Opening.{Outcome, Opened, Differs}
 
 -- the core, and what it gets, with keys out of sight and chain numbers seen by their NCCs
@@ -49,14 +50,6 @@ pub data CoreFront : Type 0 where
   FromNas : CoreNasFront → CoreFront
 
 -- NAS messages (TS 24.301 4.4, 5.4.3 and 5.6.1)
-
--- the octet of a NAS text's kind
-abbrev pub nas_kind : NasRecord → ℕ
-nas_kind (SecurityModeCommand ksi algs caps) = 0x01
-nas_kind SecurityModeComplete = 0x02
-nas_kind (SecurityModeReject cause) = 0x03
-nas_kind ServiceRequest = 0x04
-nas_kind (NasData text) = 0x05
 
 -- whether the core takes a first octet: the protocol discriminator 7 below the security header type 0, 1, 2 or 4
 -- (TS 24.301 9.2 and 9.3.1)
