@@ -6,4 +6,5 @@ pub mod PhoneRefused
 pub mod CoreMap
 pub mod CoreRefused
 mod PhoneExamples
+pub mod CoreBeside
 pub mod CoreExamples
