@@ -57,7 +57,7 @@ abbrev pub core_takes : ℕ → Bool
 core_takes octet =
     (octet % 16 == 7) && ((octet / 16 == 0) || ((octet / 16 == 1) || ((octet / 16 == 2) || (octet / 16 == 4))))
 
--- the security header type of a message: 0, 1, 2 or 4
+-- the security header type of a message: 0, 1, 2 or 4, in the first of its octets
 unfoldable pub core_header : List ℕ → Result ℕ Answer
 core_header pdu =
     if length pdu == 0 then Err Short
@@ -80,7 +80,8 @@ abbrev pub opens_complete : Result ℕ NoneLeft → CoreNasFront
 opens_complete (Err spent) = NasSettled (NasRefused CountSpent)
 opens_complete (Ok count) = OpensComplete count
 
--- a message of header type 4: the COUNTs of a new context start at 0 (TS 24.301 4.4.3.1)
+-- a message of header type 4: the COUNTs of a new context start at 0 (TS 24.301 4.4.3.1), so that its COUNT is the sequence
+-- number, and never spent
 abbrev pub complete_front : Option (Keys (Unit {0})) → List ℕ → CoreNasFront
 complete_front None pdu = NasSettled (NasRefused NoSmc)
 complete_front (Some keys) pdu = opens_complete (estimate_of 0 (sn_in pdu))
@@ -147,7 +148,7 @@ path_switch_row s conn station number caps =
     if nat_le number seen then RecordRefused (Repeated seen number)
     else PathSwitched conn station number (caps_differ caps s.latest)
 
--- the capabilities of the context in use, beside which a connection always stands
+-- the capabilities of the context in use; a connection never stands without one
 abbrev pub caps_in_use : Option (CoreContext (Unit {0})) → Caps
 caps_in_use None = record { eea = 0; eia = 0 }
 caps_in_use (Some context) = context.caps
