@@ -7,4 +7,4 @@ pub mod CoreMap
 pub mod CoreRefused
 mod PhoneExamples
 pub mod CoreBeside
-pub mod CoreExamples
+mod CoreExamples
