@@ -1,5 +1,5 @@
 -- Short runs of one station in terms, input by input: what it answers, and the key of each note.
-use Rattle.std.specs.Prelude.{◌≡◌, ℕ, ◌+◌, ◌-◌, zero, suc, List, [], ◌∷◌, ◌++◌, Option, Some, None, option_map, Result, Ok, Err}
+use Rattle.std.specs.Prelude.{◌≡◌, ℕ, ◌+◌, ◌-◌, zero, suc, List, [], ◌∷◌, ◌++◌, Option, Some, None, option_map, Ok}
 use Rattle.std.proofs.Common.{refl}
 use Rattle.alg_choice.specs.declared.algs.Algs.{Algs}
 use Rattle.alg_choice.specs.declared.algs.Eea.TheVariants.{Eea0, Eea2}
@@ -20,7 +20,6 @@ use Rattle.lte_events.specs.declared.answers.Answer.TheVariants.{Done, BadHeader
 use Rattle.lte_events.specs.Site.{Site}
 use Rattle.key_model.specs.Least.{least}
 use Rattle.key_model.specs.Term.{Term, Root, Kenb, Nh, Star}
-use Rattle.key_model.specs.HandoverTable.{NumberedKey}
 use Rattle.key_model.specs.Reading.{term_reading}
 use Rattle.pdcp_guard.specs.Counts.{in_32_bits}
 use Rattle.pdcp_guard.specs.Drb.{drb_count}
