@@ -7,6 +7,7 @@ pub mod StationLists
 pub mod StationPlain
 pub mod StationMap
 pub mod StationRefused
+mod StationExamples
 pub mod CoreMap
 pub mod CoreRefused
 pub mod LadderMap
@@ -17,4 +18,3 @@ mod PhoneExamples
 pub mod CoreBeside
 mod CoreExamples
 pub mod InOctets
-pub mod StationRuns
