@@ -18,3 +18,5 @@ mod PhoneExamples
 pub mod CoreBeside
 mod CoreExamples
 pub mod InOctets
+pub mod Scenario
+mod Ordinary

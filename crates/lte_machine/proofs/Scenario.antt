@@ -1,0 +1,134 @@
+-- How a worked scenario is computed: the machine over terms with stand-ins for MAC and keystream, event by event.
+use Rattle.std.specs.Prelude.{◌≡◌, ℕ, ◌+◌, ◌-◌, Bool, List, [], ◌∷◌, ◌++◌, map, ℤ, pos, negsuc, replicate, Option, Some, None, option_map}
+use Rattle.std.proofs.Common.{refl}
+use Rattle.alg_choice.specs.declared.algs.Eea.TheVariants.{Eea0, Eea2}
+use Rattle.alg_choice.specs.declared.caps.Caps.{Caps}
+use Rattle.alg_choice.specs.Bits.{has_bit}
+use Rattle.alg_choice.specs.Choice.{choice_of, are_supported}
+use Rattle.annex_a_keys.specs.Cell.{Place}
+use Rattle.rec_base.specs.BigEndian.{number_at, number_of, field_at, octets_of}
+use Rattle.rec_base.specs.declared.ways.Way.{Way}
+use Rattle.rec_fields.specs.Field.{of_size, number_in, algs_at, caps_at, cell_at, text_of}
+use Rattle.lte_events.specs.declared.acts.HoKind.{HoKind}
+use Rattle.lte_events.specs.declared.acts.PhoneAct.{PhoneAct}
+use Rattle.lte_events.specs.declared.acts.StationAct.{StationAct}
+use Rattle.lte_events.specs.declared.acts.CoreAct.{CoreAct}
+use Rattle.lte_events.specs.declared.answers.Answer.{Answer}
+use Rattle.lte_events.specs.declared.answers.Answer.TheVariants.{Done}
+use Rattle.lte_events.specs.declared.classes.Class.{Class}
+use Rattle.lte_events.specs.declared.events.Event.{Event}
+use Rattle.lte_events.specs.declared.setups.Setup.{Setup}
+use Rattle.lte_events.specs.declared.lines.Who.{Who}
+use Rattle.key_model.specs.Least.{least}
+use Rattle.key_model.specs.HandoverTable.{NumberedKey}
+use Rattle.key_model.specs.Term.{Term, same_term}
+use Rattle.nas_count.specs.Estimate.{estimate_of}
+use Rattle.nas_guard.specs.Seal.{first_octet}
+use Rattle.nas_rec.specs.Reading as nas_reading
+use Rattle.nas_rec.specs.Spelling as nas_texts
+use Rattle.pdcp_guard.specs.Counts.{in_32_bits}
+use Rattle.pdcp_guard.specs.Drb.{drb_count}
+use Rattle.pdcp_guard.specs.Srb.{srb_count}
+use Rattle.rrc_rec.specs.Reading as rrc_reading
+use Rattle.rrc_rec.specs.Spelling as rrc_texts
+use Rattle.s1x2_rec.specs.Fields.{Fields, kind_of}
+use Rattle.lte_machine.specs.Wire.{KeyUse, Ciphering, Outgoing}
+use Rattle.lte_machine.specs.Ciphers.{Ciphers, nas_octets, srb_octets, drb_octets}
+use Rattle.lte_machine.specs.Opening.{open_octets, open_foreign}
+use Rattle.lte_machine.specs.CoreChoice.{core_header}
+use Rattle.lte_machine.specs.PhoneChoice.{header_for_phone}
+use Rattle.lte_machine.specs.Machines.{machine_over}
+use Rattle.lte_machine.specs.World.{Machine, World, Line}
+use Rattle.lte_machine.specs.Run.{Ran, Still, replay, Said, Tells, Meets, tale, first_world}
+
+-- a MAC and a keystream that tell uses apart by their COUNTs alone
+abbrev pub toy : Ciphers Term
+toy = record { mac = λ u text. u.count ∷ u.bearer ∷ 7 ∷ 7 ∷ []; crypt = λ e text. text }
+
+-- a record on S1 or X2 by its kind alone: over terms nothing reads its octets
+abbrev pub kinds : Fields → Option (NumberedKey Term ℕ) → List ℕ
+kinds fields key = kind_of fields ∷ []
+
+abbrev pub machine : Machine Term ℕ (Outgoing Term ℕ)
+machine = machine_over same_term toy kinds
+
+-- station s has the cell of PCI 10 + s and EARFCN-DL 100 + s
+abbrev pub place : ℕ → Place
+place s = record { pci = 10 + s; earfcn = 100 + s }
+
+-- two stations, and everywhere 128-EEA2 before EEA0
+abbrev pub setup : Setup
+setup = record {
+  caps = record { eea = 0xa0; eia = 0x20 };
+  core_priority = Eea2 ∷ Eea0 ∷ [];
+  core_first = 1;
+  stations = record { id = 0; priority = Eea2 ∷ Eea0 ∷ []; first = 1 } ∷ record { id = 1; priority = Eea2 ∷ Eea0 ∷ []; first = 1 } ∷ [];
+  cells = record { station = 0; cell = place 0 } ∷ record { station = 1; cell = place 1 } ∷ [];
+}
+
+abbrev pub start : Ran Term ℕ (Outgoing Term ℕ)
+start = Still (first_world setup)
+
+-- events
+abbrev pub auth : ℕ → ℕ → Event
+auth ksi octet = Event.Auth ksi (replicate 32 octet) (record { eea = 0xa0; eia = 0x20 })
+
+-- the newest record, and a record by its number
+abbrev pub newest : Event
+newest = Event.Deliver (negsuc 0)
+
+abbrev pub number : ℕ → Event
+number i = Event.Deliver (pos i)
+
+abbrev pub smc : Event
+smc = Event.Core CoreAct.StartSmc
+
+abbrev pub connect : ℕ → Event
+connect s = Event.Core (CoreAct.Connect (place s))
+
+abbrev pub x2 : ℕ → ℕ → Event
+x2 s target = Event.Station s (StationAct.Start HoKind.X2 (place target))
+
+abbrev pub s1 : ℕ → ℕ → Event
+s1 s target = Event.Station s (StationAct.Start HoKind.S1 (place target))
+
+abbrev pub intra : ℕ → Event
+intra s = Event.Station s (StationAct.Start HoKind.Intra (place s))
+
+abbrev pub command : ℕ → Event
+command s = Event.Station s StationAct.Command
+
+abbrev pub cancel : ℕ → Event
+cancel s = Event.Station s StationAct.Cancel
+
+abbrev pub ask : ℕ → Event
+ask s = Event.Station s StationAct.Ask
+
+-- authentication, Security Mode, and a context at station 0: its security runs
+abbrev pub opening : List Event
+opening = auth 0 1 ∷ smc ∷ newest ∷ newest ∷ connect 0 ∷ newest ∷ newest ∷ newest ∷ []
+
+-- an X2 handover to the Complete at the target
+abbrev pub x2_to : ℕ → ℕ → List Event
+x2_to s target = x2 s target ∷ newest ∷ newest ∷ command s ∷ newest ∷ newest ∷ []
+
+-- the answer, with the number of the record sent and its interface, NCC and way of the note, and the text
+abbrev pub Brief : Type 0
+Brief = Answer × Option (ℕ × Class) × Option (ℕ × Way) × Option (List ℕ)
+
+abbrev pub brief : Line Term → Brief
+brief l = (l.answer, l.sent, option_map (λ n. (n.ncc, n.way)) l.note, l.opened)
+
+-- what is told, or that a coincidence ended the run
+abbrev pub briefs : List (Said Term) → List (Option Brief)
+briefs [] = []
+briefs (Tells l ∷ said) = Some (brief l) ∷ briefs said
+briefs (Meets chance ∷ said) = None ∷ briefs said
+
+abbrev pub told : List Event → List (Option Brief)
+told events = briefs (tale (open_octets toy) machine start events)
+
+-- what a run computes with
+unfoldable pub computing : Unit {0}
+unfolding least estimate_of has_bit choice_of are_supported number_of field_at number_at octets_of of_size number_in algs_at caps_at cell_at text_of nas_reading.command_of nas_reading.reject_of nas_reading.bare nas_reading.data_of nas_reading.read_nas nas_texts.spelling_of rrc_reading.command_of rrc_reading.reconfiguration_of rrc_reading.bare rrc_reading.data_of rrc_reading.read_rrc rrc_texts.spelling_of in_32_bits srb_count drb_count header_for_phone core_header open_octets open_foreign nas_octets srb_octets drb_octets
+computing = tt
