@@ -20,6 +20,11 @@ pub enum KdfInput {
 
 // What the unused places of a bounded list of derivations hold.
 impl Default for KdfInput {
+    ghost use Rattle.std.specs.Prelude.{◌≡◌};
+    ghost use Rattle.hmac_kdf.specs.declared.input.KdfInput.TheVariants.{Kenb};
+
+    ghost is_default = { λ v. v ≡ Kenb 0 };
+
     fn default() -> KdfInput {
         KdfInput::Kenb(0)
     }

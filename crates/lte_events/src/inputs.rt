@@ -55,6 +55,13 @@ pub enum ActorIn {
 
 // What the unused places of a bounded list of inputs hold.
 impl Default for ActorIn {
+    ghost use Rattle.std.specs.Prelude.{◌≡◌};
+    ghost use Rattle.lte_events.specs.declared.acts.PhoneAct.TheVariants.{GoIdle};
+    ghost use Rattle.lte_events.specs.declared.inputs.PhoneIn.TheVariants.{Act};
+    ghost use Rattle.lte_events.specs.declared.inputs.ActorIn.TheVariants.{Phone};
+
+    ghost is_default = { λ v. v ≡ Phone (Act GoIdle) };
+
     fn default() -> ActorIn {
         ActorIn::Phone(PhoneIn::Act(PhoneAct::GoIdle))
     }

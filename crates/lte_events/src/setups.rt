@@ -14,6 +14,11 @@ pub struct StationSetup {
 
 // What the unused places of a bounded list of stations hold.
 impl Default for StationSetup {
+    ghost use Rattle.std.specs.Prelude.{◌≡◌, [], ◌∷◌};
+    ghost use Rattle.alg_choice.specs.declared.algs.Eea.TheVariants.{Eea0};
+
+    ghost is_default = { λ v. v ≡ record { id = 0; priority = Eea0 ∷ []; first = 1 } };
+
     fn default() -> StationSetup {
         StationSetup {
             id: 0,
