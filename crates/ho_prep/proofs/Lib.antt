@@ -1,1 +1,2 @@
-mod PlaceFacts
+pub mod PlaceFacts
+pub mod CarryFacts

@@ -6,6 +6,8 @@
 mod origins;
 mod prep;
 mod preps;
+#[cfg(test)]
+mod tests;
 
 pub use origins::By;
 pub use prep::Prep;
