@@ -10,6 +10,7 @@ use Rattle.std.specs.List.{slice_get, position}
 use Rattle.std.specs.Option.{option_map, option_map_or}
 use Rattle.std.specs.Result.{OnErr, is_err}
 use Rattle.std.specs.Str.{bytes_eq}
+use Rattle.annex_a_keys.specs.AlgType.{distinguisher}
 use Rattle.hmac_kdf.specs.declared.input.KdfInput.TheVariants as input
 use Rattle.hmac_kdf.specs.Kdf.{kdf}
 use Rattle.key_terms.specs.declared.ladder.LadderFault.{LadderFault}
@@ -23,7 +24,7 @@ use Rattle.key_terms.specs.Ladder.{row_of as row_with}
 use Rattle.key_terms.proofs.LadderLemmas.{found_row}
 use Rattle.key_terms.proofs.Places.{position-None, slice_get_stays, slice_get_push}
 use Rattle.lte_sec_app.specs.declared.ladder_line.LadderLine.{LadderLine}
-use Rattle.lte_sec_app.specs.declared.ladder_line.LadderLine.TheVariants.{Root, Kenb, Nh, Star}
+use Rattle.lte_sec_app.specs.declared.ladder_line.LadderLine.TheVariants.{Root, Kenb, Nh, Star, Alg}
 use Rattle.lte_sec_app.specs.LadderText.{same, meets}
 use Rattle.lte_sec_app.specs.LadderReport.{KeyRow, key_at, octets_in, Place, Again, Anew, Taken, place_by_octets, place_in, rows_after}
 use Rattle.lte_sec_app.specs.LadderRows.{origin_in, Refers, StandsFor, answer_at}
@@ -92,18 +93,21 @@ octets_stay rows n (Kenb root count) refers = ap (λ k. kdf k (input.Kenb count)
 octets_stay rows n (Nh root sync) refers =
     ap (λ k. kdf k (input.Nh (key_at (rows ++ n ∷ []) sync))) (key_stays rows n root refers.0) ∙ ap (λ s. kdf (key_at rows root) (input.Nh s)) (key_stays rows n sync refers.1)
 octets_stay rows n (Star key cell) refers = ap (λ k. kdf k (input.Star cell.pci cell.earfcn)) (key_stays rows n key refers)
+octets_stay rows n (Alg key type id) refers = ap (λ k. kdf k (input.Alg (distinguisher type) id)) (key_stays rows n key refers)
 
 origin_stays : (rows : List KeyRow) (n : KeyRow) (line : LadderLine) → Refers rows line → origin_in (rows ++ n ∷ []) line ≡ origin_in rows line
 origin_stays rows n (Root key) refers = refl
 origin_stays rows n (Kenb root count) refers = refl
 origin_stays rows n (Nh root sync) refers = ap (λ s. origin.From root (input.Nh s)) (key_stays rows n sync refers.1)
 origin_stays rows n (Star key cell) refers = refl
+origin_stays rows n (Alg key type id) refers = refl
 
 refers_more : (rows : List KeyRow) (n : KeyRow) (line : LadderLine) → Refers rows line → Refers (rows ++ n ∷ []) line
 refers_more rows n (Root key) refers = tt
 refers_more rows n (Kenb root count) refers = omega (arith, refers, length-append rows (n ∷ []))
 refers_more rows n (Nh root sync) refers = (omega (arith, refers.0, length-append rows (n ∷ [])), omega (arith, refers.1, length-append rows (n ∷ [])))
 refers_more rows n (Star key cell) refers = omega (arith, refers, length-append rows (n ∷ []))
+refers_more rows n (Alg key type id) refers = omega (arith, refers, length-append rows (n ∷ []))
 
 map_same : {X Y : Type 0} (f g : X → Y) (xs : List X) → ((k : ℕ) (x : X) → slice_get xs k ≡ Some x → f x ≡ g x) → map f xs ≡ map g xs
 map_same f g [] each = refl

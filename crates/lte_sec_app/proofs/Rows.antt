@@ -10,6 +10,9 @@ use Rattle.std.specs.Option.{option_map, option_map_or, is_some, unwrap_or}
 use Rattle.std.specs.Str.{bytes_eq}
 use Rattle.hmac_kdf.specs.declared.input.KdfInput.TheVariants as input
 use Rattle.hmac_kdf.specs.Kdf.{kdf}
+use Rattle.annex_a_keys.specs.AlgType.{distinguisher}
+use Rattle.annex_a_keys.specs.declared.alg_type.AlgType.{AlgType}
+use Rattle.annex_a_keys.specs.declared.alg_type.AlgType.TheVariants.{NasEnc, NasInt, RrcEnc, RrcInt, UpEnc}
 use Rattle.annex_a_keys.specs.Derived.{derivation}
 use Rattle.annex_a_keys.specs.declared.derived.Derived.{Derived}
 use Rattle.key_terms.specs.declared.row.LadderRow.{LadderRow}
@@ -18,8 +21,8 @@ use Rattle.key_terms.specs.declared.row.Row.{Row}
 use Rattle.key_terms.specs.Ladder.{row, unheld, octets_at, origin_at, origin_of, HasRoot, HasSync, IsLadder}
 use Rattle.key_terms.specs.Ladder.{row_of as row_with}
 use Rattle.lte_sec_app.specs.declared.ladder_line.LadderLine.{LadderLine}
-use Rattle.lte_sec_app.specs.declared.ladder_line.LadderLine.TheVariants.{Root, Kenb, Nh, Star}
-use Rattle.lte_sec_app.specs.LadderText.{same, is_root, is_hop_of, has_star, stands_as, meets}
+use Rattle.lte_sec_app.specs.declared.ladder_line.LadderLine.TheVariants.{Root, Kenb, Nh, Star, Alg}
+use Rattle.lte_sec_app.specs.LadderText.{same, is_root, is_hop_of, has_star, has_alg, stands_as, meets}
 use Rattle.lte_sec_app.specs.LadderReport.{KeyRow, key_at, derived_in, octets_in}
 use Rattle.lte_sec_app.specs.LadderRows.{origin_in, ladder_of, Refers}
 
@@ -55,6 +58,7 @@ met_refers rows (Nh root sync) met =
     let t = stands (is_hop_of root) rows sync parts.1 in
     (slice_get_within rows root.0 s.0 s.1, slice_get_within rows sync.0 t.0 t.1)
 met_refers rows (Star key cell) met = let s = stands has_star rows key met in slice_get_within rows key.0 s.0 s.1
+met_refers rows (Alg key type id) met = let s = stands (has_alg type) rows key met in slice_get_within rows key.0 s.0 s.1
 
 -- the ladder's row for one of the rows
 abbrev pub row_in : List KeyRow → KeyRow → LadderRow
@@ -96,6 +100,15 @@ place_mapped f p xs = rw (prefix_mapped f (λ y. not (p y)) xs, length-map xs f)
 pub octets_place : (rows : List KeyRow) (ladder : List LadderRow) (octets : List ℕ) → ladder ≡ ladder_of rows → row_with ladder octets ≡ position (λ r. bytes_eq r.octets octets) rows
 octets_place rows ladder octets is = ap (λ l. row_with l octets) is ∙ place_mapped (row_in rows) (λ r. bytes_eq r.octets octets) rows
 
+-- two types with one distinguisher are one
+one_type : (a b : AlgType) → distinguisher a ≡ distinguisher b → a ≡ b
+one_type NasEnc NasEnc e = refl
+one_type NasInt NasInt e = refl
+one_type RrcEnc RrcEnc e = refl
+one_type RrcInt RrcInt e = refl
+one_type UpEnc UpEnc e = refl
+one_type a b e = absurd (omega (arith, e))
+
 -- two lines that test as the same are one
 pub same_line : (a b : LadderLine) → same a b ≡ true → a ≡ b
 same_line (Root key) (Root key') h = ap Root ((bytes_eq-Decides key key').0 h)
@@ -116,6 +129,13 @@ same_line (Star key cell) (Star key' cell') h =
     let one_cell : cell ≡ cell' =
     ap (λ (p : ℕ). record { pci = p; earfcn = cell.earfcn }) ((Decides-eqb cell.pci cell'.pci).0 places.0)
     ∙ ap (λ (e : ℕ). record { pci = cell'.pci; earfcn = e }) ((Decides-eqb cell.earfcn cell'.earfcn).0 places.1) in
+    cc
+same_line (Alg key type id) (Alg key' type' id') h =
+    let parts = and_parts (key.0 == key'.0) (distinguisher type == distinguisher type' && id == id') h in
+    let rest = and_parts (distinguisher type == distinguisher type') (id == id') parts.1 in
+    let one_key : key ≡ key' = ap row ((Decides-eqb key.0 key'.0).0 parts.0) in
+    let one_kind : type ≡ type' = one_type type type' ((Decides-eqb (distinguisher type) (distinguisher type')).0 rest.0) in
+    let one_id : id ≡ id' = (Decides-eqb id id').0 rest.1 in
     cc
 same_line a b h = absurd (false≢true h)
 
@@ -145,6 +165,12 @@ one_origin rows ladder (Star key cell) (Star key' cell') is sound refers refers'
     let one_earfcn : cell.earfcn ≡ cell'.earfcn = cc in
     both (key.0 == key'.0) (cell.pci == cell'.pci && cell.earfcn == cell'.earfcn) ((Decides-eqb key.0 key'.0).1 (ap (λ r. r.0) one_key))
     (both (cell.pci == cell'.pci) (cell.earfcn == cell'.earfcn) ((Decides-eqb cell.pci cell'.pci).1 one_pci) ((Decides-eqb cell.earfcn cell'.earfcn).1 one_earfcn))
+one_origin rows ladder (Alg key type id) (Alg key' type' id') is sound refers refers' e o =
+    let one_key : key ≡ key' = cc in
+    let one_kind : distinguisher type ≡ distinguisher type' = cc in
+    let one_id : id ≡ id' = cc in
+    both (key.0 == key'.0) (distinguisher type == distinguisher type' && id == id') ((Decides-eqb key.0 key'.0).1 (ap (λ r. r.0) one_key))
+    (both (distinguisher type == distinguisher type') (id == id') ((Decides-eqb (distinguisher type) (distinguisher type')).1 one_kind) ((Decides-eqb id id').1 one_id))
 one_origin rows ladder a b is sound refers refers' e o = cc
 
 -- ---- what the ladder needs of a derivation
@@ -155,6 +181,7 @@ key_row (Root key) = row 0
 key_row (Kenb root count) = root
 key_row (Nh root sync) = root
 key_row (Star key cell) = key
+key_row (Alg key type id) = key
 
 root_origin : (rows : List KeyRow) (line : LadderLine) → is_root line ≡ true → origin_in rows line ≡ origin.Root
 root_origin rows (Root key) h = refl
@@ -211,5 +238,16 @@ needs_met rows ladder (Star key cell) made is sound met d =
       sync = tt;
       out = refl;
       origin = ap (λ o. origin.From (row (unwrap_or o 0)) (input.Star cell.pci cell.earfcn)) first;
+      octets = refl;
+    })
+needs_met rows ladder (Alg key type id) made is sound met d =
+    let first = sound.apart key.0 (key_at rows key) (key_stands rows ladder key is (met_refers rows (Alg key type id) met)) in
+    let e : derivation (key_at rows key) (input.Alg (distinguisher type) id) ≡ made = cc in
+    subst (Needs rows ladder (Alg key type id)) e (record {
+      key = first;
+      root = tt;
+      sync = tt;
+      out = refl;
+      origin = ap (λ o. origin.From (row (unwrap_or o 0)) (input.Alg (distinguisher type) id)) first;
       octets = refl;
     })

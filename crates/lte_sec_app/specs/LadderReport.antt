@@ -10,11 +10,12 @@ use Rattle.edge_io.specs.Octets.{Grows, GrowsByPrefix}
 use Rattle.hmac_kdf.specs.declared.input.KdfInput.{KdfInput}
 use Rattle.hmac_kdf.specs.declared.input.KdfInput.TheVariants as input
 use Rattle.hmac_kdf.specs.Kdf.{kdf_string}
+use Rattle.annex_a_keys.specs.AlgType.{distinguisher}
 use Rattle.annex_a_keys.specs.Derived.{derivation}
 use Rattle.annex_a_keys.specs.declared.derived.Derived.{Derived}
 use Rattle.key_terms.specs.declared.row.Row.{Row}
 use Rattle.lte_sec_app.specs.declared.ladder_line.LadderLine.{LadderLine}
-use Rattle.lte_sec_app.specs.declared.ladder_line.LadderLine.TheVariants.{Root, Kenb, Nh, Star}
+use Rattle.lte_sec_app.specs.declared.ladder_line.LadderLine.TheVariants.{Root, Kenb, Nh, Star, Alg}
 use Rattle.lte_sec_app.specs.declared.status.Status.{Status}
 use Rattle.lte_sec_app.specs.declared.status.Status.TheVariants.{Done, Memory, Refused, WriteFault, Coincidence}
 use Rattle.lte_sec_app.specs.LadderText.{same}
@@ -34,6 +35,7 @@ derived_in rows (Root key) = None
 derived_in rows (Kenb root count) = Some (derivation (key_at rows root) (input.Kenb count))
 derived_in rows (Nh root sync) = Some (derivation (key_at rows root) (input.Nh (key_at rows sync)))
 derived_in rows (Star key cell) = Some (derivation (key_at rows key) (input.Star cell.pci cell.earfcn))
+derived_in rows (Alg key type id) = Some (derivation (key_at rows key) (input.Alg (distinguisher type) id))
 
 -- the octets that a line stands for: a root's own, and what the derivation gives
 abbrev pub octets_in : List KeyRow → LadderLine → List ℕ
@@ -46,6 +48,7 @@ kind_of (Root key) = codes "root"
 kind_of (Kenb root count) = codes "kenb"
 kind_of (Nh root sync) = codes "nh"
 kind_of (Star key cell) = codes "star"
+kind_of (Alg key type id) = codes "alg"
 
 -- a line of the output: the row's number, its kind and its octets
 unfoldable pub row_text : ℕ → List ℕ → List ℕ → List ℕ

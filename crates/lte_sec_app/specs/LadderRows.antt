@@ -1,5 +1,6 @@
 -- How the rows of the ladder stand for the lines of the text.
 use Rattle.std.specs.Prelude.{◌≡◌, ℕ, ◌<◌, true, Some, Result, Ok, Err, List, length, map, slice_get}
+use Rattle.annex_a_keys.specs.AlgType.{distinguisher}
 use Rattle.hmac_kdf.specs.declared.input.KdfInput.TheVariants as input
 use Rattle.key_terms.specs.declared.ladder.LadderFault.{LadderFault}
 use Rattle.key_terms.specs.declared.ladder.LadderFault.TheVariants as fault
@@ -9,7 +10,7 @@ use Rattle.key_terms.specs.declared.row.Origin.TheVariants as origin
 use Rattle.key_terms.specs.declared.row.Row.{Row}
 use Rattle.key_terms.specs.Ladder.{row, unheld}
 use Rattle.lte_sec_app.specs.declared.ladder_line.LadderLine.{LadderLine}
-use Rattle.lte_sec_app.specs.declared.ladder_line.LadderLine.TheVariants.{Root, Kenb, Nh, Star}
+use Rattle.lte_sec_app.specs.declared.ladder_line.LadderLine.TheVariants.{Root, Kenb, Nh, Star, Alg}
 use Rattle.lte_sec_app.specs.LadderText.{meets}
 use Rattle.lte_sec_app.specs.LadderReport.{KeyRow, key_at, octets_in, Place, Again, Anew, Taken}
 
@@ -19,6 +20,7 @@ origin_in rows (Root key) = origin.Root
 origin_in rows (Kenb root count) = origin.From root (input.Kenb count)
 origin_in rows (Nh root sync) = origin.From root (input.Nh (key_at rows sync))
 origin_in rows (Star key cell) = origin.From key (input.Star cell.pci cell.earfcn)
+origin_in rows (Alg key type id) = origin.From key (input.Alg (distinguisher type) id)
 
 -- the ladder of these rows
 abbrev pub ladder_of : List KeyRow → List LadderRow
@@ -30,6 +32,7 @@ Refers rows (Root key) = Unit {0}
 Refers rows (Kenb root count) = root.0 < length rows
 Refers rows (Nh root sync) = (root.0 < length rows) × (sync.0 < length rows)
 Refers rows (Star key cell) = key.0 < length rows
+Refers rows (Alg key type id) = key.0 < length rows
 
 -- the ladder stands for these rows, each of which has the octets of its line
 pub record StandsFor (rows : List KeyRow) (ladder : List LadderRow) : Type 0 where

@@ -1,5 +1,5 @@
 -- What a ladder text is: which lines it has, and which line is the first bad one.
-use Rattle.std.specs.Prelude.{◌≡◌, ℕ, ◌+◌, ◌^◌, ◌==◌, nat_lt, nat_le, ◌&&◌, not, Bool, true, false, if◌then◌else◌, Option, Some, None, Result, Ok, Err, List, [], ◌∷◌, ◌++◌, length, codes, slice_get}
+use Rattle.std.specs.Prelude.{◌≡◌, ℕ, ◌+◌, ◌^◌, ◌==◌, nat_lt, nat_le, ◌&&◌, ◌||◌, not, Bool, true, false, if◌then◌else◌, Option, Some, None, Result, Ok, Err, List, [], ◌∷◌, ◌++◌, length, codes, slice_get}
 use Rattle.std.specs.List.{slice_split, onto_first, fold, list_any, list_all}
 use Rattle.std.specs.Char.{is_ascii_digit}
 use Rattle.std.specs.Option.{option_map, option_map_or, option_and_then}
@@ -8,10 +8,13 @@ use Rattle.std.specs.Str.{bytes_eq}
 use Rattle.std.specs.Str.Parse.{digits_value}
 use Rattle.hex.specs.Hex.{decode_sized}
 use Rattle.annex_a_keys.specs.Cell.{Place}
+use Rattle.annex_a_keys.specs.AlgType.{distinguisher}
+use Rattle.annex_a_keys.specs.declared.alg_type.AlgType.{AlgType}
+use Rattle.annex_a_keys.specs.declared.alg_type.AlgType.TheVariants.{NasEnc, NasInt, RrcEnc, RrcInt, UpEnc}
 use Rattle.key_terms.specs.declared.row.Row.{Row}
 use Rattle.key_terms.specs.Ladder.{row}
 use Rattle.lte_sec_app.specs.declared.ladder_line.LadderLine.{LadderLine}
-use Rattle.lte_sec_app.specs.declared.ladder_line.LadderLine.TheVariants.{Root, Kenb, Nh, Star}
+use Rattle.lte_sec_app.specs.declared.ladder_line.LadderLine.TheVariants.{Root, Kenb, Nh, Star, Alg}
 
 abbrev pub is_feed : ℕ → Bool
 is_feed octet = octet == 10
@@ -55,19 +58,55 @@ abbrev pub cell_of : List ℕ → List ℕ → Option Place
 cell_of pci earfcn = option_and_then (λ p. option_and_then (λ e.
     if nat_le p 503 && nat_le e 65535 then Some (record { pci = p; earfcn = e }) else None) (number_of earfcn)) (number_of pci)
 
+-- an algorithm type, by its distinguisher (TS 33.401 table A.7-1)
+abbrev pub type_numbered : ℕ → Option AlgType
+type_numbered n =
+    if n == 1 then Some NasEnc
+    else (if n == 2 then Some NasInt
+    else (if n == 3 then Some RrcEnc
+    else (if n == 4 then Some RrcInt
+    else (if n == 5 then Some UpEnc
+    else None))))
+
+abbrev pub type_of : List ℕ → Option AlgType
+type_of word = option_and_then type_numbered (number_of word)
+
+-- the algorithms of a type, by their identities: 128-EIA2 for integrity, EEA0 and 128-EEA2 for encryption
+-- (TS 33.401 5.1.3.2 and 5.1.4.2)
+abbrev pub takes : AlgType → ℕ → Bool
+takes NasInt id = id == 2
+takes RrcInt id = id == 2
+takes encryption id = id == 0 || id == 2
+
+-- the identity of an algorithm of this type
+abbrev pub identity_of : AlgType → List ℕ → Option ℕ
+identity_of type word = option_and_then (λ id. if takes type id then Some id else None) (number_of word)
+
 -- a key of 32 octets in 64 hex digits of either case
 unfoldable pub key_of : List ℕ → Option (List ℕ)
 key_of word = result_ok (decode_sized word 32)
 
--- the line that these words are, whatever rows there are
-abbrev pub line_of : List (List ℕ) → Option LadderLine
-line_of (name ∷ key ∷ []) = if bytes_eq name (codes "root") then option_map Root (key_of key) else None
-line_of (name ∷ r ∷ word ∷ []) =
+-- the line of two words, of three and of four
+unfoldable pub line_of_two : List ℕ → List ℕ → Option LadderLine
+line_of_two name key = if bytes_eq name (codes "root") then option_map Root (key_of key) else None
+
+unfoldable pub line_of_three : List ℕ → List ℕ → List ℕ → Option LadderLine
+line_of_three name r word =
     if bytes_eq name (codes "kenb") then option_and_then (λ root. option_map (Kenb root) (count_of word)) (row_of r)
     else if bytes_eq name (codes "nh") then option_and_then (λ root. option_map (Nh root) (row_of word)) (row_of r)
     else None
-line_of (name ∷ r ∷ pci ∷ earfcn ∷ []) =
-    if bytes_eq name (codes "star") then option_and_then (λ key. option_map (Star key) (cell_of pci earfcn)) (row_of r) else None
+
+unfoldable pub line_of_four : List ℕ → List ℕ → List ℕ → List ℕ → Option LadderLine
+line_of_four name r first second =
+    if bytes_eq name (codes "star") then option_and_then (λ key. option_map (Star key) (cell_of first second)) (row_of r)
+    else if bytes_eq name (codes "alg") then option_and_then (λ key. option_and_then (λ type. option_map (Alg key type) (identity_of type second)) (type_of first)) (row_of r)
+    else None
+
+-- the line that these words are, whatever rows there are
+abbrev pub line_of : List (List ℕ) → Option LadderLine
+line_of (name ∷ key ∷ []) = line_of_two name key
+line_of (name ∷ r ∷ word ∷ []) = line_of_three name r word
+line_of (name ∷ r ∷ first ∷ second ∷ []) = line_of_four name r first second
 line_of other = None
 
 -- the same derivation from the same rows, or the same root
@@ -76,6 +115,7 @@ same (Root key) (Root key') = bytes_eq key key'
 same (Kenb root count) (Kenb root' count') = root.0 == root'.0 && count == count'
 same (Nh root sync) (Nh root' sync') = root.0 == root'.0 && sync.0 == sync'.0
 same (Star key cell) (Star key' cell') = key.0 == key'.0 && (cell.pci == cell'.pci && cell.earfcn == cell'.earfcn)
+same (Alg key type id) (Alg key' type' id') = key.0 == key'.0 && (distinguisher type == distinguisher type' && id == id')
 same line other = false
 
 -- a root
@@ -91,7 +131,21 @@ is_hop_of root other = false
 
 -- a key from which KeNB* is derived (TS 33.401 A.5)
 abbrev pub has_star : LadderLine → Bool
-has_star line = not (is_root line)
+has_star (Root key) = false
+has_star (Alg key type id) = false
+has_star other = true
+
+-- a KeNB, or a KeNB* that becomes the KeNB of its cell (TS 33.401 7.2.8.1.1)
+abbrev pub is_kenb : LadderLine → Bool
+is_kenb (Kenb root count) = true
+is_kenb (Star key cell) = true
+is_kenb other = false
+
+-- a key from which a key of this algorithm type is derived: KASME for those of NAS, KeNB for the others (TS 33.401 A.7)
+abbrev pub has_alg : AlgType → LadderLine → Bool
+has_alg NasEnc line = is_root line
+has_alg NasInt line = is_root line
+has_alg other line = is_kenb line
 
 -- the row stands and passes a test
 abbrev pub stands_as : (LadderLine → Bool) → List LadderLine → Row → Bool
@@ -103,6 +157,7 @@ meets rows (Root key) = not (list_any (λ line. same line (Root key)) rows)
 meets rows (Kenb root count) = stands_as is_root rows root
 meets rows (Nh root sync) = stands_as is_root rows root && stands_as (is_hop_of root) rows sync
 meets rows (Star key cell) = stands_as has_star rows key
+meets rows (Alg key type id) = stands_as (has_alg type) rows key
 
 -- a line makes a new row where no row is the same derivation from the same rows
 abbrev pub with_row : List LadderLine → LadderLine → List LadderLine

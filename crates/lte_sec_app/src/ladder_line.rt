@@ -1,9 +1,9 @@
 ghost use Rattle.std.specs.Prelude.{◌≡◌, true, ◌^◌, ◌<◌, List, ℕ, map, take, IfOk, IfSome};
 ghost use Rattle.std.specs.Char.{is_ascii_digit};
 ghost use Rattle.std.specs.List.{list_all};
-ghost use Rattle.lte_sec_app.specs.LadderText.{words_of, starts_well, is_numeral, number_of, row_of, count_of, cell_of, key_of, line_of};
+ghost use Rattle.lte_sec_app.specs.LadderText.{words_of, starts_well, is_numeral, number_of, row_of, count_of, cell_of, type_of, takes, identity_of, key_of, line_of_two, line_of_three, line_of_four, line_of};
 
-use annex_a_keys::Cell;
+use annex_a_keys::{AlgType, Cell};
 use hex::FromHex;
 use key_terms::Row;
 use std::alloc::{AllocError, Global};
@@ -19,6 +19,8 @@ pub enum LadderLine {
     Nh { root: Row, sync: Row },
     /// `star`: the KeNB* (TS 33.401 A.5) of a row for a cell.
     Star { key: Row, cell: Cell },
+    /// `alg`: the algorithm key (TS 33.401 A.7) of a row for an algorithm type and identity.
+    Alg { key: Row, kind: AlgType, id: u8 },
 }
 
 impl LadderLine {
@@ -33,6 +35,7 @@ impl LadderLine {
             LadderLine::Kenb { .. } => "kenb",
             LadderLine::Nh { .. } => "nh",
             LadderLine::Star { .. } => "star",
+            LadderLine::Alg { .. } => "alg",
         }
     }
 
@@ -50,21 +53,59 @@ fn line_from(words: &[&[u8]]) -> Option<LadderLine>
     ensures { result ≡ line_of (map (λ word. word.now) words.now) }
 {
     match words {
-        [name, word] if *name == b"root".as_slice() => Some(LadderLine::Root(key(word)?)),
-        [name, root, count] if *name == b"kenb".as_slice() => Some(LadderLine::Kenb {
-            root: row(root)?,
-            count: nas_count(count)?,
-        }),
-        [name, root, sync] if *name == b"nh".as_slice() => Some(LadderLine::Nh {
-            root: row(root)?,
-            sync: row(sync)?,
-        }),
-        [name, from, pci, earfcn] if *name == b"star".as_slice() => Some(LadderLine::Star {
-            key: row(from)?,
-            cell: cell(pci, earfcn)?,
-        }),
+        [name, key] => line_of_two(name, key),
+        [name, from, word] => line_of_three(name, from, word),
+        [name, from, first, second] => line_of_four(name, from, first, second),
         _ => None,
     }
+}
+
+// The line of two words: a root.
+#[tactic(auto, unfolding(crate::specs::LadderText::line_of_two))]
+fn line_of_two(name: &[u8], word: &[u8]) -> Option<LadderLine>
+    ensures { result ≡ line_of_two name.now word.now }
+{
+    if name == b"root".as_slice() {
+        return Some(LadderLine::Root(key(word)?));
+    }
+    None
+}
+
+// The line of three words: a KeNB or an NH.
+#[tactic(auto, unfolding(crate::specs::LadderText::line_of_three))]
+fn line_of_three(name: &[u8], from: &[u8], word: &[u8]) -> Option<LadderLine>
+    ensures { result ≡ line_of_three name.now from.now word.now }
+{
+    if name == b"kenb".as_slice() {
+        let root = row(from)?;
+        let count = nas_count(word)?;
+        return Some(LadderLine::Kenb { root, count });
+    }
+    if name == b"nh".as_slice() {
+        let root = row(from)?;
+        let sync = row(word)?;
+        return Some(LadderLine::Nh { root, sync });
+    }
+    None
+}
+
+// The line of four words: a KeNB* or an algorithm key.
+#[tactic(auto, unfolding(crate::specs::LadderText::line_of_four))]
+fn line_of_four(name: &[u8], from: &[u8], first: &[u8], second: &[u8]) -> Option<LadderLine>
+    ensures { result ≡ line_of_four name.now from.now first.now second.now }
+{
+    if name == b"star".as_slice() {
+        let key = row(from)?;
+        let cell = cell(first, second)?;
+        return Some(LadderLine::Star { key, cell });
+    }
+    if name == b"alg".as_slice() {
+        let key = row(from)?;
+        let kind = alg_type(first)?;
+        let id = identity(kind, second)?;
+        return Some(LadderLine::Alg { key, kind, id });
+    }
+    None
 }
 
 // The words of a line, of which no line has more than four, up to the fifth.
@@ -104,6 +145,42 @@ fn cell(pci: &[u8], earfcn: &[u8]) -> Option<Cell>
     let pci = number(pci)?;
     let earfcn = number(earfcn)?;
     Cell::new(u16::try_from(pci).ok()?, earfcn).ok()
+}
+
+// An algorithm type, by its distinguisher.
+fn alg_type(word: &[u8]) -> Option<AlgType>
+    ensures { result ≡ type_of word.now }
+{
+    match number(word)? {
+        1 => Some(AlgType::NasEnc),
+        2 => Some(AlgType::NasInt),
+        3 => Some(AlgType::RrcEnc),
+        4 => Some(AlgType::RrcInt),
+        5 => Some(AlgType::UpEnc),
+        _ => None,
+    }
+}
+
+// The identity of an algorithm of a type.
+fn identity(kind: AlgType, word: &[u8]) -> Option<u8>
+    ensures { result ≡ identity_of kind word.now }
+{
+    let id = number(word)?;
+    if takes(kind, id) {
+        u8::try_from(id).ok()
+    } else {
+        None
+    }
+}
+
+// Whether an identity is that of an algorithm of a type.
+fn takes(kind: AlgType, id: u32) -> bool
+    ensures { result ≡ takes kind id }
+{
+    match kind {
+        AlgType::NasInt | AlgType::RrcInt => id == 2,
+        AlgType::NasEnc | AlgType::RrcEnc | AlgType::UpEnc => id == 0 || id == 2,
+    }
 }
 
 // The number that a word is.

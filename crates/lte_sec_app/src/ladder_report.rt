@@ -1,6 +1,9 @@
 ghost use Rattle.std.specs.Prelude.{◌≡◌, ℕ, ◌+◌, ◌<◌, ◌≤◌, true, false, List, [], Some, length, map, IfOk, IsTrue};
 ghost use Rattle.std.specs.String.{string_bytes};
 ghost use Rattle.hmac_kdf.specs.Kdf.{IsKdfInput};
+ghost use Rattle.hmac_kdf.specs.declared.input.KdfInput.{KdfInput};
+ghost use Rattle.annex_a_keys.specs.AlgType.{distinguisher};
+ghost use Rattle.annex_a_keys.specs.Derived.{derivation};
 ghost use Rattle.key_terms.specs.Ladder.{IsLadder};
 ghost use Rattle.lte_sec_app.specs.LadderText.{is_root, meets, AreGood};
 ghost use Rattle.lte_sec_app.specs.LadderReport.{KeyRow, key_at, derived_in, kind_of, row_text, root_coincidence_text, rows_coincidence_text, coincidence_text, refusal_text, place_in, rows_after, text_at, output_from, ends_at, IsReported, TextAt, Writes};
@@ -9,7 +12,7 @@ ghost use Rattle.lte_sec_app.specs.LadderRows.{StandsFor, Awaits, answer_at};
 
 use crate::ladder_line::LadderLine;
 use crate::status::Status;
-use annex_a_keys::{Derived, Kasme, Kenb, Nh};
+use annex_a_keys::{AlgType, Derived, Kasme, Kenb, Nh};
 use edge_io::{Sink, write_all};
 use key_terms::{Ladder, LadderFault, Row};
 use std::alloc::{AllocError, Global};
@@ -128,6 +131,18 @@ fn derived(ladder: &Ladder, line: &LadderLine) -> Derived
             kasme.nh_next(&Nh::of_octets(octets(ladder, sync))).1
         }
         LadderLine::Star { key, cell } => Kenb::of_octets(octets(ladder, key)).star(&cell).1,
+        LadderLine::Alg { key, kind, id } => alg_derived(octets(ladder, key), kind, id),
+    }
+}
+
+// The derivation of an algorithm key, from KASME for the types of NAS and from KeNB for the others.
+fn alg_derived(key: [u8; 32], kind: AlgType, id: u8) -> Derived
+    ensures value { result ≡ derivation key (KdfInput.Alg (distinguisher kind) id) }
+    ensures input { IsKdfInput result.input }
+{
+    match kind {
+        AlgType::NasEnc | AlgType::NasInt => Kasme::of_octets(key).nas_alg(kind, id).1,
+        AlgType::RrcEnc | AlgType::RrcInt | AlgType::UpEnc => Kenb::of_octets(key).alg(kind, id).1,
     }
 }
 

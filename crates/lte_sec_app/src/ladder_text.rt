@@ -1,8 +1,9 @@
 ghost use Rattle.std.specs.Prelude.{◌≡◌, ℕ, ◌<◌, ◌≤◌, ◌∷◌, [], length, OnOk, IfOk, IfSome, Ok, Err, position};
 ghost use Rattle.std.specs.List.{list_any};
-ghost use Rattle.lte_sec_app.specs.LadderText.{is_feed, lines_of, words_of, same, is_root, is_hop_of, has_star, stands_as, meets, with_row, rows_of, next_line, reading_of, AreGood};
+ghost use Rattle.lte_sec_app.specs.LadderText.{is_feed, lines_of, words_of, same, is_root, is_hop_of, has_star, is_kenb, has_alg, stands_as, meets, with_row, rows_of, next_line, reading_of, AreGood};
 
 use crate::ladder_line::LadderLine;
+use annex_a_keys::AlgType;
 use key_terms::Row;
 use std::alloc::{AllocError, AllocFailed, Global};
 
@@ -117,6 +118,7 @@ fn meets(rows: &[LadderLine], line: &LadderLine) -> bool
         LadderLine::Kenb { root, .. } => has_root(rows, *root),
         LadderLine::Nh { root, sync } => has_root(rows, *root) && has_hop(rows, *root, *sync),
         LadderLine::Star { key, .. } => has_as_key(rows, *key),
+        LadderLine::Alg { key, kind, .. } => has_for(rows, *kind, *key),
     }
 }
 
@@ -149,7 +151,27 @@ fn has_as_key(rows: &[LadderLine], row: Row) -> bool
     ensures { result ≡ stands_as has_star rows.now row }
 {
     match rows.get(row.0 as usize) {
-        Some(LadderLine::Root(_)) | None => false,
+        Some(LadderLine::Root(_) | LadderLine::Alg { .. }) | None => false,
         Some(_) => true,
     }
+}
+
+// Whether a row is a key from which a key of an algorithm type is derived.
+fn has_for(rows: &[LadderLine], kind: AlgType, row: Row) -> bool
+    ensures { result ≡ stands_as (has_alg kind) rows.now row }
+{
+    match kind {
+        AlgType::NasEnc | AlgType::NasInt => has_root(rows, row),
+        AlgType::RrcEnc | AlgType::RrcInt | AlgType::UpEnc => has_kenb(rows, row),
+    }
+}
+
+// Whether a row is a KeNB, or a KeNB* that becomes one.
+fn has_kenb(rows: &[LadderLine], row: Row) -> bool
+    ensures { result ≡ stands_as is_kenb rows.now row }
+{
+    matches!(
+        rows.get(row.0 as usize),
+        Some(LadderLine::Kenb { .. } | LadderLine::Star { .. })
+    )
 }

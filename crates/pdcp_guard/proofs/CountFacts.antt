@@ -1,5 +1,5 @@
 -- What the COUNTs and the ciphering of all bearers have in common.
-use Rattle.std.proofs.Common.{◌≡◌, ℕ, ◌-◌, ◌%◌, ◌<◌, ◌≤◌, nat_lt, true, List, length, Ok, refl, arith, drop}
+use Rattle.std.proofs.Common.{◌≡◌, ℕ, ◌+◌, ◌-◌, ◌%◌, ◌<◌, ◌≤◌, nat_lt, Bool, true, false, if◌then◌else◌, List, length, Result, Ok, Err, refl, ap, sym, ◌∙◌, arith, drop}
 use Rattle.std.proofs.lemmas.Bool.Decides.{nat_tests}
 use Rattle.alg_choice.specs.declared.algs.Eea.{Eea}
 use Rattle.alg_choice.specs.declared.algs.Eea.TheVariants.{Eea0, Eea2}
@@ -8,7 +8,9 @@ use Rattle.ctr_eea2.proofs.CombinedLemmas.{length-eea2_of}
 use Rattle.key_model.specs.Least.{least}
 use Rattle.key_model.proofs.LeastFacts.{least_in_window}
 use Rattle.nas_guard.specs.Cipher.{ciphered}
-use Rattle.pdcp_guard.specs.Counts.{LIMIT, in_32_bits}
+use Rattle.pdcp_guard.specs.declared.pdus.PdcpFault.{PdcpFault}
+use Rattle.pdcp_guard.specs.declared.pdus.PdcpFault.TheVariants.{CountSpent}
+use Rattle.pdcp_guard.specs.Counts.{BearerState, LIMIT, after_send, in_32_bits, send_count}
 
 -- a ciphered text is as long as the text
 pub length-ciphered : (eea : Eea) (key : List ℕ) (count bearer : ℕ) (dir : Dir) (text : List ℕ)
@@ -27,3 +29,20 @@ in_32_bits-below count below =
 -- a COUNT fewer than w above the next expected one is the least with its sequence number
 pub expected-is_least : (w next count : ℕ) → 0 < w → next ≤ count → count - next < w → least next (count % w) w ≡ count
 expected-is_least w next count some above few = (least_in_window next count w some above).1 few
+
+-- a COUNT that has 32 bits is itself
+in_32_bits-Ok : (count n : ℕ) → in_32_bits count ≡ Ok n → n ≡ count
+unfolding in_32_bits
+in_32_bits-Ok count n found = by_test (nat_lt count LIMIT) found
+  where
+    by_test : (b : Bool) → (let spent : Result ℕ PdcpFault = Err CountSpent in if b then Ok count else spent) ≡ Ok n → n ≡ count
+    by_test true e = cc
+    by_test false e = absurd (cc)
+
+-- the sending after one takes a greater COUNT
+pub send_counts-rise : (b : BearerState) (first second : ℕ) → send_count b ≡ Ok first
+    → send_count (after_send b (send_count b)) ≡ Ok second → first < second
+send_counts-rise b first second taken again =
+    let next : in_32_bits (first + 1) ≡ Ok second = ap (λ r. send_count (after_send b r)) (sym taken) ∙ again in
+    let is : second ≡ first + 1 = in_32_bits-Ok (first + 1) second next in
+    omega arith

@@ -1,5 +1,5 @@
 -- On data radio bearers what was sealed opens, and what opens was sealed.
-use Rattle.std.proofs.Common.{◌≡◌, ℕ, suc, ◌+◌, ◌-◌, ◌*◌, ◌/◌, ◌%◌, ◌<◌, ◌≤◌, ◌==◌, nat_lt, true, false, List, [], ◌∷◌, length, drop, slice_index, Ok, refl, ap, sym, ◌∙◌, arith, eq-eqb}
+use Rattle.std.proofs.Common.{◌≡◌, ℕ, suc, ◌+◌, ◌-◌, ◌*◌, ◌/◌, ◌%◌, ◌<◌, ◌≤◌, ◌==◌, nat_lt, true, false, List, [], ◌∷◌, length, drop, slice_index, Result, Ok, refl, ap, ◌∙◌, arith, eq-eqb}
 use Rattle.std.proofs.lemmas.Bool.Decides.{nat_tests}
 use Rattle.rec_base.specs.Bearer.{bearer5_of}
 use Rattle.rec_base.specs.declared.bearers.Bearer.{Bearer}
@@ -8,6 +8,7 @@ use Rattle.key_model.specs.Least.{least}
 use Rattle.key_model.proofs.LeastFacts.{least_is}
 use Rattle.nas_guard.proofs.SealFacts.{ciphered-ciphered}
 use Rattle.pdcp_guard.specs.declared.pdus.PdcpOpened.{PdcpOpened}
+use Rattle.pdcp_guard.specs.declared.pdus.PdcpFault.{PdcpFault}
 use Rattle.pdcp_guard.specs.AsKeys.{AsKeys}
 use Rattle.pdcp_guard.specs.Counts.{LIMIT}
 use Rattle.pdcp_guard.specs.Drb.{DrbOpens, drb_ciphered, drb_count, drb_first, drb_first_octet, drb_opened, drb_opened_at, drb_opened_by, drb_sealed, drb_second_octet, drb_sn}
@@ -71,6 +72,15 @@ pub drb_opened-near : (keys : AsKeys (List ℕ)) (bearer : Bearer) (count next :
     → drb_opened keys bearer next dir (drb_sealed keys bearer count dir text) ≡ Ok (record { count = count; text = text })
 drb_opened-near keys bearer count next dir text below above few =
     drb_opened-drb_sealed keys bearer count next dir text below (expected-is_least 4096 next count (omega arith) above few)
+
+-- what was sealed is answered with its text
+pub drb_intact : (keys : AsKeys (List ℕ)) (bearer : Bearer) (next : ℕ) (dir : Dir) (pdu : List ℕ) (r : Result PdcpOpened PdcpFault)
+    → r ≡ drb_opened keys bearer next dir pdu → (count : ℕ) (text : List ℕ) → pdu ≡ drb_sealed keys bearer count dir text
+    → count < LIMIT → least next (count % 4096) 4096 ≡ count → r ≡ Ok (record { count = count; text = text })
+drb_intact keys bearer next dir pdu r is count text made below is_least =
+    is
+    ∙ ap (drb_opened keys bearer next dir) made
+    ∙ drb_opened-drb_sealed keys bearer count next dir text below is_least
 
 -- what opens was sealed, octet by octet
 was_sealed : (keys : AsKeys (List ℕ)) (bearer : Bearer) (count : ℕ) (dir : Dir) (pdu : List ℕ)

@@ -1,5 +1,5 @@
 -- The keys of a KeNB in two readings.
-use Rattle.std.proofs.Common.{◌≡◌, List, map, refl}
+use Rattle.std.proofs.Common.{◌≡◌, map, refl}
 use Rattle.alg_choice.specs.declared.algs.Algs.{Algs}
 use Rattle.key_model.specs.Derivation.{map_derivation}
 use Rattle.key_model.specs.Reading.{Carries, Reading}

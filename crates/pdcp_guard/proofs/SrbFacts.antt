@@ -1,5 +1,5 @@
 -- On signalling radio bearers what was sealed opens, and what opens was sealed.
-use Rattle.std.proofs.Common.{◌≡◌, ◌≢◌, ℕ, suc, ◌+◌, ◌-◌, ◌%◌, ◌<◌, ◌≤◌, nat_lt, Bool, true, false, if◌then◌else◌, List, [], ◌∷◌, ◌++◌, length, drop, take, Result, Ok, Err, IfOk, IfErr, refl, ap, sym, ◌∙◌, subst, arith, length-append}
+use Rattle.std.proofs.Common.{◌≡◌, ◌≢◌, ℕ, suc, ◌+◌, ◌-◌, ◌%◌, ◌<◌, ◌≤◌, nat_lt, Bool, true, false, if◌then◌else◌, List, [], ◌∷◌, ◌++◌, length, Result, Ok, Err, IfOk, IfErr, refl, ap, ◌∙◌, arith, length-append}
 use Rattle.std.specs.Str.{bytes_eq}
 use Rattle.std.proofs.lemmas.Slice.Eq.{bytes_eq-Decides}
 use Rattle.std.proofs.lemmas.List.{take-append-drop}
@@ -11,14 +11,13 @@ use Rattle.rec_base.specs.declared.bearers.Bearer.{Bearer}
 use Rattle.rec_base.specs.declared.uses.Dir.{Dir}
 use Rattle.key_model.specs.Least.{least}
 use Rattle.key_model.proofs.LeastFacts.{least_is}
-use Rattle.nas_guard.specs.Cipher.{ciphered}
 use Rattle.nas_guard.proofs.SealFacts.{ciphered-ciphered, length-mac_of}
 use Rattle.pdcp_guard.specs.declared.pdus.PdcpOpened.{PdcpOpened}
 use Rattle.pdcp_guard.specs.declared.pdus.PdcpFault.{PdcpFault}
 use Rattle.pdcp_guard.specs.declared.pdus.PdcpFault.TheVariants.{MacFails}
 use Rattle.pdcp_guard.specs.AsKeys.{AsKeys}
 use Rattle.pdcp_guard.specs.Counts.{LIMIT}
-use Rattle.pdcp_guard.specs.Srb.{SrbOpens, SrbRefuses, srb_ciphered, srb_count, srb_first, srb_got, srb_header, srb_mac, srb_opened, srb_opened_by, srb_opened_at, srb_plain, srb_sealed, srb_sn, srb_text, srb_wanted}
+use Rattle.pdcp_guard.specs.Srb.{SrbOpens, SrbRefuses, srb_ciphered, srb_count, srb_first, srb_got, srb_header, srb_mac, srb_opened, srb_opened_by, srb_opened_at, srb_sealed, srb_sn, srb_text, srb_wanted}
 use Rattle.pdcp_guard.proofs.CountFacts.{expected-is_least, in_32_bits-below, length-ciphered}
 
 -- to cipher twice gives the octets back
@@ -110,6 +109,15 @@ pub srb_opened-near : (keys : AsKeys (List ℕ)) (cipher : Bool) (bearer : Beare
 srb_opened-near keys cipher bearer count next dir text below above few =
     srb_opened-srb_sealed keys cipher bearer count next dir text below (expected-is_least 32 next count (omega arith) above few)
 
+-- what was sealed is answered with its text
+pub srb_intact : (keys : AsKeys (List ℕ)) (cipher : Bool) (bearer : Bearer) (next : ℕ) (dir : Dir) (pdu : List ℕ) (r : Result PdcpOpened PdcpFault)
+    → r ≡ srb_opened keys cipher bearer next dir pdu → (count : ℕ) (text : List ℕ) → pdu ≡ srb_sealed keys cipher bearer count dir text
+    → count < LIMIT → least next (count % 32) 32 ≡ count → r ≡ Ok (record { count = count; text = text })
+srb_intact keys cipher bearer next dir pdu r is count text made below is_least =
+    is
+    ∙ ap (srb_opened keys cipher bearer next dir) made
+    ∙ srb_opened-srb_sealed keys cipher bearer count next dir text below is_least
+
 -- what opens was sealed, octet by octet
 was_sealed : (keys : AsKeys (List ℕ)) (cipher : Bool) (bearer : Bearer) (count : ℕ) (dir : Dir) (pdu : List ℕ)
     → 5 ≤ length pdu → count % 32 ≡ srb_first pdu → srb_wanted keys cipher bearer count dir pdu ≡ srb_got keys cipher bearer count dir pdu
@@ -134,6 +142,7 @@ pub record Answered (keys : AsKeys (List ℕ)) (cipher : Bool) (bearer : Bearer)
   pub opens : IfOk r (SrbOpens keys cipher bearer next dir pdu)
   pub refused : IfErr r (SrbRefuses keys cipher bearer next dir pdu)
   pub was_sealed : IfOk r (λ o. pdu ≡ srb_sealed keys cipher bearer o.count dir o.text)
+  pub at_or_above : IfOk r (λ o. next ≤ o.count)
 
 abbrev answer_by : AsKeys (List ℕ) → Bool → Bearer → ℕ → Dir → List ℕ → Bool → Result PdcpOpened PdcpFault
 answer_by keys cipher bearer count dir pdu b =
@@ -141,10 +150,10 @@ answer_by keys cipher bearer count dir pdu b =
     else Err (MacFails count (srb_wanted keys cipher bearer count dir pdu) (srb_got keys cipher bearer count dir pdu))
 
 pub srb_answered : (keys : AsKeys (List ℕ)) (cipher : Bool) (bearer : Bearer) (next : ℕ) (dir : Dir) (pdu : List ℕ) (count : ℕ)
-    → 5 ≤ length pdu → srb_first pdu < 32 → count ≡ least next (srb_sn pdu) 32 → count < LIMIT
+    → 5 ≤ length pdu → srb_first pdu < 32 → count ≡ least next (srb_sn pdu) 32 → count < LIMIT → next ≤ count
     → Answered keys cipher bearer next dir pdu (srb_opened_at keys cipher bearer count dir pdu)
 unfolding srb_opened_at
-srb_answered keys cipher bearer next dir pdu count long reserved is_least below =
+srb_answered keys cipher bearer next dir pdu count long reserved is_least below above =
     by_mac (bytes_eq wanted got) refl
   where
     wanted : List ℕ
@@ -159,8 +168,8 @@ srb_answered keys cipher bearer next dir pdu count long reserved is_least below 
         let mac = (bytes_eq-Decides (srb_wanted keys cipher bearer count dir pdu) (srb_got keys cipher bearer count dir pdu)).0 e in
         let opens : SrbOpens keys cipher bearer next dir pdu (record { count = count; text = srb_text keys cipher bearer count dir pdu }) =
         record { long = long; reserved = reserved; count = is_least; below = below; mac = mac; text = refl } in
-        record { opens = opens; refused = tt; was_sealed = srb_sealed-opened keys cipher bearer next dir pdu _ opens }
+        record { opens = opens; refused = tt; was_sealed = srb_sealed-opened keys cipher bearer next dir pdu _ opens; at_or_above = above }
     by_mac false e =
         let differs : srb_wanted keys cipher bearer count dir pdu ≢ srb_got keys cipher bearer count dir pdu =
         λ same. let test = (bytes_eq-Decides (srb_wanted keys cipher bearer count dir pdu) (srb_got keys cipher bearer count dir pdu)).1 same in absurd (cc) in
-        record { opens = tt; refused = (long, reserved, is_least, below, refl, refl, differs); was_sealed = tt }
+        record { opens = tt; refused = (long, reserved, is_least, below, refl, refl, differs); was_sealed = tt; at_or_above = tt }

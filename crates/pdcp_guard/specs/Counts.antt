@@ -15,7 +15,7 @@ pub record BearerState : Type 0 where
   pub bearer : Bearer
   pub counts : Counts
 
--- both COUNTs start at 0 (5.2.1)
+-- both COUNTs start at 0 (7.1)
 abbrev pub new_bearer : Bearer → BearerState
 new_bearer bearer = record { bearer = bearer; counts = record { send = 0; receive = 0 } }
 

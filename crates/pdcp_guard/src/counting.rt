@@ -19,9 +19,9 @@ pub(crate) struct Counts {
 impl Model for Counts {
     ghost use Rattle.std.specs.Prelude.{◌≤◌};
     ghost use Rattle.pdcp_guard.specs.declared.counting.TheConstants.{LIMIT};
-    ghost use Rattle.pdcp_guard.specs.Counts.{Counts as Value_of_counts};
+    ghost use Rattle.pdcp_guard.specs.Counts.{Counts as NextCounts};
 
-    ghost Value = { Value_of_counts };
+    ghost Value = { NextCounts };
 
     ghost view = { λ c. record { send = c.send; receive = c.receive } };
 
@@ -31,7 +31,7 @@ impl Model for Counts {
 }
 
 impl Counts {
-    // Both COUNTs start at 0 (TS 36.323 5.2.1).
+    // Both COUNTs start at 0 (TS 36.323 7.1).
     pub(crate) fn new() -> Counts
         ensures { result ≡ record { send = 0; receive = 0 } }
     {
@@ -80,6 +80,7 @@ impl Counts {
         requires twelve_bits { values ≤ 4096 }
         ensures value { result ≡ in_32_bits (least self.now.receive sn values) }
         ensures least { IfOk result (λ count. count ≡ least self.now.receive sn values) }
+        ensures at_or_above { IfOk result (λ count. self.now.receive ≤ count) }
         ensures spent { IfErr result (λ _. LIMIT ≤ least self.now.receive sn values) }
         ensures cause { IfErr result (λ fault. fault ≡ PdcpFault.CountSpent) }
     {
@@ -108,7 +109,8 @@ fn least(low: u64, sn: u16, values: u16) -> u64
     requires some { 0 < values }
     requires below { sn < values }
     requires twelve_bits { values ≤ 4096 }
-    ensures { result ≡ least low sn values }
+    ensures value { result ≡ least low sn values }
+    ensures at_or_above { low ≤ result }
 {
     let values = u64::from(values);
     low + (u64::from(sn) + (values - low % values)) % values

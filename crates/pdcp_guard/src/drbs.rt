@@ -1,4 +1,4 @@
-ghost use Rattle.std.specs.Prelude.{◌≡◌, ℕ, ◌+◌, ◌-◌, ◌/◌, ◌<◌, ◌≤◌, ◌↔◌, drop, IfErr, IfOk, IsErr, OnErr, length};
+ghost use Rattle.std.specs.Prelude.{◌≡◌, ℕ, ◌+◌, ◌-◌, ◌/◌, ◌%◌, ◌<◌, ◌≤◌, ◌↔◌, drop, IfErr, IfOk, IsErr, List, OnErr, length};
 ghost use Rattle.pdcp_guard.specs.Counts.{after_receive, after_send, expects_next, new_bearer, send_count, sends_next, skipped};
 ghost use Rattle.key_model.specs.Least.{least};
 ghost use Rattle.pdcp_guard.specs.Drb.{IsDrb, DrbOpens, DrbRefuses, drb_ciphered, drb_count, drb_first, drb_opened, drb_opened_at, drb_sealed, drb_sent_by, drb_sn};
@@ -34,7 +34,7 @@ impl Model for Drb {
 }
 
 impl Drb {
-    /// A new bearer, DRB1 to DRB4: both COUNTs start at 0 (TS 36.323 5.2.1).
+    /// A new bearer, DRB1 to DRB4: both COUNTs start at 0 (TS 36.323 7.1).
     pub fn new(bearer: Bearer) -> Drb
         requires { IsDrb bearer }
         ensures { result ≡ new_bearer bearer }
@@ -81,6 +81,13 @@ impl Drb {
         ensures opens { IfOk result (DrbOpens keys.now self.old.bearer self.old.counts.receive dir pdu.now) }
         ensures moves { IfOk result (λ o. self.new ≡ expects_next self.old (o.count + 1)) }
         ensures was_sealed { IfOk result (λ o. pdu.now ≡ drb_sealed keys.now self.old.bearer o.count dir o.text) }
+
+        // A PDU that was made under these keys and this bearer and direction opens to its text where its
+        // COUNT is the one expected: the least with its sequence number.
+        ensures intact { (count : ℕ) (text : List ℕ) → pdu.now ≡ drb_sealed keys.now self.old.bearer count dir text
+            → count < LIMIT → least self.old.counts.receive (count % 4096) 4096 ≡ count
+            → result ≡ Ok (record { count = count; text = text }) }
+
         ensures refused { IfErr result (DrbRefuses self.old.counts.receive pdu.now) }
         ensures err { OnErr result (self.new ≡ self.old) }
     {

@@ -8,6 +8,7 @@ ghost use Rattle.alg_choice.specs.declared.algs.Algs.{Algs};
 ghost use Rattle.key_model.specs.Derivation.{map_derivation};
 ghost use Rattle.key_model.specs.Reading.{Carries, Reading};
 ghost use Rattle.pdcp_guard.specs.AsKeys.{AsKeys, as_derivations, as_keys_of, map_as_keys};
+ghost use Rattle.pdcp_guard.specs.Counts.{BearerState, after_send, expects_next, send_count, skipped};
 ghost use Rattle.pdcp_guard.specs.Srb.{srb_opened, srb_opened_at, srb_sealed};
 ghost use Rattle.pdcp_guard.specs.Drb.{drb_opened, drb_opened_at, drb_sealed};
 
@@ -41,6 +42,15 @@ pub fn drb_sealed_opens()
         → drb_opened_at keys bearer count dir (drb_sealed keys bearer count dir text) ≡ record { count = count; text = text } }
     ensures length { (keys : AsKeys (List ℕ)) (bearer : Bearer) (count : ℕ) (dir : Dir) (text : List ℕ)
         → length (drb_sealed keys bearer count dir text) ≡ length text + 2 }
+{}
+
+/// No COUNT is sent twice: the sending after one takes a greater COUNT, to leave COUNTs out takes none
+/// back, and what is received changes none.
+pub fn sending_counts_rise()
+    ensures send { (b : BearerState) (first second : ℕ) → send_count b ≡ Ok first
+        → send_count (after_send b (send_count b)) ≡ Ok second → first < second }
+    ensures skip { (b : BearerState) (n : ℕ) → b.counts.send ≤ LIMIT → b.counts.send ≤ skipped b.counts.send n }
+    ensures receive { (b : BearerState) (count : ℕ) → (expects_next b count).counts.send ≡ b.counts.send }
 {}
 
 /// The keys of a KeNB and their derivations are carried from one reading of keys to another.

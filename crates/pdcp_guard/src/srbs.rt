@@ -1,4 +1,4 @@
-ghost use Rattle.std.specs.Prelude.{◌≡◌, ℕ, ◌+◌, ◌-◌, ◌<◌, ◌≤◌, ◌∷◌, ◌↔◌, IfErr, IfOk, IsErr, IsTrue, OnErr, length};
+ghost use Rattle.std.specs.Prelude.{◌≡◌, ℕ, ◌+◌, ◌-◌, ◌%◌, ◌<◌, ◌≤◌, ◌∷◌, ◌↔◌, IfErr, IfOk, IsErr, IsTrue, List, OnErr, length};
 ghost use Rattle.pdcp_guard.specs.Counts.{after_send, expects_next, new_bearer, send_count, sends_next, skipped};
 ghost use Rattle.key_model.specs.Least.{least};
 ghost use Rattle.pdcp_guard.specs.Srb.{IsSrb, SrbHasNoCount, SrbOpens, SrbRefuses, srb_count, srb_first, srb_opened, srb_opened_at, srb_sealed, srb_sent_by, srb_sn};
@@ -34,7 +34,7 @@ impl Model for Srb {
 }
 
 impl Srb {
-    /// A new bearer, SRB1 or SRB2: both COUNTs start at 0 (TS 36.323 5.2.1).
+    /// A new bearer, SRB1 or SRB2: both COUNTs start at 0 (TS 36.323 7.1).
     pub fn new(bearer: Bearer) -> Srb
         requires { IsSrb bearer }
         ensures { result ≡ new_bearer bearer }
@@ -93,7 +93,14 @@ impl Srb {
         ensures value { result ≡ srb_opened keys.now cipher self.now.bearer self.now.counts.receive dir pdu.now }
         ensures opens { IfOk result (SrbOpens keys.now cipher self.now.bearer self.now.counts.receive dir pdu.now) }
         ensures refused { IfErr result (SrbRefuses keys.now cipher self.now.bearer self.now.counts.receive dir pdu.now) }
+        ensures at_or_above { IfOk result (λ o. self.now.counts.receive ≤ o.count) }
         ensures was_sealed { IfOk result (λ o. pdu.now ≡ srb_sealed keys.now cipher self.now.bearer o.count dir o.text) }
+
+        // A PDU that was made under these keys and this bearer and direction, ciphered or not as here, opens
+        // to its text where its COUNT is the one expected: the least with its sequence number.
+        ensures intact { (count : ℕ) (text : List ℕ) → pdu.now ≡ srb_sealed keys.now cipher self.now.bearer count dir text
+            → count < LIMIT → least self.now.counts.receive (count % 32) 32 ≡ count
+            → result ≡ Ok (record { count = count; text = text }) }
     {
         let count = self.count_of(pdu)?;
         opened_at(keys, cipher, self.bearer, count, dir, pdu)
@@ -128,6 +135,7 @@ impl Srb {
         ensures long { IfOk result (λ _. 5 ≤ length pdu.now) }
         ensures reserved { IfOk result (λ _. srb_first pdu.now < 32) }
         ensures count { IfOk result (λ count. count ≡ least self.now.counts.receive (srb_sn pdu.now) 32) }
+        ensures at_or_above { IfOk result (λ count. self.now.counts.receive ≤ count) }
         ensures refused { IfErr result (SrbHasNoCount self.now.counts.receive pdu.now) }
     {
         if pdu.len() < 5 {

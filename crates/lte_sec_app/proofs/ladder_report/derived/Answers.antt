@@ -17,3 +17,8 @@ pub returns-in-Star-clause-value : goal.returns-in-Star-clause-value
 returns-in-Star-clause-value c = λ rows stand.
     let key = c.octets-in-Star.ensures rows stand in
     ap (derived_in rows) c.in-Star.is ∙ cc
+
+pub returns-in-Alg-clause-value : goal.returns-in-Alg-clause-value
+returns-in-Alg-clause-value c = λ rows stand.
+    let key = c.octets-in-Alg.ensures rows stand in
+    ap (derived_in rows) c.in-Alg.is ∙ cc

@@ -1,7 +1,6 @@
-use Rattle.std.proofs.Common.{◌≡◌, ◌<◌, slice_index, rules, arith, ◌∙◌, sym}
-use Rattle.pdcp_guard.specs.Counts.{LIMIT}
-use Rattle.pdcp_guard.specs.Drb.{DrbOpens, drb_ciphered}
-use Rattle.pdcp_guard.proofs.DrbFacts.{drb_sealed-opened}
+use Rattle.std.proofs.Common.{◌≡◌, ◌<◌, slice_index, Ok, rules, arith, ◌∙◌}
+use Rattle.pdcp_guard.specs.Drb.{DrbOpens}
+use Rattle.pdcp_guard.proofs.DrbFacts.{drb_intact, drb_sealed-opened}
 use Rattle.pdcp_guard.proofs.drbs.Drb.receive.Goals as goal
 
 pub returns-clause-was_sealed : goal.returns-clause-was_sealed
@@ -17,3 +16,9 @@ returns-clause-was_sealed c =
       text = rw (c.opened_at.ensures.count, ← same) c.opened_at.ensures.text;
     } in
     drb_sealed-opened c.args.keys.now c.args.self.now.bearer c.args.self.now.counts.receive c.args.dir c.args.pdu.now c.opened_at.result octet opens
+
+pub returns-clause-intact : goal.returns-clause-intact
+returns-clause-intact c = drb_intact c.args.keys.now c.args.self.now.bearer c.args.self.now.counts.receive c.args.dir c.args.pdu.now (Ok c.opened_at.result) (search rules)
+
+pub returns-in_err-count-clause-intact : goal.returns-in_err-count-clause-intact
+returns-in_err-count-clause-intact c = drb_intact c.args.keys.now c.args.self.now.bearer c.args.self.now.counts.receive c.args.dir c.args.pdu.now c.from_residual.result (search rules)
