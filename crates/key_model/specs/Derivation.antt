@@ -1,5 +1,6 @@
 -- One derivation of TS 33.401 Annex A, in any reading of keys.
 use Rattle.std.specs.Prelude.{ℕ, List}
+use Rattle.annex_a_keys.specs.declared.derived.Derived.{Derived}
 use Rattle.hmac_kdf.specs.declared.input.KdfInput.{KdfInput}
 use Rattle.key_model.specs.Reading.{Reading}
 
@@ -49,3 +50,7 @@ kdf_input (FromCount count) = KdfInput.Kenb count
 kdf_input (FromSync sync) = KdfInput.Nh sync
 kdf_input (FromCell pci earfcn) = KdfInput.Star pci earfcn
 kdf_input (FromAlg type id) = KdfInput.Alg type id
+
+-- a derivation in octets, as the code reports it
+abbrev pub derived_of : Derivation (List ℕ) → Derived
+derived_of d = record { key = d.key; input = kdf_input d.input; out = d.out }

@@ -8,7 +8,7 @@ use Rattle.key_model.specs.HandoverLines.{nh_after, steps_to}
 use Rattle.key_model.specs.Derivation.{nh_made}
 use Rattle.key_model.proofs.LeastFacts.{least_is}
 use Rattle.nh_chain.specs.Chain.{ChainState, climbed, stepped, number_after, nhs_made}
-use Rattle.nh_chain.specs.Made.{derived_of}
+use Rattle.key_model.specs.Derivation.{derived_of}
 
 -- the steps between two NCCs
 pub steps_between : (own ncc : ℕ) → own ≤ 7 → ncc ≤ 7 → (ncc + 8 - own) % 8 ≡ steps_to own ncc

@@ -1,4 +1,3 @@
-pub mod Made
 pub mod Chain
 pub mod Climb
 pub mod Reach

@@ -7,7 +7,7 @@ ghost use Rattle.key_model.specs.Reading.{octet_reading};
 ghost use Rattle.key_model.specs.Derivation.{nh_made};
 ghost use Rattle.nh_chain.specs.Chain.{begun, climbed, nhs_made, number_after, stepped};
 ghost use Rattle.nh_chain.specs.Climb.{nh_reached};
-ghost use Rattle.nh_chain.specs.Made.{derived_of};
+ghost use Rattle.key_model.specs.Derivation.{derived_of};
 
 use annex_a_keys::{Derived, Kasme, Kenb, Nh};
 use arrayvec::ArrayVec;

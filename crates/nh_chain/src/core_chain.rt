@@ -7,7 +7,7 @@ ghost use Rattle.key_model.specs.HandoverTable.{initial_key, next_pair};
 ghost use Rattle.key_model.specs.HandoverLines.{pair_line};
 ghost use Rattle.key_model.specs.Derivation.{kenb_made, nh_made};
 ghost use Rattle.nh_chain.specs.Chain.{begun, present_pair, stepped};
-ghost use Rattle.nh_chain.specs.Made.{derived_of};
+ghost use Rattle.key_model.specs.Derivation.{derived_of};
 ghost use Rattle.nh_chain.specs.Terms.{chain_at, chain_in_octets, in_octets};
 
 use crate::NhPair;

@@ -5,7 +5,7 @@ ghost use Rattle.key_model.specs.Reading.{octet_reading};
 ghost use Rattle.key_model.specs.HandoverTable.{chain_key, key_at_s1_target};
 ghost use Rattle.key_model.specs.HandoverLines.{star_line};
 ghost use Rattle.key_model.specs.Derivation.{star_made};
-ghost use Rattle.nh_chain.specs.Made.{derived_of};
+ghost use Rattle.key_model.specs.Derivation.{derived_of};
 ghost use Rattle.nh_chain.specs.Terms.{in_octets};
 
 use annex_a_keys::{Cell, Derived, Nh, Star};

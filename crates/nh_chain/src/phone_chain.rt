@@ -10,7 +10,7 @@ ghost use Rattle.key_model.specs.Derivation.{star_made};
 ghost use Rattle.nh_chain.specs.Chain.{begun};
 ghost use Rattle.nh_chain.specs.Climb.{base_by, way_by};
 ghost use Rattle.nh_chain.specs.Reach.{phone_of, reached};
-ghost use Rattle.nh_chain.specs.Made.{derived_of};
+ghost use Rattle.key_model.specs.Derivation.{derived_of};
 ghost use Rattle.nh_chain.specs.Terms.{chain_at, chain_in_octets};
 
 use crate::chain::Chain;

@@ -3,7 +3,7 @@ ghost use Rattle.hmac_kdf.specs.Kdf.{IsKdfInput};
 ghost use Rattle.key_model.specs.Term.{Term};
 ghost use Rattle.key_model.specs.Reading.{octet_reading};
 ghost use Rattle.key_model.specs.HandoverTable.{active_key, chain_key, key_from_active, key_from_pair};
-ghost use Rattle.nh_chain.specs.Made.{derived_of};
+ghost use Rattle.key_model.specs.Derivation.{derived_of};
 ghost use Rattle.nh_chain.specs.Terms.{in_octets};
 ghost use Rattle.nh_chain.specs.Station.{given_key, initial_key, opened, restored, stored};
 

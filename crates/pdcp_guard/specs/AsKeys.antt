@@ -6,8 +6,7 @@ use Rattle.annex_a_keys.specs.AlgType.{distinguisher}
 use Rattle.annex_a_keys.specs.declared.alg_type.AlgType.{AlgType}
 use Rattle.annex_a_keys.specs.declared.alg_type.AlgType.TheVariants.{RrcEnc, RrcInt, UpEnc}
 use Rattle.key_model.specs.Reading.{Reading}
-use Rattle.key_model.specs.Derivation.{Derivation, alg_made, kdf_input}
-use Rattle.annex_a_keys.specs.declared.derived.Derived.{Derived}
+use Rattle.key_model.specs.Derivation.{Derivation, alg_made}
 
 -- KRRCenc, KRRCint and KUPenc, for keys K, and the chosen algorithms
 pub record AsKeys (K : Type 0) : Type 0 where
@@ -48,7 +47,3 @@ as_derivations r kenb algs =
     ∷ alg_made r kenb (distinguisher RrcInt) eia2_identity
     ∷ alg_made r kenb (distinguisher UpEnc) (identity_of algs.eea)
     ∷ []
-
--- a derivation in octets
-abbrev pub derived_of : Derivation (List ℕ) → Derived
-derived_of d = record { key = d.key; input = kdf_input d.input; out = d.out }

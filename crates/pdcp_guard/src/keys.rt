@@ -3,7 +3,8 @@ ghost use Rattle.annex_a_keys.specs.AlgType.{IsOfAs};
 ghost use Rattle.key_model.specs.Reading.{octet_reading};
 ghost use Rattle.nas_guard.specs.Cipher.{ciphered};
 ghost use Rattle.rec_base.specs.Bearer.{bearer5_of};
-ghost use Rattle.pdcp_guard.specs.AsKeys.{as_derivations, as_key, as_keys_of, derived_of};
+ghost use Rattle.pdcp_guard.specs.AsKeys.{as_derivations, as_key, as_keys_of};
+ghost use Rattle.key_model.specs.Derivation.{derived_of};
 ghost use Rattle.pdcp_guard.specs.Srb.{srb_ciphered, srb_mac};
 ghost use Rattle.pdcp_guard.specs.Drb.{drb_ciphered};
 
@@ -15,7 +16,7 @@ use rec_base::{Bearer, Dir, Octets};
 use std::marker::Model;
 
 /// The keys of the access stratum, KRRCenc, KRRCint and KUPenc, and its algorithms (TS 33.401 6.2).
-#[derive(Clone, Copy, Debug, PartialEq, Eq)]
+#[derive(Clone, Copy, Debug, Default, PartialEq, Eq)]
 pub struct AsKeys {
     rrc_enc: AlgKey,
     rrc_int: AlgKey,

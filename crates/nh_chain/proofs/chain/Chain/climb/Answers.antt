@@ -4,7 +4,7 @@ use Rattle.hmac_kdf.specs.Kdf.{IsKdfInput}
 use Rattle.key_model.specs.Reading.{octet_reading}
 use Rattle.key_model.specs.Derivation.{nh_made}
 use Rattle.nh_chain.specs.Chain.{nhs_made, stepped}
-use Rattle.nh_chain.specs.Made.{derived_of}
+use Rattle.key_model.specs.Derivation.{derived_of}
 use Rattle.nh_chain.proofs.ClimbFacts.{climbed_step, made_step}
 use Rattle.nh_chain.proofs.chain.Chain.climb.Goals as goal
 

@@ -4,7 +4,7 @@ use Rattle.hmac_kdf.specs.Kdf.{IsKdfInput}
 use Rattle.key_model.specs.Reading.{octet_reading}
 use Rattle.nh_chain.specs.Chain.{climbed, nhs_made}
 use Rattle.nh_chain.specs.Climb.{nh_reached}
-use Rattle.nh_chain.specs.Made.{derived_of}
+use Rattle.key_model.specs.Derivation.{derived_of}
 use Rattle.nh_chain.proofs.chain.Chain.climb.Given as goal
 
 abbrev pub invariant-loop : goal.invariant-loop
