@@ -1,5 +1,5 @@
 -- The keys of the access stratum (TS 33.401 6.2).
-use Rattle.std.specs.Prelude.{List, [], ◌∷◌, ℕ}
+use Rattle.std.specs.Prelude.{List, [], ◌∷◌}
 use Rattle.alg_choice.specs.declared.algs.Algs.{Algs}
 use Rattle.alg_choice.specs.Algs.{identity_of, eia2_identity}
 use Rattle.annex_a_keys.specs.AlgType.{distinguisher}
