@@ -19,4 +19,7 @@ pub mod CoreBeside
 mod CoreExamples
 pub mod InOctets
 pub mod Scenario
-mod Ordinary
+pub mod Ordinary
+mod LateAnswers
+mod Turns
+mod Edges

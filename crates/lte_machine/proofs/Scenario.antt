@@ -1,6 +1,6 @@
 -- How a worked scenario is computed: the machine over terms with stand-ins for MAC and keystream, event by event.
-use Rattle.std.specs.Prelude.{◌≡◌, ℕ, ◌+◌, ◌-◌, Bool, List, [], ◌∷◌, ◌++◌, map, ℤ, pos, negsuc, replicate, Option, Some, None, option_map}
-use Rattle.std.proofs.Common.{refl}
+use Rattle.std.specs.Prelude.{◌≡◌, ℕ, ◌+◌, ◌-◌, ◌==◌, ◌&&◌, Bool, false, List, [], ◌∷◌, ◌++◌, drop, map, ℤ, pos, negsuc, replicate, Option, Some, None, option_map}
+use Rattle.std.specs.Str.{bytes_eq}
 use Rattle.alg_choice.specs.declared.algs.Eea.TheVariants.{Eea0, Eea2}
 use Rattle.alg_choice.specs.declared.caps.Caps.{Caps}
 use Rattle.alg_choice.specs.Bits.{has_bit}
@@ -14,14 +14,14 @@ use Rattle.lte_events.specs.declared.acts.PhoneAct.{PhoneAct}
 use Rattle.lte_events.specs.declared.acts.StationAct.{StationAct}
 use Rattle.lte_events.specs.declared.acts.CoreAct.{CoreAct}
 use Rattle.lte_events.specs.declared.answers.Answer.{Answer}
-use Rattle.lte_events.specs.declared.answers.Answer.TheVariants.{Done}
+use Rattle.lte_events.specs.declared.answers.Answer.TheVariants.{Done, MacFails}
 use Rattle.lte_events.specs.declared.classes.Class.{Class}
 use Rattle.lte_events.specs.declared.events.Event.{Event}
 use Rattle.lte_events.specs.declared.setups.Setup.{Setup}
 use Rattle.lte_events.specs.declared.lines.Who.{Who}
 use Rattle.key_model.specs.Least.{least}
 use Rattle.key_model.specs.HandoverTable.{NumberedKey}
-use Rattle.key_model.specs.Term.{Term, same_term}
+use Rattle.key_model.specs.Term.{Term, Root, Kenb, Nh, Star, Alg}
 use Rattle.nas_count.specs.Estimate.{estimate_of}
 use Rattle.nas_guard.specs.Seal.{first_octet}
 use Rattle.nas_rec.specs.Reading as nas_reading
@@ -41,16 +41,33 @@ use Rattle.lte_machine.specs.Machines.{machine_over}
 use Rattle.lte_machine.specs.World.{Machine, World, Line}
 use Rattle.lte_machine.specs.Run.{Ran, Still, replay, Said, Tells, Meets, tale, first_world}
 
--- a MAC and a keystream that tell uses apart by their COUNTs alone
+-- a number by which the keys of a scenario differ
+abbrev pub weight : Term → ℕ
+weight (Root r octets) = 1 + r
+weight (Kenb r n) = 2 + n + weight r
+weight (Nh r t) = 3 + weight t
+weight (Star t pci earfcn) = 1 + pci + weight t
+weight (Alg t type id) = type + weight t
+
+-- a MAC that tells uses apart by it and by COUNT and BEARER, and no keystream
 abbrev pub toy : Ciphers Term
-toy = record { mac = λ u text. u.count ∷ u.bearer ∷ 7 ∷ 7 ∷ []; crypt = λ e text. text }
+toy = record { mac = λ u text. u.count ∷ u.bearer ∷ weight u.key ∷ 7 ∷ []; crypt = λ e text. text }
 
 -- a record on S1 or X2 by its kind alone: over terms nothing reads its octets
 abbrev pub kinds : Fields → Option (NumberedKey Term ℕ) → List ℕ
 kinds fields key = kind_of fields ∷ []
 
+-- whether two keys are one, where roots are compared by their octets and nothing else collides
+abbrev pub alike : Term → Term → Bool
+alike (Root r octets) (Root s octets') = bytes_eq octets octets'
+alike (Kenb r n) (Kenb s m) = alike r s && (n == m)
+alike (Nh r t) (Nh s u) = alike r s && alike t u
+alike (Star t pci earfcn) (Star u pci' earfcn') = alike t u && (pci == pci') && (earfcn == earfcn')
+alike (Alg t type id) (Alg u type' id') = alike t u && (type == type') && (id == id')
+alike t u = false
+
 abbrev pub machine : Machine Term ℕ (Outgoing Term ℕ)
-machine = machine_over same_term toy kinds
+machine = machine_over alike toy kinds
 
 -- station s has the cell of PCI 10 + s and EARFCN-DL 100 + s
 abbrev pub place : ℕ → Place
@@ -112,12 +129,17 @@ opening = auth 0 1 ∷ smc ∷ newest ∷ newest ∷ connect 0 ∷ newest ∷ ne
 abbrev pub x2_to : ℕ → ℕ → List Event
 x2_to s target = x2 s target ∷ newest ∷ newest ∷ command s ∷ newest ∷ newest ∷ []
 
+-- an answer without its MACs, which are stand-ins
+abbrev pub without_macs : Answer → Answer
+without_macs (MacFails count wanted got) = MacFails count [] []
+without_macs other = other
+
 -- the answer, with the number of the record sent and its interface, NCC and way of the note, and the text
 abbrev pub Brief : Type 0
 Brief = Answer × Option (ℕ × Class) × Option (ℕ × Way) × Option (List ℕ)
 
 abbrev pub brief : Line Term → Brief
-brief l = (l.answer, l.sent, option_map (λ n. (n.ncc, n.way)) l.note, l.opened)
+brief l = (without_macs l.answer, l.sent, option_map (λ n. (n.ncc, n.way)) l.note, l.opened)
 
 -- what is told, or that a coincidence ended the run
 abbrev pub briefs : List (Said Term) → List (Option Brief)
@@ -132,3 +154,25 @@ told events = briefs (tale (open_octets toy) machine start events)
 unfoldable pub computing : Unit {0}
 unfolding least estimate_of has_bit choice_of are_supported number_of field_at number_at octets_of of_size number_in algs_at caps_at cell_at text_of nas_reading.command_of nas_reading.reject_of nas_reading.bare nas_reading.data_of nas_reading.read_nas nas_texts.spelling_of rrc_reading.command_of rrc_reading.reconfiguration_of rrc_reading.bare rrc_reading.data_of rrc_reading.read_rrc rrc_texts.spelling_of in_32_bits srb_count drb_count header_for_phone core_header open_octets open_foreign nas_octets srb_octets drb_octets
 computing = tt
+
+-- the answer, with NCC and way of the note
+abbrev pub Short : Type 0
+Short = Answer × Option (ℕ × Way)
+
+abbrev pub shorts : List (Option Brief) → List Short
+shorts [] = []
+shorts (None ∷ xs) = shorts xs
+shorts (Some b ∷ xs) = (b.0, b.2) ∷ shorts xs
+
+-- what is told of the events after the first n
+abbrev pub from_step : ℕ → List Event → List Short
+from_step n events = drop n (shorts (told events))
+
+abbrev pub done : Short
+done = (Done, None)
+
+abbrev pub notes : ℕ → Way → Short
+notes ncc way = (Done, Some (ncc, way))
+
+abbrev pub refuses : Answer → Short
+refuses answer = (answer, None)

@@ -1,0 +1,94 @@
+-- Late and lost answers to path switches, and eight chain steps (TS 33.401 7.2.8.4.2 and 7.2.8.4.4).
+use Rattle.std.specs.Prelude.{◌≡◌, ℕ, ◌+◌, ◌-◌, ◌==◌, ◌&&◌, Bool, true, false, List, [], ◌∷◌, ◌++◌, take, drop, reverse, find, Option, Some, None}
+use Rattle.std.proofs.Common.{refl}
+use Rattle.rec_base.specs.declared.ways.Way.{Way}
+use Rattle.rec_base.specs.declared.ways.Way.TheVariants.{Horizontal, Vertical, Given, Completed, Chained}
+use Rattle.lte_events.specs.declared.answers.Answer.{Answer}
+use Rattle.lte_events.specs.declared.answers.Answer.TheVariants.{Done, MacFails, NoUe, Stale}
+use Rattle.lte_events.specs.declared.events.Event.{Event}
+use Rattle.key_model.specs.HandoverTable.{NumberedKey}
+use Rattle.key_model.specs.Term.{Term, same_term}
+use Rattle.lte_machine.specs.Opening.{open_octets}
+use Rattle.lte_machine.specs.Reply.{Made, Took}
+use Rattle.lte_machine.specs.Run.{Ran, Still, Over, replay}
+use Rattle.lte_machine.specs.Wire.{Outgoing}
+use Rattle.lte_machine.proofs.Scenario.{ask, computing, done, from_step, machine, newest, notes, number, refuses, start, toy, x2_to}
+use Rattle.lte_machine.proofs.Ordinary.{ordinary}
+
+-- the answer to the path switch is late: the next handover is horizontal, and the late answer finds no context
+late_answer : from_step 17 (take 17 ordinary ++ x2_to 1 0 ++ newest ∷ newest ∷ newest ∷ number 11 ∷ []) ≡ (
+    notes 0 Horizontal ∷ notes 0 Given ∷ done ∷ done ∷ notes 0 Horizontal ∷ notes 0 Completed ∷ notes 2 Chained ∷ done ∷ done
+    ∷ refuses NoUe ∷ [])
+unfolding computing
+late_answer = refl
+
+-- a request is made again: the answer to the first is stale, that to the second is taken, and its pair serves
+asked_twice : from_step 16 (take 16 ordinary ++ ask 1 ∷ number 10 ∷ number 11 ∷ number 12 ∷ number 13 ∷ x2_to 1 0) ≡ (
+    done ∷ notes 1 Chained ∷ notes 2 Chained ∷ refuses (Stale 3 2) ∷ done
+    ∷ notes 2 Vertical ∷ notes 2 Given ∷ done ∷ done ∷ notes 2 Vertical ∷ notes 2 Completed ∷ [])
+unfolding computing
+asked_twice = refl
+
+-- the phone leaves before the answer and comes back: the answer of its first visit is stale
+returned : from_step 29 (take 17 ordinary ++ x2_to 1 0 ++ x2_to 0 1 ++ number 11 ∷ []) ≡ (refuses (Stale 5 2) ∷ [])
+unfolding computing
+returned = refl
+
+-- a handover whose request reaches the core, and whose answer is lost
+abbrev lost : ℕ → ℕ → List Event
+lost s target = x2_to s target ++ newest ∷ []
+
+-- and one whose answer reaches the target
+abbrev kept : ℕ → ℕ → List Event
+kept s target = lost s target ++ newest ∷ newest ∷ []
+
+abbrev six_lost : List Event
+six_lost = take 8 ordinary ++ lost 0 1 ++ lost 1 0 ++ lost 0 1 ++ lost 1 0 ++ lost 0 1 ++ lost 1 0
+
+-- seven steps ahead, and eight
+abbrev pub seven_ahead : List Event
+seven_ahead = six_lost ++ kept 0 1 ++ x2_to 1 0
+
+abbrev pub eight_ahead : List Event
+eight_ahead = six_lost ++ lost 0 1 ++ kept 1 0 ++ x2_to 0 1
+
+-- seven: the phone steps to the pair's number, and the handover completes
+seven_steps : from_step 59 seven_ahead ≡ (
+    notes 7 Vertical ∷ notes 7 Given ∷ done ∷ done ∷ notes 7 Vertical ∷ notes 7 Completed ∷ [])
+unfolding computing
+seven_steps = refl
+
+-- eight: the NCC is the phone's own, it derives horizontally, and its Complete does not open
+eight_steps : from_step 66 eight_ahead ≡ (
+    notes 0 Vertical ∷ notes 0 Given ∷ done ∷ done ∷ notes 0 Horizontal
+    ∷ refuses (MacFails 0 [] []) ∷ [])
+unfolding computing
+eight_steps = refl
+
+-- the key made for an air address
+abbrev made_for : Took Term ℕ → List (Made Term ℕ) → Option (Made Term ℕ)
+made_for t made = find (λ m. (m.station == t.station) && (m.air == t.air)) made
+
+abbrev compared : Took Term ℕ → Option (NumberedKey Term ℕ) → Option (Made Term ℕ) → Option (ℕ × Bool)
+compared t (Some before) (Some m) = Some (m.number - before.number, same_term m.key t.key)
+compared t before made = None
+
+abbrev last_of : List (Took Term ℕ) → List (Made Term ℕ) → Option (ℕ × Bool)
+last_of [] made = None
+last_of (t ∷ took) made = compared t t.before (made_for t made)
+
+abbrev at_end : Ran Term ℕ (Outgoing Term ℕ) → Option (ℕ × Bool)
+at_end (Still w) = last_of (reverse w.took) w.made
+at_end (Over chance) = None
+
+-- how far ahead the key was that the phone was ordered last, and whether the phone took it
+abbrev pub last_order : List Event → Option (ℕ × Bool)
+last_order events = at_end (replay (open_octets toy) machine start events)
+
+seven_agree : last_order seven_ahead ≡ Some (7, true)
+unfolding computing
+seven_agree = refl
+
+eight_differ : last_order eight_ahead ≡ Some (8, false)
+unfolding computing
+eight_differ = refl
