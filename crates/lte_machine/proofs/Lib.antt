@@ -23,3 +23,5 @@ pub mod Ordinary
 mod LateAnswers
 mod Turns
 mod Edges
+pub mod Rows
+pub mod History

@@ -28,3 +28,4 @@ pub mod Run
 pub mod Machines
 pub mod Carried
 pub mod Ranges
+pub mod Distinct
