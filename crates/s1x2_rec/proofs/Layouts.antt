@@ -1,7 +1,6 @@
 -- Records as layouts: what is read by a layout is spelled by it, and what is spelled by it is read.
-use Rattle.std.proofs.Common.{◌≡◌, ℕ, ◌+◌, ◌-◌, ◌^◌, ◌++◌, ◌<◌, ◌≤◌, List, [], ◌∷◌, length, take, drop, Result, Ok, refl, sym, ap, ◌∙◌, inl, inr, arith, drop-drop, length-drop, length-append, append_assoc}
-use Rattle.std.proofs.lemmas.Bool.{cases_lt}
-use Rattle.std.proofs.lemmas.List.{get_or-drop, get_or-take, get_or_past, length-take, take_all}
+use Rattle.std.proofs.Common.{◌≡◌, ℕ, ◌+◌, ◌-◌, ◌^◌, ◌++◌, ◌<◌, ◌≤◌, List, [], ◌∷◌, length, take, drop, Result, Ok, refl, sym, ap, subst, ◌∙◌, arith, drop-drop, length-drop, length-append, append_assoc}
+use Rattle.std.proofs.lemmas.List.{get_or-drop, take_all}
 use Rattle.std.proofs.Math.Seq.{drop-append_seam, take-append_seam}
 use Rattle.rec_base.specs.BigEndian.{number_of, octets_of, field_at, number_at}
 use Rattle.rec_base.specs.declared.faults.RecFault.{RecFault}
@@ -76,13 +75,6 @@ Found l rest f y = (vs : Values l) × (f vs ≡ Ok y) × (rest ≡ spelled_by l 
 octets_rest : (n : ℕ) (octets : List ℕ) → AreOctets octets → AreOctets (drop n octets)
 octets_rest n octets h i = rw get_or-drop (h (n + i))
 
-octets_front : (n : ℕ) (octets : List ℕ) → AreOctets octets → AreOctets (take n octets)
-octets_front n octets h i =
-    elim (cases_lt i n) [
-      | inl lt ↦ rw (get_or-take n octets i 0 lt) (h i)
-      | inr le ↦ rw (get_or_past (take n octets) i 0 (omega (arith, length-take n octets))) (omega arith)
-    ]
-
 -- the last 32 octets are a key
 key_takes : (octets : List ℕ) (place : ℕ) → AreOctets octets → length octets ≡ place + 32
     → (drop place octets ≡ field_at octets place 32) × (length (field_at octets place 32) ≡ 32) × AreOctets (field_at octets place 32)
@@ -91,7 +83,7 @@ key_takes octets place fit h =
     let rest = drop place octets in
     let size : length rest ≡ 32 = omega (arith, length-drop place octets) in
     let whole : take 32 rest ≡ rest = take_all 32 rest (omega arith) in
-    (sym whole, ap length whole ∙ size, octets_front 32 rest (octets_rest place octets fit))
+    (sym whole, ap length whole ∙ size, subst AreOctets (sym whole) (octets_rest place octets fit))
 
 caps_fit : (octets : List ℕ) (place : ℕ) → AreOctets octets → place + 2 ≤ length octets → IsCaps (caps_at octets place)
 unfolding caps_at

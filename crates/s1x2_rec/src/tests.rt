@@ -117,6 +117,26 @@ fn path_switch_request_is_read(rt: HostRuntime) {
 }
 
 #[test]
+fn derived_key_stands_behind_its_ncc(rt: HostRuntime) {
+    let cell = Cell::new(11, 101).expect(&rt, "in range");
+    let star = Kenb::of_octets(KEY).star(&cell).0;
+    let request = CoreRecord::X2Request {
+        conn: 1,
+        source: 7,
+        attempt: 2,
+        cell,
+        caps: Caps {
+            eea: 0xa0,
+            eia: 0x20,
+        },
+        ncc: 3,
+        star,
+    };
+    let octets = changed(10, 19, &star.octets());
+    assert_eq!(rt; request.write().as_slice(), octets.as_slice());
+}
+
+#[test]
 fn each_kind_is_read_as_spelled_and_written_back(rt: HostRuntime) {
     let cell = Cell::new(11, 101).expect(&rt, "in range");
     let caps = Caps {
