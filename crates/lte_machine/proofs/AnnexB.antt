@@ -1,6 +1,6 @@
 -- The algorithms of Annex B are ciphers, and depend on a key by its octets alone.
-use Rattle.std.proofs.Common.{◌≡◌, ℕ, Bool, true, false, ◌==◌, List, length, Option, Some, None, refl, ap, ◌∙◌}
-use Rattle.std.specs.Prelude.{◌&&◌, IsTrue}
+use Rattle.std.proofs.Common.{◌≡◌, ℕ, Bool, true, false, ◌==◌, List, length, Option, Some, None, refl}
+use Rattle.std.specs.Prelude.{◌&&◌}
 use Rattle.std.specs.Bool.{Decides}
 use Rattle.std.proofs.lemmas.Bool.Decides.{Decides-and, Decides-eqb}
 use Rattle.rec_base.specs.declared.uses.Dir.{Dir}
@@ -9,10 +9,9 @@ use Rattle.alg_choice.specs.declared.algs.Eea.{Eea}
 use Rattle.alg_choice.specs.declared.algs.Eea.TheVariants.{Eea0, Eea2}
 use Rattle.alg_choice.specs.Algs.{identity_of}
 use Rattle.ctr_eea2.proofs.CombinedLemmas.{length-eea2_of}
-use Rattle.key_model.specs.Term.{Term, same_term}
-use Rattle.key_model.specs.Use.{Use, map_use}
+use Rattle.key_model.specs.Use.{map_use}
 use Rattle.key_model.specs.Value.{value_of, same_value}
-use Rattle.key_model.proofs.TermFacts.{same_term-Decides, same_value-Decides}
+use Rattle.key_model.proofs.TermFacts.{same_value-Decides}
 use Rattle.nas_guard.specs.Cipher.{ciphered}
 use Rattle.nas_guard.proofs.SealFacts.{ciphered-ciphered, length-mac_of}
 use Rattle.lte_machine.specs.Wire.{KeyUse, Ciphering, map_ciphering}

@@ -1,20 +1,17 @@
 -- The edges of a run: refused Security Modes, records that nobody sent, repeated roots, the last numbers, coincidences.
-use Rattle.std.specs.Prelude.{◌≡◌, ℕ, List, [], ◌∷◌, ◌++◌, drop, replicate, Option, Some, None}
+use Rattle.std.specs.Prelude.{◌≡◌, ℕ, List, [], ◌∷◌, ◌++◌, drop, replicate, Some, None}
 use Rattle.std.proofs.Common.{refl}
 use Rattle.alg_choice.specs.declared.algs.Eea.TheVariants.{Eea0, Eea2}
-use Rattle.alg_choice.specs.declared.caps.Caps.{Caps}
 use Rattle.rec_base.specs.declared.bearers.Bearer.TheVariants.{Srb1, Srb2, Drb1}
 use Rattle.lte_events.specs.declared.acts.PhoneAct.{PhoneAct}
-use Rattle.lte_events.specs.declared.acts.StationAct.{StationAct}
 use Rattle.lte_events.specs.declared.addresses.Address.{Address}
 use Rattle.lte_events.specs.declared.answers.Answer.TheVariants.{CapsMismatch, CountSpent, MacFails, NoRecord, NoSmc, NumberSpent, PrepFull, RepeatedRoot, Sent, WrongKsi}
 use Rattle.lte_events.specs.declared.classes.Class.{Class}
 use Rattle.lte_events.specs.declared.events.Event.{Event}
 use Rattle.lte_events.specs.declared.setups.Setup.{Setup}
-use Rattle.key_model.specs.Term.{Term}
 use Rattle.lte_machine.specs.Opening.{open_octets}
 use Rattle.lte_machine.specs.Run.{Still, first_world, tale}
-use Rattle.lte_machine.proofs.Scenario.{Brief, auth, briefs, cancel, computing, done, from_step, machine, newest, number, opening, place, refuses, setup, smc, told, toy, x2}
+use Rattle.lte_machine.proofs.Scenario.{auth, briefs, cancel, computing, done, from_step, machine, newest, number, opening, refuses, setup, smc, told, toy, x2}
 
 -- capabilities that are not the phone's: it refuses the command with a plain reject, which closes the procedure
 other_caps : told (Event.Auth 0 (replicate 32 1) (record { eea = 0x80; eia = 0x20 }) ∷ smc ∷ newest ∷ newest ∷ smc ∷ []) ≡ (

@@ -1,23 +1,19 @@
 -- The machine over terms and the machine in octets agree; so the run in octets is the value of the run in terms.
-use Rattle.std.proofs.Common.{◌≡◌, ℕ, List, [], ◌∷◌, map, Option, Some, None, refl, ap, sym, ◌∙◌}
+use Rattle.std.proofs.Common.{◌≡◌, ℕ, List, map, Option, Some, None, refl, ap, sym, ◌∙◌}
 use Rattle.std.specs.Prelude.{option_map}
 use Rattle.lte_events.specs.declared.events.Event.{Event}
-use Rattle.rec_base.specs.declared.uses.Dir.{Dir}
-use Rattle.rec_base.specs.declared.uses.Dir.TheVariants.{Up, Down}
 use Rattle.key_model.specs.Chain.{ncc_of}
-use Rattle.key_model.specs.HandoverLines.{map_numbered}
-use Rattle.key_model.specs.HandoverTable.{NumberedKey}
-use Rattle.key_model.specs.Term.{Term, Root}
+use Rattle.key_model.specs.Term.{Term}
 use Rattle.key_model.specs.Use.{map_use}
 use Rattle.key_model.specs.Value.{value_of, same_value}
 use Rattle.key_model.proofs.ReadingFacts.{values_carry}
-use Rattle.lte_machine.specs.Wire.{KeyUse, Ciphering, map_ciphering, Outgoing, SealedNas, PlainNas, SealedRrc, UserPacket, Between, map_outgoing, address_of, integrity_of}
-use Rattle.lte_machine.specs.Ciphers.{Ciphers, AreCiphers, under_keys, ciphered_by, nas_octets, srb_octets, drb_octets, octets_of, written}
-use Rattle.lte_machine.specs.Opening.{Opening, OpensNothing, OpensNas, OpensSrb, OpensDrb, map_opening, Outcome, open_octets}
+use Rattle.lte_machine.specs.Wire.{KeyUse, Ciphering, map_ciphering, Outgoing, SealedNas, PlainNas, SealedRrc, UserPacket, Between, map_outgoing}
+use Rattle.lte_machine.specs.Ciphers.{Ciphers, AreCiphers, under_keys, ciphered_by, nas_octets, srb_octets, drb_octets}
+use Rattle.lte_machine.specs.Opening.{Opening, OpensNothing, OpensNas, OpensSrb, OpensDrb, map_opening, open_octets}
 use Rattle.lte_machine.specs.Carried.{run_value, told_value}
-use Rattle.lte_machine.specs.Machines.{Kept, kept_of, tuple_of, machine_in_octets, sender_of, opening_by_octets, written_machine, written_in_values, kept_in_values}
+use Rattle.lte_machine.specs.Machines.{Kept, machine_in_octets, opening_by_octets, written_machine, written_in_values, kept_in_values}
 use Rattle.lte_machine.specs.Ranges.{AllOf, IsEvent}
-use Rattle.lte_machine.specs.Run.{Ran, replay, Said, tale}
+use Rattle.lte_machine.specs.Run.{Ran, replay, tale}
 use Rattle.lte_machine.specs.World.{Machine, World}
 use Rattle.lte_machine.proofs.AnnexB.{under_keys_ciphers, values_respect}
 use Rattle.lte_machine.proofs.NextSame.{replay_same, tale_same}

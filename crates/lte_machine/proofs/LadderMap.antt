@@ -1,8 +1,8 @@
 -- The ladder of a run's derivations in another reading of keys.
-use Rattle.std.proofs.Common.{◌≡◌, ℕ, ◌+◌, ◌==◌, Bool, true, false, List, [], ◌∷◌, ◌++◌, map, Option, Some, None, refl, ap, sym, ◌∙◌}
+use Rattle.std.proofs.Common.{◌≡◌, ℕ, ◌+◌, Bool, true, false, List, [], ◌∷◌, map, Option, Some, None, refl, ap, sym, ◌∙◌}
 use Rattle.std.specs.Prelude.{option_map, ◌&&◌}
 use Rattle.std.proofs.lemmas.List.{map-append}
-use Rattle.key_model.specs.Derivation.{Input, FromCount, FromSync, FromCell, FromAlg, Derivation, map_input, map_derivation}
+use Rattle.key_model.specs.Derivation.{Input, FromCount, FromSync, FromCell, FromAlg, map_input}
 use Rattle.lte_machine.specs.Carried.{map_clash}
 use Rattle.lte_machine.specs.Ladder.{RowOrigin, OfRoot, Of, map_row, row_key, same_input, same_origin, Clash, Ladder, Hit, hit_if, hit_from, hit, stands_or_not, added_at, add_row, added_unless, add_next, add_rows, no_rows, ladder_of, root_place, root_if, root_row}
 

@@ -1,10 +1,8 @@
 -- Late and lost answers to path switches, and eight chain steps (TS 33.401 7.2.8.4.2 and 7.2.8.4.4).
-use Rattle.std.specs.Prelude.{◌≡◌, ℕ, ◌+◌, ◌-◌, ◌==◌, ◌&&◌, Bool, true, false, List, [], ◌∷◌, ◌++◌, take, drop, reverse, find, Option, Some, None}
+use Rattle.std.specs.Prelude.{◌≡◌, ℕ, ◌-◌, ◌==◌, ◌&&◌, Bool, true, false, List, [], ◌∷◌, ◌++◌, take, reverse, find, Option, Some, None}
 use Rattle.std.proofs.Common.{refl}
-use Rattle.rec_base.specs.declared.ways.Way.{Way}
 use Rattle.rec_base.specs.declared.ways.Way.TheVariants.{Horizontal, Vertical, Given, Completed, Chained}
-use Rattle.lte_events.specs.declared.answers.Answer.{Answer}
-use Rattle.lte_events.specs.declared.answers.Answer.TheVariants.{Done, MacFails, NoUe, Stale}
+use Rattle.lte_events.specs.declared.answers.Answer.TheVariants.{MacFails, NoUe, Stale}
 use Rattle.lte_events.specs.declared.events.Event.{Event}
 use Rattle.key_model.specs.HandoverTable.{NumberedKey}
 use Rattle.key_model.specs.Term.{Term, same_term}

@@ -25,3 +25,12 @@ mod Turns
 mod Edges
 pub mod Rows
 pub mod History
+pub mod RangeKeys
+pub mod RangeHolds
+pub mod RangeChoice
+pub mod RangeStation
+pub mod RangeCore
+pub mod RangePhone
+pub mod RangeWorld
+mod RangeExample
+pub mod WholeRun

@@ -1,7 +1,6 @@
 -- Over terms, an event has one outcome whether records open by the uses of their senders or by their octets: a record for
 -- which the two differ is a coincidence.
 use Rattle.std.proofs.Common.{◌≡◌, ℕ, Bool, List, [], ◌∷◌, Option, Some, None, refl, ap, sym, ◌∙◌}
-use Rattle.std.specs.Prelude.{ℤ}
 use Rattle.std.specs.List.{position_from}
 use Rattle.lte_events.specs.declared.addresses.Address.{Address}
 use Rattle.lte_events.specs.declared.events.Event.{Event}
@@ -10,17 +9,17 @@ use Rattle.key_model.specs.Term.{Term}
 use Rattle.s1x2_rec.specs.Fields.{Fields}
 use Rattle.lte_machine.specs.Wire.{Outgoing}
 use Rattle.lte_machine.specs.Ciphers.{Ciphers, AreCiphers, octets_of}
-use Rattle.lte_machine.specs.Opening.{Opening, Outcome, open_octets, open_by_uses}
+use Rattle.lte_machine.specs.Opening.{Opening, open_octets, open_by_uses}
 use Rattle.lte_machine.specs.Tuples.{Chance}
 use Rattle.lte_machine.specs.PhoneState.{PhoneInput, PhoneActs, PhoneNasPdu, PhoneAirPdu}
 use Rattle.lte_machine.specs.PhoneStep.{phone_step, phone_opens, phone_pdu_in}
 use Rattle.lte_machine.specs.StationState.{Station, StationInput, StationActs, AirPdu, StationRecord, OnS1, OnX2}
 use Rattle.lte_machine.specs.StationStep.{station_step, station_opens, station_pdu_in}
-use Rattle.lte_machine.specs.CoreState.{CoreInput, CoreActs, CoreNasPdu, CoreRecord}
+use Rattle.lte_machine.specs.CoreState.{CoreInput, CoreActs, CoreNasPdu}
 use Rattle.lte_machine.specs.CoreStep.{core_step, core_opens, core_pdu_in}
-use Rattle.lte_machine.specs.World.{Machine, World, Line, phone_after, core_after, station_after, phone_turn, core_turn, turn_of, station_turn, station_of_id, content_in, arrives, chosen, delivered, injected, is_sent, class_of, happens}
-use Rattle.lte_machine.specs.Step.{Attempted, attempted, arrival_attempts, attempts_at, delivery_attempts, injection_attempts, opening_chance, Next, by_chance, next}
-use Rattle.lte_machine.specs.Run.{Ran, Still, Over, turn, replay, says, tale, Said, after, said}
+use Rattle.lte_machine.specs.World.{Machine, World, phone_after, core_after, station_after, phone_turn, core_turn, turn_of, station_of_id, content_in, arrives, chosen, delivered, injected, is_sent, class_of, happens}
+use Rattle.lte_machine.specs.Step.{attempted, arrival_attempts, attempts_at, delivery_attempts, injection_attempts, opening_chance, by_chance, next}
+use Rattle.lte_machine.specs.Run.{Ran, Still, Over, turn, replay, says, tale, after, said}
 use Rattle.lte_machine.specs.Machines.{machine_over, opening_by_octets}
 use Rattle.lte_machine.proofs.Opens.{Respects, unsent_alike, sent_alike}
 

@@ -1,17 +1,16 @@
 -- A sealed record opens by the uses of its sender as it opens by its octets, unless that is a coincidence.
-use Rattle.std.proofs.Common.{◌≡◌, ℕ, suc, ◌+◌, ◌-◌, ◌%◌, Bool, true, false, List, [], ◌∷◌, ◌++◌, length, take, drop, Option, Some, None, refl, ap, sym, ◌∙◌, arith}
+use Rattle.std.proofs.Common.{◌≡◌, ℕ, ◌+◌, ◌-◌, ◌%◌, Bool, true, false, List, [], ◌∷◌, ◌++◌, length, take, drop, Option, Some, None, refl, ap, sym, ◌∙◌, arith}
 use Rattle.std.specs.Str.{bytes_eq}
 use Rattle.std.proofs.lemmas.Slice.Eq.{bytes_eq-Decides}
 use Rattle.std.proofs.lemmas.List.{take_at, drop_at, length-append}
-use Rattle.rec_base.specs.declared.uses.Dir.{Dir}
 use Rattle.nas_guard.specs.Seal.{first_octet}
-use Rattle.nas_guard.specs.Open.{mac_in, covered_in, sent_in}
+use Rattle.nas_guard.specs.Open.{mac_in, sent_in}
 use Rattle.lte_machine.specs.Wire.{KeyUse, Ciphering, Outgoing, SealedNas, PlainNas, SealedRrc, UserPacket, Between, integrity_of}
 use Rattle.lte_machine.specs.Ciphers.{Ciphers, AreCiphers, ciphered_by, nas_octets, srb_octets, drb_octets, octets_of}
 use Rattle.key_model.specs.HandoverTable.{NumberedKey}
 use Rattle.s1x2_rec.specs.Fields.{Fields}
-use Rattle.lte_machine.specs.Opening.{Opening, OpensNothing, OpensNas, OpensSrb, OpensDrb, Outcome, Opened, Differs, accepted_of, by_macs, decided, open_octets, open_foreign, open_by_uses, open_case, judged, nas_sender, srb_sender, same_uses, same_ciphering, nas_wanted, srb_wanted, srb_got, srb_text, Sender}
-use Rattle.lte_machine.specs.Tuples.{Chance, Tuples, tuple_chance, same_sender, tuples_unless}
+use Rattle.lte_machine.specs.Opening.{Opening, OpensNothing, OpensNas, OpensSrb, OpensDrb, Opened, Differs, accepted_of, by_macs, decided, open_octets, open_foreign, open_by_uses, open_case, judged, same_uses, same_ciphering, nas_wanted, srb_wanted, srb_got, srb_text}
+use Rattle.lte_machine.specs.Tuples.{Tuples, tuple_chance, same_sender, tuples_unless}
 
 -- uses and cipherings that are one by the test have one MAC and one keystream
 pub record Respects {K : Type 0} (same : K → K → Bool) (c : Ciphers K) : Type 0 where
@@ -44,7 +43,7 @@ nas_opens c good header i u f e text macs crypts =
     let tail : drop 4 (mac ++ covered) ≡ covered = drop_at mac covered 4 four in
     let got : mac_in pdu ≡ mac = take_at mac covered 4 four in
     let text_is : ciphered_by c e (sent_in pdu) ≡ text =
-        ap (ciphered_by c e) (after_mac mac covered four) ∙ (λ j. crypts j (ciphered_by c f text)) ∙ twice c good f text in
+    ap (ciphered_by c e) (after_mac mac covered four) ∙ (λ j. crypts j (ciphered_by c f text)) ∙ twice c good f text in
     let wanted : nas_wanted c u pdu ≡ mac = ap (c.mac u) tail ∙ (λ j. macs j covered) in
     passes (nas_wanted c u pdu) (mac_in pdu) (ciphered_by c e (sent_in pdu)) (wanted ∙ sym got) ∙ ap Opened text_is
   where
@@ -68,12 +67,12 @@ srb_opens c good i u f e text macs crypts =
     let sent = ciphered_by c f (text ++ mac) in
     let pdu = header ∷ sent in
     let long : length pdu - 5 ≡ length text =
-        let l : length sent ≡ length text + length mac = as_long c good f (text ++ mac) ∙ length-append text mac in omega arith in
+    let l : length sent ≡ length text + length mac = as_long c good f (text ++ mac) ∙ length-append text mac in omega arith in
     let plain : ciphered_by c e sent ≡ text ++ mac = (λ j. crypts j sent) ∙ twice c good f (text ++ mac) in
     let text_is : srb_text c e pdu ≡ text =
-        (λ j. take (long j) (plain j)) ∙ take_at text mac (length text) refl in
+    (λ j. take (long j) (plain j)) ∙ take_at text mac (length text) refl in
     let got : srb_got c e pdu ≡ mac =
-        (λ j. drop (long j) (plain j)) ∙ drop_at text mac (length text) refl in
+    (λ j. drop (long j) (plain j)) ∙ drop_at text mac (length text) refl in
     let wanted : srb_wanted c u e pdu ≡ mac = (λ j. macs j (header ∷ text_is j)) in
     passes (srb_wanted c u e pdu) (srb_got c e pdu) (srb_text c e pdu) (wanted ∙ sym got) ∙ ap Opened text_is
 

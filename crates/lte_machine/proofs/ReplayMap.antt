@@ -5,10 +5,10 @@ use Rattle.std.specs.List.{position_from}
 use Rattle.lte_events.specs.declared.addresses.Address.{Address}
 use Rattle.lte_events.specs.declared.events.Event.{Event}
 use Rattle.key_model.specs.Use.{map_use}
-use Rattle.lte_machine.specs.Wire.{KeyUse, Outgoing}
+use Rattle.lte_machine.specs.Wire.{KeyUse}
 use Rattle.lte_machine.specs.Opening.{Opening, OpensNothing, OpensNas, OpensSrb, OpensDrb, map_opening, Outcome, Opened, Differs, accepted_of, same_dir, same_uses}
-use Rattle.lte_machine.specs.Ladder.{Clash, ladder_of, map_row}
-use Rattle.lte_machine.specs.Tuples.{Chance, Tuples, Rows, tuples_unless, same_sender, tuple_chance}
+use Rattle.lte_machine.specs.Ladder.{Clash, ladder_of}
+use Rattle.lte_machine.specs.Tuples.{Chance, tuples_unless, same_sender, tuple_chance}
 use Rattle.lte_machine.specs.PhoneState.{PhoneInput, PhoneActs, PhoneNasPdu, PhoneAirPdu, map_phone_input}
 use Rattle.lte_machine.specs.PhoneStep.{phone_pdu_in}
 use Rattle.lte_machine.specs.StationState.{Station, StationInput, StationActs, AirPdu, StationRecord, OnS1, OnX2, map_station, map_station_input}
@@ -16,8 +16,8 @@ use Rattle.lte_machine.specs.StationStep.{station_pdu_in}
 use Rattle.lte_machine.specs.CoreState.{CoreInput, CoreActs, CoreNasPdu, CoreRecord, map_core_input}
 use Rattle.lte_machine.specs.CoreStep.{core_pdu_in}
 use Rattle.lte_machine.specs.World.{Machine, World, Line, station_of_id, content_in, chosen, is_sent, class_of, happens}
-use Rattle.lte_machine.specs.Step.{Attempted, opens_none, attempted, phone_attempts, core_attempts, attempts_at, station_attempts, arrival_attempts, delivery_attempts, injection_attempts, opening_chance, Next, Goes, Ends, by_ladder, by_chance, next}
-use Rattle.lte_machine.specs.Run.{Ran, Still, Over, after, turn, replay, Said, Tells, Meets, said, says, tale}
+use Rattle.lte_machine.specs.Step.{Attempted, attempted, phone_attempts, core_attempts, attempts_at, station_attempts, arrival_attempts, delivery_attempts, injection_attempts, opening_chance, Next, Goes, Ends, by_ladder, by_chance, next}
+use Rattle.lte_machine.specs.Run.{Ran, Still, Over, after, turn, replay, said, says, tale}
 use Rattle.lte_machine.specs.Ranges.{AllOf, IsEvent}
 use Rattle.lte_machine.specs.Carried.{map_world, map_line, map_clash, map_chance, map_ran, map_said}
 use Rattle.lte_machine.proofs.PhoneMap.{phone_opens_map}
@@ -66,20 +66,26 @@ module _ {K C S L D T : Type 0} (m : Machine K C S) (q : Machine L D T) (f : K �
   phone_attempts-map : (w : World K C S) (i : PhoneInput K) (pdu : List ℕ) → phone_pdu_in i ≡ pdu → phone_pdu_in (map_phone_input f i) ≡ pdu → (o : Option S)
       → map_attempted f z (phone_attempts m w i o) ≡ phone_attempts q (map_world f g z w) (map_phone_input f i) (option_map z o)
   phone_attempts-map w i pdu e e' o = λ j. record {
-    opening = phone_opens_map m.reading q.reading f g a.carries w.phone i j; octets = (e ∙ sym e') j; came = option_map z o;
+    opening = phone_opens_map m.reading q.reading f g a.carries w.phone i j;
+    octets = (e ∙ sym e') j;
+    came = option_map z o;
   }
 
   core_attempts-map : (w : World K C S) (i : CoreInput K C) (pdu : List ℕ) → core_pdu_in i ≡ pdu → core_pdu_in (map_core_input f g i) ≡ pdu → (o : Option S)
       → map_attempted f z (core_attempts m w i o) ≡ core_attempts q (map_world f g z w) (map_core_input f g i) (option_map z o)
   core_attempts-map w i pdu e e' o = λ j. record {
-    opening = core_opens_map m.reading q.reading f g a.carries w.core i j; octets = (e ∙ sym e') j; came = option_map z o;
+    opening = core_opens_map m.reading q.reading f g a.carries w.core i j;
+    octets = (e ∙ sym e') j;
+    came = option_map z o;
   }
 
   attempts_at-map : (i : StationInput K C) (pdu : List ℕ) → station_pdu_in i ≡ pdu → station_pdu_in (map_station_input f g i) ≡ pdu → (o : Option S) (s : Option (Station K C))
       → map_attempted f z (attempts_at m i o s) ≡ attempts_at q (map_station_input f g i) (option_map z o) (option_map (map_station f g) s)
   attempts_at-map i pdu e e' o None = refl
   attempts_at-map i pdu e e' o (Some s) = λ j. record {
-    opening = station_opens_map a.carries s i j; octets = (e ∙ sym e') j; came = option_map z o;
+    opening = station_opens_map a.carries s i j;
+    octets = (e ∙ sym e') j;
+    came = option_map z o;
   }
 
   station_attempts-map : (w : World K C S) (id : ℕ) (i : StationInput K C) (pdu : List ℕ) → station_pdu_in i ≡ pdu → station_pdu_in (map_station_input f g i) ≡ pdu → (o : Option S)
@@ -146,8 +152,8 @@ module _ {K C S L D T : Type 0} (m : Machine K C S) (q : Machine L D T) (f : K �
   next-map w e back =
       by_chance-map (opening_chance by_octets m (attempted m w e)) (happens m w e)
       ∙ (λ j. by_chance q.reading.same
-          ((chance-map (attempted m w e) ∙ ap (opening_chance by_octets' q) (attempted-map w e back)) j)
-          (happens-map m q f g z a w e back j))
+      ((chance-map (attempted m w e) ∙ ap (opening_chance by_octets' q) (attempted-map w e back)) j)
+      (happens-map m q f g z a w e back j))
 
   after-map : (n : Next K C S) → map_ran f g z (after n) ≡ after (map_next f g z n)
   after-map (Goes w line) = refl

@@ -1,8 +1,7 @@
 -- How a worked scenario is computed: the machine over terms with stand-ins for MAC and keystream, event by event.
-use Rattle.std.specs.Prelude.{◌≡◌, ℕ, ◌+◌, ◌-◌, ◌==◌, ◌&&◌, Bool, false, List, [], ◌∷◌, ◌++◌, drop, map, ℤ, pos, negsuc, replicate, Option, Some, None, option_map}
+use Rattle.std.specs.Prelude.{ℕ, ◌+◌, ◌==◌, ◌&&◌, Bool, false, List, [], ◌∷◌, drop, pos, negsuc, replicate, Option, Some, None, option_map}
 use Rattle.std.specs.Str.{bytes_eq}
 use Rattle.alg_choice.specs.declared.algs.Eea.TheVariants.{Eea0, Eea2}
-use Rattle.alg_choice.specs.declared.caps.Caps.{Caps}
 use Rattle.alg_choice.specs.Bits.{has_bit}
 use Rattle.alg_choice.specs.Choice.{choice_of, are_supported}
 use Rattle.annex_a_keys.specs.Cell.{Place}
@@ -10,7 +9,6 @@ use Rattle.rec_base.specs.BigEndian.{number_at, number_of, field_at, octets_of}
 use Rattle.rec_base.specs.declared.ways.Way.{Way}
 use Rattle.rec_fields.specs.Field.{of_size, number_in, algs_at, caps_at, cell_at, text_of}
 use Rattle.lte_events.specs.declared.acts.HoKind.{HoKind}
-use Rattle.lte_events.specs.declared.acts.PhoneAct.{PhoneAct}
 use Rattle.lte_events.specs.declared.acts.StationAct.{StationAct}
 use Rattle.lte_events.specs.declared.acts.CoreAct.{CoreAct}
 use Rattle.lte_events.specs.declared.answers.Answer.{Answer}
@@ -18,12 +16,10 @@ use Rattle.lte_events.specs.declared.answers.Answer.TheVariants.{Done, MacFails}
 use Rattle.lte_events.specs.declared.classes.Class.{Class}
 use Rattle.lte_events.specs.declared.events.Event.{Event}
 use Rattle.lte_events.specs.declared.setups.Setup.{Setup}
-use Rattle.lte_events.specs.declared.lines.Who.{Who}
 use Rattle.key_model.specs.Least.{least}
 use Rattle.key_model.specs.HandoverTable.{NumberedKey}
 use Rattle.key_model.specs.Term.{Term, Root, Kenb, Nh, Star, Alg}
 use Rattle.nas_count.specs.Estimate.{estimate_of}
-use Rattle.nas_guard.specs.Seal.{first_octet}
 use Rattle.nas_rec.specs.Reading as nas_reading
 use Rattle.nas_rec.specs.Spelling as nas_texts
 use Rattle.pdcp_guard.specs.Counts.{in_32_bits}
@@ -32,14 +28,14 @@ use Rattle.pdcp_guard.specs.Srb.{srb_count}
 use Rattle.rrc_rec.specs.Reading as rrc_reading
 use Rattle.rrc_rec.specs.Spelling as rrc_texts
 use Rattle.s1x2_rec.specs.Fields.{Fields, kind_of}
-use Rattle.lte_machine.specs.Wire.{KeyUse, Ciphering, Outgoing}
+use Rattle.lte_machine.specs.Wire.{Outgoing}
 use Rattle.lte_machine.specs.Ciphers.{Ciphers, nas_octets, srb_octets, drb_octets}
 use Rattle.lte_machine.specs.Opening.{open_octets, open_foreign}
 use Rattle.lte_machine.specs.CoreChoice.{core_header}
 use Rattle.lte_machine.specs.PhoneChoice.{header_for_phone}
 use Rattle.lte_machine.specs.Machines.{machine_over}
-use Rattle.lte_machine.specs.World.{Machine, World, Line}
-use Rattle.lte_machine.specs.Run.{Ran, Still, replay, Said, Tells, Meets, tale, first_world}
+use Rattle.lte_machine.specs.World.{Machine, Line}
+use Rattle.lte_machine.specs.Run.{Ran, Still, Said, Tells, Meets, tale, first_world}
 
 -- a number by which the keys of a scenario differ
 abbrev pub weight : Term → ℕ

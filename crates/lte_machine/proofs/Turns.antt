@@ -1,5 +1,5 @@
 -- Turns of handovers: a cancelled S1 handover, two preparations under one key, and handover within a station.
-use Rattle.std.specs.Prelude.{◌≡◌, ℕ, ◌==◌, Bool, true, false, List, [], ◌∷◌, ◌++◌, length, map, take, filter, Option, Some, None}
+use Rattle.std.specs.Prelude.{◌≡◌, ℕ, Bool, true, false, List, [], ◌∷◌, ◌++◌, map}
 use Rattle.std.specs.List.{list_any}
 use Rattle.std.proofs.Common.{refl}
 use Rattle.rec_base.specs.declared.ways.Way.TheVariants.{Horizontal, Vertical, Given, Completed, Chained}
@@ -8,12 +8,10 @@ use Rattle.lte_events.specs.declared.events.Event.{Event}
 use Rattle.key_model.specs.Term.{Term, same_term}
 use Rattle.lte_machine.specs.Wire.{KeyUse, Outgoing}
 use Rattle.lte_machine.specs.Opening.{open_octets, same_uses}
-use Rattle.lte_machine.specs.Ladder.{ladder_of}
 use Rattle.lte_machine.specs.Reply.{Made}
 use Rattle.lte_machine.specs.Run.{Ran, Still, Over, replay}
-use Rattle.lte_machine.specs.World.{World, Holding, Holder, AtPhone, AtCore, AtStation}
-use Rattle.lte_machine.proofs.Ordinary.{ordinary}
-use Rattle.lte_machine.proofs.Scenario.{ask, cancel, command, computing, done, from_step, intra, machine, newest, notes, number, opening, refuses, s1, start, toy, x2, x2_to}
+use Rattle.lte_machine.specs.World.{World}
+use Rattle.lte_machine.proofs.Scenario.{ask, cancel, command, computing, done, from_step, intra, machine, newest, notes, opening, refuses, s1, start, toy, x2, x2_to}
 
 -- an S1 handover is cancelled: its chain step stays taken, and the source never held that NH
 abbrev cancelled_s1 : List Event

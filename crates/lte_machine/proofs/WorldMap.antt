@@ -1,11 +1,10 @@
 -- A machine in one reading goes as the same machine in another: one event.
-use Rattle.std.proofs.Common.{◌≡◌, ℕ, zero, suc, ◌+◌, ◌-◌, ◌==◌, nat_lt, Bool, true, false, List, [], ◌∷◌, ◌++◌, length, map, Option, Some, None, Result, Ok, Err, refl, ap, sym, ◌∙◌}
-use Rattle.std.specs.Prelude.{cond, ◌&&◌, ℤ, pos, negsuc, find, filter, slice_get, option_map}
+use Rattle.std.proofs.Common.{◌≡◌, ℕ, zero, suc, ◌+◌, ◌-◌, ◌==◌, nat_lt, Bool, true, false, List, [], ◌∷◌, ◌++◌, length, map, Option, Some, None, refl, ap, sym, ◌∙◌}
+use Rattle.std.specs.Prelude.{cond, ◌&&◌, ℤ, pos, negsuc, filter, slice_get, option_map}
 use Rattle.std.specs.List.{position_from}
 use Rattle.std.proofs.lemmas.List.{map-append}
 use Rattle.std.specs.Str.{bytes_eq}
 use Rattle.alg_choice.specs.declared.caps.Caps.{Caps}
-use Rattle.rec_base.specs.declared.faults.RecFault.{RecFault}
 use Rattle.lte_events.specs.declared.addresses.Address.{Address}
 use Rattle.lte_events.specs.declared.answers.Answer.{Answer}
 use Rattle.lte_events.specs.declared.answers.Answer.TheVariants.{Done, NoUe, NoRecord, Sent, RepeatedRoot}
@@ -13,12 +12,11 @@ use Rattle.lte_events.specs.declared.classes.Class.{Class}
 use Rattle.lte_events.specs.declared.events.Event.{Event}
 use Rattle.lte_events.specs.declared.lines.Who.{Who}
 use Rattle.key_model.specs.Derivation.{Derivation, map_derivation}
-use Rattle.key_model.specs.Reading.{Reading, Carries}
+use Rattle.key_model.specs.Reading.{Carries}
 use Rattle.key_model.specs.Use.{map_use}
-use Rattle.s1x2_rec.specs.Content.{Content}
-use Rattle.lte_machine.specs.Wire.{KeyUse, Ciphering, map_ciphering, Outgoing, SealedNas, PlainNas, SealedRrc, UserPacket, Between, map_outgoing, uses_of, ciphering_use}
-use Rattle.lte_machine.specs.Opening.{Opening, map_opening, Outcome, Opened}
-use Rattle.lte_machine.specs.Reply.{Note, map_note, Made, map_made, Tried, map_tried, Took, map_took, Reply, map_reply, only}
+use Rattle.lte_machine.specs.Wire.{Ciphering, map_ciphering, Outgoing, SealedNas, PlainNas, SealedRrc, UserPacket, Between, map_outgoing, ciphering_use}
+use Rattle.lte_machine.specs.Opening.{Opening, map_opening, Opened}
+use Rattle.lte_machine.specs.Reply.{map_note, map_made, map_tried, map_took, Reply, map_reply, only}
 use Rattle.lte_machine.specs.Ladder.{RowOrigin, OfRoot, Of, map_row, ladder_of, root_row}
 use Rattle.lte_machine.specs.PhoneState.{Phone, PhoneInput, PhoneAuth, PhoneActs, PhoneNasPdu, PhoneAirPdu, map_phone, map_phone_input}
 use Rattle.lte_machine.specs.PhoneStep.{phone_step, phone_opens, phone_pdu_in, map_phone_step}
@@ -26,12 +24,12 @@ use Rattle.lte_machine.specs.StationState.{Station, StationInput, StationActs, A
 use Rattle.lte_machine.specs.StationStep.{station_step, station_opens, station_pdu_in}
 use Rattle.lte_machine.specs.CoreState.{Core, CoreInput, CoreAuth, CoreActs, CoreNasPdu, CoreRecord, map_core, map_core_input}
 use Rattle.lte_machine.specs.CoreStep.{core_step, core_opens, core_pdu_in}
-use Rattle.lte_machine.specs.World.{Machine, World, Line, Holder, AtPhone, AtCore, AtStation, Holding, with_one, uses_in, holds, kept, class_of, sent_line, line_of, phone_after, core_after, put_if, put_station, station_after, by_world, phone_turn, core_turn, station_of_id, turn_of, station_turn, authenticated, auth_unless, is_root_row, next_root, known_root, content_in, arrives, newest_if, chosen, delivered, told_in, same_class, is_sent, injected, happens}
+use Rattle.lte_machine.specs.World.{Machine, World, Line, Holder, AtPhone, AtCore, AtStation, with_one, uses_in, holds, kept, class_of, sent_line, line_of, phone_after, core_after, put_if, put_station, station_after, by_world, phone_turn, core_turn, station_of_id, turn_of, station_turn, authenticated, auth_unless, is_root_row, next_root, known_root, content_in, arrives, newest_if, chosen, delivered, told_in, same_class, is_sent, injected, happens}
 use Rattle.lte_machine.specs.Carried.{map_holding, map_stations, map_world, map_line}
 use Rattle.lte_machine.proofs.PhoneMap.{phone_opens_map, phone_step_map}
 use Rattle.lte_machine.proofs.CoreMap.{core_opens_map, core_step_map}
 use Rattle.lte_machine.proofs.StationMap.{station_opens_map, station_step_map}
-use Rattle.lte_machine.proofs.LadderMap.{ladder_of-map, root_row-map, rows-map}
+use Rattle.lte_machine.proofs.LadderMap.{root_row-map, rows-map}
 
 -- f on keys, g on chain numbers and z on what is kept of a record carry one machine to another
 pub record Agree {K C S L D T : Type 0} (m : Machine K C S) (q : Machine L D T) (f : K → L) (g : C → D) (z : S → T) : Type 0 where
@@ -108,12 +106,17 @@ module _ {K C S L D T : Type 0} (m : Machine K C S) (q : Machine L D T) (f : K �
 
   kept-map : (w : World K C S) (holder : Holder) (r : Reply K C) → map_world f g z (kept m w holder r) ≡ kept q (map_world f g z w) holder (map_reply f g r)
   kept-map w holder r = λ j. record {
-    events = w.events + 1; phone = map_phone f g w.phone; core = map_core f g w.core; stations = map_stations f g w.stations;
+    events = w.events + 1;
+    phone = map_phone f g w.phone;
+    core = map_core f g w.core;
+    stations = map_stations f g w.stations;
     sent = (with_one-map z (m.keep r.sent) w.sent ∙ ap (λ o. with_one o (map z w.sent)) (a.keep r.sent)) j;
     uses = (map-append (map_use f) w.uses (uses_in r.sent) ∙ ap (λ xs. map (map_use f) w.uses ++ xs) (uses_in-map f g r.sent)) j;
     history = (map-append (map_row f) w.history (map Of r.derived) ∙ ap (λ xs. map (map_row f) w.history ++ xs) (origins-map f r.derived)) j;
     held = (map-append (map_holding f) w.held (holds holder r.received r.derived) ∙ ap (λ xs. map (map_holding f) w.held ++ xs) (holds-map f holder r.received r.derived)) j;
-    made = map (map_made f g) w.made; tried = map (map_tried f g) w.tried; took = map (map_took f g) w.took;
+    made = map (map_made f g) w.made;
+    tried = map (map_tried f g) w.tried;
+    took = map (map_took f g) w.took;
   }
 
   sent_line-map : (w : World K C S) (o : Option S) → sent_line m w o ≡ sent_line q (map_world f g z w) (option_map z o)
@@ -122,15 +125,20 @@ module _ {K C S L D T : Type 0} (m : Machine K C S) (q : Machine L D T) (f : K �
 
   line_of-map : (w : World K C S) (actor : Who) (r : Reply K C) → map_line f (line_of m w actor r) ≡ line_of q (map_world f g z w) actor (map_reply f g r)
   line_of-map w actor r = λ j. record {
-    step = w.events; who = actor; answer = r.answer;
+    step = w.events;
+    who = actor;
+    answer = r.answer;
     sent = (sent_line-map w (m.keep r.sent) ∙ ap (sent_line q (map_world f g z w)) (a.keep r.sent)) j;
-    opened = r.opened; note = option_map (map_note f) r.note; alarm = r.alarm;
+    opened = r.opened;
+    note = option_map (map_note f) r.note;
+    alarm = r.alarm;
   }
 
   phone_after-map : (w : World K C S) (d : Phone K C × Reply K C) → map_told f g z (phone_after m w d) ≡ phone_after q (map_world f g z w) (map_phone_step f g d)
   phone_after-map w d = λ j. (
     record (kept-map w AtPhone d.1 j) { phone = map_phone f g d.0; took = with_one-map (map_took f g) d.1.took w.took j },
-    line_of-map w Who.Phone d.1 j)
+    line_of-map w Who.Phone d.1 j,
+  )
 
   core_after-map : (w : World K C S) (d : Core K C × Reply K C) → map_told f g z (core_after m w d) ≡ core_after q (map_world f g z w) (map_core f g d.0, map_reply f g d.1)
   core_after-map w d = λ j. (record (kept-map w AtCore d.1 j) { core = map_core f g d.0 }, line_of-map w Who.Core d.1 j)
@@ -150,7 +158,8 @@ module _ {K C S L D T : Type 0} (m : Machine K C S) (q : Machine L D T) (f : K �
       made = with_one-map (map_made f g) d.1.made w.made j;
       tried = with_one-map (map_tried f g) d.1.tried w.tried j;
     },
-    line_of-map w (Who.Station id) d.1 j)
+    line_of-map w (Who.Station id) d.1 j,
+  )
 
   by_world-map : (w : World K C S) (answer : Answer) → map_told f g z (by_world m w answer) ≡ by_world q (map_world f g z w) answer
   by_world-map w answer = λ j. (record (map_world f g z w) { events = w.events + 1 }, line_of-map w Who.World (only answer) j)
@@ -164,8 +173,8 @@ module _ {K C S L D T : Type 0} (m : Machine K C S) (q : Machine L D T) (f : K �
       phone_after-map w (phone_step m.reading w.phone i (m.opener (phone_opens m.reading w.phone i) (phone_pdu_in i) o))
       ∙ ap (phone_after q (map_world f g z w)) (phone_step_map m.reading q.reading f g a.carries w.phone i (m.opener (phone_opens m.reading w.phone i) (phone_pdu_in i) o))
       ∙ ap (λ x. phone_after q (map_world f g z w) (phone_step q.reading (map_phone f g w.phone) (map_phone_input f i) x))
-        (opened-map (phone_opens m.reading w.phone i) (phone_opens q.reading (map_phone f g w.phone) (map_phone_input f i)) (phone_pdu_in i) o (phone_opens_map m.reading q.reading f g a.carries w.phone i)
-         ∙ ap (λ x. q.opener (phone_opens q.reading (map_phone f g w.phone) (map_phone_input f i)) x (option_map z o)) (e ∙ sym e'))
+      (opened-map (phone_opens m.reading w.phone i) (phone_opens q.reading (map_phone f g w.phone) (map_phone_input f i)) (phone_pdu_in i) o (phone_opens_map m.reading q.reading f g a.carries w.phone i)
+      ∙ ap (λ x. q.opener (phone_opens q.reading (map_phone f g w.phone) (map_phone_input f i)) x (option_map z o)) (e ∙ sym e'))
 
   core_turn-map : (w : World K C S) (i : CoreInput K C) (pdu : List ℕ) → core_pdu_in i ≡ pdu → core_pdu_in (map_core_input f g i) ≡ pdu → (o : Option S)
       → map_told f g z (core_turn m w i o) ≡ core_turn q (map_world f g z w) (map_core_input f g i) (option_map z o)
@@ -173,8 +182,8 @@ module _ {K C S L D T : Type 0} (m : Machine K C S) (q : Machine L D T) (f : K �
       core_after-map w (core_step m.reading w.core i (m.opener (core_opens m.reading w.core i) (core_pdu_in i) o))
       ∙ ap (core_after q (map_world f g z w)) (core_step_map m.reading q.reading f g a.carries w.core i (m.opener (core_opens m.reading w.core i) (core_pdu_in i) o))
       ∙ ap (λ x. core_after q (map_world f g z w) (core_step q.reading (map_core f g w.core) (map_core_input f g i) x))
-        (opened-map (core_opens m.reading w.core i) (core_opens q.reading (map_core f g w.core) (map_core_input f g i)) (core_pdu_in i) o (core_opens_map m.reading q.reading f g a.carries w.core i)
-         ∙ ap (λ x. q.opener (core_opens q.reading (map_core f g w.core) (map_core_input f g i)) x (option_map z o)) (e ∙ sym e'))
+      (opened-map (core_opens m.reading w.core i) (core_opens q.reading (map_core f g w.core) (map_core_input f g i)) (core_pdu_in i) o (core_opens_map m.reading q.reading f g a.carries w.core i)
+      ∙ ap (λ x. q.opener (core_opens q.reading (map_core f g w.core) (map_core_input f g i)) x (option_map z o)) (e ∙ sym e'))
 
   turn_of-map : (w : World K C S) (id : ℕ) (i : StationInput K C) (pdu : List ℕ) → station_pdu_in i ≡ pdu → station_pdu_in (map_station_input f g i) ≡ pdu → (o : Option S) (s : Option (Station K C))
       → map_told f g z (turn_of m w id i o s) ≡ turn_of q (map_world f g z w) id (map_station_input f g i) (option_map z o) (option_map (map_station f g) s)
@@ -183,8 +192,8 @@ module _ {K C S L D T : Type 0} (m : Machine K C S) (q : Machine L D T) (f : K �
       station_after-map w id (station_step m.reading s i (m.opener (station_opens m.reading s i) (station_pdu_in i) o))
       ∙ ap (station_after q (map_world f g z w) id) (station_step_map a.carries s i (m.opener (station_opens m.reading s i) (station_pdu_in i) o))
       ∙ ap (λ x. station_after q (map_world f g z w) id (station_step q.reading (map_station f g s) (map_station_input f g i) x))
-        (opened-map (station_opens m.reading s i) (station_opens q.reading (map_station f g s) (map_station_input f g i)) (station_pdu_in i) o (station_opens_map a.carries s i)
-         ∙ ap (λ x. q.opener (station_opens q.reading (map_station f g s) (map_station_input f g i)) x (option_map z o)) (e ∙ sym e'))
+      (opened-map (station_opens m.reading s i) (station_opens q.reading (map_station f g s) (map_station_input f g i)) (station_pdu_in i) o (station_opens_map a.carries s i)
+      ∙ ap (λ x. q.opener (station_opens q.reading (map_station f g s) (map_station_input f g i)) x (option_map z o)) (e ∙ sym e'))
 
   found_if : (b : Bool) (s : Station K C) (o : Option (Station K C)) → option_map (map_station f g) (cond b (Some s) o) ≡ cond b (Some (map_station f g s)) (option_map (map_station f g) o)
   found_if true s o = refl
@@ -209,7 +218,8 @@ module _ {K C S L D T : Type 0} (m : Machine K C S) (q : Machine L D T) (f : K �
       history = map-append (map_row f) w.history (OfRoot root ∷ []) j;
       held = map-append (map_holding f) w.held (record { holder = AtPhone; key = root } ∷ record { holder = AtCore; key = root } ∷ []) j;
     },
-    line_of-map w Who.Both (only Done) j)
+    line_of-map w Who.Both (only Done) j,
+  )
 
   auth_unless-map : (w : World K C S) (ksi : ℕ) (root : K) (caps : Caps) (o : Option ℕ) → map_told f g z (auth_unless m w ksi root caps o) ≡ auth_unless q (map_world f g z w) ksi (f root) caps o
   auth_unless-map w ksi root caps None = authenticated-map w ksi root caps
@@ -293,7 +303,7 @@ module _ {K C S L D T : Type 0} (m : Machine K C S) (q : Machine L D T) (f : K �
       auth_unless-map w ksi (m.root (next_root w) octets) caps (known_root m w (m.root (next_root w) octets))
       ∙ ap (auth_unless q (map_world f g z w) ksi (f (m.root (next_root w) octets)) caps) (known_root-map w (m.root (next_root w) octets))
       ∙ ap (λ k. auth_unless q (map_world f g z w) ksi k caps (known_root q (map_world f g z w) k))
-        (a.root (next_root w) octets ∙ ap (λ n. q.root n octets) (sym (roots-map f w.history)))
+      (a.root (next_root w) octets ∙ ap (λ n. q.root n octets) (sym (roots-map f w.history)))
   happens-map w (Event.Phone act) back = phone_turn-map w (PhoneActs act) [] refl refl None
   happens-map w (Event.Station id act) back = station_turn-map w id (StationActs act) [] refl refl None
   happens-map w (Event.Core act) back = core_turn-map w (CoreActs act) [] refl refl None

@@ -1,5 +1,5 @@
 -- A world, a run and what is told of it, in another reading of keys, chain numbers and records that were sent.
-use Rattle.std.specs.Prelude.{ℕ, List, [], ◌∷◌, map, Option, option_map}
+use Rattle.std.specs.Prelude.{ℕ, List, [], ◌∷◌, map, option_map}
 use Rattle.key_model.specs.Chain.{ncc_of}
 use Rattle.key_model.specs.Term.{Term}
 use Rattle.key_model.specs.Use.{map_use}
@@ -26,14 +26,27 @@ map_stations f g (s ∷ ss) = map_station f g s ∷ map_stations f g ss
 -- a world in another reading
 abbrev pub map_world : {K C S L D T : Type 0} → (K → L) → (C → D) → (S → T) → World K C S → World L D T
 map_world f g z w = record {
-  events = w.events; phone = map_phone f g w.phone; core = map_core f g w.core; stations = map_stations f g w.stations;
-  sent = map z w.sent; uses = map (map_use f) w.uses; history = map (map_row f) w.history; held = map (map_holding f) w.held;
-  made = map (map_made f g) w.made; tried = map (map_tried f g) w.tried; took = map (map_took f g) w.took;
+  events = w.events;
+  phone = map_phone f g w.phone;
+  core = map_core f g w.core;
+  stations = map_stations f g w.stations;
+  sent = map z w.sent;
+  uses = map (map_use f) w.uses;
+  history = map (map_row f) w.history;
+  held = map (map_holding f) w.held;
+  made = map (map_made f g) w.made;
+  tried = map (map_tried f g) w.tried;
+  took = map (map_took f g) w.took;
 }
 
 abbrev pub map_line : {K L : Type 0} → (K → L) → Line K → Line L
 map_line f l = record {
-  step = l.step; who = l.who; answer = l.answer; sent = l.sent; opened = l.opened; note = option_map (map_note f) l.note;
+  step = l.step;
+  who = l.who;
+  answer = l.answer;
+  sent = l.sent;
+  opened = l.opened;
+  note = option_map (map_note f) l.note;
   alarm = l.alarm;
 }
 

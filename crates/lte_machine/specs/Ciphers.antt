@@ -1,5 +1,5 @@
 -- The octets of what is sent, by a MAC and a ciphering (TS 24.301 9.1, TS 36.323 6.2).
-use Rattle.std.specs.Prelude.{◌≡◌, ℕ, ◌%◌, List, [], ◌∷◌, ◌++◌, length, Option, Some, None}
+use Rattle.std.specs.Prelude.{◌≡◌, ℕ, ◌%◌, List, ◌∷◌, ◌++◌, length, Option, Some, None}
 use Rattle.key_model.specs.Use.{map_use}
 use Rattle.key_model.specs.HandoverTable.{NumberedKey}
 use Rattle.nas_guard.specs.Cipher.{ciphered, mac_of}

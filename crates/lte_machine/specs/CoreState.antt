@@ -49,8 +49,17 @@ pub record Core (K C : Type 0) : Type 0 where
 -- a core that has authenticated nobody
 abbrev pub first_core : {K C : Type 0} → List Site → List Eea → ℕ → Core K C
 first_core cells priority first = record {
-  cells = cells; priority = priority; latest = record { eea = 0; eia = 0 }; partial = None; procedure = None;
-  context = None; trigger = None; next = first; link = None; attempts = replicate 8 0; requests = replicate 8 0;
+  cells = cells;
+  priority = priority;
+  latest = record { eea = 0; eia = 0 };
+  partial = None;
+  procedure = None;
+  context = None;
+  trigger = None;
+  next = first;
+  link = None;
+  attempts = replicate 8 0;
+  requests = replicate 8 0;
 }
 
 -- what the core gets
@@ -74,9 +83,16 @@ map_core_link f g l = record { conn = l.conn; chain = map_chain f g l.chain; sta
 
 abbrev pub map_core : {K C L D : Type 0} → (K → L) → (C → D) → Core K C → Core L D
 map_core f g c = record {
-  cells = c.cells; priority = c.priority; latest = c.latest; partial = option_map (map_core_partial f) c.partial;
-  procedure = option_map (map_keys f) c.procedure; context = option_map (map_core_context f) c.context;
-  trigger = c.trigger; next = c.next; link = option_map (map_core_link f g) c.link; attempts = c.attempts;
+  cells = c.cells;
+  priority = c.priority;
+  latest = c.latest;
+  partial = option_map (map_core_partial f) c.partial;
+  procedure = option_map (map_keys f) c.procedure;
+  context = option_map (map_core_context f) c.context;
+  trigger = c.trigger;
+  next = c.next;
+  link = option_map (map_core_link f g) c.link;
+  attempts = c.attempts;
   requests = c.requests;
 }
 

@@ -27,5 +27,6 @@ pub mod Step
 pub mod Run
 pub mod Machines
 pub mod Carried
+pub mod BothRuns
 pub mod Ranges
 pub mod Distinct

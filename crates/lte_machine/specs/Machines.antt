@@ -5,15 +5,15 @@ use Rattle.lte_events.specs.declared.addresses.Address.{Address}
 use Rattle.key_model.specs.Chain.{ncc_of}
 use Rattle.key_model.specs.HandoverLines.{map_numbered}
 use Rattle.key_model.specs.HandoverTable.{NumberedKey}
-use Rattle.key_model.specs.Reading.{octet_reading, term_reading, term_reading_by}
+use Rattle.key_model.specs.Reading.{octet_reading, term_reading_by}
 use Rattle.key_model.specs.Term.{Term, Root}
 use Rattle.key_model.specs.Value.{value_of, same_value}
 use Rattle.s1x2_rec.specs.Content.{Content}
 use Rattle.s1x2_rec.specs.Fields.{Fields}
 use Rattle.s1x2_rec.specs.Reading.{read_core}
-use Rattle.lte_machine.specs.Wire.{KeyUse, Outgoing, SealedNas, PlainNas, SealedRrc, UserPacket, Between, integrity_of, address_of, map_outgoing}
+use Rattle.lte_machine.specs.Wire.{KeyUse, Outgoing, Between, integrity_of, address_of, map_outgoing}
 use Rattle.lte_machine.specs.Ciphers.{Ciphers, under_keys, octets_of, written}
-use Rattle.lte_machine.specs.Opening.{Opening, Outcome, open_octets, open_by_uses}
+use Rattle.lte_machine.specs.Opening.{open_octets, open_by_uses}
 use Rattle.lte_machine.specs.World.{Machine}
 
 -- what the program keeps of a record that was sent: its address, its octets, and its integrity use if it is sealed

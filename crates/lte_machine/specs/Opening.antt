@@ -4,9 +4,9 @@ use Rattle.std.specs.Str.{bytes_eq}
 use Rattle.alg_choice.specs.Algs.{identity_of}
 use Rattle.rec_base.specs.declared.uses.Dir.{Dir}
 use Rattle.rec_base.specs.declared.uses.Dir.TheVariants.{Up, Down}
-use Rattle.key_model.specs.Use.{Use, map_use, same_use}
+use Rattle.key_model.specs.Use.{map_use, same_use}
 use Rattle.nas_guard.specs.Open.{mac_in, covered_in, sent_in}
-use Rattle.lte_machine.specs.Wire.{KeyUse, Ciphering, map_ciphering, Outgoing, SealedNas, PlainNas, SealedRrc, UserPacket, Between}
+use Rattle.lte_machine.specs.Wire.{KeyUse, Ciphering, map_ciphering, Outgoing, SealedNas, SealedRrc}
 use Rattle.lte_machine.specs.Ciphers.{Ciphers, ciphered_by}
 
 -- what a receiver opens, by the uses that it expects: the integrity use, and the ciphering if it is on

@@ -79,8 +79,13 @@ map_waiting f w = record { root = f w.root; kenb = f w.kenb }
 
 abbrev pub map_link : {K C L D : Type 0} → (K → L) → (C → D) → Link K C → Link L D
 map_link f g l = record {
-  station = l.station; air = l.air; chain = map_chain f g l.chain; kenb = f l.kenb; keys = map_as_keys f l.keys;
-  bearers = l.bearers; by_handover = l.by_handover;
+  station = l.station;
+  air = l.air;
+  chain = map_chain f g l.chain;
+  kenb = f l.kenb;
+  keys = map_as_keys f l.keys;
+  bearers = l.bearers;
+  by_handover = l.by_handover;
 }
 
 abbrev pub map_radio : {K C L D : Type 0} → (K → L) → (C → D) → Radio K C → Radio L D

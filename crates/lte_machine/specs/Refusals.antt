@@ -1,6 +1,4 @@
 -- Faults of the layers below as answers of an actor.
-use Rattle.std.specs.Prelude.{ℕ, ◌+◌, ◌*◌, List, take, Result, Ok, Err, slice_index}
-use Rattle.rec_base.specs.declared.faults.RecFault.{RecFault}
 use Rattle.lte_events.specs.declared.answers.Answer.{Answer}
 use Rattle.lte_events.specs.declared.answers.Answer as answers
 use Rattle.lte_events.specs.declared.answers.Answer.TheVariants.{BadRecord, MacFails}

@@ -1,5 +1,5 @@
 -- What an actor gives out in a step, and what a run tells of agreement beside it.
-use Rattle.std.specs.Prelude.{ℕ, Bool, false, List, [], map, Option, Some, None, option_map}
+use Rattle.std.specs.Prelude.{ℕ, Bool, false, List, [], map, Option, None, option_map}
 use Rattle.alg_choice.specs.declared.algs.Algs.{Algs}
 use Rattle.annex_a_keys.specs.Cell.{Place}
 use Rattle.rec_base.specs.declared.ways.Way.{Way}
@@ -73,8 +73,17 @@ pub record Reply (K C : Type 0) : Type 0 where
 -- an answer alone
 abbrev pub only : {K C : Type 0} → Answer → Reply K C
 only answer = record {
-  answer = answer; sent = None; opened = None; derived = []; received = None; accepted = None; note = None;
-  alarm = false; made = None; tried = None; took = None;
+  answer = answer;
+  sent = None;
+  opened = None;
+  derived = [];
+  received = None;
+  accepted = None;
+  note = None;
+  alarm = false;
+  made = None;
+  tried = None;
+  took = None;
 }
 
 -- an answer, with the key that was received and the use that was accepted
@@ -86,19 +95,35 @@ map_note f n = record { ncc = n.ncc; way = n.way; key = f n.key }
 
 abbrev pub map_made : {K C L D : Type 0} → (K → L) → (C → D) → Made K C → Made L D
 map_made f g m = record {
-  station = m.station; air = m.air; conn = m.conn; cell = m.cell; key = f m.key; number = g m.number; algs = m.algs;
+  station = m.station;
+  air = m.air;
+  conn = m.conn;
+  cell = m.cell;
+  key = f m.key;
+  number = g m.number;
+  algs = m.algs;
   from_attempt = m.from_attempt;
 }
 
 abbrev pub map_tried : {K C L D : Type 0} → (K → L) → (C → D) → Tried K C → Tried L D
 map_tried f g t = record {
-  station = t.station; attempt = t.attempt; target = t.target; conn = t.conn; cell = t.cell; key = f t.key;
-  number = g t.number; given = option_map (map_numbered f g) t.given;
+  station = t.station;
+  attempt = t.attempt;
+  target = t.target;
+  conn = t.conn;
+  cell = t.cell;
+  key = f t.key;
+  number = g t.number;
+  given = option_map (map_numbered f g) t.given;
 }
 
 abbrev pub map_took : {K C L D : Type 0} → (K → L) → (C → D) → Took K C → Took L D
 map_took f g t = record {
-  station = t.station; air = t.air; key = f t.key; number = g t.number; algs = t.algs;
+  station = t.station;
+  air = t.air;
+  key = f t.key;
+  number = g t.number;
+  algs = t.algs;
   before = option_map (map_numbered f g) t.before;
 }
 

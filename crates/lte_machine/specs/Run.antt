@@ -56,7 +56,15 @@ stations_of sites (s ∷ ss) = first_station s.id sites s.priority s.first ∷ s
 -- the world before the first event
 abbrev pub first_world : {K C S : Type 0} → Setup → World K C S
 first_world setup = record {
-  events = 0; phone = first_phone setup.caps; core = first_core setup.cells setup.core_priority setup.core_first;
-  stations = stations_of setup.cells setup.stations; sent = []; uses = []; history = []; held = []; made = []; tried = [];
+  events = 0;
+  phone = first_phone setup.caps;
+  core = first_core setup.cells setup.core_priority setup.core_first;
+  stations = stations_of setup.cells setup.stations;
+  sent = [];
+  uses = [];
+  history = [];
+  held = [];
+  made = [];
+  tried = [];
   took = [];
 }

@@ -66,7 +66,14 @@ pub record Station (K C : Type 0) : Type 0 where
 -- a station that has served nobody
 abbrev pub first_station : {K C : Type 0} → ℕ → List Site → List Eea → ℕ → Station K C
 first_station id cells priority first = record {
-  id = id; cells = cells; priority = priority; next = first; last = 0; seen = replicate 8 0; context = None; preps = [];
+  id = id;
+  cells = cells;
+  priority = priority;
+  next = first;
+  last = 0;
+  seen = replicate 8 0;
+  context = None;
+  preps = [];
 }
 
 -- the interfaces of its records
@@ -93,9 +100,18 @@ map_attempt f g (Within a) = Within (map_x2_state f g a)
 
 abbrev pub map_context : {K C L D : Type 0} → (K → L) → (C → D) → Context K C → Context L D
 map_context f g c = record {
-  conn = c.conn; cell = c.cell; air = c.air; key = map_station_key f g c.key; algs = c.algs; keys = map_as_keys f c.keys;
-  caps = c.caps; starting = c.starting; bearers = c.bearers; attempt = option_map (map_attempt f g) c.attempt;
-  outstanding = c.outstanding; origin = c.origin;
+  conn = c.conn;
+  cell = c.cell;
+  air = c.air;
+  key = map_station_key f g c.key;
+  algs = c.algs;
+  keys = map_as_keys f c.keys;
+  caps = c.caps;
+  starting = c.starting;
+  bearers = c.bearers;
+  attempt = option_map (map_attempt f g) c.attempt;
+  outstanding = c.outstanding;
+  origin = c.origin;
 }
 
 -- the preparations, one after the other
@@ -105,8 +121,14 @@ map_preps f g (p ∷ ps) = map_prep f g p ∷ map_preps f g ps
 
 abbrev pub map_station : {K C L D : Type 0} → (K → L) → (C → D) → Station K C → Station L D
 map_station f g s = record {
-  id = s.id; cells = s.cells; priority = s.priority; next = s.next; last = s.last; seen = s.seen;
-  context = option_map (map_context f g) s.context; preps = map_preps f g s.preps;
+  id = s.id;
+  cells = s.cells;
+  priority = s.priority;
+  next = s.next;
+  last = s.last;
+  seen = s.seen;
+  context = option_map (map_context f g) s.context;
+  preps = map_preps f g s.preps;
 }
 
 abbrev pub map_read : {K C L D : Type 0} → (K → L) → (C → D) → Result (Content K C) RecFault → Result (Content L D) RecFault

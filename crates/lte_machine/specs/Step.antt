@@ -5,7 +5,7 @@ use Rattle.lte_events.specs.declared.events.Event.{Event}
 use Rattle.std.specs.List.{position_from}
 use Rattle.lte_machine.specs.Opening.{Opening, OpensNothing, Outcome, accepted_of}
 use Rattle.lte_machine.specs.Tuples.{Chance, Rows, tuple_chance}
-use Rattle.lte_machine.specs.Ladder.{Clash, ladder_of, add_rows}
+use Rattle.lte_machine.specs.Ladder.{Clash, ladder_of}
 use Rattle.lte_machine.specs.PhoneState.{PhoneInput, PhoneActs, PhoneNasPdu, PhoneAirPdu}
 use Rattle.lte_machine.specs.PhoneStep.{phone_opens, phone_pdu_in}
 use Rattle.lte_machine.specs.StationState.{Station, StationInput, StationActs, AirPdu, StationRecord, OnS1, OnX2}

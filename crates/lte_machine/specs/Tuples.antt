@@ -1,5 +1,5 @@
 -- Coincidences: what no one shows to be impossible. Each ends a run with its two values.
-use Rattle.std.specs.Prelude.{ℕ, Bool, true, false, Option, Some, None}
+use Rattle.std.specs.Prelude.{Bool, true, false, Option, Some, None}
 use Rattle.lte_machine.specs.Wire.{KeyUse}
 use Rattle.lte_machine.specs.Opening.{same_uses}
 use Rattle.lte_machine.specs.Ladder.{Clash}
@@ -23,4 +23,3 @@ same_sender same (Some sender) receiver = same_uses same receiver sender
 abbrev pub tuple_chance : {K : Type 0} → (K → K → Bool) → Option (KeyUse K) → Option (KeyUse K) → Option (Chance K)
 tuple_chance same sender None = None
 tuple_chance same sender (Some receiver) = tuples_unless (same_sender same sender receiver) sender receiver
-

@@ -1,6 +1,6 @@
 -- The network: all actors, every record ever sent, and what one event does. Any record may be delivered at any later time,
 -- again, or never; nothing orders the events.
-use Rattle.std.specs.Prelude.{ℕ, ◌+◌, ◌-◌, ◌==◌, ◌&&◌, nat_lt, Bool, true, false, cond, ℤ, pos, negsuc, List, [], ◌∷◌, ◌++◌, length, map, drop, filter, find, Option, Some, None, slice_get, Result, Ok, Err}
+use Rattle.std.specs.Prelude.{ℕ, ◌+◌, ◌-◌, ◌==◌, ◌&&◌, nat_lt, Bool, true, false, ℤ, pos, negsuc, List, [], ◌∷◌, ◌++◌, length, map, drop, filter, find, Option, Some, None, slice_get, Result, Err}
 use Rattle.std.specs.List.{position_from}
 use Rattle.std.specs.Str.{bytes_eq}
 use Rattle.alg_choice.specs.declared.caps.Caps.{Caps}
@@ -20,7 +20,7 @@ use Rattle.lte_machine.specs.Reply.{Note, Made, Tried, Took, Reply, only}
 use Rattle.lte_machine.specs.Ladder.{RowOrigin, OfRoot, Of, ladder_of, root_row}
 use Rattle.lte_machine.specs.PhoneState.{Phone, PhoneInput, PhoneAuth, PhoneActs, PhoneNasPdu, PhoneAirPdu}
 use Rattle.lte_machine.specs.PhoneStep.{phone_step, phone_opens, phone_pdu_in}
-use Rattle.lte_machine.specs.StationState.{Station, StationInput, StationActs, AirPdu, StationRecord, Interface, OnS1, OnX2}
+use Rattle.lte_machine.specs.StationState.{Station, StationInput, StationActs, AirPdu, StationRecord, OnS1, OnX2}
 use Rattle.lte_machine.specs.StationStep.{station_step, station_opens, station_pdu_in}
 use Rattle.lte_machine.specs.CoreState.{Core, CoreInput, CoreAuth, CoreActs, CoreNasPdu, CoreRecord}
 use Rattle.lte_machine.specs.CoreStep.{core_step, core_opens, core_pdu_in}
@@ -117,15 +117,21 @@ sent_line m w (Some x) = Some (length w.sent, class_of (m.address x))
 
 abbrev pub line_of : {K C S : Type 0} → Machine K C S → World K C S → Who → Reply K C → Line K
 line_of m w actor reply = record {
-  step = w.events; who = actor; answer = reply.answer; sent = sent_line m w (m.keep reply.sent); opened = reply.opened;
-  note = reply.note; alarm = reply.alarm;
+  step = w.events;
+  who = actor;
+  answer = reply.answer;
+  sent = sent_line m w (m.keep reply.sent);
+  opened = reply.opened;
+  note = reply.note;
+  alarm = reply.alarm;
 }
 
 -- a step of an actor, told and kept
 abbrev pub phone_after : {K C S : Type 0} → Machine K C S → World K C S → Phone K C × Reply K C → World K C S × Line K
 phone_after m w d = (
   record (kept m w AtPhone d.1) { phone = d.0; took = with_one d.1.took w.took },
-  line_of m w Who.Phone d.1)
+  line_of m w Who.Phone d.1,
+)
 
 abbrev pub core_after : {K C S : Type 0} → Machine K C S → World K C S → Core K C × Reply K C → World K C S × Line K
 core_after m w d = (record (kept m w AtCore d.1) { core = d.0 }, line_of m w Who.Core d.1)
@@ -146,7 +152,8 @@ station_after m w id d = (
     made = with_one d.1.made w.made;
     tried = with_one d.1.tried w.tried;
   },
-  line_of m w (Who.Station id) d.1)
+  line_of m w (Who.Station id) d.1,
+)
 
 -- an event that reaches no actor
 abbrev pub by_world : {K C S : Type 0} → Machine K C S → World K C S → Answer → World K C S × Line K
@@ -184,7 +191,8 @@ authenticated m w ksi root caps = (
     history = w.history ++ OfRoot root ∷ [];
     held = w.held ++ record { holder = AtPhone; key = root } ∷ record { holder = AtCore; key = root } ∷ [];
   },
-  line_of m w Who.Both (only Done))
+  line_of m w Who.Both (only Done),
+)
 
 abbrev pub auth_unless : {K C S : Type 0} → Machine K C S → World K C S → ℕ → K → Caps → Option ℕ → World K C S × Line K
 auth_unless m w ksi root caps None = authenticated m w ksi root caps

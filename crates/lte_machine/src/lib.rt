@@ -3,3 +3,9 @@
 //!
 //! Each function here has an empty body: its contract is a law about them.
 #![tactic(auto)]
+
+mod refusals;
+mod runs;
+
+pub use refusals::{refused_core_step, refused_phone_step, refused_station_step};
+pub use runs::{run_in_octets_is_the_value, tale_in_octets_is_the_value};

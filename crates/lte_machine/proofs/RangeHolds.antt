@@ -1,0 +1,126 @@
+-- What of the actors and of what was sent is in range, in every world of every run.
+use Rattle.std.proofs.Common.{ℕ, ◌≤◌, Option, Some, None, option_map, Result, Ok, Err}
+use Rattle.rec_base.specs.declared.faults.RecFault.{RecFault}
+use Rattle.key_model.specs.Chain.{ncc_of}
+use Rattle.key_model.specs.HandoverTable.{NumberedKey}
+use Rattle.key_model.specs.Term.{Term}
+use Rattle.s1x2_rec.specs.Content.{Content}
+use Rattle.s1x2_rec.specs.Fields.{Fields, InitialContext, PathSwitchAnswer, HandoverRequest, X2Request}
+use Rattle.s1x2_rec.specs.Spelling.{IsNumber, IsCell, IsCaps, FieldsInRange}
+use Rattle.ho_prep.specs.declared.origins.By.{By}
+use Rattle.ho_prep.specs.Prep.{Prep}
+use Rattle.lte_machine.specs.Ranges.{AllOf, IsStationAct, IsCoreAct}
+use Rattle.lte_machine.specs.Reply.{Origin}
+use Rattle.lte_machine.specs.Wire.{Outgoing, Between}
+use Rattle.lte_machine.specs.StationState.{Station, Context, Attempt, OverX2, OverS1, Within, X2State, X2Open, X2Ready, X2Commanded, S1State, S1Open, S1Ready, S1Commanded, StationInput, StationActs, AirPdu, StationRecord}
+use Rattle.lte_machine.specs.CoreState.{Core, CorePartial, CoreContext, CoreLink, CoreInput, CoreAuth, CoreActs, CoreNasPdu, CoreRecord}
+use Rattle.lte_machine.specs.World.{World}
+use Rattle.lte_machine.proofs.RangeKeys.{IsDerived}
+
+-- the key of a record is derived, and its NCC is at most this
+abbrev pub HasKey : ℕ → Option (NumberedKey Term ℕ) → Type 0
+HasKey greatest None = ⊥
+HasKey greatest (Some k) = IsDerived k.key × (ncc_of k.number ≤ greatest)
+
+abbrev pub HasNoKey : Option (NumberedKey Term ℕ) → Type 0
+HasNoKey None = Unit {0}
+HasNoKey (Some k) = ⊥
+
+-- a key stands exactly in the four kinds that carry one
+abbrev pub KeyRanged : Fields → Option (NumberedKey Term ℕ) → Type 0
+KeyRanged (InitialContext conn cell caps) key = HasKey 0 key
+KeyRanged (PathSwitchAnswer conn number) key = HasKey 7 key
+KeyRanged (HandoverRequest conn source attempt cell caps) key = HasKey 7 key
+KeyRanged (X2Request conn source attempt cell caps) key = HasKey 7 key
+KeyRanged other key = HasNoKey key
+
+-- a record of S1 or X2 has its fields and its key in range
+abbrev pub RecordRanged : Outgoing Term ℕ → Type 0
+RecordRanged (Between to fields key) = FieldsInRange fields × KeyRanged fields key
+RecordRanged other = Unit {0}
+
+abbrev pub SentRanged : Option (Outgoing Term ℕ) → Type 0
+SentRanged None = Unit {0}
+SentRanged (Some x) = RecordRanged x
+
+-- A STATION
+
+-- the source and attempt of an X2 handover
+abbrev pub OriginRanged : Option Origin → Type 0
+OriginRanged None = Unit {0}
+OriginRanged (Some o) = (o.source ≤ 7) × IsNumber o.attempt
+
+abbrev pub ByRanged : By → Type 0
+ByRanged By.X2 = Unit {0}
+ByRanged By.S1 = Unit {0}
+ByRanged (By.Intra origin) = OriginRanged (option_map (λ o. record { source = o.0; attempt = o.1 }) origin)
+
+-- an attempt that may be given up: its number, and on S1 its cell
+abbrev pub X2Ranged : {K C : Type 0} → X2State K C → Type 0
+X2Ranged (X2Open start) = IsNumber start.number
+X2Ranged (X2Ready acked) = IsNumber acked.start.number
+X2Ranged (X2Commanded sent) = Unit {0}
+
+abbrev pub S1Ranged : S1State → Type 0
+S1Ranged (S1Open start) = IsNumber start.number × IsCell start.cell
+S1Ranged (S1Ready acked) = IsNumber acked.start.number × IsCell acked.start.cell
+S1Ranged (S1Commanded sent) = Unit {0}
+
+abbrev pub AttemptRanged : {K C : Type 0} → Option (Attempt K C) → Type 0
+AttemptRanged None = Unit {0}
+AttemptRanged (Some (OverX2 state)) = X2Ranged state
+AttemptRanged (Some (OverS1 state)) = S1Ranged state
+AttemptRanged (Some (Within state)) = X2Ranged state
+
+abbrev pub ContextRanged : {K C : Type 0} → Option (Context K C) → Type 0
+ContextRanged None = Unit {0}
+ContextRanged (Some c) = IsNumber c.conn × IsCell c.cell × IsCaps c.caps × AttemptRanged c.attempt × OriginRanged c.origin
+
+abbrev pub PrepRanged : {K C : Type 0} → Prep K C → Type 0
+PrepRanged p = IsNumber p.conn × (p.source ≤ 7) × IsNumber p.attempt × IsCell p.cell × IsCaps p.caps × ByRanged p.by
+
+abbrev pub PrepIs : {K C : Type 0} → Option (Prep K C) → Type 0
+PrepIs None = Unit {0}
+PrepIs (Some p) = PrepRanged p
+
+-- the next number that it draws is at least 1
+abbrev pub StationRanged : {K C : Type 0} → Station K C → Type 0
+StationRanged s = (s.id ≤ 7) × (1 ≤ s.next) × ContextRanged s.context × AllOf PrepRanged s.preps
+
+-- what was read of a record that came
+abbrev pub ReadRanged : {K C : Type 0} → Result (Content K C) RecFault → Type 0
+ReadRanged (Ok content) = FieldsInRange content.fields
+ReadRanged (Err fault) = Unit {0}
+
+abbrev pub StationInputRanged : {K C : Type 0} → StationInput K C → Type 0
+StationInputRanged (StationActs act) = IsStationAct act
+StationInputRanged (AirPdu air bearer pdu) = Unit {0}
+StationInputRanged (StationRecord interface read) = ReadRanged read
+
+-- THE CORE
+
+abbrev pub PartialRanged : {K : Type 0} → Option (CorePartial K) → Type 0
+PartialRanged None = Unit {0}
+PartialRanged (Some p) = IsCaps p.caps
+
+abbrev pub CoreContextRanged : {K : Type 0} → Option (CoreContext K) → Type 0
+CoreContextRanged None = Unit {0}
+CoreContextRanged (Some c) = IsCaps c.caps
+
+abbrev pub LinkRanged : {K C : Type 0} → Option (CoreLink K C) → Type 0
+LinkRanged None = Unit {0}
+LinkRanged (Some link) = IsNumber link.conn
+
+abbrev pub CoreRanged : {K C : Type 0} → Core K C → Type 0
+CoreRanged s = (1 ≤ s.next) × PartialRanged s.partial × CoreContextRanged s.context × LinkRanged s.link
+
+abbrev pub CoreInputRanged : {K C : Type 0} → CoreInput K C → Type 0
+CoreInputRanged (CoreAuth ksi root caps) = IsCaps caps
+CoreInputRanged (CoreActs act) = IsCoreAct act
+CoreInputRanged (CoreNasPdu pdu) = Unit {0}
+CoreInputRanged (CoreRecord read) = ReadRanged read
+
+-- THE WORLD
+
+abbrev pub Ranged : World Term ℕ (Outgoing Term ℕ) → Type 0
+Ranged w = CoreRanged w.core × AllOf StationRanged w.stations × AllOf RecordRanged w.sent
