@@ -1,0 +1,146 @@
+-- What a phone makes of a key in so many NH steps, and when that is the key made (TS 33.401 7.2.8.4.4).
+use Rattle.std.proofs.Common.{◌≡◌, ℕ, zero, suc, ◌+◌, ◌-◌, ◌<◌, ◌≤◌, ◌≢◌, refl, sym, ◌∙◌, ap, arith, add-zero, add-suc}
+use Rattle.annex_a_keys.specs.Cell.{Place}
+use Rattle.key_model.specs.Term.{Term, Root, Kenb, Nh, Star, Alg}
+use Rattle.key_model.specs.Chain.{nh, ncc_of}
+use Rattle.key_model.specs.Number.{chain_number}
+use Rattle.key_model.specs.Least.{least}
+use Rattle.key_model.specs.Reading.{term_reading_by}
+use Rattle.key_model.specs.HandoverTable.{NumberedKey}
+use Rattle.key_model.specs.HandoverLines.{PhoneKeys, nh_after, steps_to, key_after}
+use Rattle.key_model.proofs.LeastFacts.{least_from_remainder, eight_ahead}
+use Rattle.key_model.proofs.TermFacts.{chain_number_nh}
+use Rattle.nh_chain.specs.Chain.{ChainState, number_after}
+use Rattle.nh_chain.specs.Reach.{reached_after}
+
+-- the key of the chain that a KeNB comes from by KeNB* steps, and its KASME
+abbrev pub base : Term → Term
+base (Star t pci earfcn) = base t
+base (Root r octets) = Root r octets
+base (Kenb r n) = Kenb r n
+base (Nh r t) = Nh r t
+base (Alg t type id) = Alg t type id
+
+abbrev pub root_of : Term → Term
+root_of (Star t pci earfcn) = root_of t
+root_of (Kenb r n) = r
+root_of (Nh r t) = r
+root_of (Root r octets) = Root r octets
+root_of (Alg t type id) = Alg t type id
+
+-- so many NH steps from a key
+abbrev pub climb : Term → Term → ℕ → Term
+climb r t zero = t
+climb r t (suc steps) = Nh r (climb r t steps)
+
+-- what a phone with this KeNB takes for a cell after so many NH steps: a KeNB* of it, or of the NH that it reaches
+abbrev pub lands : Term → ℕ → Place → Term
+lands t zero cell = Star t cell.pci cell.earfcn
+lands t (suc steps) cell = Star (climb (root_of t) (base t) (suc steps)) cell.pci cell.earfcn
+
+pub climb-nh : (r : Term) (n p steps : ℕ) → climb r (nh r n p) steps ≡ nh r n (p + steps)
+climb-nh r n p zero = ap (nh r n) (sym (add-zero p))
+climb-nh r n p (suc steps) = ap (Nh r) (climb-nh r n p steps) ∙ ap (nh r n) (sym (add-suc p steps))
+
+pub base_nh : (r : Term) (n i : ℕ) → base (nh r n i) ≡ nh r n i
+base_nh r n zero = refl
+base_nh r n (suc i) = refl
+
+pub root_nh : (r : Term) (n i : ℕ) → root_of (nh r n i) ≡ r
+root_nh r n zero = refl
+root_nh r n (suc i) = refl
+
+-- a key and its base have one root and one number
+pub root_base : (t : Term) → root_of (base t) ≡ root_of t
+root_base (Star t pci earfcn) = root_base t
+root_base (Root r octets) = refl
+root_base (Kenb r n) = refl
+root_base (Nh r t) = refl
+root_base (Alg t type id) = refl
+
+pub number_base : (t : Term) → chain_number (base t) ≡ chain_number t
+number_base (Star t pci earfcn) = number_base t
+number_base (Root r octets) = refl
+number_base (Kenb r n) = refl
+number_base (Nh r t) = refl
+number_base (Alg t type id) = refl
+
+pub number_climb : (r t : Term) (steps : ℕ) → chain_number (climb r t steps) ≡ chain_number t + steps
+number_climb r t zero = sym (add-zero (chain_number t))
+number_climb r t (suc steps) = ap suc (number_climb r t steps) ∙ sym (add-suc (chain_number t) steps)
+
+-- landing adds the steps to the number
+pub number_lands : (t : Term) (steps : ℕ) (cell : Place) → chain_number (lands t steps cell) ≡ chain_number t + steps
+number_lands t zero cell = sym (add-zero (chain_number t))
+number_lands t (suc steps) cell = number_climb (root_of t) (base t) (suc steps) ∙ ap (λ n. n + suc steps) (number_base t)
+
+root_climb : (r t : Term) (steps : ℕ) → root_of t ≡ r → root_of (climb r t steps) ≡ r
+root_climb r t zero e = e
+root_climb r t (suc steps) e = refl
+
+pub root_lands : (t : Term) (steps : ℕ) (cell : Place) → root_of (lands t steps cell) ≡ root_of t
+root_lands t zero cell = refl
+root_lands t (suc steps) cell = refl
+
+pub base_lands : (t : Term) (steps : ℕ) (cell : Place) → base (lands t steps cell) ≡ climb (root_of t) (base t) steps
+base_lands t zero cell = refl
+base_lands t (suc steps) cell = refl
+
+-- the machine's words are these
+pub nh_after-climb : (same : Term → Term → _) (r t : Term) (steps : ℕ) → nh_after (term_reading_by same) r t steps ≡ climb r t steps
+nh_after-climb same r t zero = refl
+nh_after-climb same r t (suc steps) = ap (Nh r) (nh_after-climb same r t steps)
+
+-- a phone's chain is that of its KeNB
+abbrev pub ChainOf : Term → ChainState Term ℕ → Type 0
+ChainOf t chain = (chain.root ≡ root_of t) × (chain.sync ≡ base t) × (chain.number ≡ chain_number t)
+
+-- what such a phone reaches is where its KeNB lands
+pub reached_key : (same : Term → Term → _) (t : Term) (chain : ChainState Term ℕ) (steps : ℕ) (cell : Place) → ChainOf t chain
+    → (reached_after (term_reading_by same) chain t steps cell).star.key ≡ lands t steps cell
+reached_key same t chain zero cell h = refl
+reached_key same t chain (suc steps) cell h =
+    ap (λ u. Star u cell.pci cell.earfcn)
+    (nh_after-climb same chain.root chain.sync (suc steps) ∙ (λ j. climb (h.0 j) (h.1 j) (suc steps)))
+
+pub reached_number : (same : Term → Term → _) (t : Term) (chain : ChainState Term ℕ) (steps : ℕ) (cell : Place) → ChainOf t chain
+    → (reached_after (term_reading_by same) chain t steps cell).star.number ≡ chain_number t + steps
+reached_number same t chain zero cell h = h.2 ∙ sym (add-zero (chain_number t))
+reached_number same t chain (suc steps) cell h = ap (λ n. n + suc steps) h.2
+
+number_climbed : (same : Term → Term → _) (n steps : ℕ) → number_after (term_reading_by same) n steps ≡ n + steps
+number_climbed same n zero = sym (add-zero n)
+number_climbed same n (suc steps) = refl
+
+pub reached_chain : (same : Term → Term → _) (t : Term) (chain : ChainState Term ℕ) (steps : ℕ) (cell : Place) → ChainOf t chain
+    → ChainOf (lands t steps cell) (reached_after (term_reading_by same) chain t steps cell).chain
+reached_chain same t chain steps cell h =
+    (h.0 ∙ sym (root_lands t steps cell),
+    nh_after-climb same chain.root chain.sync steps ∙ (λ j. climb (h.0 j) (h.1 j) steps) ∙ sym (base_lands t steps cell),
+    number_climbed same chain.number steps ∙ ap (λ n. n + steps) h.2 ∙ sym (number_lands t steps cell))
+
+-- the steps of a phone with number p for the NCC of number i lead to i exactly where i is fewer than eight ahead
+pub steps_near : (p i : ℕ) → p ≤ i → i - p < 8 → steps_to (ncc_of p) (ncc_of i) ≡ i - p
+steps_near p i below near =
+    let reached : least p (ncc_of i) 8 ≡ i = (eight_ahead p i below).1 near in
+    let is : least p (ncc_of i) 8 ≡ p + steps_to (ncc_of p) (ncc_of i) = least_from_remainder p (ncc_of i) in
+    omega arith
+
+pub steps_far : (p i : ℕ) → p ≤ i → 8 ≤ i - p → p + steps_to (ncc_of p) (ncc_of i) ≢ i
+steps_far p i below far e =
+    let is : least p (ncc_of i) 8 ≡ p + steps_to (ncc_of p) (ncc_of i) = least_from_remainder p (ncc_of i) in
+    let near : i - p < 8 = (eight_ahead p i below).0 (is ∙ e) in
+    omega arith
+
+-- so a phone takes the key made exactly then
+pub lands_near : (t : Term) (p i : ℕ) (cell : Place) → chain_number t ≡ p → p ≤ i → i - p < 8
+    → lands t (steps_to (ncc_of p) (ncc_of i)) cell ≡ lands t (i - p) cell
+lands_near t p i cell number below near = ap (λ steps. lands t steps cell) (steps_near p i below near)
+
+pub lands_far : (t : Term) (p i : ℕ) (cell : Place) → chain_number t ≡ p → p ≤ i → 8 ≤ i - p
+    → lands t (steps_to (ncc_of p) (ncc_of i)) cell ≢ lands t (i - p) cell
+lands_far t p i cell number below far e =
+    let left = number_lands t (steps_to (ncc_of p) (ncc_of i)) cell in
+    let right = number_lands t (i - p) cell in
+    let both : chain_number t + steps_to (ncc_of p) (ncc_of i) ≡ chain_number t + (i - p) = sym left ∙ ap chain_number e ∙ right in
+    steps_far p i below far (omega arith)

@@ -1,0 +1,135 @@
+-- Agreement of phone and stations on keys over handovers (TS 33.401 7.2.8): what a station made for an air address against
+-- what the phone took there.
+use Rattle.std.specs.Prelude.{◌≡◌, ◌≢◌, ℕ, ◌+◌, ◌-◌, ◌≤◌, ◌<◌, ◌==◌, ◌&&◌, Bool, ◌⊎◌, List, [], ◌∷◌, find, take, Option, Some, None, ⊤}
+use Rattle.key_model.specs.Term.{Term, Star}
+use Rattle.key_model.specs.HandoverTable.{NumberedKey}
+use Rattle.lte_machine.specs.Reply.{Origin, Made, Took}
+use Rattle.lte_machine.specs.PhoneState.{Link, Radio, Idle, Connecting, Connected}
+use Rattle.lte_machine.specs.StationState.{Station, Context}
+use Rattle.lte_machine.specs.Wire.{Outgoing}
+use Rattle.lte_machine.specs.World.{Machine, World}
+use Rattle.lte_machine.specs.Run.{first_world}
+use Rattle.lte_events.specs.declared.setups.Setup.{Setup}
+use Rattle.lte_events.specs.declared.events.Event.{Event}
+use Rattle.lte_properties.specs.ChainBelow.{AllOf}
+use Rattle.lte_properties.specs.ChainHolds.{run}
+
+-- an item of a list
+abbrev pub IsIn : {A : Type 0} → A → List A → Type 0
+IsIn x [] = ⊥
+IsIn x (y ∷ ys) = (x ≡ y) ⊎ IsIn x ys
+
+-- what a station made for an air address that it drew: a context or a preparation
+abbrev pub is_made_at : ℕ → ℕ → Made Term ℕ → Bool
+is_made_at station air m = (m.station == station) && (m.air == air)
+
+abbrev pub made_at : List (Made Term ℕ) → ℕ → ℕ → Option (Made Term ℕ)
+made_at made station air = find (is_made_at station air) made
+
+-- how many NH steps the key made is ahead of the key that the phone had before (7.2.8.4.4)
+abbrev pub ahead : Made Term ℕ → NumberedKey Term ℕ → ℕ
+ahead m before = m.number - before.number
+
+-- the phone took what was made: one key, one chain number, the same algorithms
+abbrev pub TookMade : Took Term ℕ → Made Term ℕ → Type 0
+TookMade x m = (x.key ≡ m.key) × (x.number ≡ m.number) × (x.algs ≡ m.algs)
+
+-- at an obeyed handover command for this air address: the station there made something; its number is not below the
+-- phone's; fewer than eight steps ahead the phone took what was made, and at eight or more another key, since NCC has three
+-- bits (7.2.8.4.4 and TS 36.331 6.3.3)
+abbrev pub ObeysMade : Took Term ℕ → NumberedKey Term ℕ → Made Term ℕ → Type 0
+ObeysMade x before m =
+    (before.number ≤ m.number) × (ahead m before < 8 → TookMade x m) × (8 ≤ ahead m before → x.key ≢ m.key)
+
+abbrev pub Obeys : List (Made Term ℕ) → Took Term ℕ → Option (NumberedKey Term ℕ) → Type 0
+Obeys made x None = ⊤
+Obeys made x (Some before) = (m : Made Term ℕ) × (made_at made x.station x.air ≡ Some m) × ObeysMade x before m
+
+-- at each obeyed command of a run
+abbrev pub ObeysAgreement : {S : Type 0} → World Term ℕ S → Type 0
+ObeysAgreement w = AllOf (λ x. Obeys w.made x x.before) w.took
+
+-- within one connection the phone's keys grow: the number rises, or it stays and the key is a KeNB* of the one before
+-- (7.2.8.4.4)
+abbrev pub Grows : Took Term ℕ → Option (NumberedKey Term ℕ) → Type 0
+Grows x None = ⊤
+Grows x (Some before) =
+    (before.number < x.number)
+    ⊎ ((x.number ≡ before.number) × (pci : ℕ) × (earfcn : ℕ) × (x.key ≡ Star before.key pci earfcn))
+
+abbrev pub TermsGrow : {S : Type 0} → World Term ℕ S → Type 0
+TermsGrow w = AllOf (λ x. Grows x x.before) w.took
+
+-- for each air address of a station the phone takes at most one key
+abbrev pub OneTerm : {S : Type 0} → World Term ℕ S → Type 0
+OneTerm w = AllOf (λ x. AllOf (λ y. x.station ≡ y.station → x.air ≡ y.air → x.key ≡ y.key) w.took) w.took
+
+-- the context of a station at an air address
+abbrev pub ContextAt : ℕ → Option (Context Term ℕ) → (Context Term ℕ → Type 0) → Type 0
+ContextAt air None P = ⊤
+ContextAt air (Some c) P = c.air ≡ air → P c
+
+-- of each station of this number
+abbrev pub AtStation : {S : Type 0} → World Term ℕ S → ℕ → (Station Term ℕ → Type 0) → Type 0
+AtStation w id P = AllOf (λ s. s.id ≡ id → P s) w.stations
+
+-- phone and station have one key, one chain number and the same algorithms
+abbrev pub Agree : Link Term ℕ → Context Term ℕ → Type 0
+Agree l c = (l.kenb ≡ c.key.kenb) × (l.chain.number ≡ c.key.number) × (l.keys ≡ c.keys) × (l.keys.algs ≡ c.algs)
+
+abbrev pub JoinedBy : {S : Type 0} → World Term ℕ S → Radio Term ℕ → Type 0
+JoinedBy w Idle = ⊤
+JoinedBy w (Connecting waiting) = ⊤
+JoinedBy w (Connected l) = AtStation w l.station (λ s. ContextAt l.air s.context (Agree l))
+
+-- wherever the phone is connected at a station and air address, and the station's context has that air address
+abbrev pub JoinedAgree : {S : Type 0} → World Term ℕ S → Type 0
+JoinedAgree w = JoinedBy w w.phone.radio
+
+-- no context of the station has the air address of an obeyed command where the key differs: where it was eight or more
+-- steps ahead
+abbrev pub IsFar : List (Made Term ℕ) → Took Term ℕ → Option (NumberedKey Term ℕ) → Type 0
+IsFar made x None = ⊥
+IsFar made x (Some before) = (m : Made Term ℕ) × (made_at made x.station x.air ≡ Some m) × (8 ≤ ahead m before)
+
+-- in world v, of what the phone took in world w
+abbrev pub NoneThere : {S : Type 0} → World Term ℕ S → World Term ℕ S → Type 0
+NoneThere v w =
+    AllOf (λ x. IsFar w.made x x.before → AtStation v x.station (λ s. ContextAt x.air s.context (λ c. ⊥))) w.took
+
+-- in every world of a run, of what the phone took in it
+abbrev pub NoneEver : Machine Term ℕ (Outgoing Term ℕ) → World Term ℕ (Outgoing Term ℕ) → List Event → Type 0
+NoneEver m w es = (n : ℕ) → NoneThere (run m w (take n es)) (run m w es)
+
+-- the phone had taken this key at the air address
+abbrev pub HadTaken : List (Took Term ℕ) → ℕ → ℕ → Term → Type 0
+HadTaken took station air key =
+    (x : Took Term ℕ) × IsIn x took × (x.station ≡ station) × (x.air ≡ air) × (x.key ≡ key)
+
+-- of what was made by an attempt of a handover: the phone had
+abbrev pub TakenIfTried : List (Took Term ℕ) → ℕ → ℕ → Term → Option Origin → Type 0
+TakenIfTried took station air key None = ⊤
+TakenIfTried took station air key (Some origin) = HadTaken took station air key
+
+-- a context is what its station made for its air address; where it came by a handover, the phone had taken its key there
+abbrev pub ComesMade : {S : Type 0} → World Term ℕ S → ℕ → Option (Context Term ℕ) → Type 0
+ComesMade w station None = ⊤
+ComesMade w station (Some c) =
+    (m : Made Term ℕ) × (made_at w.made station c.air ≡ Some m)
+    × (c.key.kenb ≡ m.key) × (c.key.number ≡ m.number) × (c.algs ≡ m.algs)
+    × TakenIfTried w.took station c.air c.key.kenb m.from_attempt
+
+abbrev pub CompletedTaken : {S : Type 0} → World Term ℕ S → Type 0
+CompletedTaken w = AllOf (λ s. ComesMade w s.id s.context) w.stations
+
+-- all of it, in one world
+pub record Agrees {S : Type 0} (w : World Term ℕ S) : Type 0 where
+  pub obeyed : ObeysAgreement w
+  pub grow : TermsGrow w
+  pub one_term : OneTerm w
+  pub joined : JoinedAgree w
+  pub completed : CompletedTaken w
+
+-- in the world after these events, and of far keys in each world on the way
+abbrev pub AgreementHolds : Machine Term ℕ (Outgoing Term ℕ) → Setup → List Event → Type 0
+AgreementHolds m setup events = Agrees (run m (first_world setup) events) × NoneEver m (first_world setup) events

@@ -1,0 +1,76 @@
+-- What holds of the chain numbers in every world of every run (TS 33.401 7.2.8).
+use Rattle.std.specs.Prelude.{ℕ, ◌≤◌, ◌==◌, if◌then◌else◌, Bool, List, [], ◌∷◌, Option, Some, None, ⊤}
+use Rattle.lte_events.specs.declared.events.Event.{Event}
+use Rattle.lte_events.specs.declared.setups.Setup.{Setup}
+use Rattle.key_model.specs.Term.{Term}
+use Rattle.key_model.specs.HandoverTable.{NumberedKey}
+use Rattle.key_model.specs.Reading.{term_reading_by}
+use Rattle.lte_machine.specs.Wire.{Outgoing, KeyUse, address_of}
+use Rattle.lte_machine.specs.Opening.{Opening, Outcome}
+use Rattle.lte_machine.specs.StationState.{Station, Context}
+use Rattle.lte_machine.specs.StationRows.{RecordRow, PairTaken, PreparedByS1, PreparedByX2, StationRow, OfRecord}
+use Rattle.lte_machine.specs.CoreState.{CoreLink}
+use Rattle.lte_machine.specs.World.{Machine, World, happens}
+use Rattle.lte_machine.specs.Run.{first_world}
+use Rattle.lte_machine.specs.Machines.{content_of}
+use Rattle.lte_properties.specs.ChainBelow.{AllOf, EachNumber, IsUnder, StationBelow, RecordBelow, CoreTop}
+use Rattle.lte_properties.specs.ChainAbove.{StationAbove, InFlight}
+
+-- a machine over terms, with any roots, octets, senders and opener
+abbrev pub machine_by : (Term → Term → Bool) → (ℕ → List ℕ → Term) → (Outgoing Term ℕ → List ℕ) → (Option (Outgoing Term ℕ) → Option (KeyUse Term)) → (Opening Term → List ℕ → Option (Outgoing Term ℕ) → Outcome) → Machine Term ℕ (Outgoing Term ℕ)
+machine_by same root octets sender opener = record {
+  reading = term_reading_by same;
+  root = root;
+  keep = λ x. x;
+  octets = octets;
+  address = address_of;
+  content = content_of;
+  sender = sender;
+  opener = opener;
+}
+
+-- the world after these events, where no coincidence ends the run
+abbrev pub run : {K C S : Type 0} → Machine K C S → World K C S → List Event → World K C S
+run m w [] = w
+run m w (e ∷ es) = run m (happens m w e).0 es
+
+-- the core's number for each connection, where these were the ones so far
+abbrev pub noted : Option (CoreLink Term ℕ) → (ℕ → ℕ) → ℕ → ℕ
+noted None top conn = top conn
+noted (Some link) top conn = if conn == link.conn then link.chain.number else top conn
+
+-- the core's number for each connection after a run, or the last one where it has ended
+abbrev pub core_numbers : {S : Type 0} → Machine Term ℕ S → World Term ℕ S → (ℕ → ℕ) → List Event → ℕ → ℕ
+core_numbers m w top [] = top
+core_numbers m w top (e ∷ es) = let u = (happens m w e).0 in core_numbers m u (noted u.core.link top) es
+
+-- the core's number for a connection, or its last, is at or above each number of it at core, stations and in flight; stored
+-- and moved pairs are above the term of their context; requests and answers in flight fit the station that asked
+pub record Holds (top : ℕ → ℕ) (w : World Term ℕ (Outgoing Term ℕ)) : Type 0 where
+  pub core : CoreTop top w.core
+  pub below : AllOf (StationBelow top) w.stations
+  pub above : AllOf StationAbove w.stations
+  pub sent : AllOf (RecordBelow top) w.sent
+  pub flight : AllOf (λ s. AllOf (InFlight s) w.sent) w.stations
+
+-- it holds after these events, from the first world of a setup, where the core's number of each connection begins at 0
+abbrev pub ChainNumbersHold : Machine Term ℕ (Outgoing Term ℕ) → Setup → List Event → Type 0
+ChainNumbersHold m setup events =
+    Holds (core_numbers m (first_world setup) (λ conn. 0) events) (run m (first_world setup) events)
+
+-- what a row needs of the key of the record that it read. A pair that is taken is above each number of the context, and
+-- at most the core's number
+abbrev pub PairNeeds : (ℕ → ℕ) → ℕ → Option (Context Term ℕ) → Type 0
+PairNeeds top n None = ⊤
+PairNeeds top n (Some c) = EachNumber (IsUnder n) c × (n ≤ top c.conn)
+
+abbrev pub RecordNeeds : (ℕ → ℕ) → Station Term ℕ → RecordRow → NumberedKey Term ℕ → Type 0
+RecordNeeds top s (PairTaken conn origin) key = PairNeeds top key.number s.context
+RecordNeeds top s (PreparedByS1 w) key = key.number ≤ top w.conn
+RecordNeeds top s (PreparedByX2 w) key = key.number ≤ top w.conn
+RecordNeeds top s other key = ⊤
+
+abbrev pub RowNeeds : (ℕ → ℕ) → Station Term ℕ → StationRow → Option (NumberedKey Term ℕ) → Type 0
+RowNeeds top s row None = ⊤
+RowNeeds top s (OfRecord row) (Some key) = RecordNeeds top s row key
+RowNeeds top s other (Some key) = ⊤

@@ -1,0 +1,69 @@
+-- What the choice of a row established: of the record that was read, and of the numbers that were drawn.
+use Rattle.std.specs.Prelude.{◌≡◌, ℕ, ◌+◌, ◌≤◌, ◌<◌, slice_index, Option, Some, None, ⊤}
+use Rattle.alg_choice.specs.declared.caps.Caps.{Caps}
+use Rattle.annex_a_keys.specs.Cell.{Place}
+use Rattle.s1x2_rec.specs.Fields.{Fields, InitialContext, PathSwitchRequest, PathSwitchAnswer, HandoverRequired, HandoverRequest, X2Request}
+use Rattle.lte_machine.specs.Reply.{Origin}
+use Rattle.lte_machine.specs.StationState.{Station, Context}
+use Rattle.lte_machine.specs.StationRows.{Wanted, RecordRow, ContextGiven, PairTaken, PreparedByS1, PreparedByX2, AirRow, CompletedByX2, ActRow, StartedByX2, StartedByS1, StartedWithin, AsksAgain, StationRow, OfRecord, OfAir, OfAct}
+use Rattle.lte_machine.specs.CoreState.{CoreLink}
+use Rattle.lte_machine.specs.CoreRows.{CoreRecordRow, PathSwitched, HandoverAsked, CoreActRow, ContextSetUp}
+
+-- an answer is taken for the outstanding number of the context
+abbrev pub TakenFor : {K C : Type 0} → Option (Context K C) → ℕ → Option Origin → Fields → Type 0
+TakenFor None conn origin fields = ⊥
+TakenFor (Some c) conn origin fields =
+    (asked : ℕ) × (number : ℕ) × (fields ≡ PathSwitchAnswer asked number) × (c.outstanding ≡ Some number) × (conn ≡ c.conn) × (origin ≡ c.origin)
+
+-- a handover request is taken of no older connection and of a new attempt, and draws the station's next number
+abbrev pub WantedFits : {K C : Type 0} → Station K C → Wanted → Type 0
+WantedFits s w = (s.last ≤ w.conn) × (slice_index s.seen w.from.source < w.from.attempt) × (w.air ≡ s.next)
+
+-- a record's row says what the record says
+abbrev pub RecordFits : {K C : Type 0} → Station K C → Fields → RecordRow → Type 0
+RecordFits s fields (ContextGiven conn cell caps algs air) = (fields ≡ InitialContext conn cell caps) × (s.last < conn) × (air ≡ s.next)
+RecordFits s fields (PairTaken conn origin) = TakenFor s.context conn origin fields
+RecordFits s fields (PreparedByS1 w) = (fields ≡ HandoverRequest w.conn w.from.source w.from.attempt w.cell w.caps) × WantedFits s w
+RecordFits s fields (PreparedByX2 w) = (fields ≡ X2Request w.conn w.from.source w.from.attempt w.cell w.caps) × WantedFits s w
+RecordFits s fields other = ⊤
+
+-- the numbers that a row draws are the next ones
+abbrev pub AirDraws : ℕ → AirRow → Type 0
+AirDraws next (CompletedByX2 air count number) = number ≡ next
+AirDraws next other = ⊤
+
+abbrev pub ActDraws : ℕ → ActRow → Type 0
+ActDraws next (StartedByX2 number target cell) = number ≡ next
+ActDraws next (StartedByS1 number target cell) = number ≡ next
+ActDraws next (StartedWithin number air cell) = (number ≡ next) × (air ≡ next + 1)
+ActDraws next (AsksAgain number) = number ≡ next
+ActDraws next other = ⊤
+
+abbrev pub RecordDraws : ℕ → RecordRow → Type 0
+RecordDraws next (ContextGiven conn cell caps algs air) = air ≡ next
+RecordDraws next (PreparedByS1 w) = w.air ≡ next
+RecordDraws next (PreparedByX2 w) = w.air ≡ next
+RecordDraws next other = ⊤
+
+abbrev pub RowDraws : ℕ → StationRow → Type 0
+RowDraws next (OfRecord row) = RecordDraws next row
+RowDraws next (OfAir row) = AirDraws next row
+RowDraws next (OfAct row) = ActDraws next row
+
+-- the core's connection is this one
+abbrev pub LinkIs : {K C : Type 0} → Option (CoreLink K C) → ℕ → Type 0
+LinkIs None conn = ⊥
+LinkIs (Some link) conn = link.conn ≡ conn
+
+-- a record's row at the core says what the record says, and is of the core's connection
+abbrev pub CoreFits : {K C : Type 0} → Option (CoreLink K C) → Fields → CoreRecordRow → Type 0
+CoreFits link fields (PathSwitched conn station number alarm) =
+    LinkIs link conn × (cell : Place) × (caps : Caps) × (fields ≡ PathSwitchRequest conn station number cell caps)
+CoreFits link fields (HandoverAsked conn source attempt cell target caps) =
+    LinkIs link conn × (fields ≡ HandoverRequired conn source attempt cell)
+CoreFits link fields other = ⊤
+
+-- a new connection has the next number
+abbrev pub CoreDraws : ℕ → CoreActRow → Type 0
+CoreDraws next (ContextSetUp conn cell target caps count) = conn ≡ next
+CoreDraws next other = ⊤

@@ -1,0 +1,148 @@
+-- What holds in every world of every run, so that no key is used twice with one COUNT: how the keys that phone, core and
+-- stations have stand to those that were taken, given and used before (TS 33.401 7.2.6.2 and 7.2.8).
+use Rattle.std.specs.Prelude.{◌≡◌, ℕ, ◌<◌, ◌≤◌, true, false, Option, Some, None, option_map, IfSome, ⊤}
+use Rattle.rec_base.specs.declared.uses.Dir.TheVariants.{Up, Down}
+use Rattle.lte_events.specs.declared.addresses.Address.{Address}
+use Rattle.lte_events.specs.declared.addresses.Address.TheVariants.{StationS1}
+use Rattle.key_model.specs.Term.{Term}
+use Rattle.key_model.specs.Reading.{term_reading}
+use Rattle.key_model.specs.HandoverTable.{NumberedKey}
+use Rattle.nas_guard.specs.Keys.{Keys}
+use Rattle.pdcp_guard.specs.AsKeys.{AsKeys, as_keys_of}
+use Rattle.s1x2_rec.specs.Fields.{Fields, InitialContext, X2Request}
+use Rattle.ho_prep.specs.Prep.{Prep}
+use Rattle.lte_machine.specs.Wire.{Outgoing, SealedNas, PlainNas, SealedRrc, UserPacket, Between}
+use Rattle.lte_machine.specs.PhoneState.{nas_keys_of, Partial, NasContext, Radio, Idle, Connecting, Connected, Phone}
+use Rattle.lte_machine.specs.StationState.{Station, Context}
+use Rattle.lte_machine.specs.CoreState.{Core, CorePartial, CoreContext}
+use Rattle.lte_machine.specs.World.{World, next_root}
+use Rattle.lte_properties.specs.ChainBelow.{AllOf}
+use Rattle.lte_properties.specs.FreshOrder.{authentication_of, nas_count_of, IsBefore, IsNotAfter, IsLevel}
+use Rattle.lte_properties.specs.FreshUses.{Home, home_at, Homes, is_star, home, IsSpent, OnKey, UpUse, CoreUse, StationUse, AllApart}
+
+-- KASMES
+
+-- the KASMEs of a partial context and of the context in use, by their authentications: all of the run so far, the partial
+-- one the newer
+abbrev pub RootsStand : ℕ → Option ℕ → Option ℕ → Type 0
+RootsStand roots partial context =
+    IfSome partial (λ p. p < roots) × IfSome context (λ c. (c < roots) × IfSome partial (λ p. c < p))
+
+-- the next KeNB at the earliest: authentication and NAS COUNT
+pub record Mark : Type 0 where
+  pub root : ℕ
+  pub count : ℕ
+
+-- a key comes before every KeNB that is still to be made
+abbrev pub IsPast : ℕ → Option ℕ → Option Mark → Term → Type 0
+IsPast roots partial mark t =
+    (authentication_of t < roots) × IfSome partial (λ p. authentication_of t < p)
+    × IfSome mark (λ k. (authentication_of t ≤ k.root) × (authentication_of t ≡ k.root → nas_count_of t < k.count))
+
+-- the keys are derived of this KASME, or of this KeNB (TS 33.401 A.7)
+abbrev pub NasKeysOf : Term → Keys Term → Type 0
+NasKeysOf root keys = keys ≡ nas_keys_of term_reading root keys.algs
+
+abbrev pub AsKeysOf : Term → AsKeys Term → Type 0
+AsKeysOf kenb keys = keys ≡ as_keys_of term_reading kenb keys.algs
+
+-- THE PHONE
+
+abbrev pub partial_root : Option (Partial Term) → Option ℕ
+partial_root partial = option_map (λ p. authentication_of p.root) partial
+
+abbrev pub context_root : Option (NasContext Term) → Option ℕ
+context_root context = option_map (λ c. authentication_of c.root) context
+
+abbrev pub phone_mark : Option (NasContext Term) → Option Mark
+phone_mark context = option_map (λ c. record { root = authentication_of c.root; count = c.send }) context
+
+-- all that was taken comes before the KeNB that a phone waits with, and not after the one that it is connected with
+abbrev pub RadioStands : ℕ → Option ℕ → Option Mark → Homes → Radio Term ℕ → Type 0
+RadioStands roots partial mark taken Idle = ⊤
+RadioStands roots partial mark taken (Connecting w) =
+    IsPast roots partial mark w.kenb × ((t : Term) (h : Home) → taken t ≡ Some h → IsBefore t w.kenb)
+RadioStands roots partial mark taken (Connected l) =
+    (taken l.kenb ≡ Some (home_at l.station l.air)) × IsLevel l.kenb l.chain.sync × AsKeysOf l.kenb l.keys
+    × ((t : Term) (h : Home) → taken t ≡ Some h → IsNotAfter t l.kenb)
+
+abbrev pub PhoneStands : ℕ → Homes → Phone Term ℕ → Type 0
+PhoneStands roots taken s =
+    RootsStand roots (partial_root s.partial) (context_root s.context)
+    × IfSome s.context (λ c. NasKeysOf c.root c.keys)
+    × ((t : Term) (h : Home) → taken t ≡ Some h → IsPast roots (partial_root s.partial) (phone_mark s.context) t)
+    × RadioStands roots (partial_root s.partial) (phone_mark s.context) taken s.radio
+
+-- THE CORE
+
+abbrev pub core_partial_root : Option (CorePartial Term) → Option ℕ
+core_partial_root partial = option_map (λ p. authentication_of p.root) partial
+
+abbrev pub core_context_root : Option (CoreContext Term) → Option ℕ
+core_context_root context = option_map (λ c. authentication_of c.nas.root) context
+
+-- the COUNT of the trigger, or the next one that may be a trigger
+abbrev pub due : Option ℕ → ℕ → ℕ
+due None receive = receive
+due (Some count) receive = count
+
+abbrev pub core_mark : Option ℕ → Option (CoreContext Term) → Option Mark
+core_mark trigger context = option_map (λ c. record { root = authentication_of c.nas.root; count = due trigger c.nas.receive }) context
+
+abbrev pub CoreStands : ℕ → Homes → Core Term ℕ → Type 0
+CoreStands roots given s =
+    RootsStand roots (core_partial_root s.partial) (core_context_root s.context)
+    × IfSome s.context (λ c. NasKeysOf c.nas.root c.nas.keys)
+    × IfSome s.procedure (λ keys. IfSome s.partial (λ p. NasKeysOf p.root keys))
+    × IfSome s.trigger (λ count. IfSome s.context (λ c. count < c.nas.receive))
+    × ((t : Term) (h : Home) → given t ≡ Some h → IsPast roots (core_partial_root s.partial) (core_mark s.trigger s.context) t)
+
+-- A STATION
+
+-- a context's KeNB has its home here, at a place that is spent
+abbrev pub ContextStands : Homes → Homes → Station Term ℕ → Context Term ℕ → Type 0
+ContextStands taken given s c =
+    ((h : Home) × (home taken given c.key.kenb ≡ Some h) × (h.station ≡ s.id) × IsSpent (is_star c.key.kenb) h.place s.next s.last s.preps)
+    × AsKeysOf c.key.kenb c.keys
+
+abbrev pub PrepStands : ℕ → Prep Term ℕ → Type 0
+PrepStands next p = (is_star p.key.kenb ≡ true) × AsKeysOf p.key.kenb p.keys × (p.air < next)
+
+abbrev pub StationStands : Homes → Homes → Station Term ℕ → Type 0
+StationStands taken given s = IfSome s.context (ContextStands taken given s) × AllOf (PrepStands s.next) s.preps
+
+-- RECORDS
+
+-- the phone sends to the station and air address where it took the key; the core gives a KeNB to its home on S1; a request on
+-- X2 has a KeNB*
+abbrev pub BetweenStands : Homes → Address → Fields → Option (NumberedKey Term ℕ) → Type 0
+BetweenStands given to (InitialContext conn cell caps) (Some key) =
+    (station : ℕ) × (to ≡ StationS1 station) × (given key.key ≡ Some (home_at station conn)) × (is_star key.key ≡ false)
+BetweenStands given to (X2Request conn source attempt cell caps) (Some key) = is_star key.key ≡ true
+BetweenStands given to other key = ⊤
+
+abbrev pub RecordStands : Homes → Homes → Outgoing Term ℕ → Type 0
+RecordStands taken given (SealedRrc Up station air srb u e text) = OnKey (λ t type. taken t ≡ Some (home_at station air)) u.key
+RecordStands taken given (SealedRrc Down station air srb u e text) = ⊤
+RecordStands taken given (Between to fields key) = BetweenStands given to fields key
+RecordStands taken given (SealedNas dir header u e text) = ⊤
+RecordStands taken given (PlainNas octets) = ⊤
+RecordStands taken given (UserPacket dir station air drb e text) = ⊤
+
+-- A WORLD
+
+-- of all
+pub record Fresh (w : World Term ℕ (Outgoing Term ℕ)) : Type 0 where
+  pub roots : ℕ
+  pub taken : Homes
+  pub given : Homes
+  pub counted : next_root w ≡ roots
+  pub phone : PhoneStands roots taken w.phone
+  pub core : CoreStands roots given w.core
+  pub stations : AllOf (StationStands taken given) w.stations
+  pub up : AllOf (λ u. u.dir ≡ Up → UpUse roots taken w.phone u) w.uses
+  pub nas : AllOf (λ u. u.dir ≡ Down → CoreUse roots w.core u) w.uses
+  pub down : AllOf (λ s. AllOf (λ u. u.dir ≡ Down → StationUse taken given s u) w.uses) w.stations
+  pub sent : AllOf (RecordStands taken given) w.sent
+  pub took : AllOf (λ x. taken x.key ≡ Some (home_at x.station x.air)) w.took
+  pub apart : AllApart w.uses

@@ -1,0 +1,13 @@
+pub mod ChainBelow
+pub mod ChainAbove
+pub mod ChainHolds
+pub mod ChainRows
+pub mod Agreement
+pub mod AgreePremises
+pub mod Freshness
+pub mod FreshOrder
+pub mod FreshUses
+pub mod FreshHolds
+pub mod FreshPhone
+pub mod Separation
+pub mod SharedKeys
