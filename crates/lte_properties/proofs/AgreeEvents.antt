@@ -62,7 +62,7 @@ use Rattle.lte_properties.proofs.ChainWorld.{happens_holds}
 use Rattle.lte_properties.proofs.AgreeWorld.{TheWorld, Conns, ghost, WorldOk, Goes, PlainReads, by_world_goes, phone_turn_goes, phone_air_goes, core_turn_goes, found_of, station_acts_goes, station_air_goes, station_s1_goes, station_x2_goes}
 
 -- the bearer of an SRB is that SRB
-which_srb : (srb : Srb) → which (of_srb srb) ≡ OnSrb srb
+pub which_srb : (srb : Srb) → which (of_srb srb) ≡ OnSrb srb
 which_srb Signalling1 = refl
 which_srb Signalling2 = refl
 

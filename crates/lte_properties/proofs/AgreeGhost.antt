@@ -24,7 +24,7 @@ use Rattle.ho_prep.specs.Prep.{Prep}
 use Rattle.x2_handover.specs.declared.orders.Order.{Order}
 use Rattle.x2_handover.specs.Attempt.{X2Start, X2Acked, X2Sent, x2_order}
 use Rattle.s1_handover.specs.Attempt.{S1Start, S1Acked, S1Sent, s1_order}
-use Rattle.lte_machine.specs.Bearers.{Srb}
+use Rattle.lte_machine.specs.Bearers.{Srb, Signalling1, Bearers}
 use Rattle.lte_machine.specs.Wire.{KeyUse, Ciphering, Outgoing, SealedNas, PlainNas, SealedRrc, UserPacket, Between, srb_use, ciphering_by}
 use Rattle.lte_machine.specs.Reply.{Origin, Made, Tried, Took, Reply}
 use Rattle.lte_machine.specs.PhoneState.{Waiting, Link, Radio, Idle, Connecting, Connected}
@@ -32,7 +32,7 @@ use Rattle.lte_machine.specs.StationState.{Station, Context, Attempt, OverX2, Ov
 use Rattle.lte_machine.specs.StationChoice.{station_of}
 use Rattle.lte_machine.specs.CoreState.{Core, CoreLink}
 use Rattle.lte_machine.specs.World.{with_one}
-use Rattle.std.specs.Prelude.{◌==◌, ◌&&◌, Bool, find, ⊤}
+use Rattle.std.specs.Prelude.{◌==◌, ◌&&◌, Bool, true, false, find, ⊤}
 use Rattle.lte_properties.specs.ChainBelow.{AllOf}
 use Rattle.lte_properties.specs.Agreement.{IsIn, is_made_at, made_at, Obeys, Grows, HadTaken, TakenIfTried}
 use Rattle.lte_properties.proofs.AgreeTerms.{base, lands, ChainOf}
@@ -162,12 +162,18 @@ AttemptOk g id conn t (Some (OverX2 state)) = X2Ok g id conn t state
 AttemptOk g id conn t (Some (OverS1 state)) = S1Ok g id conn t state
 AttemptOk g id conn t (Some (Within state)) = X2Ok g id conn t state
 
+-- a context whose security starts has no attempt, and the phone had taken the key of any other
+abbrev pub StartedOk : Ghost → ℕ → ℕ → Term → Bool → Option (Attempt Term ℕ) → Type 0
+StartedOk g id air t true attempt = attempt ≡ None
+StartedOk g id air t false attempt = HadTaken g.took id air t
+
 -- a station's context, and its preparations
 abbrev pub CtxOk : Ghost → ℕ → Option (Context Term ℕ) → Type 0
 CtxOk g id None = ⊤
 CtxOk g id (Some c) =
     TermOk g c.conn c.key.kenb c.key.number × PairsOk g c.conn c.key.pair × (c.keys ≡ keys_of c.key.kenb c.algs)
     × EntryIs g id c.air c.key.kenb c.key.number c.algs × AttemptOk g id c.conn c.key.kenb c.attempt
+    × StartedOk g id c.air c.key.kenb c.starting c.attempt
 
 abbrev pub PrepOk : Ghost → ℕ → Prep Term ℕ → Type 0
 PrepOk g id p =
@@ -183,12 +189,16 @@ StationOk cells g s =
     CtxOk g s.id s.context × AllOf (PrepOk g s.id) s.preps × FreshFrom g s.id s.next
     × (s.cells ≡ cells) × (s.id ≤ 7) × (1 ≤ s.next)
 
+-- a phone that came to what was made for a connection took the first record there, so that its next COUNT is not 0
+abbrev pub HeardFirst : Made Term ℕ → Bearers → Type 0
+HeardFirst m bearers = m.from_attempt ≡ None → 1 ≤ bearers.srb1.receive
+
 -- the phone's connection
 abbrev pub LinkIs : Ghost → Link Term ℕ → Type 0
 LinkIs g l =
     ChainOf l.kenb l.chain × (l.keys ≡ keys_of l.kenb l.keys.algs)
     × (m : Made Term ℕ) × (made_at g.made l.station l.air ≡ Some m) × (l.keys.algs ≡ m.algs)
-    × FromIs g m l.kenb m.from_attempt × HadTaken g.took l.station l.air l.kenb
+    × FromIs g m l.kenb m.from_attempt × HadTaken g.took l.station l.air l.kenb × HeardFirst m l.bearers
 
 abbrev pub RadioOk : Ghost → Radio Term ℕ → Type 0
 RadioOk g Idle = ⊤
@@ -215,17 +225,19 @@ SaysOk g t other = ⊤
 abbrev pub TextOk : Ghost → Term → List ℕ → Type 0
 TextOk g t text = (r : RrcRecord) → read_rrc text ≡ Ok r → SaysOk g t r
 
--- how a text of a station is ciphered: under its own use, or not at all in a new connection's first
-abbrev pub CipheredSo : Made Term ℕ → Srb → KeyUse Term → Option (Ciphering Term) → Type 0
-CipheredSo m srb i None = (m.from_attempt ≡ None) × (i.count ≡ 0)
-CipheredSo m srb i (Some e) =
-    e ≡ ciphering_by m.algs.eea (srb_use Down (keys_of m.key m.algs).rrc_enc srb i.count)
+-- how a text of a station is ciphered: under its own use, where the phone had taken the key; or not at all in the first
+-- of a new connection
+abbrev pub CipheredSo : Ghost → ℕ → ℕ → Made Term ℕ → Srb → KeyUse Term → Option (Ciphering Term) → Type 0
+CipheredSo g station air m srb i None = (m.from_attempt ≡ None) × (i.count ≡ 0) × (srb ≡ Signalling1)
+CipheredSo g station air m srb i (Some e) =
+    (e ≡ ciphering_by m.algs.eea (srb_use Down (keys_of m.key m.algs).rrc_enc srb i.count))
+    × HadTaken g.took station air m.key
 
 -- an RRC text from a station: under the key made for the air address
 abbrev pub DownOk : Ghost → ℕ → ℕ → Srb → KeyUse Term → Option (Ciphering Term) → List ℕ → Type 0
 DownOk g station air srb i f text =
     (m : Made Term ℕ) × (made_at g.made station air ≡ Some m)
-    × (i ≡ srb_use Down (keys_of m.key m.algs).rrc_int srb i.count) × CipheredSo m srb i f × TextOk g m.key text
+    × (i ≡ srb_use Down (keys_of m.key m.algs).rrc_int srb i.count) × CipheredSo g station air m srb i f × TextOk g m.key text
 
 -- and from the phone: under the key that it took there
 abbrev pub UpOk : Ghost → ℕ → ℕ → KeyUse Term → Type 0

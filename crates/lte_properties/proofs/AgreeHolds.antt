@@ -20,7 +20,7 @@ use Rattle.lte_machine.specs.World.{World, Machine, happens}
 use Rattle.lte_machine.specs.Run.{stations_of, first_world}
 use Rattle.lte_properties.specs.ChainBelow.{AllOf}
 use Rattle.lte_properties.specs.ChainHolds.{machine_by, run, core_numbers, Holds}
-use Rattle.lte_properties.specs.Agreement.{IsIn, made_at, ahead, TookMade, ObeysMade, Obeys, ObeysAgreement, Grows, TermsGrow, OneTerm, ContextAt, AtStation, Agree, JoinedBy, JoinedAgree, IsFar, NoneThere, HadTaken, TakenIfTried, ComesMade, CompletedTaken, Agrees}
+use Rattle.lte_properties.specs.Agreement.{IsIn, made_at, ahead, TookMade, ObeysMade, Obeys, ObeysAgreement, Grows, TermsGrow, TermsFollow, OneTerm, ContextAt, AtStation, Agree, JoinedBy, JoinedAgree, IsFar, NoneThere, HadTaken, TakenIfTried, ComesMade, CompletedTaken, Agrees}
 use Rattle.lte_properties.specs.AgreePremises.{Honest, Calm, Along}
 use Rattle.lte_properties.proofs.ChainLists.{all_map}
 use Rattle.lte_properties.proofs.ChainWorld.{run_holds, first_holds}
@@ -123,8 +123,9 @@ module _ (cells : List Site) (c : Conns) (w : TheWorld) (h : WorldOk cells c w) 
   comes id None ok = tt
   comes id (Some x) ok = (ok.3.0, ok.3.1, ok.3.2.0, ok.3.2.1, ok.3.2.2, ok.3.4)
 
-  pub agrees : Agrees w
-  agrees = record {
+  pub agrees : TermsFollow w → Agrees w
+  agrees follow = record {
+    follow = follow;
     obeyed = all_map (TookOk (ghost c w)) (λ x. Obeys w.made x x.before) (λ x k. k.1) w.took h.took;
     grow = all_map (TookOk (ghost c w)) (λ x. Grows x x.before) (λ x k. k.2) w.took h.took;
     one_term = one_term;

@@ -37,7 +37,7 @@ use Rattle.std.specs.Option.{option_or}
 use Rattle.std.proofs.lemmas.List.Folds.{find-append}
 use Rattle.lte_properties.specs.Agreement.{IsIn, is_made_at, made_at, Obeys, HadTaken, TakenIfTried}
 use Rattle.lte_properties.proofs.AgreeTerms.{base}
-use Rattle.lte_properties.proofs.AgreeGhost.{Ghost, tried_at, chain_at, TermOk, PairOk, PairsOk, FromIs, HereIs, FromOk, MadeOk, GivenOk, TriedOk, TookOk, IsMade, EntryIs, OrderIs, IsOrder, StartIs, X2Ok, S1Ok, AttemptOk, CtxOk, PrepOk, LinkIs, RadioOk, SaysOk, TextOk, CipheredSo, DownOk, UpOk, AskedIs, AckIs, CommandTo, X2AckTo, HasNcc, AnyMade, AnyTried, Surpasses, ToStationX2, BetweenOk, SentOk, OutOk}
+use Rattle.lte_properties.proofs.AgreeGhost.{Ghost, tried_at, chain_at, TermOk, PairOk, PairsOk, FromIs, HereIs, FromOk, MadeOk, GivenOk, TriedOk, TookOk, IsMade, EntryIs, OrderIs, IsOrder, StartIs, X2Ok, S1Ok, AttemptOk, StartedOk, CtxOk, PrepOk, LinkIs, RadioOk, SaysOk, TextOk, CipheredSo, DownOk, UpOk, AskedIs, AckIs, CommandTo, X2AckTo, HasNcc, AnyMade, AnyTried, Surpasses, ToStationX2, BetweenOk, SentOk, OutOk}
 
 -- more is told, connections go on, and none begins anew
 pub record Later (g h : Ghost) : Type 0 where
@@ -170,11 +170,16 @@ module _ (g h : Ghost) (l : Later g h) where
   attempt_later id conn t (Some (OverS1 state)) x = s1_later id conn t state x
   attempt_later id conn t (Some (Within state)) x = x2_later id conn t state x
 
+  started_later : (id air : ℕ) (t : Term) (starting : Bool) (o : Option (Attempt Term ℕ)) → StartedOk g id air t starting o → StartedOk h id air t starting o
+  started_later id air t true o x = x
+  started_later id air t false o x = had_later id air t x
+
   pub ctx_later : (id : ℕ) (o : Option (Context Term ℕ)) → CtxOk g id o → CtxOk h id o
   ctx_later id None x = tt
   ctx_later id (Some c) x =
       (term_later c.conn c.key.number c.key.kenb x.0, pairs_later c.conn c.key.pair x.1, x.2,
-      entry_later id c.air c.key.kenb c.key.number c.algs x.3, attempt_later id c.conn c.key.kenb c.attempt x.4)
+      entry_later id c.air c.key.kenb c.key.number c.algs x.3, attempt_later id c.conn c.key.kenb c.attempt x.4,
+      started_later id c.air c.key.kenb c.starting c.attempt x.5)
 
   pub prep_later : (id : ℕ) (p : Prep Term ℕ) → PrepOk g id p → PrepOk h id p
   prep_later id p x =
@@ -188,16 +193,20 @@ module _ (g h : Ghost) (l : Later g h) where
   radio_later Idle x = tt
   radio_later (Connecting w) x = x
   radio_later (Connected k) x =
-      (x.0, x.1, x.2, l.made k.station k.air x.2 x.3, x.4, from_later x.2 k.kenb x.2.from_attempt x.5, had_later k.station k.air k.kenb x.6)
+      (x.0, x.1, x.2, l.made k.station k.air x.2 x.3, x.4, from_later x.2 k.kenb x.2.from_attempt x.5, had_later k.station k.air k.kenb x.6, x.7)
 
   says_later : (t : Term) (r : RrcRecord) → SaysOk g t r → SaysOk h t r
   says_later t (Reconfiguration cell ncc algs station air) x = order_later t cell ncc algs station air x
   says_later t (SecurityModeCommand algs station air) x = (x.0, l.made station air x.0 x.1, x.2, x.3)
   says_later t other x = tt
 
+  ciphered_later : (station air : ℕ) (n : Made Term ℕ) (srb : Srb) (i : KeyUse Term) (f : Option (Ciphering Term)) → CipheredSo g station air n srb i f → CipheredSo h station air n srb i f
+  ciphered_later station air n srb i None x = x
+  ciphered_later station air n srb i (Some e) x = (x.0, had_later station air n.key x.1)
+
   down_later : (station air : ℕ) (srb : Srb) (i : KeyUse Term) (f : Option (Ciphering Term)) (text : List ℕ) → DownOk g station air srb i f text → DownOk h station air srb i f text
   down_later station air srb i f text x =
-      (x.0, l.made station air x.0 x.1, x.2, x.3, λ r e. says_later x.0.key r (x.4 r e))
+      (x.0, l.made station air x.0 x.1, x.2, ciphered_later station air x.0 srb i f x.3, λ r e. says_later x.0.key r (x.4 r e))
 
   up_later : (station air : ℕ) (i : KeyUse Term) → UpOk g station air i → UpOk h station air i
   up_later station air i x = (x.0, x.1, here_later station air x.0 x.2, had_later station air x.0 x.3)

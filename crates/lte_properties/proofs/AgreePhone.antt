@@ -13,7 +13,7 @@ use Rattle.key_model.specs.Reading.{term_reading_by}
 use Rattle.key_model.specs.HandoverTable.{NumberedKey}
 use Rattle.key_model.specs.HandoverLines.{steps_to}
 use Rattle.nh_chain.specs.Reach.{reached_after}
-use Rattle.lte_machine.specs.Bearers.{Srb, Signalling1, Drb, Which, Bearers}
+use Rattle.lte_machine.specs.Bearers.{Srb, Signalling1, Signalling2, Drb, User1, User2, User3, User4, Which, OnSrb, OnDrb, Bearers, srb_taken, drb_taken, srb_sent, drb_sent, left_out_on}
 use Rattle.lte_machine.specs.Wire.{Outgoing}
 use Rattle.lte_machine.specs.Reply.{Origin, Made, Tried, Took, Reply}
 use Rattle.lte_machine.specs.World.{with_one}
@@ -113,6 +113,39 @@ took_more g (Some y) = record {
   made = λ station air m e. e; tried = λ station number e f. f; took = λ x i. in_front x g.took (y ∷ []) i;
 }
 
+-- the next COUNT on SRB1 falls in no row but a handover
+heard_after : (g : Ghost) (l : Link Term ℕ) (bearers : Bearers) → LinkIs g l → (1 ≤ l.bearers.srb1.receive → 1 ≤ bearers.srb1.receive)
+    → RadioOk g (Connected (record l { bearers = bearers }))
+heard_after g l bearers h f = (h.0, h.1, h.2, h.3, h.4, h.5, h.6, λ none. f (h.7 none))
+
+heard_taken : (srb : Srb) (count : ℕ) (b : Bearers) → 1 ≤ b.srb1.receive → 1 ≤ (srb_taken srb count b).srb1.receive
+heard_taken Signalling1 count b h = omega arith
+heard_taken Signalling2 count b h = h
+
+heard_packet : (drb : Drb) (count : ℕ) (b : Bearers) → 1 ≤ b.srb1.receive → 1 ≤ (drb_taken drb count b).srb1.receive
+heard_packet User1 count b h = h
+heard_packet User2 count b h = h
+heard_packet User3 count b h = h
+heard_packet User4 count b h = h
+
+heard_sent : (srb : Srb) (b : Bearers) → 1 ≤ b.srb1.receive → 1 ≤ (srb_sent srb b).srb1.receive
+heard_sent Signalling1 b h = h
+heard_sent Signalling2 b h = h
+
+heard_packet_sent : (drb : Drb) (b : Bearers) → 1 ≤ b.srb1.receive → 1 ≤ (drb_sent drb b).srb1.receive
+heard_packet_sent User1 b h = h
+heard_packet_sent User2 b h = h
+heard_packet_sent User3 b h = h
+heard_packet_sent User4 b h = h
+
+heard_left : (on : Which) (n : ℕ) (b : Bearers) → 1 ≤ b.srb1.receive → 1 ≤ (left_out_on on n b).srb1.receive
+heard_left (OnSrb Signalling1) n b h = h
+heard_left (OnSrb Signalling2) n b h = h
+heard_left (OnDrb User1) n b h = h
+heard_left (OnDrb User2) n b h = h
+heard_left (OnDrb User3) n b h = h
+heard_left (OnDrb User4) n b h = h
+
 -- THE ROWS ON A PDU
 
 link_secured_goes : (same : Term → Term → Bool) (g : Ghost) (station air : ℕ) (algs : Algs) (count : ℕ) (s : Phone Term ℕ) (radio : Radio Term ℕ)
@@ -123,11 +156,15 @@ link_secured_goes same g station air algs count s (Connecting w) old h needs =
     let x : Took Term ℕ = record { station = station; air = air; key = w.kenb; number = 0; algs = algs; before = None } in
     let k = with_took g (Some x) in
     let from : FromIs k m w.kenb m.from_attempt = subst (FromIs k m w.kenb) (sym needs.2) needs.3 in
+    let heard : 1 ≤ count + 1 = omega arith in
     let had : HadTaken (g.took ++ x ∷ []) station air w.kenb = (x, in_last x g.took, refl, refl, refl) in
     let here : HereIs k station air w.kenb = (m, needs.1, from) in
-    (((sym (ap root_of h.1), h.1 ∙ sym (ap base h.1), sym (ap chain_number h.1)), refl, m, needs.1, needs.4, from, had),
+    (((sym (ap root_of h.1), h.1 ∙ sym (ap base h.1), sym (ap chain_number h.1)), refl, m, needs.1, needs.4, from, had, (λ none. heard)),
     (here, tt, tt), (w.kenb, refl, here, had))
 link_secured_goes same g station air algs count s other old h needs = (old, tt, tt)
+
+no_origin : {o : Option Origin} {from : Origin} → o ≡ Some from → o ≡ None → ⊥
+no_origin e f = cc
 
 handed_over_goes : (same : Term → Term → Bool) (g : Ghost) → AllOf (MadeOk g) g.made
     → (cell : Place) (steps : ℕ) (algs : Algs) (station air : ℕ) (s : Phone Term ℕ) (radio : Radio Term ℕ)
@@ -161,18 +198,18 @@ handed_over_goes same g made cell steps algs station air s (Connected l) old h n
     let obeys : Obeys g.made x x.before =
         (m, order.3, obeys_made e m x (record { key = l.kenb; number = l.chain.number }) own number leads takes reached (sym order.9)) in
     (((subst (λ t. ChainOf t r.chain) (sym lands_so) (reached_chain same l.kenb l.chain steps cell h.0)),
-      refl, m, order.3, sym order.9, from, had),
+      refl, m, order.3, sym order.9, from, had, (λ none. absurd (no_origin order.4 none))),
     (here, obeys, grows same l steps cell h.0 x refl refl), (r.star.key, refl, here, had))
 handed_over_goes same g made cell steps algs station air s other old h needs = (old, tt, tt)
 
 rrc_opened_goes : (same : Term → Term → Bool) (g : Ghost) (srb : Srb) (count : ℕ) (text : List ℕ) (s : Phone Term ℕ) (radio : Radio Term ℕ)
     → RadioOk g s.radio → RadioOk g radio → PhoneGoes g (rrc_opened {C = ℕ} srb count text s radio)
-rrc_opened_goes same g srb count text s (Connected l) old h = (h, tt, tt)
+rrc_opened_goes same g srb count text s (Connected l) old h = (heard_after g l (srb_taken srb count l.bearers) h (heard_taken srb count l.bearers), tt, tt)
 rrc_opened_goes same g srb count text s other old h = (old, tt, tt)
 
 packet_opened_goes : (g : Ghost) (drb : Drb) (count : ℕ) (text : List ℕ) (s : Phone Term ℕ) (radio : Radio Term ℕ)
     → RadioOk g s.radio → RadioOk g radio → PhoneGoes g (packet_opened drb count text s radio)
-packet_opened_goes g drb count text s (Connected l) old h = (h, tt, tt)
+packet_opened_goes g drb count text s (Connected l) old h = (heard_after g l (drb_taken drb count l.bearers) h (heard_packet drb count l.bearers), tt, tt)
 packet_opened_goes g drb count text s other old h = (old, tt, tt)
 
 air_goes : (same : Term → Term → Bool) (g : Ghost) → AllOf (MadeOk g) g.made → (row : AirRow) (s : Phone Term ℕ)
@@ -224,17 +261,17 @@ sends_up g l h k e = (l.kenb, e ∙ ap (λ keys. keys.rrc_int) h.1, (h.2, h.3, h
 
 resent_goes : (g : Ghost) (s : Phone Term ℕ) (radio : Radio Term ℕ) → RadioOk g s.radio → RadioOk g radio
     → PhoneGoes g (complete_resent s radio)
-resent_goes g s (Connected l) old h = (h, tt, sends_up g l h l.keys.rrc_int refl)
+resent_goes g s (Connected l) old h = (heard_after g l (srb_sent Signalling1 l.bearers) h (heard_sent Signalling1 l.bearers), tt, sends_up g l h l.keys.rrc_int refl)
 resent_goes g s other old h = (old, tt, tt)
 
 packet_sent_goes : (g : Ghost) (drb : Drb) (text : List ℕ) (s : Phone Term ℕ) (radio : Radio Term ℕ) → RadioOk g s.radio → RadioOk g radio
     → PhoneGoes g (packet_sent drb text s radio)
-packet_sent_goes g drb text s (Connected l) old h = (h, tt, tt)
+packet_sent_goes g drb text s (Connected l) old h = (heard_after g l (drb_sent drb l.bearers) h (heard_packet_sent drb l.bearers), tt, tt)
 packet_sent_goes g drb text s other old h = (old, tt, tt)
 
 rrc_sent_goes : (g : Ghost) (srb : Srb) (text : List ℕ) (s : Phone Term ℕ) (radio : Radio Term ℕ) → RadioOk g s.radio → RadioOk g radio
     → PhoneGoes g (rrc_sent srb text s radio)
-rrc_sent_goes g srb text s (Connected l) old h = (h, tt, sends_up g l h l.keys.rrc_int refl)
+rrc_sent_goes g srb text s (Connected l) old h = (heard_after g l (srb_sent srb l.bearers) h (heard_sent srb l.bearers), tt, sends_up g l h l.keys.rrc_int refl)
 rrc_sent_goes g srb text s other old h = (old, tt, tt)
 
 service_goes : (same : Term → Term → Bool) (g : Ghost) (s : Phone Term ℕ) (o : Option (NasContext Term)) → RadioOk g s.radio
@@ -252,7 +289,7 @@ nas_left_goes g n s (Some c) h = (h, tt, tt)
 
 bearer_left_goes : (g : Ghost) (on : Which) (n : ℕ) (s : Phone Term ℕ) (radio : Radio Term ℕ) → RadioOk g s.radio → RadioOk g radio
     → PhoneGoes g (bearer_left_out on n s radio)
-bearer_left_goes g on n s (Connected l) old h = (h, tt, tt)
+bearer_left_goes g on n s (Connected l) old h = (heard_after g l (left_out_on on n l.bearers) h (heard_left on n l.bearers), tt, tt)
 bearer_left_goes g on n s other old h = (old, tt, tt)
 
 act_goes : (same : Term → Term → Bool) (g : Ghost) (row : ActRow) (s : Phone Term ℕ) → RadioOk g s.radio

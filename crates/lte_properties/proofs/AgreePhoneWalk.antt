@@ -79,7 +79,7 @@ start_named g w station air pdu on algs ns na reads is_s is_a u key down text (S
     let plain : f ≡ None = no_cipher f (subst (λ d. CipheredAs d None (Some (SealedRrc Down st a srb i f sent))) down calm) in
     let d = h.3 in
     let m = d.0 in
-    let from : m.from_attempt ≡ None = (subst (CipheredSo m srb i) plain d.3).0 in
+    let from : m.from_attempt ≡ None = (subst (CipheredSo g station air m srb i) plain d.3).0 in
     let says = d.4 (SecurityModeCommand algs ns na) (ap read_rrc (sym (h.4 plain)) ∙ reads) in
     let there : made_at g.made station air ≡ Some says.0 = (λ j. made_at g.made (sym is_s j) (sym is_a j)) ∙ says.1 in
     let one : says.0 ≡ m = same_found _ says.0 m there d.1 in
@@ -89,7 +89,7 @@ start_named g w station air pdu on algs ns na reads is_s is_a u key down text (S
 start_named g w station air pdu on algs ns na reads is_s is_a u key down text (Some (UserPacket dir st a drb e sent)) h sealed calm = absurd sealed
 start_named g w station air pdu on algs ns na reads is_s is_a u key down text (Some (Between to fields k)) h sealed calm = absurd sealed
 
-both_named : (a b c d : ℕ) → ((a == b) && (c == d)) ≡ true → (a ≡ b) × (c ≡ d)
+pub both_named : (a b c d : ℕ) → ((a == b) && (c == d)) ≡ true → (a ≡ b) × (c ≡ d)
 both_named a b c d e = grind (arith, nat_tests)
 
 module _ (same : Term → Term → Bool) (g : Ghost) (s : Phone Term ℕ) (caps : Caps) (station air : ℕ) (pdu : List ℕ) (on : Which) (came : Option (Outgoing Term ℕ)) (came_ok : CameDown g station air on pdu came) where
@@ -155,7 +155,7 @@ module _ (same : Term → Term → Bool) (g : Ghost) (s : Phone Term ℕ) (caps 
       let counts : count ≡ i.count = ap (λ v. v.count) sealed.0 in
       let srbs : srb ≡ sr = one_srb srb sr (sym is_on ∙ k.2) in
       let cipher : Some (srb_ciphering_down l.keys srb count) ≡ Some f =
-          (λ j. Some (ciphering_by (algs j).eea (srb_use Down (keys j).rrc_enc (srbs j) (counts j)))) ∙ ap Some (sym d.3) in
+          (λ j. Some (ciphering_by (algs j).eea (srb_use Down (keys j).rrc_enc (srbs j) (counts j)))) ∙ ap Some (sym d.3.0) in
       subst (λ t. TextOk g t text) (sym kenb) (subst (TextOk g m.key) (sym (sealed.1 cipher)) d.4)
     where
       one_srb : (a b : Srb) → OnSrb a ≡ OnSrb b → a ≡ b

@@ -26,7 +26,7 @@ use Rattle.lte_machine.specs.StationKeys.{context_given, with_pair, source_relea
 use Rattle.lte_properties.specs.ChainBelow.{AllOf}
 use Rattle.lte_properties.specs.Agreement.{made_at, HadTaken, TakenIfTried}
 use Rattle.lte_properties.proofs.AgreeTerms.{base, lands}
-use Rattle.lte_properties.proofs.AgreeGhost.{Ghost, tried_at, chain_at, keys_of, TermOk, PairOk, PairsOk, FromIs, HereIs, Leads, GivenFits, FromOk, MadeOk, GivenOk, TriedOk, IsMade, EntryIs, OrderIs, IsOrder, StartIs, X2Ok, S1Ok, AttemptOk, CtxOk, PrepOk, FreshFrom, StationOk, SaysOk, AskedIs, AckIs, HasNcc, AnyMade, OutOk}
+use Rattle.lte_properties.proofs.AgreeGhost.{Ghost, tried_at, chain_at, keys_of, TermOk, PairOk, PairsOk, FromIs, HereIs, Leads, GivenFits, FromOk, MadeOk, GivenOk, TriedOk, IsMade, EntryIs, OrderIs, IsOrder, StartIs, X2Ok, S1Ok, AttemptOk, StartedOk, CtxOk, PrepOk, FreshFrom, StationOk, SaysOk, AskedIs, AckIs, HasNcc, AnyMade, OutOk}
 use Rattle.lte_properties.proofs.AgreeLater.{Later, same_found, term_later, pairs_later, ctx_later, preps_later}
 use Rattle.lte_properties.proofs.AgreePhone.{all_found}
 use Rattle.lte_properties.proofs.AgreeTold.{told, told_more, made_new, made_none, made_there, MadeBy, TriedBy, all_append, all_filter, SiteOk, reads_as, term_number, leads_up, star_term, if_tried}
@@ -112,7 +112,12 @@ abbrev pub TakenThere : Ghost → ℕ → Option (Prep Term ℕ) → Type 0
 TakenThere g id None = ⊤
 TakenThere g id (Some p) = HereIs g id p.air p.key.kenb × HadTaken g.took id p.air p.key.kenb
 
+abbrev pub StartingNeeds : Ghost → ℕ → Option (Context Term ℕ) → Type 0
+StartingNeeds g id None = ⊤
+StartingNeeds g id (Some c) = HadTaken g.took id c.air c.key.kenb
+
 abbrev pub AirNeeds : Ghost → Station Term ℕ → AirRow → Type 0
+AirNeeds g s (SecurityStarted count) = StartingNeeds g s.id s.context
 AirNeeds g s (CompletedByS1 air count) = TakenThere g s.id (at_air air s.preps)
 AirNeeds g s (CompletedWithin air count origin) = TakenThere g s.id (at_air air s.preps)
 AirNeeds g s (CompletedByX2 air count number) = (number ≡ s.next) × TakenThere g s.id (at_air air s.preps)
@@ -120,6 +125,11 @@ AirNeeds g s other = ⊤
 
 at_least : {next air : ℕ} → air ≡ next → 1 ≤ next → 1 ≤ air
 at_least e low = omega arith
+
+pub started_map : (g : Ghost) (id air : ℕ) (t : Term) (starting : Bool) (f : Attempt Term ℕ → Attempt Term ℕ) (o : Option (Attempt Term ℕ))
+    → StartedOk g id air t starting o → StartedOk g id air t starting (option_map f o)
+started_map g id air t true f o h = ap (option_map f) h
+started_map g id air t false f o h = h
 
 -- a change of the context that keeps all this
 pub map_ctx : (g : Ghost) (id : ℕ) (f : Context Term ℕ → Context Term ℕ) → ((c : Context Term ℕ) → CtxOk g id (Some c) → CtxOk g id (Some (f c)))
@@ -144,14 +154,14 @@ module _ (same : Term → Term → Bool) (cells : List Site) (g : Ghost) (made_o
       let text = reads_as (SaysOk (told g (Some m) None) key.key) (SecurityModeCommand algs s.id air) (h.4, low, draws.1) (m, here, refl, refl) in
       let fresh : FreshFrom (told g (Some m) None) s.id (air + 1) =
           λ n above. (made_none g.made m s.id n (h.2 n (omega arith)).0 (omega arith), (h.2 n (omega arith)).1) in
-      ((((needs.1, omega arith, ap base needs.2), tt, refl, (m, here, (refl, refl, refl), refl, tt), tt),
+      ((((needs.1, omega arith, ap base needs.2), tt, refl, (m, here, (refl, refl, refl), refl, tt), tt, refl),
       tt, fresh, h.3, h.4, omega arith),
-      (low, draws.1, h.4, refl), tt, (m, here, refl, (refl, refl), text), refl, refl, tt)
+      (low, draws.1, h.4, refl), tt, (m, here, refl, (refl, refl, refl), text), refl, refl, tt)
 
   pair_ctx : (id : ℕ) (pair : NumberedKey Term ℕ) (o : Option (Context Term ℕ)) → CtxOk g id o → PairNeeds g pair o
       → CtxOk g id (option_map (with_pair pair) o)
   pair_ctx id pair None h needs = tt
-  pair_ctx id pair (Some c) h needs = (h.0, needs, h.2, h.3, h.4)
+  pair_ctx id pair (Some c) h needs = (h.0, needs, h.2, h.3, h.4, h.5)
 
   release_out : (conn : ℕ) (origin : Option Origin) → OutOk g (source_release conn origin)
   release_out conn None = tt
@@ -252,7 +262,7 @@ module _ (same : Term → Term → Bool) (cells : List Site) (g : Ghost) (made_o
       → CtxOk g id (option_map (with_s1_ack ncc algs air) o)
   s1_ack_ctx id ncc algs air None h needs = tt
   s1_ack_ctx id ncc algs air (Some c) h needs =
-      (h.0, h.1, h.2, h.3, s1_attempt_acked id c.conn c.key.kenb ncc algs air c.attempt h.4 needs)
+      (h.0, h.1, h.2, h.3, s1_attempt_acked id c.conn c.key.kenb ncc algs air c.attempt h.4 needs, started_map g id c.air c.key.kenb c.starting (s1_acked ncc algs air) c.attempt h.5)
 
   x2_attempt_acked : (id conn : ℕ) (t : Term) (algs : Algs) (air : ℕ) (o : Option (Attempt Term ℕ)) → AttemptOk g id conn t o
       → X2AckNeeds g id algs air o → AttemptOk g id conn t (option_map (x2_acked algs air) o)
@@ -274,7 +284,7 @@ module _ (same : Term → Term → Bool) (cells : List Site) (g : Ghost) (made_o
       → CtxOk g id (option_map (with_x2_ack algs air) o)
   x2_ack_ctx id algs air None h needs = tt
   x2_ack_ctx id algs air (Some c) h needs =
-      (h.0, h.1, h.2, h.3, x2_attempt_acked id c.conn c.key.kenb algs air c.attempt h.4 needs)
+      (h.0, h.1, h.2, h.3, x2_attempt_acked id c.conn c.key.kenb algs air c.attempt h.4 needs, started_map g id c.air c.key.kenb c.starting (x2_acked algs air) c.attempt h.5)
 
   pub record_goes : (row : RecordRow) (key : Option (NumberedKey Term ℕ)) (s : Station Term ℕ) → StationOk cells g s → RecordNeeds g s row key
       → StationGoes cells g s (record_does (term_reading_by same) row key s)
@@ -294,6 +304,14 @@ module _ (same : Term → Term → Bool) (cells : List Site) (g : Ghost) (made_o
 
   -- BY A PDU
 
+  there_air : (id : ℕ) (p : Prep Term ℕ) → HereIs g id p.air p.key.kenb × HadTaken g.took id p.air p.key.kenb → HadTaken g.took id p.air p.key.kenb
+  there_air id p needs = needs.1
+
+  -- security starts: the phone had taken the key
+  security_ctx : (id count : ℕ) (o : Option (Context Term ℕ)) → CtxOk g id o → StartingNeeds g id o → CtxOk g id (option_map (with_security count) o)
+  security_ctx id count None h needs = tt
+  security_ctx id count (Some c) h needs = (h.0, h.1, h.2, h.3, h.4, needs)
+
   -- a completed preparation is a context of what was made, and the phone had taken its key
   arrived_ok : (id : ℕ) (p : Prep Term ℕ) → PrepOk g id p → HereIs g id p.air p.key.kenb × HadTaken g.took id p.air p.key.kenb
       → EntryIs g id p.air p.key.kenb p.key.number p.algs
@@ -310,27 +328,27 @@ module _ (same : Term → Term → Bool) (cells : List Site) (g : Ghost) (made_o
   by_s1_goes count air None s e h needs = (h, tt, tt, tt, refl, tt, tt)
   by_s1_goes count air (Some p) s e h needs =
       let ok = prep_found s h air p e in
-      (((ok.0, ok.1, ok.2, arrived_ok s.id p ok needs, tt), tt, h.2, h.3, h.4, h.5), tt, tt, tt, refl, tt, tt)
+      (((ok.0, ok.1, ok.2, arrived_ok s.id p ok needs, tt, there_air s.id p needs), tt, h.2, h.3, h.4, h.5), tt, tt, tt, refl, tt, tt)
 
   within_goes : (count : ℕ) (air : ℕ) (origin : Option Origin) (o : Option (Prep Term ℕ)) (s : Station Term ℕ) → at_air air s.preps ≡ o → StationOk cells g s → TakenThere g s.id o
       → StationGoes cells g s (completed_within (term_reading_by same) count origin o s)
   within_goes count air origin None s e h needs = (h, tt, tt, tt, refl, tt, tt)
   within_goes count air origin (Some p) s e h needs =
       let ok = prep_found s h air p e in
-      (((ok.0, ok.1, ok.2, arrived_ok s.id p ok needs, tt), tt, h.2, h.3, h.4, h.5), tt, tt, tt, refl, tt, tt)
+      (((ok.0, ok.1, ok.2, arrived_ok s.id p ok needs, tt, there_air s.id p needs), tt, h.2, h.3, h.4, h.5), tt, tt, tt, refl, tt, tt)
 
   by_x2_goes : (count number : ℕ) (air : ℕ) (o : Option (Prep Term ℕ)) (s : Station Term ℕ) → at_air air s.preps ≡ o → StationOk cells g s → number ≡ s.next → TakenThere g s.id o
       → StationGoes cells g s (completed_by_x2 (term_reading_by same) count number o s)
   by_x2_goes count number air None s e h draws needs = (h, tt, tt, tt, refl, tt, tt)
   by_x2_goes count number air (Some p) s e h draws needs =
       let ok = prep_found s h air p e in
-      (((ok.0, ok.1, ok.2, arrived_ok s.id p ok needs, tt), tt, (λ n above. h.2 n (omega arith)), h.3, h.4, omega arith), tt, tt, tt, refl, tt, tt)
+      (((ok.0, ok.1, ok.2, arrived_ok s.id p ok needs, tt, there_air s.id p needs), tt, (λ n above. h.2 n (omega arith)), h.3, h.4, omega arith), tt, tt, tt, refl, tt, tt)
 
   pub air_goes : (row : AirRow) (s : Station Term ℕ) → StationOk cells g s → AirNeeds g s row
       → StationGoes cells g s (air_does (term_reading_by same) row s)
   air_goes (AirRefused answer) s h needs = (h, tt, tt, tt, refl, tt, tt)
   air_goes (SecurityStarted count) s h needs =
-      ((map_ctx g s.id (with_security count) (λ c k. k) s.context h.0, h.1, h.2, h.3, h.4, h.5), tt, tt, tt, refl, tt, tt)
+      ((security_ctx s.id count s.context h.0 needs, h.1, h.2, h.3, h.4, h.5), tt, tt, tt, refl, tt, tt)
   air_goes (RrcTaken srb count text) s h needs =
       ((map_ctx g s.id (with_rrc_taken srb count) (λ c k. k) s.context h.0, h.1, h.2, h.3, h.4, h.5), tt, tt, tt, refl, tt, tt)
   air_goes (PacketTaken drb count text) s h needs =

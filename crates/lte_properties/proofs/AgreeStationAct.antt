@@ -23,7 +23,7 @@ use Rattle.lte_machine.specs.StationRows.{Wanted, RecordRow, RecordRefused, Cont
 use Rattle.lte_properties.specs.ChainBelow.{AllOf}
 use Rattle.lte_properties.specs.Agreement.{made_at, HadTaken, TakenIfTried}
 use Rattle.lte_properties.proofs.AgreeTerms.{base, lands}
-use Rattle.lte_properties.proofs.AgreeGhost.{Ghost, tried_at, chain_at, keys_of, TermOk, PairOk, PairsOk, FromIs, HereIs, Leads, GivenFits, FromOk, MadeOk, GivenOk, TriedOk, IsMade, EntryIs, OrderIs, IsOrder, StartIs, X2Ok, S1Ok, AttemptOk, CtxOk, PrepOk, FreshFrom, StationOk, SaysOk, AskedIs, AckIs, HasNcc, AnyMade, OutOk}
+use Rattle.lte_properties.proofs.AgreeGhost.{Ghost, tried_at, chain_at, keys_of, TermOk, PairOk, PairsOk, FromIs, HereIs, Leads, GivenFits, FromOk, MadeOk, GivenOk, TriedOk, IsMade, EntryIs, OrderIs, IsOrder, StartIs, X2Ok, S1Ok, AttemptOk, StartedOk, CtxOk, PrepOk, FreshFrom, StationOk, SaysOk, AskedIs, AckIs, HasNcc, AnyMade, OutOk}
 use Rattle.lte_properties.proofs.AgreePhone.{all_found}
 use Rattle.rrc_rec.specs.declared.records.RrcRecord.TheVariants.{Reconfiguration, RrcData}
 use Rattle.nh_chain.specs.Station.{restored_if, pair_after, opened, base_of}
@@ -40,22 +40,41 @@ use Rattle.lte_properties.specs.ChainAbove.{ContextAbove}
 use Rattle.lte_properties.proofs.AgreeGhost.{TextOk, DownOk}
 use Rattle.lte_properties.proofs.AgreeLater.{Later, later_itself, same_found, term_later, pairs_later, entry_later, ctx_later, preps_later}
 use Rattle.lte_properties.proofs.AgreeTold.{told, told_more, made_new, made_none, made_there, tried_new, tried_none, all_append, all_filter, SiteOk, cell_found, reads_as, term_number, leads_up, leads_level, star_term}
-use Rattle.lte_properties.proofs.AgreeStation.{StationGoes, map_ctx}
+use Rattle.lte_properties.proofs.AgreeStation.{StationGoes, map_ctx, started_map}
 
 -- what the rows of acts need
-abbrev pub OrderNeeds : Ghost → Order → Option (Context Term ℕ) → Type 0
-OrderNeeds g order None = ⊤
-OrderNeeds g order (Some c) = IsOrder g c.key.kenb order
+abbrev pub OrderNeeds : Ghost → ℕ → Order → Option (Context Term ℕ) → Type 0
+OrderNeeds g id order None = ⊤
+OrderNeeds g id order (Some c) = IsOrder g c.key.kenb order × HadTaken g.took id c.air c.key.kenb
+
+-- the context is active
+abbrev pub IsActive : Option (Context Term ℕ) → Type 0
+IsActive None = ⊤
+IsActive (Some c) = c.starting ≡ false
 
 abbrev pub ActNeeds : List Site → Ghost → Station Term ℕ → ActRow → Type 0
-ActNeeds cells g s (StartedByX2 number target cell) = (number ≡ s.next) × (station_of cell cells ≡ Some target)
-ActNeeds cells g s (StartedByS1 number target cell) = (number ≡ s.next) × (station_of cell cells ≡ Some target)
+ActNeeds cells g s (StartedByX2 number target cell) = (number ≡ s.next) × (station_of cell cells ≡ Some target) × IsActive s.context
+ActNeeds cells g s (StartedByS1 number target cell) = (number ≡ s.next) × (station_of cell cells ≡ Some target) × IsActive s.context
 ActNeeds cells g s (StartedWithin number air cell) =
     (number ≡ s.next) × (air ≡ s.next + 1) × (air < 4294967296) × (station_of cell cells ≡ Some s.id)
-ActNeeds cells g s (Commands order count) = OrderNeeds g order s.context
+    × IsActive s.context
+ActNeeds cells g s (Commands order count) = OrderNeeds g s.id order s.context
 ActNeeds cells g s (AsksAgain number) = number ≡ s.next
-ActNeeds cells g s (SendsRrc srb count text) = length text ≤ 200
+ActNeeds cells g s (SendsRrc srb count text) = (length text ≤ 200) × IsActive s.context
 ActNeeds cells g s other = ⊤
+
+-- an active context's key was taken, so that it may have any attempt
+started_any : (g : Ghost) (id air : ℕ) (t : Term) (starting : Bool) (o : Option (Attempt Term ℕ)) → starting ≡ false → HadTaken g.took id air t → StartedOk g id air t starting o
+started_any g id air t true o e h = absurd cc
+started_any g id air t false o e h = h
+
+started_none : (g : Ghost) (id air : ℕ) (t : Term) (starting : Bool) (o : Option (Attempt Term ℕ)) → StartedOk g id air t starting o → StartedOk g id air t starting None
+started_none g id air t true o h = refl
+started_none g id air t false o h = h
+
+had_by : (g : Ghost) (id air : ℕ) (t : Term) (starting : Bool) (o : Option (Attempt Term ℕ)) → starting ≡ false → StartedOk g id air t starting o → HadTaken g.took id air t
+had_by g id air t true o e h = absurd cc
+had_by g id air t false o e h = h
 
 module _ (same : Term → Term → Bool) (cells : List Site) (cells_ok : AllOf SiteOk cells) (g : Ghost) (made_ok : AllOf (MadeOk g) g.made) (tried_ok : AllOf (TriedOk cells g) g.tried) where
   -- KeNB* of a start is of the connection, and where the context's key leads
@@ -68,9 +87,9 @@ module _ (same : Term → Term → Bool) (cells : List Site) (cells_ok : AllOf S
       (star_term g conn pair cell.pci cell.earfcn k, omega arith, leads_up g conn t number pair cell h k above)
 
   x2_with_goes : (number target : ℕ) (cell : Place) (c : Context Term ℕ) (s : Station Term ℕ) → StationOk cells g s → CtxOk g s.id (Some c) → ContextAbove (Some c)
-      → number ≡ s.next → station_of cell cells ≡ Some target
+      → number ≡ s.next → station_of cell cells ≡ Some target → IsActive (Some c)
       → StationGoes cells g s (started_by_x2_with (term_reading_by same) number target cell c (opened (term_reading_by same) c.key cell) s)
-  x2_with_goes number target cell c s h k above draws there =
+  x2_with_goes number target cell c s h k above draws there active =
       let o = opened (term_reading_by same) c.key cell in
       let e : Tried Term ℕ = record {
         station = s.id; attempt = number; target = target; conn = c.conn; cell = cell; key = c.key.kenb;
@@ -81,26 +100,27 @@ module _ (same : Term → Term → Bool) (cells : List Site) (cells_ok : AllOf S
       let here : tried_at (g.tried ++ e ∷ []) s.id number ≡ Some e = tried_new g.tried e (h.2 number (omega arith)).1 in
       let star = star_ok c.conn c.key.kenb c.key.number cell c.key.pair k.0 k.1 above.0 in
       let star_later : TermOk x c.conn o.star.key o.star.number = term_later g x l c.conn o.star.number o.star.key star.0 in
+      let had : HadTaken g.took s.id c.air c.key.kenb = had_by g s.id c.air c.key.kenb c.starting c.attempt active k.5 in
       let own_later : TermOk x c.conn c.key.kenb c.key.number = term_later g x l c.conn c.key.number c.key.kenb k.0 in
       let fresh : FreshFrom x s.id (number + 1) =
           λ n up. ((h.2 n (omega arith)).0, tried_none g.tried e s.id n (h.2 n (omega arith)).1 (omega arith)) in
       (((own_later, tt, k.2, entry_later g x l s.id c.air c.key.kenb c.key.number c.algs k.3,
-      ((e, here, refl, refl, refl, refl, refl), pairs_later g x l c.conn c.key.pair k.1)),
+      ((e, here, refl, refl, refl, refl, refl), pairs_later g x l c.conn c.key.pair k.1), started_any x s.id c.air c.key.kenb c.starting _ active had),
       preps_later g x l s.id s.preps h.1, fresh, h.3, h.4, omega arith),
       tt, (own_later, there, (star_later, (star.1, star.2))),
       (star_later, (e, here, refl, refl, refl, refl)), refl, tt, refl)
 
   by_x2_goes : (number target : ℕ) (cell : Place) (o : Option (Context Term ℕ)) (s : Station Term ℕ) → StationOk cells g s → CtxOk g s.id o → ContextAbove o
-      → number ≡ s.next → station_of cell cells ≡ Some target
+      → number ≡ s.next → station_of cell cells ≡ Some target → IsActive o
       → StationGoes cells g s (started_by_x2 (term_reading_by same) number target cell o s)
-  by_x2_goes number target cell None s h k above draws there = (h, tt, tt, tt, refl, tt, tt)
-  by_x2_goes number target cell (Some c) s h k above draws there = x2_with_goes number target cell c s h k above draws there
+  by_x2_goes number target cell None s h k above draws there active = (h, tt, tt, tt, refl, tt, tt)
+  by_x2_goes number target cell (Some c) s h k above draws there active = x2_with_goes number target cell c s h k above draws there active
 
   by_s1_goes : (number target : ℕ) (cell : Place) (o : Option (Context Term ℕ)) (s : Station Term ℕ) → StationOk cells g s → CtxOk g s.id o
-      → number ≡ s.next → station_of cell cells ≡ Some target
+      → number ≡ s.next → station_of cell cells ≡ Some target → IsActive o
       → StationGoes cells g s (started_by_s1 number target cell o s)
-  by_s1_goes number target cell None s h k draws there = (h, tt, tt, tt, refl, tt, tt)
-  by_s1_goes number target cell (Some c) s h k draws there =
+  by_s1_goes number target cell None s h k draws there active = (h, tt, tt, tt, refl, tt, tt)
+  by_s1_goes number target cell (Some c) s h k draws there active =
       let e : Tried Term ℕ = record {
         station = s.id; attempt = number; target = target; conn = c.conn; cell = cell; key = c.key.kenb;
         number = c.key.number; given = None;
@@ -108,18 +128,19 @@ module _ (same : Term → Term → Bool) (cells : List Site) (cells_ok : AllOf S
       let x = told g None (Some e) in
       let l = told_more g None (Some e) in
       let here : tried_at (g.tried ++ e ∷ []) s.id number ≡ Some e = tried_new g.tried e (h.2 number (omega arith)).1 in
+      let had : HadTaken g.took s.id c.air c.key.kenb = had_by g s.id c.air c.key.kenb c.starting c.attempt active k.5 in
       let own_later : TermOk x c.conn c.key.kenb c.key.number = term_later g x l c.conn c.key.number c.key.kenb k.0 in
       let fresh : FreshFrom x s.id (number + 1) =
           λ n up. ((h.2 n (omega arith)).0, tried_none g.tried e s.id n (h.2 n (omega arith)).1 (omega arith)) in
       (((own_later, pairs_later g x l c.conn c.key.pair k.1, k.2, entry_later g x l s.id c.air c.key.kenb c.key.number c.algs k.3,
-      (e, here, refl, refl, refl, refl, refl)),
+      (e, here, refl, refl, refl, refl, refl), started_any x s.id c.air c.key.kenb c.starting _ active had),
       preps_later g x l s.id s.preps h.1, fresh, h.3, h.4, omega arith),
       tt, (own_later, there, tt), (e, here, refl, refl, refl, tt), refl, tt, refl)
 
   within_with_goes : (number air : ℕ) (cell : Place) (c : Context Term ℕ) (s : Station Term ℕ) → StationOk cells g s → CtxOk g s.id (Some c) → ContextAbove (Some c)
-      → number ≡ s.next → air ≡ s.next + 1 → air < 4294967296 → station_of cell cells ≡ Some s.id
+      → number ≡ s.next → air ≡ s.next + 1 → air < 4294967296 → station_of cell cells ≡ Some s.id → IsActive (Some c)
       → StationGoes cells g s (started_within_with (term_reading_by same) number air cell c (opened (term_reading_by same) c.key cell) s)
-  within_with_goes number air cell c s h k above draws draws_air small there =
+  within_with_goes number air cell c s h k above draws draws_air small there active =
       let o = opened (term_reading_by same) c.key cell in
       let e : Tried Term ℕ = record {
         station = s.id; attempt = number; target = s.id; conn = c.conn; cell = cell; key = c.key.kenb;
@@ -135,33 +156,34 @@ module _ (same : Term → Term → Bool) (cells : List Site) (cells_ok : AllOf S
       let made_here : made_at (g.made ++ m ∷ []) s.id air ≡ Some m = made_new g.made m (h.2 air (omega arith)).0 in
       let star = star_ok c.conn c.key.kenb c.key.number cell c.key.pair k.0 k.1 above.0 in
       let star_later : TermOk x c.conn o.star.key o.star.number = term_later g x l c.conn o.star.number o.star.key star.0 in
+      let had : HadTaken g.took s.id c.air c.key.kenb = had_by g s.id c.air c.key.kenb c.starting c.attempt active k.5 in
       let own_later : TermOk x c.conn c.key.kenb c.key.number = term_later g x l c.conn c.key.number c.key.kenb k.0 in
       let fresh : FreshFrom x s.id (air + 1) =
           λ n up. (made_none g.made m s.id n (h.2 n (omega arith)).0 (omega arith), tried_none g.tried e s.id n (h.2 n (omega arith)).1 (omega arith)) in
       let number_is : chain_number c.key.kenb ≡ c.key.number = term_number g c.conn c.key.kenb c.key.number k.0 in
       (((own_later, tt, k.2, entry_later g x l s.id c.air c.key.kenb c.key.number c.algs k.3,
-      ((m, record { source = s.id; attempt = number }, e, made_here, refl, tried_here, refl, refl, refl, refl), pairs_later g x l c.conn c.key.pair k.1)),
+      ((m, record { source = s.id; attempt = number }, e, made_here, refl, tried_here, refl, refl, refl, refl), pairs_later g x l c.conn c.key.pair k.1), started_any x s.id c.air c.key.kenb c.starting _ active had),
       all_append _ _ _ (preps_later g x l s.id s.preps h.1) (star_later, tt, refl, m, made_here, (refl, refl, refl)),
       fresh, h.3, h.4, omega arith),
       (omega arith, small, h.4, (e, tried_here, number_is, refl, (star.1, star.2), refl)),
       (own_later, there, (star_later, (star.1, star.2))), tt, refl, refl, refl)
 
   within_goes : (number air : ℕ) (cell : Place) (o : Option (Context Term ℕ)) (s : Station Term ℕ) → StationOk cells g s → CtxOk g s.id o → ContextAbove o
-      → number ≡ s.next → air ≡ s.next + 1 → air < 4294967296 → station_of cell cells ≡ Some s.id
+      → number ≡ s.next → air ≡ s.next + 1 → air < 4294967296 → station_of cell cells ≡ Some s.id → IsActive o
       → StationGoes cells g s (started_within (term_reading_by same) number air cell o s)
-  within_goes number air cell None s h k above draws draws_air small there = (h, tt, tt, tt, refl, tt, tt)
-  within_goes number air cell (Some c) s h k above draws draws_air small there = within_with_goes number air cell c s h k above draws draws_air small there
+  within_goes number air cell None s h k above draws draws_air small there active = (h, tt, tt, tt, refl, tt, tt)
+  within_goes number air cell (Some c) s h k above draws draws_air small there active = within_with_goes number air cell c s h k above draws draws_air small there active
 
   -- THE COMMAND
 
   -- what a station sends on an SRB is under the key made for the air address
-  sends_down : (id air : ℕ) (c : Context Term ℕ) → CtxOk g id (Some c) → c.air ≡ air → (srb : Srb) (count : ℕ) (text : List ℕ) → TextOk g c.key.kenb text
+  sends_down : (id air : ℕ) (c : Context Term ℕ) → CtxOk g id (Some c) → c.air ≡ air → (srb : Srb) (count : ℕ) (text : List ℕ) → TextOk g c.key.kenb text → HadTaken g.took id c.air c.key.kenb
       → OutOk g (Some (signalling_sent id c.air c.keys srb count text))
-  sends_down id air c h at_air srb count text says =
+  sends_down id air c h at_air srb count text says had =
       let m = h.3.0 in
       let keys : c.keys ≡ keys_of m.key m.algs = h.2 ∙ (λ j. keys_of (h.3.2.0 j) (h.3.2.2 j)) in
       (m, h.3.1, (λ j. srb_use Down (keys j).rrc_int srb count),
-      (λ j. ciphering_by (algs_of j).eea (srb_use Down (keys j).rrc_enc srb count)),
+      ((λ j. ciphering_by (algs_of j).eea (srb_use Down (keys j).rrc_enc srb count)), subst (HadTaken g.took id c.air) h.3.2.0 had),
       subst (λ t. TextOk g t text) h.3.2.0 says)
     where
       algs_of : c.keys.algs ≡ h.3.0.algs
@@ -204,12 +226,12 @@ module _ (same : Term → Term → Bool) (cells : List Site) (cells_ok : AllOf S
       reads_as (SaysOk g t) (Reconfiguration order.cell order.ncc order.algs order.station order.air)
       (is_cell.0, is_cell.1, omega arith, omega arith, omega arith, omega arith) h
 
-  commands_goes : (order : Order) (count : ℕ) (o : Option (Context Term ℕ)) (s : Station Term ℕ) → StationOk cells g s → CtxOk g s.id o → OrderNeeds g order o
+  commands_goes : (order : Order) (count : ℕ) (o : Option (Context Term ℕ)) (s : Station Term ℕ) → StationOk cells g s → CtxOk g s.id o → OrderNeeds g s.id order o
       → StationGoes cells g s (commands order count o s)
   commands_goes order count None s h k needs = (h, tt, tt, tt, refl, tt, tt)
   commands_goes order count (Some c) s h k needs =
-      (((k.0, k.1, k.2, k.3, commanded_ok s.id c.conn c.key.kenb order c.attempt k.4 needs), h.1, h.2, h.3, h.4, h.5), tt, tt,
-      sends_down s.id c.air c k refl Signalling1 count (order_text order) (order_says c.key.kenb order needs), refl, tt, tt)
+      (((k.0, k.1, k.2, k.3, commanded_ok s.id c.conn c.key.kenb order c.attempt k.4 needs.0, started_map g s.id c.air c.key.kenb c.starting (commanded order) c.attempt k.5), h.1, h.2, h.3, h.4, h.5), tt, tt,
+      sends_down s.id c.air c k refl Signalling1 count (order_text order) (order_says c.key.kenb order needs.0) needs.1, refl, tt, tt)
 
   -- GIVING UP
 
@@ -230,8 +252,8 @@ module _ (same : Term → Term → Bool) (cells : List Site) (cells_ok : AllOf S
 
   restored_ctx : (id : ℕ) (c : Context Term ℕ) (spent : Option (NumberedKey Term ℕ)) → CtxOk g id (Some c) → PairsOk g c.conn spent
       → CtxOk g id (Some (record c { key = restored_if c.key spent; attempt = None }))
-  restored_ctx id c None h k = (h.0, h.1, h.2, h.3, tt)
-  restored_ctx id c (Some back) h k = (h.0, restored_pair c.conn c.key.pair back h.1 k, h.2, h.3, tt)
+  restored_ctx id c None h k = (h.0, h.1, h.2, h.3, tt, started_none g id c.air c.key.kenb c.starting c.attempt h.5)
+  restored_ctx id c (Some back) h k = (h.0, restored_pair c.conn c.key.pair back h.1 k, h.2, h.3, tt, started_none g id c.air c.key.kenb c.starting c.attempt h.5)
 
   given_up_ok : (id : ℕ) (c : Context Term ℕ) → CtxOk g id (Some c) → CtxOk g id (Some (given_up c))
   given_up_ok id c h = restored_ctx id c (spent_in c.attempt) h (spent_ok id c.conn c.key.kenb c.attempt h.4)
@@ -248,20 +270,20 @@ module _ (same : Term → Term → Bool) (cells : List Site) (cells_ok : AllOf S
   packet_goes drb count text None s h k = (h, tt, tt, tt, refl, tt, tt)
   packet_goes drb count text (Some c) s h k = ((k, h.1, h.2, h.3, h.4, h.5), tt, tt, tt, refl, tt, tt)
 
-  rrc_goes : (srb : Srb) (count : ℕ) (text : List ℕ) (o : Option (Context Term ℕ)) (s : Station Term ℕ) → StationOk cells g s → CtxOk g s.id o → length text ≤ 200
+  rrc_goes : (srb : Srb) (count : ℕ) (text : List ℕ) (o : Option (Context Term ℕ)) (s : Station Term ℕ) → StationOk cells g s → CtxOk g s.id o → length text ≤ 200 → IsActive o
       → StationGoes cells g s (sends_rrc srb count text o s)
-  rrc_goes srb count text None s h k fits = (h, tt, tt, tt, refl, tt, tt)
-  rrc_goes srb count text (Some c) s h k fits =
+  rrc_goes srb count text None s h k fits active = (h, tt, tt, tt, refl, tt, tt)
+  rrc_goes srb count text (Some c) s h k fits active =
       ((k, h.1, h.2, h.3, h.4, h.5), tt, tt,
-      sends_down s.id c.air c k refl srb count (spelling_of (RrcData text)) (reads_as (SaysOk g c.key.kenb) (RrcData text) fits tt), refl, tt, tt)
+      sends_down s.id c.air c k refl srb count (spelling_of (RrcData text)) (reads_as (SaysOk g c.key.kenb) (RrcData text) fits tt) (had_by g s.id c.air c.key.kenb c.starting c.attempt active k.5), refl, tt, tt)
 
   pub act_goes : (row : ActRow) (s : Station Term ℕ) → StationOk cells g s → ContextAbove s.context → ActNeeds cells g s row
       → StationGoes cells g s (act_does (term_reading_by same) row s)
   act_goes (ActRefused answer) s h above needs = (h, tt, tt, tt, refl, tt, tt)
-  act_goes (StartedByX2 number target cell) s h above needs = by_x2_goes number target cell s.context s h h.0 above needs.0 needs.1
-  act_goes (StartedByS1 number target cell) s h above needs = by_s1_goes number target cell s.context s h h.0 needs.0 needs.1
+  act_goes (StartedByX2 number target cell) s h above needs = by_x2_goes number target cell s.context s h h.0 above needs.0 needs.1 needs.2
+  act_goes (StartedByS1 number target cell) s h above needs = by_s1_goes number target cell s.context s h h.0 needs.0 needs.1 needs.2
   act_goes (StartedWithin number air cell) s h above needs =
-      within_goes number air cell s.context s h h.0 above needs.0 needs.1 needs.2 needs.3
+      within_goes number air cell s.context s h h.0 above needs.0 needs.1 needs.2 needs.3 needs.4
   act_goes (Commands order count) s h above needs = commands_goes order count s.context s h h.0 needs
   act_goes (CancelledByX2 conn number target) s h above needs =
       ((map_ctx g s.id given_up (given_up_ok s.id) s.context h.0, h.1, h.2, h.3, h.4, h.5), tt, tt, tt, refl, tt, tt)
@@ -271,6 +293,6 @@ module _ (same : Term → Term → Bool) (cells : List Site) (cells_ok : AllOf S
       ((map_ctx g s.id given_up (given_up_ok s.id) s.context h.0, all_filter _ _ s.preps h.1, h.2, h.3, h.4, h.5), tt, tt, tt, refl, tt, tt)
   act_goes (AsksAgain number) s h above needs = asks_goes number s.context s h h.0 needs
   act_goes (SendsPacket drb count text) s h above needs = packet_goes drb count text s.context s h h.0
-  act_goes (SendsRrc srb count text) s h above needs = rrc_goes srb count text s.context s h h.0 needs
+  act_goes (SendsRrc srb count text) s h above needs = rrc_goes srb count text s.context s h h.0 needs.0 needs.1
   act_goes (LeavesOut on n) s h above needs =
       ((map_ctx g s.id (with_left_out on n) (λ c k. k) s.context h.0, h.1, h.2, h.3, h.4, h.5), tt, tt, tt, refl, tt, tt)

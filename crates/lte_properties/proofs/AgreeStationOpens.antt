@@ -38,19 +38,19 @@ use Rattle.lte_machine.specs.Ranges.{IsStationAct}
 use Rattle.lte_machine.specs.StationState.{Station, Context, Attempt, OverX2, OverS1, Within, X2State, X2Open, X2Ready, X2Commanded, S1State, S1Open, S1Ready, S1Commanded, Interface, OnS1, OnX2, map_context, map_attempt, map_x2_state}
 use Rattle.lte_machine.specs.StationRows.{Wanted, RecordRow, RecordRefused, ContextGiven, PairTaken, PreparedByS1, PreparedByX2, AckedByS1, AckedByX2, AirRow, AirRefused, CompletedByS1, CompletedWithin, CompletedByX2, ActRow, ActRefused, Commands, StationRow, OfRecord, OfAir, OfAct}
 use Rattle.lte_machine.specs.StationChoice.{PlainStation, PlainContext, PlainAttempt, runs_out, station_of, is_own, initial_chosen, initial_row, release_row, answer_row_by, answer_row, wanted_chosen, is_full, wanted_row, acked_open, s1_acked_row, s1_ack_row, x2_acked_row, x2_ack_row, cancel_row, x2_released_row, x2_release_row, s1_row, x2_row, AirFront, AirSettled, OnStarting, OnSignalling, OnUser, OnPrepared, counted, starting_front, active_front, context_front, prepared_front, air_front_by, air_front, starting_row, rrc_row, completed_row, prepared_row, air_row, active_row, unless_spent, is_misplaced, begun_row, alone_row, target_row, start_row, ordered_row, x2_command_row, s1_command_row, attempt_command_row, command_row, x2_cancel_row, s1_cancel_row, within_cancel_row, attempt_cancel_row, give_up_row, came_row, ask_row, packet_row, send_rrc_row, skip_row, act_row}
-use Rattle.lte_machine.specs.StationKeys.{air_expects, prepared_expects}
+use Rattle.lte_machine.specs.StationKeys.{air_expects, starting_expects, prepared_expects}
 use Rattle.lte_machine.specs.StationStep.{plain_station}
 use Rattle.lte_properties.specs.ChainBelow.{AllOf}
 use Rattle.lte_properties.specs.ChainAbove.{AnswerOk, InFlight}
 use Rattle.lte_properties.specs.Agreement.{made_at, HadTaken}
 use Rattle.lte_properties.specs.AgreePremises.{WasSealed, IsHonest}
-use Rattle.lte_properties.proofs.AgreeGhost.{Ghost, keys_of, TermOk, PairOk, HereIs, IsOrder, X2Ok, S1Ok, AttemptOk, CtxOk, PrepOk, StationOk, UpOk, AskedIs, AckIs, HasNcc, AnyMade, BetweenOk}
+use Rattle.lte_properties.proofs.AgreeGhost.{Ghost, keys_of, TermOk, PairOk, HereIs, IsOrder, X2Ok, S1Ok, AttemptOk, StartedOk, CtxOk, PrepOk, StationOk, UpOk, AskedIs, AckIs, HasNcc, AnyMade, BetweenOk}
 use Rattle.lte_properties.proofs.AgreeLater.{same_found}
 use Rattle.lte_properties.proofs.AgreePhone.{all_found}
 use Rattle.lte_properties.proofs.AgreePhoneWalk.{by_test, one_key}
 use Rattle.lte_properties.proofs.AgreeTold.{found_holds}
-use Rattle.lte_properties.proofs.AgreeStation.{DrawsAir, IsTarget, IsTargetAbove, ContextNeeds, PairNeeds, PairTakenNeeds, S1Needs, X2Needs, S1AckNeeds, S1AckOf, X2AckNeeds, X2AckOf, RecordNeeds, TakenThere, AirNeeds}
-use Rattle.lte_properties.proofs.AgreeStationAct.{OrderNeeds, ActNeeds}
+use Rattle.lte_properties.proofs.AgreeStation.{DrawsAir, IsTarget, IsTargetAbove, ContextNeeds, PairNeeds, PairTakenNeeds, S1Needs, X2Needs, S1AckNeeds, S1AckOf, X2AckNeeds, X2AckOf, RecordNeeds, TakenThere, StartingNeeds, AirNeeds}
+use Rattle.lte_properties.proofs.AgreeStationAct.{OrderNeeds, IsActive, ActNeeds}
 use Rattle.lte_machine.specs.StationRows.{SecurityStarted, RrcTaken, PacketTaken, StartedByX2, StartedByS1, StartedWithin, AsksAgain, SendsPacket, SendsRrc, LeavesOut, CancelledByX2, CancelledByS1, CancelledWithin}
 use Rattle.lte_machine.specs.Wire.{ciphering_by}
 use Rattle.x2_handover.specs.declared.orders.Order.{Order}
@@ -88,13 +88,18 @@ module _ (same : Term → Term → Bool) (cells : List Site) (g : Ghost) (s : St
     unfolding plain
     Walked front = IsHonest (air_expects front s) came outcome → AirNeeds g s (air_row plain front outcome)
 
-    starting_walks : (count : ℕ) (read : Result RrcRecord RecFault) → AirNeeds g s (starting_row count read)
-    starting_walks count (Err fault) = tt
-    starting_walks count (Ok (SecurityModeCommand algs st a)) = tt
-    starting_walks count (Ok SecurityModeComplete) = tt
-    starting_walks count (Ok (Reconfiguration cell ncc algs st a)) = tt
-    starting_walks count (Ok ReconfigurationComplete) = tt
-    starting_walks count (Ok (RrcData text)) = tt
+    -- the context has the air address
+    abbrev IsThere : Option (Context Term ℕ) → Type 0
+    IsThere None = ⊤
+    IsThere (Some c) = c.air ≡ air
+
+    starting_walks : (count : ℕ) (read : Result RrcRecord RecFault) → StartingNeeds g s.id s.context → AirNeeds g s (starting_row count read)
+    starting_walks count (Err fault) h = tt
+    starting_walks count (Ok (SecurityModeCommand algs st a)) h = tt
+    starting_walks count (Ok SecurityModeComplete) h = h
+    starting_walks count (Ok (Reconfiguration cell ncc algs st a)) h = tt
+    starting_walks count (Ok ReconfigurationComplete) h = tt
+    starting_walks count (Ok (RrcData text)) h = tt
 
     rrc_walks : (srb : Srb) (count : ℕ) (read : Result RrcRecord RecFault) → AirNeeds g s (rrc_row srb count read)
     rrc_walks srb count (Err fault) = tt
@@ -134,10 +139,18 @@ module _ (same : Term → Term → Bool) (cells : List Site) (g : Ghost) (s : St
     opened_walks count by (Differs wanted got) honest = tt
     opened_walks count by (Opened text) honest = prepared_walks count by (read_rrc text) (taken_there count text (at_air air s.preps) refl honest)
 
-    settled_walks : (count : ℕ) (o : Outcome) → AirNeeds g s (air_row plain (OnStarting count) o)
+    -- who completes the start of the security has the context's key
+    started_taken : (count : ℕ) (text : List ℕ) (o : Option (Context Term ℕ)) → CtxOk g s.id o → IsThere o → IsHonest (starting_expects {C = ℕ} count o) came (Opened text) → StartingNeeds g s.id o
+    started_taken count text None h there honest = tt
+    started_taken count text (Some c) h there honest =
+        let key : c.keys.rrc_int ≡ Alg c.key.kenb 4 2 = ap (λ x. x.rrc_int) h.2 in
+        let taken = up_taken g s.id air c.key.kenb (srb_use Up c.keys.rrc_int Signalling1 count) key _ text came came_ok honest in
+        subst (λ a. HadTaken g.took s.id a c.key.kenb) (sym there) taken.1
+
+    settled_walks : (count : ℕ) (o : Outcome) → IsThere s.context → IsHonest (starting_expects count s.context) came o → AirNeeds g s (air_row plain (OnStarting count) o)
     unfolding plain
-    settled_walks count (Differs wanted got) = tt
-    settled_walks count (Opened text) = starting_walks count (read_rrc text)
+    settled_walks count (Differs wanted got) there honest = tt
+    settled_walks count (Opened text) there honest = starting_walks count (read_rrc text) (started_taken count text s.context ok.0 there honest)
 
     signalling_walks : (srb : Srb) (count : ℕ) (o : Outcome) → AirNeeds g s (air_row plain (OnSignalling srb count) o)
     unfolding plain
@@ -149,10 +162,10 @@ module _ (same : Term → Term → Bool) (cells : List Site) (g : Ghost) (s : St
     user_walks drb count (Differs wanted got) = tt
     user_walks drb count (Opened text) = tt
 
-    counted_starting : (count : Result ℕ PdcpFault) → Walked (counted OnStarting count)
+    counted_starting : IsThere s.context → (count : Result ℕ PdcpFault) → Walked (counted OnStarting count)
     unfolding Walked
-    counted_starting (Err fault) honest = tt
-    counted_starting (Ok count) honest = settled_walks count outcome
+    counted_starting there (Err fault) honest = tt
+    counted_starting there (Ok count) honest = settled_walks count outcome there honest
 
     counted_signalling : (srb : Srb) (count : Result ℕ PdcpFault) → Walked (counted (OnSignalling srb) count)
     unfolding Walked
@@ -169,21 +182,25 @@ module _ (same : Term → Term → Bool) (cells : List Site) (g : Ghost) (s : St
     counted_prepared by (Err fault) honest = tt
     counted_prepared by (Ok count) honest = opened_walks count by outcome honest
 
-    starting_front_walks : (bearers : Bearers) (on : Which) (pdu : List ℕ) → Walked (starting_front bearers on pdu)
+    plain_there : (o : Option (Context Term ℕ)) (c : PlainContext) → option_map (map_context unseen ncc_of) o ≡ Some c → c.air ≡ air → IsThere o
+    plain_there None c is e = tt
+    plain_there (Some d) c is e = ap (λ x. x.air) (same_found (Some (map_context unseen ncc_of d)) _ _ refl is) ∙ e
+
+    starting_front_walks : IsThere s.context → (bearers : Bearers) (on : Which) (pdu : List ℕ) → Walked (starting_front bearers on pdu)
     unfolding Walked
-    starting_front_walks bearers (OnSrb Signalling1) pdu honest = counted_starting (srb_count bearers.srb1.receive pdu) honest
-    starting_front_walks bearers (OnSrb Signalling2) pdu honest = tt
-    starting_front_walks bearers (OnDrb drb) pdu honest = tt
+    starting_front_walks there bearers (OnSrb Signalling1) pdu honest = counted_starting there (srb_count bearers.srb1.receive pdu) honest
+    starting_front_walks there bearers (OnSrb Signalling2) pdu honest = tt
+    starting_front_walks there bearers (OnDrb drb) pdu honest = tt
 
     active_front_walks : (bearers : Bearers) (on : Which) (pdu : List ℕ) → Walked (active_front bearers on pdu)
     unfolding Walked
     active_front_walks bearers (OnSrb srb) pdu honest = counted_signalling srb (srb_count (srb_counts srb bearers).receive pdu) honest
     active_front_walks bearers (OnDrb drb) pdu honest = counted_user drb (drb_count (drb_counts drb bearers).receive pdu) honest
 
-    context_front_walks : (starting : Bool) (bearers : Bearers) (on : Which) (pdu : List ℕ) → Walked (context_front starting bearers on pdu)
+    context_front_walks : IsThere s.context → (starting : Bool) (bearers : Bearers) (on : Which) (pdu : List ℕ) → Walked (context_front starting bearers on pdu)
     unfolding Walked
-    context_front_walks true bearers on pdu honest = starting_front_walks bearers on pdu honest
-    context_front_walks false bearers on pdu honest = active_front_walks bearers on pdu honest
+    context_front_walks there true bearers on pdu honest = starting_front_walks there bearers on pdu honest
+    context_front_walks there false bearers on pdu honest = active_front_walks bearers on pdu honest
 
     prepared_front_walks : (o : Option (Prep (Unit {0}) ℕ)) (on : Which) (pdu : List ℕ) → Walked (prepared_front o air on pdu)
     unfolding Walked
@@ -192,13 +209,13 @@ module _ (same : Term → Term → Bool) (cells : List Site) (g : Ghost) (s : St
     prepared_front_walks (Some p) (OnSrb Signalling2) pdu honest = tt
     prepared_front_walks (Some p) (OnDrb drb) pdu honest = tt
 
-    pub air_walks_by : (o : Option PlainContext) (prep : Option (Prep (Unit {0}) ℕ)) (on : Which) (pdu : List ℕ)
+    pub air_walks_by : (o : Option PlainContext) → (plain_station (term_reading_by same) s).context ≡ o → (prep : Option (Prep (Unit {0}) ℕ)) (on : Which) (pdu : List ℕ)
         → IsHonest (air_expects (air_front_by o prep air on pdu) s) came outcome
         → AirNeeds g s (air_row (plain_station (term_reading_by same) s) (air_front_by o prep air on pdu) outcome)
     unfolding plain Walked
-    air_walks_by None prep on pdu honest = prepared_front_walks prep on pdu honest
-    air_walks_by (Some c) prep on pdu honest =
-        by_test Walked (c.air == air) _ _ (λ b. context_front_walks c.starting c.bearers on pdu) (λ b. prepared_front_walks prep on pdu) honest
+    air_walks_by None is prep on pdu honest = prepared_front_walks prep on pdu honest
+    air_walks_by (Some c) is prep on pdu honest =
+        by_test Walked (c.air == air) _ _ (λ b. context_front_walks (plain_there s.context c is (eqb-true c.air air b)) c.starting c.bearers on pdu) (λ b. prepared_front_walks prep on pdu) honest
 
   -- BY AN ACT
 
@@ -209,60 +226,72 @@ module _ (same : Term → Term → Bool) (cells : List Site) (g : Ghost) (s : St
   active_walks true row h = tt
   active_walks false row h = h
 
-  begun_walks : (target : ℕ) (cell : Place) (kind : HoKind) → station_of cell s.cells ≡ Some target → is_misplaced kind (target == s.id) ≡ false
+  -- an act of the active context
+  active_or : (c : Context Term ℕ) → s.context ≡ Some c → (starting : Bool) → c.starting ≡ starting → (row : ActRow) → (IsActive s.context → ActNeeds cells g s row)
+      → ActNeeds cells g s (active_row starting row)
+  active_or c is true e row f = tt
+  active_or c is false e row f = f (subst IsActive (sym is) e)
+
+  begun_walks : (target : ℕ) (cell : Place) (kind : HoKind) → station_of cell s.cells ≡ Some target → is_misplaced kind (target == s.id) ≡ false → IsActive s.context
       → ActNeeds cells g s (begun_row plain target cell kind)
   unfolding plain
-  begun_walks target cell HoKind.X2 e m =
-      by_test (ActNeeds cells g s) (runs_out 1 s.next) _ _ (λ b. tt) (λ b. (refl, subst (λ x. station_of cell x ≡ Some target) ok.3 e))
-  begun_walks target cell HoKind.S1 e m =
-      by_test (ActNeeds cells g s) (runs_out 1 s.next) _ _ (λ b. tt) (λ b. (refl, subst (λ x. station_of cell x ≡ Some target) ok.3 e))
-  begun_walks target cell HoKind.Intra e m =
+  begun_walks target cell HoKind.X2 e m active =
+      by_test (ActNeeds cells g s) (runs_out 1 s.next) _ _ (λ b. tt) (λ b. (refl, subst (λ x. station_of cell x ≡ Some target) ok.3 e, active))
+  begun_walks target cell HoKind.S1 e m active =
+      by_test (ActNeeds cells g s) (runs_out 1 s.next) _ _ (λ b. tt) (λ b. (refl, subst (λ x. station_of cell x ≡ Some target) ok.3 e, active))
+  begun_walks target cell HoKind.Intra e m active =
       by_test (ActNeeds cells g s) (is_full plain) _ _ (λ b. tt)
       (λ b. by_test (ActNeeds cells g s) (runs_out 2 s.next) _ _ (λ b. tt)
-      (λ b. (refl, refl, in_range_next s.next b, subst (λ x. station_of cell x ≡ Some s.id) ok.3 (e ∙ ap Some (own_target target s.id m)))))
+      (λ b. (refl, refl, in_range_next s.next b, subst (λ x. station_of cell x ≡ Some s.id) ok.3 (e ∙ ap Some (own_target target s.id m)), active)))
 
-  alone_walks : (target : ℕ) (cell : Place) (kind : HoKind) (o : Option PlainAttempt) → station_of cell s.cells ≡ Some target → is_misplaced kind (target == s.id) ≡ false
+  alone_walks : (target : ℕ) (cell : Place) (kind : HoKind) (o : Option PlainAttempt) → station_of cell s.cells ≡ Some target → is_misplaced kind (target == s.id) ≡ false → IsActive s.context
       → ActNeeds cells g s (alone_row plain target cell kind o)
   unfolding plain
-  alone_walks target cell kind (Some attempt) e m = tt
-  alone_walks target cell kind None e m = begun_walks target cell kind e m
+  alone_walks target cell kind (Some attempt) e m active = tt
+  alone_walks target cell kind None e m active = begun_walks target cell kind e m active
 
-  target_walks : (o : Option PlainAttempt) (cell : Place) (kind : HoKind) (t : Option ℕ) → station_of cell s.cells ≡ t → ActNeeds cells g s (target_row plain o cell kind t)
+  target_walks : (o : Option PlainAttempt) (cell : Place) (kind : HoKind) (t : Option ℕ) → station_of cell s.cells ≡ t → IsActive s.context → ActNeeds cells g s (target_row plain o cell kind t)
   unfolding plain
-  target_walks o cell kind None e = tt
-  target_walks o cell kind (Some target) e =
-      by_test (ActNeeds cells g s) (is_misplaced kind (target == s.id)) _ _ (λ b. tt) (λ b. alone_walks target cell kind o e b)
+  target_walks o cell kind None e active = tt
+  target_walks o cell kind (Some target) e active =
+      by_test (ActNeeds cells g s) (is_misplaced kind (target == s.id)) _ _ (λ b. tt) (λ b. alone_walks target cell kind o e b active)
 
-  start_walks : (kind : HoKind) (cell : Place) (o : Option PlainContext) → ActNeeds cells g s (start_row plain kind cell o)
+  start_walks : (kind : HoKind) (cell : Place) (o : Option (Context Term ℕ)) → s.context ≡ o → ActNeeds cells g s (start_row plain kind cell (option_map (map_context unseen ncc_of) o))
   unfolding plain
-  start_walks kind cell None = tt
-  start_walks kind cell (Some c) = active_walks c.starting _ (target_walks c.attempt cell kind (station_of cell s.cells) refl)
+  start_walks kind cell None is = tt
+  start_walks kind cell (Some c) is =
+      active_or c is c.starting refl _ (target_walks (option_map (map_attempt unseen ncc_of) c.attempt) cell kind (station_of cell s.cells) refl)
 
-  ordered_walks : (c : Context Term ℕ) → s.context ≡ Some c → (order : Order) (counts : Counts) → IsOrder g c.key.kenb order → ActNeeds cells g s (ordered_row order counts)
-  ordered_walks c is order counts h = unless_walks counts (Commands order counts.send) (subst (OrderNeeds g order) (sym is) h)
+  ordered_walks : (c : Context Term ℕ) → s.context ≡ Some c → (order : Order) (counts : Counts) → IsOrder g c.key.kenb order → HadTaken g.took s.id c.air c.key.kenb → ActNeeds cells g s (ordered_row order counts)
+  ordered_walks c is order counts h had = unless_walks counts (Commands order counts.send) (subst (OrderNeeds g s.id order) (sym is) (h, had))
 
-  x2_command_walks : (c : Context Term ℕ) → s.context ≡ Some c → (conn : ℕ) (state : X2State Term ℕ) (counts : Counts) → X2Ok g s.id conn c.key.kenb state
+  x2_command_walks : (c : Context Term ℕ) → s.context ≡ Some c → (conn : ℕ) (state : X2State Term ℕ) (counts : Counts) → HadTaken g.took s.id c.air c.key.kenb → X2Ok g s.id conn c.key.kenb state
       → ActNeeds cells g s (x2_command_row (map_x2_state unseen ncc_of state) counts)
-  x2_command_walks c is conn (X2Open start) counts h = tt
-  x2_command_walks c is conn (X2Ready acked) counts h = ordered_walks c is _ counts h.0
-  x2_command_walks c is conn (X2Commanded sent) counts h = ordered_walks c is sent.order counts h
+  x2_command_walks c is conn (X2Open start) counts had h = tt
+  x2_command_walks c is conn (X2Ready acked) counts had h = ordered_walks c is _ counts h.0 had
+  x2_command_walks c is conn (X2Commanded sent) counts had h = ordered_walks c is sent.order counts h had
 
-  s1_command_walks : (c : Context Term ℕ) → s.context ≡ Some c → (conn : ℕ) (state : S1State) (counts : Counts) → S1Ok g s.id conn c.key.kenb state
+  s1_command_walks : (c : Context Term ℕ) → s.context ≡ Some c → (conn : ℕ) (state : S1State) (counts : Counts) → HadTaken g.took s.id c.air c.key.kenb → S1Ok g s.id conn c.key.kenb state
       → ActNeeds cells g s (s1_command_row state counts)
-  s1_command_walks c is conn (S1Open start) counts h = tt
-  s1_command_walks c is conn (S1Ready acked) counts h = ordered_walks c is _ counts h
-  s1_command_walks c is conn (S1Commanded sent) counts h = ordered_walks c is sent.order counts h
+  s1_command_walks c is conn (S1Open start) counts had h = tt
+  s1_command_walks c is conn (S1Ready acked) counts had h = ordered_walks c is _ counts h had
+  s1_command_walks c is conn (S1Commanded sent) counts had h = ordered_walks c is sent.order counts h had
 
-  attempt_command_walks : (c : Context Term ℕ) → s.context ≡ Some c → (o : Option (Attempt Term ℕ)) (counts : Counts) → AttemptOk g s.id c.conn c.key.kenb o
+  -- a context with an attempt is active, and the phone had taken its key
+  had_with : (c : Context Term ℕ) (starting : Bool) (o : Option (Attempt Term ℕ)) (a : Attempt Term ℕ) → o ≡ Some a → StartedOk g s.id c.air c.key.kenb starting o → HadTaken g.took s.id c.air c.key.kenb
+  had_with c true o a e h = absurd cc
+  had_with c false o a e h = h
+
+  attempt_command_walks : (c : Context Term ℕ) → s.context ≡ Some c → StartedOk g s.id c.air c.key.kenb c.starting c.attempt → (o : Option (Attempt Term ℕ)) → c.attempt ≡ o → (counts : Counts) → AttemptOk g s.id c.conn c.key.kenb o
       → ActNeeds cells g s (attempt_command_row (option_map (map_attempt unseen ncc_of) o) counts)
-  attempt_command_walks c is None counts h = tt
-  attempt_command_walks c is (Some (OverX2 state)) counts h = x2_command_walks c is c.conn state counts h
-  attempt_command_walks c is (Some (OverS1 state)) counts h = s1_command_walks c is c.conn state counts h
-  attempt_command_walks c is (Some (Within state)) counts h = x2_command_walks c is c.conn state counts h
+  attempt_command_walks c is started None e counts h = tt
+  attempt_command_walks c is started (Some (OverX2 state)) e counts h = x2_command_walks c is c.conn state counts (had_with c c.starting c.attempt _ e started) h
+  attempt_command_walks c is started (Some (OverS1 state)) e counts h = s1_command_walks c is c.conn state counts (had_with c c.starting c.attempt _ e started) h
+  attempt_command_walks c is started (Some (Within state)) e counts h = x2_command_walks c is c.conn state counts (had_with c c.starting c.attempt _ e started) h
 
   command_walks : (o : Option (Context Term ℕ)) → s.context ≡ o → CtxOk g s.id o → ActNeeds cells g s (command_row (option_map (map_context unseen ncc_of) o))
   command_walks None is h = tt
-  command_walks (Some c) is h = attempt_command_walks c is c.attempt c.bearers.srb1 h.4
+  command_walks (Some c) is h = attempt_command_walks c is h.5 c.attempt refl c.bearers.srb1 h.4
 
   give_up_walks : (o : Option PlainContext) → ActNeeds cells g s (give_up_row o)
   give_up_walks None = tt
@@ -293,10 +322,11 @@ module _ (same : Term → Term → Bool) (cells : List Site) (g : Ghost) (s : St
   packet_walks (OnDrb drb) text None = tt
   packet_walks (OnDrb drb) text (Some c) = active_walks c.starting _ (unless_walks (drb_counts drb c.bearers) (SendsPacket drb (drb_counts drb c.bearers).send text) tt)
 
-  send_rrc_walks : (on : Which) (text : List ℕ) (o : Option PlainContext) → length text ≤ 200 → ActNeeds cells g s (send_rrc_row on text o)
-  send_rrc_walks (OnDrb drb) text o fits = tt
-  send_rrc_walks (OnSrb srb) text None fits = tt
-  send_rrc_walks (OnSrb srb) text (Some c) fits = active_walks c.starting _ (unless_walks (srb_counts srb c.bearers) (SendsRrc srb (srb_counts srb c.bearers).send text) fits)
+  send_rrc_walks : (on : Which) (text : List ℕ) (o : Option (Context Term ℕ)) → s.context ≡ o → length text ≤ 200 → ActNeeds cells g s (send_rrc_row on text (option_map (map_context unseen ncc_of) o))
+  send_rrc_walks (OnDrb drb) text o is fits = tt
+  send_rrc_walks (OnSrb srb) text None is fits = tt
+  send_rrc_walks (OnSrb srb) text (Some c) is fits =
+      active_or c is c.starting refl _ (λ active. unless_walks (srb_counts srb c.bearers) (SendsRrc srb (srb_counts srb c.bearers).send text) (fits, active))
 
   skip_walks : (on : Which) (n : ℕ) (o : Option PlainContext) → ActNeeds cells g s (skip_row on n o)
   skip_walks on n None = tt
@@ -304,10 +334,10 @@ module _ (same : Term → Term → Bool) (cells : List Site) (g : Ghost) (s : St
 
   pub act_walks : (act : StationAct) → IsStationAct act → ActNeeds cells g s (act_row (plain_station (term_reading_by same) s) act)
   unfolding plain
-  act_walks (Start kind cell) is = start_walks kind cell plain.context
+  act_walks (Start kind cell) is = start_walks kind cell s.context refl
   act_walks Command is = command_walks s.context refl ok.0
   act_walks Cancel is = give_up_walks plain.context
   act_walks Ask is = ask_walks plain.context
   act_walks (SendUser bearer text) is = packet_walks (which bearer) text plain.context
-  act_walks (SendRrc bearer text) is = send_rrc_walks (which bearer) text plain.context is.1
+  act_walks (SendRrc bearer text) is = send_rrc_walks (which bearer) text s.context refl is.1
   act_walks (Skip bearer n) is = skip_walks (which bearer) n plain.context

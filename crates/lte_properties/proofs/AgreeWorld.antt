@@ -293,7 +293,7 @@ module _ (same : Term → Term → Bool) (root : ℕ → List ℕ → Term) (oct
       turn_goes c w id (AirPdu air bearer pdu) came (Some s) h found
       (λ ok is. air_walks_by same cells (ghost c w) s ok air came (subst (λ n. CameUp (ghost c w) n air came) (sym is) k)
       (outcome_of m (attempts_at m (AirPdu air bearer pdu) came (Some s)))
-      (plain_station (term_reading_by same) s).context (at_air air (plain_station (term_reading_by same) s).preps) (which bearer) pdu honest)
+      (plain_station (term_reading_by same) s).context refl (at_air air (plain_station (term_reading_by same) s).preps) (which bearer) pdu honest)
 
   -- what came to a station in a record
   abbrev S1Came : Conns → TheWorld → ℕ → Option (Outgoing Term ℕ) → Type 0

@@ -12,6 +12,8 @@ use Rattle.lte_machine.specs.Ciphers.{Ciphers, AreCiphers, octets_of}
 use Rattle.lte_machine.specs.Opening.{Opening, Outcome, open_by_uses}
 use Rattle.lte_machine.specs.Ranges.{IsSetup, IsEvent}
 use Rattle.lte_machine.specs.Ranges as ranges
+use Rattle.lte_machine.specs.PhoneState.{Radio, Idle, Connecting, Connected}
+use Rattle.lte_machine.specs.Reply.{Took}
 use Rattle.lte_machine.specs.World.{World, Machine, happens}
 use Rattle.lte_machine.specs.Machines.{machine_over, sender_of}
 use Rattle.lte_machine.specs.Run.{first_world}
@@ -20,11 +22,15 @@ use Rattle.lte_properties.specs.ChainHolds.{machine_by, run, noted, Holds}
 use Rattle.lte_properties.specs.Agreement.{NoneThere, NoneEver, Agrees, AgreementHolds}
 use Rattle.lte_properties.specs.AgreePremises.{Honest, Calm, Along, OpensByTerms}
 use Rattle.lte_properties.proofs.ChainWorld.{happens_holds, first_holds}
+use Rattle.lte_properties.specs.FreshPhone.{RadioInOrder, PhoneFresh}
+use Rattle.lte_properties.proofs.FreshPhoneRun.{in_order, happens_order, first_order}
 use Rattle.lte_properties.proofs.AgreeLater.{later_itself}
 use Rattle.lte_properties.proofs.AgreeTold.{SiteOk}
 use Rattle.lte_properties.proofs.AgreeWorld.{TheWorld, Conns, ghost, WorldOk, Goes, PlainReads}
 use Rattle.lte_properties.proofs.AgreeEvents.{happens_goes, run_goes}
-use Rattle.lte_properties.proofs.AgreeHolds.{cells_of, no_conns, first_ok, agrees, none_before}
+use Rattle.lte_properties.proofs.AgreeHolds.{cells_of, no_conns, first_ok, agrees, none_before, of_each}
+use Rattle.lte_properties.proofs.AgreeFollows.{terms_follow}
+use Rattle.lte_properties.proofs.AgreeCalm.{NewKenb, calm_at}
 use Rattle.lte_properties.proofs.AgreeOpener.{honest, plain_reads}
 
 -- of each event of a list
@@ -68,22 +74,53 @@ agreement_by same root octets sender opener reads setup is events are honest cal
     let each = each_event events are in
     let first = first_ok setup is in
     let g = run_goes same root octets sender opener reads setup.cells cells_ok (λ conn. 0) (no_conns setup) (first_world setup) events (first_holds setup) first each honest calm in
-    (agrees setup.cells g.0 (run (machine_by same root octets sender opener) (first_world setup) events) g.2,
+    (agrees setup.cells g.0 (run (machine_by same root octets sender opener) (first_world setup) events) g.2
+    (terms_follow same root octets sender opener setup events),
     none_ever same root octets sender opener reads setup.cells cells_ok (λ conn. 0) (no_conns setup) (first_world setup) events (first_holds setup) first each honest calm)
 
--- every run of a machine over these ciphers that compares the uses on SRBs as terms, where its openings are calm
+-- where the phone waits with a KeNB that it never took
+new_kenb : (radio : Radio Term ℕ) (took : List (Took Term ℕ)) → RadioInOrder took radio → NewKenb took radio
+new_kenb Idle took h = tt
+new_kenb (Connecting w) took h = λ x i. of_each (λ y. y.key ≡ w.kenb → ⊥) took x h.1 i
+new_kenb (Connected l) took h = tt
+
+module _ (same : Term → Term → Bool) (octets : Outgoing Term ℕ → List ℕ) (sender : Option (Outgoing Term ℕ) → Option (KeyUse Term)) (opener : Opening Term → List ℕ → Option (Outgoing Term ℕ) → Outcome) (reads : PlainReads octets) (cells : List Site) (cells_ok : AllOf SiteOk cells) where
+  abbrev rooted : Machine Term ℕ (Outgoing Term ℕ)
+  rooted = machine_by same Root octets sender opener
+
+  -- each event of a run is calm
+  calm_along : (top : ℕ → ℕ) (c : Conns) (w : TheWorld) (es : List Event) → Holds top w → WorldOk cells c w → PhoneFresh w → AllOf IsEvent es
+      → Along (Honest rooted) rooted w es → Along (Calm rooted) rooted w es
+  calm_along top c w [] holds h fresh is honest = tt
+  calm_along top c w (e ∷ es) holds h fresh is honest =
+      let u = (happens rooted w e).0 in
+      let calm = calm_at same Root octets sender opener reads cells c w e h (new_kenb w.phone.radio w.took (in_order w fresh).1) honest.0 in
+      let step = happens_goes same Root octets sender opener reads cells cells_ok c w e is.0 h holds.above holds.flight honest.0 calm in
+      let next = happens_holds same Root octets sender opener top w e holds in
+      let order = happens_order same octets sender opener w fresh e in
+      (calm, calm_along (noted u.core.link top) step.0 u es next step.2 order is.1 honest.1)
+
+-- every run whose openings are honest
+pub agreement_if_honest : (same : Term → Term → Bool) (octets : Outgoing Term ℕ → List ℕ) (sender : Option (Outgoing Term ℕ) → Option (KeyUse Term)) (opener : Opening Term → List ℕ → Option (Outgoing Term ℕ) → Outcome) → PlainReads octets
+    → (setup : Setup) → IsSetup setup → (events : List Event) → ranges.AllOf IsEvent events
+    → Along (Honest (machine_by same Root octets sender opener)) (machine_by same Root octets sender opener) (first_world setup) events
+    → AgreementHolds (machine_by same Root octets sender opener) setup events
+agreement_if_honest same octets sender opener reads setup is events are honest =
+    agreement_by same Root octets sender opener reads setup is events are honest
+    (calm_along same octets sender opener reads setup.cells (cells_of setup is) (λ conn. 0) (no_conns setup) (first_world setup) events (first_holds setup)
+    (first_ok setup is) (first_order same octets sender opener setup) (each_event events are) honest)
+
+-- every run of a machine over these ciphers that compares the uses on SRBs as terms
 pub agreement_over : (same : Term → Term → Bool) (c : Ciphers Term) → AreCiphers c → (between : Fields → Option (NumberedKey Term ℕ) → List ℕ) (opener : Opening Term → List ℕ → Option (Outgoing Term ℕ) → Outcome) → OpensByTerms c opener
     → (setup : Setup) → IsSetup setup → (events : List Event) → ranges.AllOf IsEvent events
-    → let m = record (machine_over same c between) { opener = opener } in
-      Along (Calm m) m (first_world setup) events → AgreementHolds m setup events
-agreement_over same c good between opener is setup is_setup events are calm =
-    agreement_by same Root (octets_of c between) sender_of opener (plain_reads c good between) setup is_setup events are
-    (honest_along same Root (octets_of c between) sender_of opener c is (first_world setup) events) calm
+    → AgreementHolds (record (machine_over same c between) { opener = opener }) setup events
+agreement_over same c good between opener by_terms setup is events are =
+    agreement_if_honest same (octets_of c between) sender_of opener (plain_reads c good between) setup is events are
+    (honest_along same Root (octets_of c between) sender_of opener c by_terms (first_world setup) events)
 
 -- every run of the machine over terms that compares keys as terms
 pub agreement_of_terms : (c : Ciphers Term) → AreCiphers c → (between : Fields → Option (NumberedKey Term ℕ) → List ℕ)
     → (setup : Setup) → IsSetup setup → (events : List Event) → ranges.AllOf IsEvent events
-    → Along (Calm (machine_over same_term c between)) (machine_over same_term c between) (first_world setup) events
     → AgreementHolds (machine_over same_term c between) setup events
-agreement_of_terms c good between setup is events are calm =
-    agreement_over same_term c good between (open_by_uses same_term c) (λ u e pdu came. refl) setup is events are calm
+agreement_of_terms c good between setup is events are =
+    agreement_over same_term c good between (open_by_uses same_term c) (λ u e pdu came. refl) setup is events are

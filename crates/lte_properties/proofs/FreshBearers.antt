@@ -10,13 +10,16 @@ Rise a b =
     (a.srb1.send ≤ b.srb1.send) × (a.srb2.send ≤ b.srb2.send) × (a.drb1.send ≤ b.drb1.send) × (a.drb2.send ≤ b.drb2.send)
     × (a.drb3.send ≤ b.drb3.send) × (a.drb4.send ≤ b.drb4.send)
 
+-- no COUNT falls where none changes
 pub rise_same : (a : Bearers) → Rise a a
 rise_same a = (omega arith, omega arith, omega arith, omega arith, omega arith, omega arith)
 
+-- an order on both ends of a test is an order
 if_le : (b : Bool) (m n m' n' : ℕ) → m ≤ m' → n ≤ n' → (if b then m else n) ≤ (if b then m' else n')
 if_le true m n m' n' h k = h
 if_le false m n m' n' h k = k
 
+-- the next COUNT of a bearer does not fall
 send_rises : (on : Bool) (bearer : ℕ) (a b : Bearers) → Rise a b → send_on on bearer a ≤ send_on on bearer b
 send_rises true bearer a b h =
     if_le (bearer == 0) _ _ _ _ h.2 (if_le (bearer == 1) _ _ _ _ h.3 (if_le (bearer == 2) _ _ _ _ h.4 h.5))
@@ -31,6 +34,7 @@ pub srb_taken_rises : (srb : Srb) (count : ℕ) (a : Bearers) → Rise a (srb_ta
 srb_taken_rises Signalling1 count a = rise_same a
 srb_taken_rises Signalling2 count a = rise_same a
 
+-- and one of a DRB
 pub drb_taken_rises : (drb : Drb) (count : ℕ) (a : Bearers) → Rise a (drb_taken drb count a)
 drb_taken_rises User1 count a = rise_same a
 drb_taken_rises User2 count a = rise_same a
@@ -42,6 +46,7 @@ pub srb_sent_rises : (srb : Srb) (a : Bearers) → Rise a (srb_sent srb a)
 srb_sent_rises Signalling1 a = (omega arith, omega arith, omega arith, omega arith, omega arith, omega arith)
 srb_sent_rises Signalling2 a = (omega arith, omega arith, omega arith, omega arith, omega arith, omega arith)
 
+-- and one on a DRB
 pub drb_sent_rises : (drb : Drb) (a : Bearers) → Rise a (drb_sent drb a)
 drb_sent_rises User1 a = (omega arith, omega arith, omega arith, omega arith, omega arith, omega arith)
 drb_sent_rises User2 a = (omega arith, omega arith, omega arith, omega arith, omega arith, omega arith)
@@ -62,6 +67,7 @@ pub srb_is_next : (srb : Srb) (a : Bearers) → (srb_counts srb a).send < send_o
 srb_is_next Signalling1 a h = omega arith
 srb_is_next Signalling2 a h = omega arith
 
+-- and it is below the next one then
 pub srb_is_used : (srb : Srb) (a : Bearers) → (srb_counts srb a).send < send_on false (bearer5_of (of_srb srb)) (srb_sent srb a)
 srb_is_used Signalling1 a = omega arith
 srb_is_used Signalling2 a = omega arith
@@ -73,6 +79,7 @@ drb_is_next User2 a h = omega arith
 drb_is_next User3 a h = omega arith
 drb_is_next User4 a h = omega arith
 
+-- and it is below the next one then
 pub drb_is_used : (drb : Drb) (a : Bearers) → (drb_counts drb a).send < send_on true (bearer5_of (of_drb drb)) (drb_sent drb a)
 drb_is_used User1 a = omega arith
 drb_is_used User2 a = omega arith

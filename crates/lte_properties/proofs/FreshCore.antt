@@ -47,6 +47,7 @@ CoreNasNeeds context (NasOpened count text) = IfSome context (λ c. c.nas.receiv
 CoreNasNeeds context (SealedReject count) = IfSome context (λ c. c.nas.receive ≤ count)
 CoreNasNeeds context other = ⊤
 
+-- an act sends with the next COUNT, and connects for the trigger
 abbrev pub CoreActNeeds : Core Term ℕ → CoreActRow → Type 0
 CoreActNeeds s (SmcStarted ksi algs caps count) = IfSome s.partial (λ p. count ≡ p.send)
 CoreActNeeds s (ContextSetUp conn cell target caps count) = s.trigger ≡ Some count
@@ -69,6 +70,7 @@ module _ (roots : ℕ) (given : Homes) where
     sends = sends;
   }
 
+  -- nothing changes
   still : (s : Core Term ℕ) → CoreStands roots given s → CoreKeeps roots given s s None
   still s h = keeps s s None h (λ k count u. u) tt tt (λ taken. tt)
 
@@ -88,6 +90,7 @@ module _ (roots : ℕ) (given : Homes) where
     due_rises None count le = omega arith
     due_rises (Some n) count le = omega arith
 
+    -- a trigger stays below the next COUNT to be taken
     trigger_below : (o : Option ℕ) (count : ℕ) → c.nas.receive ≤ count → IfSome o (λ n. n < c.nas.receive) → IfSome o (λ n. n < count + 1)
     trigger_below None count le h = tt
     trigger_below (Some n) count le h = omega arith
@@ -134,12 +137,14 @@ module _ (roots : ℕ) (given : Homes) where
       λ old. let x = (old lt).2 refl in absurd (omega arith),
     )
 
+    -- both uses of a NAS sending are new, and apart
     abbrev BothNas : Keys Term → Type 0
     BothNas keys =
         NewDown roots (record s { context = Some c }) (record s { context = Some (nas_sent_to (c.nas.send + 1) c) }) (nas_use Down keys.enc c.nas.send)
         × NewDown roots (record s { context = Some c }) (record s { context = Some (nas_sent_to (c.nas.send + 1) c) }) (nas_use Down keys.int c.nas.send)
         × (nas_use Down keys.int c.nas.send ≡ nas_use Down keys.enc c.nas.send → ⊥)
 
+    -- a NAS text takes the next COUNT
     text_sent : (text : List ℕ) → CoreStands roots given (record s { context = Some c }) →
         CoreKeeps roots given (record s { context = Some c }) (record s { context = Some (nas_sent_to (c.nas.send + 1) c) })
         (Some (nas_text c.nas.keys c.nas.send text))
@@ -148,22 +153,26 @@ module _ (roots : ℕ) (given : Homes) where
         (new_nas 1 (identity_of c.nas.keys.algs.eea) nas_bearer (omega arith) h, new_nas 2 eia2_identity nas_bearer (omega arith) h, types_apart _ _ 1 2 refl refl (λ e. absurd (omega arith))) in
         keeps _ _ _ h (λ k count u. (u.0, u.1, λ e. let x = u.2 e in omega arith)) (b.0, (b.1, tt)) (both_apart _ _ b.2) (λ taken. tt)
 
+    -- COUNTs are left out
     skipped_on : (n : ℕ) → c.nas.send ≤ n → CoreStands roots given (record s { context = Some c }) →
         CoreKeeps roots given (record s { context = Some c }) (record s { context = Some (nas_sent_to n c) }) None
     skipped_on n le h = keeps _ _ None h (λ k count u. (u.0, u.1, λ e. let x = u.2 e in omega arith)) tt tt (λ taken. tt)
 
   -- rows of NAS
 
+  -- a Service Request
   asked_keeps : (count : ℕ) (s : Core Term ℕ) (o : Option (CoreContext Term)) → CoreNasNeeds o (ServiceAsked count) → CoreStands roots given (record s { context = o }) →
       let d = service_asked count o (record s { context = o }) in CoreKeeps roots given (record s { context = o }) d.0 d.1.sent
   asked_keeps count s None le h = still (record s { context = None }) h
   asked_keeps count s (Some c) le h = keeps _ _ None (asked_stands s c count le h) (λ k n u. u) tt tt (λ taken. tt)
 
+  -- a NAS text that was taken
   opened_keeps : (count : ℕ) (text : List ℕ) (s : Core Term ℕ) (o : Option (CoreContext Term)) → CoreNasNeeds o (NasOpened count text) → CoreStands roots given (record s { context = o }) →
       let d = nas_opened count text o (record s { context = o }) in CoreKeeps roots given (record s { context = o }) d.0 d.1.sent
   opened_keeps count text s None le h = still (record s { context = None }) h
   opened_keeps count text s (Some c) le h = keeps _ _ None (taken_stands s c count s.procedure le h h.2) (λ k n u. u) tt tt (λ taken. tt)
 
+  -- a protected Security Mode Reject
   reject_keeps : (count : ℕ) (s : Core Term ℕ) (o : Option (CoreContext Term)) → CoreNasNeeds o (SealedReject count) → CoreStands roots given (record s { context = o }) →
       let d = sealed_reject count o (record s { context = o }) in CoreKeeps roots given (record s { context = o }) d.0 d.1.sent
   reject_keeps count s None le h = still (record s { context = None }) h
@@ -185,6 +194,7 @@ module _ (roots : ℕ) (given : Homes) where
       )
       (λ k n u. (u.0, tt, u.1)) tt tt (λ taken. tt)
 
+  -- a row of a NAS message
   pub core_nas_keeps : (row : CoreNasRow) (s : Core Term ℕ) → CoreNasNeeds s.context row → CoreStands roots given s →
       let d = core_does_nas row s in CoreKeeps roots given s d.0 d.1.sent
   core_nas_keeps (NasRefused answer) s n h = still s h
@@ -196,21 +206,25 @@ module _ (roots : ℕ) (given : Homes) where
 
   -- records of S1 move the chain alone
 
+  -- a Path Switch Request
   switched_keeps : (same : Term → Term → Bool) (conn station number : ℕ) (alarm : Bool) (s : Core Term ℕ) (o : Option (CoreLink Term ℕ)) → CoreStands roots given s →
       let d = path_switched (term_reading_by same) conn station number alarm o s in CoreKeeps roots given s d.0 d.1.sent
   switched_keeps same conn station number alarm s None h = still s h
   switched_keeps same conn station number alarm s (Some link) h = keeps s _ _ h (λ k count u. u) tt tt (λ taken. tt)
 
+  -- a Handover Required
   required_keeps : (same : Term → Term → Bool) (conn source attempt : ℕ) (cell : Place) (target : ℕ) (caps : Caps) (s : Core Term ℕ) (o : Option (CoreLink Term ℕ)) → CoreStands roots given s →
       let d = handover_asked (term_reading_by same) conn source attempt cell target caps o s in CoreKeeps roots given s d.0 d.1.sent
   required_keeps same conn source attempt cell target caps s None h = still s h
   required_keeps same conn source attempt cell target caps s (Some link) h = keeps s _ _ h (λ k count u. u) tt tt (λ taken. tt)
 
+  -- a Handover Notify
   notified_keeps : (station : ℕ) (s : Core Term ℕ) (o : Option (CoreLink Term ℕ)) → CoreStands roots given s →
       let d = handover_notified station o s in CoreKeeps roots given s d.0 d.1.sent
   notified_keeps station s None h = still s h
   notified_keeps station s (Some link) h = keeps s _ None h (λ k count u. u) tt tt (λ taken. tt)
 
+  -- a row of a record on S1
   pub core_record_keeps : (same : Term → Term → Bool) (row : CoreRecordRow) (s : Core Term ℕ) → CoreStands roots given s →
       let d = core_does_record (term_reading_by same) row s in CoreKeeps roots given s d.0 d.1.sent
   core_record_keeps same (RecordRefused answer) s h = still s h
@@ -236,12 +250,14 @@ module _ (roots : ℕ) (given : Homes) where
       older None k = tt
       older (Some c) k = λ g. let x = ap authentication_of g in let y = k.1 in absurd (omega arith)
 
+  -- a NAS text is sent
   sent_keeps : (count : ℕ) (text : List ℕ) (s : Core Term ℕ) (o : Option (CoreContext Term)) → IfSome o (λ c. count ≡ c.nas.send) → CoreStands roots given (record s { context = o }) →
       let d = nas_sent count text o (record s { context = o }) in CoreKeeps roots given (record s { context = o }) d.0 d.1.sent
   sent_keeps count text s None e h = still (record s { context = None }) h
   sent_keeps count text s (Some c) e h =
       subst (λ n. let d = nas_sent n text (Some c) (record s { context = Some c }) in CoreKeeps roots given (record s { context = Some c }) d.0 d.1.sent) (sym e) (text_sent s c _ h)
 
+  -- downlink COUNTs are left out
   skipped_keeps : (n : ℕ) (s : Core Term ℕ) (o : Option (CoreContext Term)) → CoreStands roots given (record s { context = o }) →
       let d = nas_skipped n o (record s { context = o }) in CoreKeeps roots given (record s { context = o }) d.0 d.1.sent
   skipped_keeps n s None h = still (record s { context = None }) h
@@ -279,6 +295,7 @@ module _ (roots : ℕ) (given : Homes) where
             subst (IsPast roots (core_partial_root s.partial) (core_mark None (Some c))) (sym g.0)
             (h.0.1.0, h.0.1.1, (omega arith, λ i. let x = h.3 in let y = by_some e in omega arith))
 
+  -- a row of an act
   pub core_act_keeps : (same : Term → Term → Bool) (row : CoreActRow) (s : Core Term ℕ) → CoreActNeeds s row → CoreStands roots given s →
       let d = core_does_act (term_reading_by same) row s in CoreKeeps roots given s d.0 d.1.sent
   core_act_keeps same (ActRefused answer) s n h = still s h

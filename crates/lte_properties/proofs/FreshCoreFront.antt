@@ -33,10 +33,12 @@ abbrev OfCount : (ℕ → Type 0) → Result ℕ NoneLeft → Type 0
 OfCount P (Ok count) = P count
 OfCount P (Err spent) = ⊤
 
+-- the least number with a remainder is not below
 least_above : (low x w : ℕ) → low ≤ least low x w
 unfolding least
 least_above low x w = omega arith
 
+-- so an estimate is not below the next COUNT
 estimate_above : (next sn : ℕ) → OfCount (λ count. next ≤ count) (estimate_of next sn)
 unfolding estimate_of
 estimate_above next sn =
@@ -51,6 +53,7 @@ FrontNeeds o (OpensComplete count) = ⊤
 FrontNeeds o (OpensProtected header count) = IfSome o (λ c. c.nas.receive ≤ count)
 
 module _ (ncc : ℕ → ℕ) (o : Option (CoreContext Term)) where
+  -- a plain text takes no COUNT
   plain_text_needs : (read : Result NasRecord RecFault) → CoreNasNeeds o (plain_text_row read)
   plain_text_needs (Err fault) = tt
   plain_text_needs (Ok (SecurityModeCommand ksi algs caps)) = tt
@@ -59,19 +62,23 @@ module _ (ncc : ℕ → ℕ) (o : Option (CoreContext Term)) where
   plain_text_needs (Ok ServiceRequest) = tt
   plain_text_needs (Ok (NasData text)) = tt
 
+  -- nor does a plain message
   plain_needs : (procedure : Option (Keys (Unit {0}))) (context : Option (CoreContext (Unit {0}))) (pdu : List ℕ) → CoreNasNeeds o (plain_row procedure context pdu)
   plain_needs None context pdu = tt
   plain_needs (Some keys) (Some context) pdu = tt
   plain_needs (Some keys) None pdu = plain_text_needs _
 
+  -- a Complete starts its own COUNTs
   opens_complete_needs : (count : Result ℕ NoneLeft) → FrontNeeds o (opens_complete count)
   opens_complete_needs (Err spent) = tt
   opens_complete_needs (Ok count) = tt
 
+  -- so does its front
   complete_needs : (procedure : Option (Keys (Unit {0}))) (pdu : List ℕ) → FrontNeeds o (complete_front procedure pdu)
   complete_needs None pdu = tt
   complete_needs (Some keys) pdu = opens_complete_needs _
 
+  -- and its row
   complete_row_needs : (count : ℕ) (read : Result NasRecord RecFault) → CoreNasNeeds o (complete_row count read)
   complete_row_needs count (Err fault) = tt
   complete_row_needs count (Ok (SecurityModeCommand ksi algs caps)) = tt
@@ -80,10 +87,12 @@ module _ (ncc : ℕ → ℕ) (o : Option (CoreContext Term)) where
   complete_row_needs count (Ok ServiceRequest) = tt
   complete_row_needs count (Ok (NasData text)) = tt
 
+  -- a protected Reject takes the COUNT of its front
   reject_needs : (procedure : Option (Keys (Unit {0}))) (count : ℕ) → IfSome o (λ c. c.nas.receive ≤ count) → CoreNasNeeds o (reject_row procedure count)
   reject_needs None count h = tt
   reject_needs (Some keys) count h = h
 
+  -- so does each row of a protected message
   protected_row_needs : (procedure : Option (Keys (Unit {0}))) (count : ℕ) (read : Result NasRecord RecFault) → IfSome o (λ c. c.nas.receive ≤ count) →
       CoreNasNeeds o (protected_row procedure count read)
   protected_row_needs procedure count (Err fault) h = tt
@@ -93,6 +102,7 @@ module _ (ncc : ℕ → ℕ) (o : Option (CoreContext Term)) where
   protected_row_needs procedure count (Ok ServiceRequest) h = h
   protected_row_needs procedure count (Ok (NasData text)) h = h
 
+  -- and each row of a NAS message
   pub core_nas_row_needs : (s : PlainCore) (front : CoreNasFront) (outcome : Outcome) → FrontNeeds o front → CoreNasNeeds o (core_nas_row s front outcome)
   core_nas_row_needs s (NasSettled row) outcome h = h
   core_nas_row_needs s (OpensComplete count) (Differs wanted got) h = tt
@@ -100,16 +110,19 @@ module _ (ncc : ℕ → ℕ) (o : Option (CoreContext Term)) where
   core_nas_row_needs s (OpensProtected header count) (Differs wanted got) h = tt
   core_nas_row_needs s (OpensProtected header count) (Opened text) h = protected_row_needs s.procedure count (read_nas text) h
 
+-- a protected message is opened at a COUNT that is not below
 opens_protected_needs : (c : CoreContext Term) (header : ℕ) (count : Result ℕ NoneLeft) → OfCount (λ n. c.nas.receive ≤ n) count →
     FrontNeeds (Some c) (opens_protected header count)
 opens_protected_needs c header (Err spent) h = tt
 opens_protected_needs c header (Ok count) h = h
 
+-- so is its front
 protected_needs : (o : Option (CoreContext Term)) (header : ℕ) (pdu : List ℕ) → FrontNeeds o (protected_front (option_map (map_core_context unseen) o) header pdu)
 protected_needs None header pdu = tt
 protected_needs (Some c) header pdu = opens_protected_needs c header _ (estimate_above c.nas.receive (sn_in pdu))
 
 module _ (r : Reading Term ℕ) (s : Core Term ℕ) where
+  -- the front of a NAS message
   nas_front_needs : (pdu : List ℕ) (header : Result ℕ Answer) → FrontNeeds s.context (core_nas_front (plain_core r s) pdu header)
   nas_front_needs pdu (Err answer) = tt
   nas_front_needs pdu (Ok header) =
@@ -125,6 +138,7 @@ module _ (r : Reading Term ℕ) (s : Core Term ℕ) where
 
   -- ACTS
 
+  -- a Security Mode Command takes the next COUNT of the partial context
   smc_needs : (p : CorePartial Term) (chosen : Result Algs NoneChosen) → s.partial ≡ Some p → CoreActNeeds s (smc_row (map_core_partial unseen p) chosen)
   smc_needs p (Err none) e = tt
   smc_needs p (Ok algs) e =
@@ -134,12 +148,14 @@ module _ (r : Reading Term ℕ) (s : Core Term ℕ) where
       by_partial None g = tt
       by_partial (Some q) g = cc
 
+  -- so does its act
   start_needs : (priority : List Eea) (o : Option (CorePartial Term)) (procedure : Option (Keys (Unit {0}))) → s.partial ≡ o →
       CoreActNeeds s (start_smc_row priority (option_map (map_core_partial unseen) o) procedure)
   start_needs priority None procedure e = tt
   start_needs priority (Some p) (Some keys) e = tt
   start_needs priority (Some p) None e = smc_needs p _ e
 
+  -- a connection is for the trigger
   connect_needs : (next : ℕ) (cell : Place) (target : Option ℕ) (context : Option (CoreContext (Unit {0}))) (trigger : Option ℕ) → s.trigger ≡ trigger →
       CoreActNeeds s (connect_row next cell target context trigger)
   connect_needs next cell None context trigger e = tt
@@ -147,10 +163,12 @@ module _ (r : Reading Term ℕ) (s : Core Term ℕ) where
   connect_needs next cell (Some target) (Some context) None e = tt
   connect_needs next cell (Some target) (Some context) (Some count) e = by_test (CoreActNeeds s) (nat_le NUMBERS next) _ _ (λ f. tt) (λ f. e)
 
+  -- a release needs nothing
   release_needs : (o : Option (CoreLink (Unit {0}) ℕ)) → CoreActNeeds s (release_row o)
   release_needs None = tt
   release_needs (Some link) = tt
 
+  -- a NAS text takes the next COUNT of the context
   send_needs : (o : Option (CoreContext Term)) (text : List ℕ) → s.context ≡ o → CoreActNeeds s (send_nas_row (option_map (map_core_context unseen) o) text)
   send_needs None text e = tt
   send_needs (Some c) text e =
@@ -160,6 +178,7 @@ module _ (r : Reading Term ℕ) (s : Core Term ℕ) where
       by_context None g = tt
       by_context (Some d) g = cc
 
+  -- leaving COUNTs out needs nothing
   skip_needs : (o : Option (CoreContext (Unit {0}))) (n : ℕ) → CoreActNeeds s (skip_nas_row o n)
   skip_needs None n = tt
   skip_needs (Some c) n = tt

@@ -49,6 +49,7 @@ abbrev IsValueOf : Option (KeyUse Term) → KeyUse (List ℕ) → Type 0
 IsValueOf None v = ⊥
 IsValueOf (Some u) v = map_use value_of u ≡ v
 
+-- at each place of the octets stands the value of the use there
 value_at : (us : List (KeyUse Term)) (i : ℕ) (v : KeyUse (List ℕ)) → slice_get (map (map_use value_of) us) i ≡ Some v → IsValueOf (slice_get us i) v
 value_at [] i v e = absurd (none_some e)
 value_at (u ∷ us) zero v e = by_some e
@@ -72,6 +73,7 @@ no_value_twice us h apart i j x e f = by_uses (slice_get us i) (slice_get us j) 
 
 -- AUTHENTICATIONS
 
+-- the authentications in a history
 abbrev roots_in : List (RowOrigin Term) → ℕ
 roots_in rows = length (filter is_root_row rows)
 
@@ -80,6 +82,7 @@ derived_are_none : (ds : List (Derivation Term)) → roots_in (map Of ds) ≡ 0
 derived_are_none [] = refl
 derived_are_none (d ∷ ds) = derived_are_none ds
 
+-- one more item counts in both or in neither
 counted_if : (b : Bool) (x : RowOrigin Term) (xs ys : List (RowOrigin Term)) (n : ℕ) → length xs ≡ length ys + n → length (cond b (x ∷ xs) xs) ≡ length (cond b (x ∷ ys) ys) + n
 counted_if true x xs ys n e = omega arith
 counted_if false x xs ys n e = e
@@ -89,8 +92,10 @@ roots_append : (xs ys : List (RowOrigin Term)) → roots_in (xs ++ ys) ≡ roots
 roots_append [] ys = omega arith
 roots_append (x ∷ xs) ys = counted_if (is_root_row x) x (filter is_root_row (xs ++ ys)) (filter is_root_row xs) (roots_in ys) (roots_append xs ys)
 
+-- a step that derives authenticates nobody
 pub roots_kept : (xs : List (RowOrigin Term)) (ds : List (Derivation Term)) → roots_in (xs ++ map Of ds) ≡ roots_in xs
 roots_kept xs ds = let a = roots_append xs (map Of ds) in let b = derived_are_none ds in omega arith
 
+-- an authentication counts one more
 pub one_root_more : (xs : List (RowOrigin Term)) (root : Term) → roots_in (xs ++ OfRoot root ∷ []) ≡ roots_in xs + 1
 one_root_more xs root = roots_append xs (OfRoot root ∷ [])

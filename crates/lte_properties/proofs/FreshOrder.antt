@@ -16,12 +16,15 @@ use Rattle.lte_properties.proofs.ChainChoice.{by_some}
 
 -- ORDER
 
+-- no key comes before itself
 pub not_before_itself : (t : Term) → IsBefore t t → ⊥
 not_before_itself t h = let k = ((h.1 refl).1 refl).1 refl in absurd (omega arith)
 
+-- what comes before does not come after
 pub before_is_not_after : (t u : Term) → IsBefore t u → IsNotAfter t u
 before_is_not_after t u h = (h.0, λ e. ((h.1 e).0, λ f. (((h.1 e).1 f).0, λ g. let k = ((h.1 e).1 f).1 g in omega arith)))
 
+-- no key comes after itself
 pub not_after_itself : (t : Term) → IsNotAfter t t
 not_after_itself t = (omega arith, λ e. (omega arith, λ f. (omega arith, λ g. omega arith)))
 
@@ -97,22 +100,27 @@ module _ (same : Term → Term → Bool) where
 abbrev pub homed : Homes → Term → Home → Homes
 homed f u h t = if same_term t u then Some h else f t
 
+-- the key has the home
 pub homed_here : (f : Homes) (u : Term) (h : Home) → homed f u h u ≡ Some h
 homed_here f u h = ap (λ b. if b then Some h else f u) ((same_term-Decides u u).1 refl)
 
+-- by the end of the test
 homed_by : (b : Bool) (f : Homes) (t u : Term) (h k : Home) → same_term t u ≡ b → (if b then Some h else f t) ≡ Some k →
     (f t ≡ Some k) ⊎ ((t ≡ u) × (h ≡ k))
 homed_by true f t u h k e g = inr ((same_term-Decides t u).0 e, by_some g)
 homed_by false f t u h k e g = inl g
 
+-- each home is an older one or this
 pub homed_is : (f : Homes) (u : Term) (h : Home) (t : Term) (k : Home) → homed f u h t ≡ Some k → (f t ≡ Some k) ⊎ ((t ≡ u) × (h ≡ k))
 homed_is f u h t k g = homed_by (same_term t u) f t u h k refl g
 
+-- by the end of the test
 grown_by : (b : Bool) (f : Homes) (t u : Term) (h k : Home) → same_term t u ≡ b → ((k : Home) → f u ≡ Some k → ⊥) → f t ≡ Some k →
     (if b then Some h else f t) ≡ Some k
 grown_by true f t u h k e none g = absurd (none k (ap f (sym ((same_term-Decides t u).0 e)) ∙ g))
 grown_by false f t u h k e none g = g
 
+-- where the key had none, homes only grow
 pub homed_grows : (f : Homes) (u : Term) (h : Home) → ((k : Home) → f u ≡ Some k → ⊥) → Grows f (homed f u h)
 homed_grows f u h none t k g = grown_by (same_term t u) f t u h k refl none g
 

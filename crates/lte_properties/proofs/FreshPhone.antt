@@ -75,6 +75,7 @@ module _ (roots : ℕ) (taken : Homes) where
     rises = tt;
   }
 
+  -- a record goes as it is
   plain_sent : (octets : List ℕ) (s : Phone Term ℕ) → PhoneStands roots taken s → PhoneKeeps roots taken s s (Some (PlainNas octets)) None
   plain_sent octets s h = record {
     new = taken;
@@ -91,10 +92,12 @@ module _ (roots : ℕ) (taken : Homes) where
 
   -- NAS
 
+  -- a key that is past stays so as the COUNT rises
   later_mark : (partial : Option ℕ) (root m n : ℕ) (t : Term) → m ≤ n → IsPast roots partial (Some (record { root = root; count = m })) t →
       IsPast roots partial (Some (record { root = root; count = n })) t
   later_mark partial root m n t le h = (h.0, h.1, (h.2.0, λ e. let k = h.2.1 e in omega arith))
 
+  -- and so the radio
   later_radio : (partial : Option ℕ) (root m n : ℕ) (radio : Radio Term ℕ) → m ≤ n →
       RadioStands roots partial (Some (record { root = root; count = m })) taken radio → RadioStands roots partial (Some (record { root = root; count = n })) taken radio
   later_radio partial root m n Idle le h = tt
@@ -116,6 +119,7 @@ module _ (roots : ℕ) (taken : Homes) where
       later_radio (partial_root s.partial) (authentication_of c.root) c.send n s.radio le h.3,
     )
 
+    -- uses stay below the next COUNT
     counts_nas : (n : ℕ) → c.send ≤ n → (k : Term) (count : ℕ) → NasUp roots s.partial (Some c) k count → NasUp roots s.partial (Some (record c { send = n })) k count
     counts_nas n le k count u = (u.0, u.1, λ e. let x = u.2 e in omega arith)
 
@@ -136,10 +140,12 @@ module _ (roots : ℕ) (taken : Homes) where
         × NewUp roots taken taken (record s { context = Some c }) (record s { context = Some (one_nas_sent c); radio = radio }) (nas_use Up keys.int c.send)
         × (nas_use Up keys.int c.send ≡ nas_use Up keys.enc c.send → ⊥)
 
+    -- both are new, under the keys of the context
     both_nas : (radio : Radio Term ℕ) → PhoneStands roots taken (record s { context = Some c }) → BothNas radio c.keys
     both_nas radio h = subst (BothNas radio) (sym h.1)
         (new_nas radio 1 (identity_of c.keys.algs.eea) _ (omega arith) h, new_nas radio 2 eia2_identity _ (omega arith) h, types_apart _ _ 1 2 refl refl (λ e. absurd (omega arith)))
 
+    -- a NAS text takes the next COUNT
     sealed : (header : ℕ) (text : List ℕ) → PhoneStands roots taken (record s { context = Some c }) →
         PhoneKeeps roots taken (record s { context = Some c }) (record s { context = Some (one_nas_sent c) })
         (Some (SealedNas Up header (nas_use Up c.keys.int c.send) (Some (nas_ciphering_up c.keys c.send)) text)) None
@@ -156,6 +162,7 @@ module _ (roots : ℕ) (taken : Homes) where
       rises = tt;
     }
 
+    -- COUNTs are left out
     left_out : (n : ℕ) → c.send ≤ n → PhoneStands roots taken (record s { context = Some c }) →
         PhoneKeeps roots taken (record s { context = Some c }) (record s { context = Some (record c { send = n }) }) None None
     left_out n le h = record {
@@ -203,12 +210,14 @@ module _ (roots : ℕ) (taken : Homes) where
         IsPast roots None (Some (record { root = authentication_of p.root; count = 1 })) t
     past_all mark t h = (h.0, tt, (let x = h.1 in omega arith, λ e. let x = h.1 in absurd (omega arith)))
 
+    -- a connection stands beside a new context
     taken_radio : (mark : Option Mark) (radio : Radio Term ℕ) → RadioStands roots (Some (authentication_of p.root)) mark taken radio →
         RadioStands roots None (Some (record { root = authentication_of p.root; count = 1 })) taken radio
     taken_radio mark Idle h = tt
     taken_radio mark (Connecting w) h = (past_all mark w.kenb h.0, h.1)
     taken_radio mark (Connected l) h = h
 
+    -- its first COUNT under a NAS key is new
     new_first : (radio : Radio Term ℕ) (type id bearer : ℕ) → IsNas type → PhoneStands roots taken (record s { partial = Some p }) →
         NewUp roots taken taken (record s { partial = Some p })
         (record s { partial = None; context = Some (context_of (term_reading_by same) algs count p.root); radio = radio })
@@ -237,6 +246,7 @@ module _ (roots : ℕ) (taken : Homes) where
       rises = tt;
     }
 
+    -- the phone waits with the first KeNB of the new context
     waits : PhoneStands roots taken (record s { partial = Some p }) →
         RadioStands roots None (Some (record { root = authentication_of p.root; count = 1 })) taken (Connecting (record { root = p.root; kenb = Kenb p.root 0 }))
     waits h =
@@ -244,11 +254,13 @@ module _ (roots : ℕ) (taken : Homes) where
 
   -- rows of NAS
 
+  -- a Security Mode Reject under the context
   rejected_keeps : (answer : Answer) (cause : ℕ) (s : Phone Term ℕ) (o : Option (NasContext Term)) → PhoneStands roots taken (record s { context = o }) →
       let d = rejected_under answer cause (record s { context = o }) o in PhoneKeeps roots taken (record s { context = o }) d.0 d.1.sent d.1.took
   rejected_keeps answer cause s None h = still (record s { context = None }) h
   rejected_keeps answer cause s (Some c) h = sealed s c 2 _ h
 
+  -- a NAS text that was taken
   opened_keeps : (count : ℕ) (text : List ℕ) (s : Phone Term ℕ) (o : Option (NasContext Term)) → PhoneStands roots taken (record s { context = o }) →
       let d = nas_opened count text (record s { context = o }) o in PhoneKeeps roots taken (record s { context = o }) d.0 d.1.sent d.1.took
   opened_keeps count text s None h = still (record s { context = None }) h
@@ -265,18 +277,21 @@ module _ (roots : ℕ) (taken : Homes) where
     rises = tt;
   }
 
+  -- a Security Mode Command with no connection
   taken_keeps : (same : Term → Term → Bool) (algs : Algs) (count : ℕ) (s : Phone Term ℕ) (o : Option (Partial Term)) → PhoneStands roots taken (record s { partial = o }) →
       let d = context_taken (term_reading_by same) algs count (record s { partial = o }) o in PhoneKeeps roots taken (record s { partial = o }) d.0 d.1.sent d.1.took
   taken_keeps same algs count s None h = still (record s { partial = None }) h
   taken_keeps same algs count s (Some p) h =
       first_sent same algs count s p (Connecting (record { root = p.root; kenb = Kenb p.root 0 })) 4 _ h (waits same algs count s p h) (λ k type count bearer u. (u.0, u.1, tt))
 
+  -- and one on a connection
   taken_connected_keeps : (same : Term → Term → Bool) (algs : Algs) (count : ℕ) (s : Phone Term ℕ) (o : Option (Partial Term)) → PhoneStands roots taken (record s { partial = o }) →
       let d = context_taken_connected (term_reading_by same) algs count (record s { partial = o }) o in PhoneKeeps roots taken (record s { partial = o }) d.0 d.1.sent d.1.took
   taken_connected_keeps same algs count s None h = still (record s { partial = None }) h
   taken_connected_keeps same algs count s (Some p) h =
       first_sent same algs count s p s.radio 4 _ h (taken_radio same algs count s p (phone_mark s.context) s.radio h.3) (λ k type count bearer u. u)
 
+  -- a row of a NAS message
   pub nas_keeps : (same : Term → Term → Bool) (row : NasRow) (s : Phone Term ℕ) → PhoneStands roots taken s →
       let d = nas_does (term_reading_by same) row s in PhoneKeeps roots taken s d.0 d.1.sent d.1.took
   nas_keeps same (NasRefused answer) s h = still s h
@@ -301,6 +316,7 @@ module _ (roots : ℕ) (taken : Homes) where
           λ old. srb_is_next srb l.bearers (subst (λ on. (srb_counts srb l.bearers).send < send_on on (bearer5_of (of_srb srb)) l.bearers) f ((old.1 ge).2 refl)),
         )
 
+    -- and of the next COUNT of a DRB
     new_drb : (drb : Drb) → b ≡ drb_sent drb l.bearers → (id : ℕ) → PhoneStands roots taken (record s { radio = Connected l }) →
         NewUp roots taken taken (record s { radio = Connected l }) (record s { radio = with_bearers l b })
         (record { key = Alg l.kenb 5 id; count = (drb_counts drb l.bearers).send; bearer = bearer5_of (of_drb drb); dir = Up })
@@ -337,6 +353,7 @@ module _ (roots : ℕ) (taken : Homes) where
         × AllApart (uses_of {C = ℕ} (rrc_sealed keys l.station l.air srb (srb_counts srb l.bearers).send x))
         × OnKey (λ t type. taken t ≡ Some (home_at l.station l.air)) keys.rrc_int
 
+    -- its uses are new
     rrc_keeps : (srb : Srb) (x : RrcRecord) → b ≡ srb_sent srb l.bearers → PhoneStands roots taken (record s { radio = Connected l }) →
         PhoneKeeps roots taken (record s { radio = Connected l }) (record s { radio = with_bearers l b })
         (Some (rrc_sealed l.keys l.station l.air srb (srb_counts srb l.bearers).send x)) None
@@ -363,6 +380,7 @@ module _ (roots : ℕ) (taken : Homes) where
   not_taken kenb before k e = not_before_itself kenb (before kenb k e)
 
   module _ (s : Phone Term ℕ) (radio : Radio Term ℕ) (kenb : Term) (l : Link Term ℕ) where
+    -- what holds of the new key and of the old ones holds of all
     taken_all : (P : Term → Type 0) (h : Home) → P kenb → ((t : Term) (k : Home) → taken t ≡ Some k → P t) →
         (t : Term) (k : Home) → homed taken kenb h t ≡ Some k → P t
     taken_all P h new old t k e = by_side (homed_is taken kenb h t k e) where
@@ -464,6 +482,7 @@ module _ (roots : ℕ) (taken : Homes) where
         (both_apart _ _ (types_apart _ _ 3 4 refl refl (λ g. absurd (omega arith))))
         (λ given. homed_here taken star (home_at station air)) (homed_here taken star (home_at station air)) before
 
+    -- a handover command
     handed_keeps : (cell : Place) (steps : ℕ) (o : Radio Term ℕ) → PhoneStands roots taken (record s { radio = o }) →
         let d = handed_over (term_reading_by same) cell steps algs station air (record s { radio = o }) o in PhoneKeeps roots taken (record s { radio = o }) d.0 d.1.sent d.1.took
     handed_keeps cell steps Idle h = still (record s { radio = Idle }) h
@@ -471,57 +490,67 @@ module _ (roots : ℕ) (taken : Homes) where
     handed_keeps cell steps (Connected l) h = arrived_keeps l steps cell h
 
   module _ (s : Phone Term ℕ) where
+    -- an RRC text that was taken
     rrc_opened_keeps : (srb : Srb) (count : ℕ) (text : List ℕ) (o : Radio Term ℕ) → PhoneStands roots taken (record s { radio = o }) →
         let d = rrc_opened srb count text (record s { radio = o }) o in PhoneKeeps roots taken (record s { radio = o }) d.0 d.1.sent d.1.took
     rrc_opened_keeps srb count text Idle h = still (record s { radio = Idle }) h
     rrc_opened_keeps srb count text (Connecting w) h = still (record s { radio = Connecting w }) h
     rrc_opened_keeps srb count text (Connected l) h = bearers_keep s l _ None (srb_taken_rises srb count l.bearers) h tt tt (λ given. tt)
 
+    -- a user packet that was taken
     packet_opened_keeps : (drb : Drb) (count : ℕ) (text : List ℕ) (o : Radio Term ℕ) → PhoneStands roots taken (record s { radio = o }) →
         let d = packet_opened drb count text (record s { radio = o }) o in PhoneKeeps roots taken (record s { radio = o }) d.0 d.1.sent d.1.took
     packet_opened_keeps drb count text Idle h = still (record s { radio = Idle }) h
     packet_opened_keeps drb count text (Connecting w) h = still (record s { radio = Connecting w }) h
     packet_opened_keeps drb count text (Connected l) h = bearers_keep s l _ None (drb_taken_rises drb count l.bearers) h tt tt (λ given. tt)
 
+    -- the completion sent again
     resent_keeps : (o : Radio Term ℕ) → PhoneStands roots taken (record s { radio = o }) →
         let d = complete_resent (record s { radio = o }) o in PhoneKeeps roots taken (record s { radio = o }) d.0 d.1.sent d.1.took
     resent_keeps Idle h = still (record s { radio = Idle }) h
     resent_keeps (Connecting w) h = still (record s { radio = Connecting w }) h
     resent_keeps (Connected l) h = rrc_keeps s l _ Signalling1 _ refl h
 
+    -- a user packet is sent
     packet_sent_keeps : (drb : Drb) (text : List ℕ) (o : Radio Term ℕ) → PhoneStands roots taken (record s { radio = o }) →
         let d = packet_sent drb text (record s { radio = o }) o in PhoneKeeps roots taken (record s { radio = o }) d.0 d.1.sent d.1.took
     packet_sent_keeps drb text Idle h = still (record s { radio = Idle }) h
     packet_sent_keeps drb text (Connecting w) h = still (record s { radio = Connecting w }) h
     packet_sent_keeps drb text (Connected l) h = packet_keeps s l _ drb text refl h
 
+    -- an RRC text is sent
     rrc_sent_keeps : (srb : Srb) (text : List ℕ) (o : Radio Term ℕ) → PhoneStands roots taken (record s { radio = o }) →
         let d = rrc_sent srb text (record s { radio = o }) o in PhoneKeeps roots taken (record s { radio = o }) d.0 d.1.sent d.1.took
     rrc_sent_keeps srb text Idle h = still (record s { radio = Idle }) h
     rrc_sent_keeps srb text (Connecting w) h = still (record s { radio = Connecting w }) h
     rrc_sent_keeps srb text (Connected l) h = rrc_keeps s l _ srb _ refl h
 
+    -- COUNTs of a bearer are left out
     left_out_on_keeps : (on : Which) (n : ℕ) (o : Radio Term ℕ) → PhoneStands roots taken (record s { radio = o }) →
         let d = bearer_left_out on n (record s { radio = o }) o in PhoneKeeps roots taken (record s { radio = o }) d.0 d.1.sent d.1.took
     left_out_on_keeps on n Idle h = still (record s { radio = Idle }) h
     left_out_on_keeps on n (Connecting w) h = still (record s { radio = Connecting w }) h
     left_out_on_keeps on n (Connected l) h = bearers_keep s l _ None (left_out_rises on n l.bearers) h tt tt (λ given. tt)
 
+    -- a SERVICE REQUEST
     requested_keeps : (same : Term → Term → Bool) (o : Option (NasContext Term)) → PhoneStands roots taken (record s { context = o }) →
         let d = service_requested (term_reading_by same) (record s { context = o }) o in PhoneKeeps roots taken (record s { context = o }) d.0 d.1.sent d.1.took
     requested_keeps same None h = still (record s { context = None }) h
     requested_keeps same (Some c) h = requested s c _ h
 
+    -- a NAS text is sent
     nas_sent_keeps : (text : List ℕ) (o : Option (NasContext Term)) → PhoneStands roots taken (record s { context = o }) →
         let d = nas_sent text (record s { context = o }) o in PhoneKeeps roots taken (record s { context = o }) d.0 d.1.sent d.1.took
     nas_sent_keeps text None h = still (record s { context = None }) h
     nas_sent_keeps text (Some c) h = sealed s c 2 _ h
 
+    -- uplink NAS COUNTs are left out
     nas_left_out_keeps : (n : ℕ) (o : Option (NasContext Term)) → PhoneStands roots taken (record s { context = o }) →
         let d = nas_left_out n (record s { context = o }) o in PhoneKeeps roots taken (record s { context = o }) d.0 d.1.sent d.1.took
     nas_left_out_keeps n None h = still (record s { context = None }) h
     nas_left_out_keeps n (Some c) h = left_out s c (skipped n c.send NAS_LIMIT) (omega arith) h
 
+    -- the phone goes idle
     idle_keeps : PhoneStands roots taken s → PhoneKeeps roots taken s (record s { radio = Idle }) None None
     idle_keeps h = record {
       new = taken;
@@ -536,6 +565,7 @@ module _ (roots : ℕ) (taken : Homes) where
       rises = tt;
     }
 
+  -- a row of a PDU
   pub air_keeps : (same : Term → Term → Bool) (row : AirRow) (s : Phone Term ℕ) → PhoneStands roots taken s →
       let d = air_does (term_reading_by same) row s in PhoneKeeps roots taken s d.0 d.1.sent d.1.took
   air_keeps same (AirRefused answer) s h = still s h
@@ -544,6 +574,7 @@ module _ (roots : ℕ) (taken : Homes) where
   air_keeps same (RrcOpened srb count text) s h = rrc_opened_keeps s srb count text s.radio h
   air_keeps same (PacketOpened drb count text) s h = packet_opened_keeps s drb count text s.radio h
 
+  -- a row of an act
   pub act_keeps : (same : Term → Term → Bool) (row : ActRow) (s : Phone Term ℕ) → PhoneStands roots taken s →
       let d = act_does (term_reading_by same) row s in PhoneKeeps roots taken s d.0 d.1.sent d.1.took
   act_keeps same (ActRefused answer) s h = still s h

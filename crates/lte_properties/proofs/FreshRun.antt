@@ -57,6 +57,7 @@ not_new : (roots : ℕ) (t root : Term) → authentication_of t < roots → auth
 not_new roots t root lt e f = let k = ap authentication_of f in absurd (omega arith)
 
 module _ (roots : ℕ) (root : Term) (new : authentication_of root ≡ roots) where
+  -- what is past is past after one more authentication
   past_more : (partial : Option ℕ) (mark : Option Mark) (t : Term) → IsPast roots partial mark t → IsPast (roots + 1) (Some (authentication_of root)) mark t
   past_more partial mark t h = let x = h.0 in (omega arith, omega arith, h.2)
 
@@ -66,12 +67,14 @@ module _ (roots : ℕ) (root : Term) (new : authentication_of root ≡ roots) wh
   context_older partial None h = tt
   context_older partial (Some c) h = let x = h.0 in (omega arith, omega arith)
 
+  -- the radio stands
   radio_more : (taken : Homes) (partial : Option ℕ) (mark : Option Mark) (radio : Radio Term ℕ) → RadioStands roots partial mark taken radio →
       RadioStands (roots + 1) (Some (authentication_of root)) mark taken radio
   radio_more taken partial mark Idle h = tt
   radio_more taken partial mark (Connecting k) h = (past_more partial mark k.kenb h.0, h.1)
   radio_more taken partial mark (Connected l) h = h
 
+  -- the phone stands, with its new partial context
   pub phone_more : (taken : Homes) (ksi : ℕ) (s : Phone Term ℕ) → PhoneStands roots taken s → PhoneStands (roots + 1) taken (record s { partial = Some (record { ksi = ksi; root = root }) })
   phone_more taken ksi s h = (
     (omega arith, context_older (partial_root s.partial) (context_root s.context) h.0.1),
@@ -80,6 +83,7 @@ module _ (roots : ℕ) (root : Term) (new : authentication_of root ≡ roots) wh
     radio_more taken (partial_root s.partial) (phone_mark s.context) s.radio h.3,
   )
 
+  -- and the core
   core_more : (given : Homes) (ksi : ℕ) (caps : Caps) (s : Core Term ℕ) → CoreStands roots given s →
       CoreStands (roots + 1) given (record s { latest = caps; partial = Some (record { ksi = ksi; root = root; caps = caps; send = 0 }); procedure = None })
   core_more given ksi caps s h = (
@@ -90,12 +94,14 @@ module _ (roots : ℕ) (root : Term) (new : authentication_of root ≡ roots) wh
     λ t k e. past_more (core_partial_root s.partial) (core_mark s.trigger s.context) t (h.4 t k e),
   )
 
+  -- uplink uses stand
   up_more : (taken : Homes) (ksi : ℕ) (s : Phone Term ℕ) (u : KeyUse Term) → UpUse roots taken s u → UpUse (roots + 1) taken (record s { partial = Some (record { ksi = ksi; root = root }) }) u
   up_more taken ksi s u h =
       on_key (λ t type. (IsNas type → NasUp roots s.partial s.context t u.count) × (IsAs type → AsUp taken s.radio t type u.count u.bearer))
       (λ t type. (IsNas type → NasUp (roots + 1) (Some (record { ksi = ksi; root = root })) s.context t u.count) × (IsAs type → AsUp taken s.radio t type u.count u.bearer))
       (λ t type x. (λ n. let y = x.0 n in (let z = y.0 in omega arith, not_new roots t root y.0 new, y.2), x.1)) u.key h
 
+  -- and the core's
   nas_more : (ksi : ℕ) (caps : Caps) (s : Core Term ℕ) (u : KeyUse Term) → CoreUse roots s u →
       CoreUse (roots + 1) (record s { latest = caps; partial = Some (record { ksi = ksi; root = root; caps = caps; send = 0 }); procedure = None }) u
   nas_more ksi caps s u h =
@@ -111,17 +117,20 @@ starting_up count None outcome u e = absurd (none_some e)
 starting_up count (Some c) (Opened text) u e = sym (ap (λ (v : KeyUse Term). v.dir) (by_some e))
 starting_up count (Some c) (Differs wanted got) u e = absurd (none_some e)
 
+-- by whether there is a context
 signalling_up : (front : Option (Context Term ℕ) → Opening Term) → (outcome : Outcome) (u : KeyUse Term) → (o : Option (Context Term ℕ)) →
     ((c : Context Term ℕ) → srb_accepted (front (Some c)) outcome ≡ Some u → u.dir ≡ Up) → (srb_accepted (front None) outcome ≡ Some u → u.dir ≡ Up) →
     srb_accepted (front o) outcome ≡ Some u → u.dir ≡ Up
 signalling_up front outcome u None f g e = g e
 signalling_up front outcome u (Some c) f g e = f c e
 
+-- so does a preparation
 prepared_up : (count : ℕ) (o : Option (Prep Term ℕ)) (outcome : Outcome) (u : KeyUse Term) → srb_accepted (prepared_expects count o) outcome ≡ Some u → u.dir ≡ Up
 prepared_up count None outcome u e = absurd (none_some e)
 prepared_up count (Some p) (Opened text) u e = sym (ap (λ (v : KeyUse Term). v.dir) (by_some e))
 prepared_up count (Some p) (Differs wanted got) u e = absurd (none_some e)
 
+-- all that a station accepts is uplink
 accepts_up : (s : Station Term ℕ) (front : AirFront) (outcome : Outcome) (u : KeyUse Term) → srb_accepted (air_expects front s) outcome ≡ Some u → u.dir ≡ Up
 accepts_up s (AirSettled row) outcome u e = absurd (none_some e)
 accepts_up s (OnStarting count) outcome u e = starting_up count s.context outcome u e
@@ -138,6 +147,7 @@ abbrev air_station : Address → ℕ
 air_station (at.StationAir station air bearer) = station
 air_station other = 0
 
+-- and the air address
 abbrev air_number : Address → ℕ
 air_number (at.StationAir station air bearer) = air
 air_number other = 0
@@ -160,6 +170,7 @@ sealed_there taken given station air bearer u (Between to fields key) f g h = ab
 abbrev Came : Homes → Homes → Address → Option (Outgoing Term ℕ) → Type 0
 Came taken given to came = OfSome (λ x. (address_of x ≡ to) × RecordStands taken given x) came
 
+-- what came so is under a KeNB that the phone took there
 came_there : (taken given : Homes) (station air : ℕ) (bearer : Bearer) (u : KeyUse Term) (came : Option (Outgoing Term ℕ)) → Came taken given (at.StationAir station air bearer) came →
     sender_of came ≡ Some u → OnKey (λ t type. taken t ≡ Some (home_at station air)) u.key
 came_there taken given station air bearer u None h e = absurd (none_some e)
@@ -177,6 +188,7 @@ IsTurn (PhoneActs act) = ⊤
 IsTurn (PhoneNasPdu pdu) = ⊤
 IsTurn (PhoneAirPdu station air bearer pdu) = ⊤
 
+-- and of the core
 abbrev IsCoreTurn : CoreInput Term ℕ → Type 0
 IsCoreTurn (CoreAuth ksi root caps) = ⊥
 IsCoreTurn (CoreActs act) = ⊤
@@ -193,13 +205,16 @@ turn_keeps same roots taken s (PhoneAirPdu station air bearer pdu) outcome t h =
 
 module _ (same : Term → Term → Bool) (octets : Outgoing Term ℕ → List ℕ) (sender : Option (Outgoing Term ℕ) → Option (KeyUse Term))
     (opener : Opening Term → List ℕ → Option (Outgoing Term ℕ) → Outcome) where
+  -- the machine
   abbrev pub m : Machine Term ℕ (Outgoing Term ℕ)
   m = machine_by same Root octets sender opener
 
+  -- its reading
   abbrev r : Reading Term ℕ
   r = term_reading_by same
 
   module _ (w : World Term ℕ (Outgoing Term ℕ)) where
+    -- a step of the phone needs no premise
     phone_turn_fresh : (input : PhoneInput Term) (came : Option (Outgoing Term ℕ)) → IsTurn input → Fresh w → Fresh (phone_turn m w input came).0
     phone_turn_fresh input came t h =
         let outcome = opener (phone_opens r w.phone input) (phone_pdu_in input) came in
@@ -239,13 +254,16 @@ module _ (same : Term → Term → Bool) (octets : Outgoing Term ℕ → List �
 
     -- a station that is named, with all that holds of it
     module _ (h : Fresh w) (id : ℕ) where
+      -- what holds of one station
       abbrev Stands : Station Term ℕ → Type 0
       Stands s = StationStands h.taken h.given s × AllOf (λ u. u.dir ≡ Down → StationUse h.taken h.given s u) w.uses
 
+      -- it holds of the one that is named
       found : OfSome (λ s. Stands s × ((s.id == id) ≡ true)) (station_of_id id w.stations)
       found = all_find Stands (λ s. s.id == id) w.stations
           (all_both (StationStands h.taken h.given) (λ s. AllOf (λ u. u.dir ≡ Down → StationUse h.taken h.given s u) w.uses) Stands (λ s x y. (x, y)) w.stations h.stations h.down)
 
+      -- an act of a station
       act_turn : (act : StationAct) (came : Option (Outgoing Term ℕ)) (o : Option (Station Term ℕ)) → OfSome (λ s. Stands s × ((s.id == id) ≡ true)) o → Fresh (turn_of m w id (StationActs act) came o).0
       act_turn act came None k = by_world_fresh NoUe h
       act_turn act came (Some s) k =
@@ -253,6 +271,7 @@ module _ (same : Term → Term → Bool) (octets : Outgoing Term ℕ → List �
           station_fresh m w (λ o. refl) h id s (station_step r s (StationActs act) outcome) (same_of s.id id k.1) k.0.1
           (station.act_keeps h.taken h.given same _ s (act_row_draws (plain_station r s) act) (act_row_counts r s act) k.0.0)
 
+      -- a record that comes to a station
       record_turn : (to : Address) (interface : Interface) → GoesHere to id → (read : Result (Content Term ℕ) RecFault) → ReadStands h.given to read → (came : Option (Outgoing Term ℕ)) →
           (o : Option (Station Term ℕ)) → OfSome (λ s. Stands s × ((s.id == id) ≡ true)) o → Fresh (turn_of m w id (StationRecord interface read) came o).0
       record_turn to interface here read b came None k = by_world_fresh NoUe h
@@ -266,6 +285,7 @@ module _ (same : Term → Term → Bool) (octets : Outgoing Term ℕ → List �
           (station.record_keeps h.taken h.given same _ content.key s
           (record_needs h.given s to (subst (GoesHere to) (sym (same_of s.id id k.1)) here) r interface content.fields content.key b) k.0.0)
 
+      -- a PDU that comes to a station: here alone it matters that what is accepted was sealed so
       air_turn : (air : ℕ) (bearer : Bearer) (pdu : List ℕ) (came : Option (Outgoing Term ℕ)) → Came h.taken h.given (at.StationAir id air bearer) came →
           (o : Option (Station Term ℕ)) → OfSome (λ s. Stands s × ((s.id == id) ≡ true)) o → SealedAsAccepted m (attempts_at m (AirPdu air bearer pdu) came o) →
           Fresh (turn_of m w id (AirPdu air bearer pdu) came o).0
@@ -291,6 +311,7 @@ module _ (same : Term → Term → Bool) (octets : Outgoing Term ℕ → List �
     content_stands h to (Some (SealedRrc dir station air srb u e text)) k = tt
     content_stands h to (Some (UserPacket dir station air drb e text)) k = tt
 
+    -- what comes to an address
     arrives_fresh : (h : Fresh w) (to : Address) (pdu : List ℕ) (came : Option (Outgoing Term ℕ)) → Came h.taken h.given to came →
         SealedAsAccepted m (arrival_attempts m w to pdu came) → Fresh (arrives m w to pdu came).0
     arrives_fresh h at.PhoneNas pdu came c honest = phone_turn_fresh (PhoneNasPdu pdu) came tt h
@@ -308,18 +329,22 @@ module _ (same : Term → Term → Bool) (octets : Outgoing Term ℕ → List �
     newest_stands P true i sent h = all_get P sent i h
     newest_stands P false i sent h = tt
 
+    -- so is the one that is chosen
     chosen_stands : (P : Outgoing Term ℕ → Type 0) (i : ℤ) (sent : List (Outgoing Term ℕ)) → AllOf P sent → OfSome P (chosen i sent)
     chosen_stands P (pos i) sent h = all_get P sent i h
     chosen_stands P (negsuc i) sent h = newest_stands P (nat_lt i (length sent)) (length sent - 1 - i) sent h
 
+    -- a delivery
     delivered_fresh : (h : Fresh w) (o : Option (Outgoing Term ℕ)) → OfSome (RecordStands h.taken h.given) o → SealedAsAccepted m (delivery_attempts m w o) → Fresh (delivered m w o).0
     delivered_fresh h None k honest = by_world_fresh NoRecord h
     delivered_fresh h (Some x) k honest = arrives_fresh h (address_of x) (octets x) (Some x) (refl, k) honest
 
+    -- octets that are injected
     injected_fresh : (h : Fresh w) (to : Address) (pdu : List ℕ) (o : Option ℕ) → SealedAsAccepted m (injection_attempts m w to pdu o) → Fresh (injected m w to pdu o).0
     injected_fresh h to pdu None honest = arrives_fresh h to pdu None tt honest
     injected_fresh h to pdu (Some n) honest = by_world_fresh (Sent n) h
 
+    -- an authentication
     auth_fresh : (ksi : ℕ) (octets' : List ℕ) (caps : Caps) (o : Option ℕ) → Fresh w → Fresh (auth_unless m w ksi (Root (next_root w) octets') caps o).0
     auth_fresh ksi octets' caps (Some row) h = by_world_fresh (RepeatedRoot row) h
     auth_fresh ksi octets' caps None h =
@@ -344,6 +369,7 @@ module _ (same : Term → Term → Bool) (octets : Outgoing Term ℕ → List �
 
     -- EVENTS
 
+    -- an event
     pub happens_fresh : (e : Event) → SentUnder m w e → Fresh w → Fresh (happens m w e).0
     happens_fresh (Event.Auth ksi octets' caps) honest h = auth_fresh ksi octets' caps (known_root m w (Root (next_root w) octets')) h
     happens_fresh (Event.Phone act) honest h = phone_turn_fresh (PhoneActs act) None tt h
@@ -354,6 +380,7 @@ module _ (same : Term → Term → Bool) (octets : Outgoing Term ℕ → List �
 
   -- RUNS
 
+  -- a run
   pub run_fresh : (w : World Term ℕ (Outgoing Term ℕ)) (es : List Event) → AllSentUnder m w es → Fresh w → Fresh (run m w es)
   run_fresh w [] honest h = h
   run_fresh w (e ∷ es) honest h = run_fresh (happens m w e).0 es honest.1 (happens_fresh w e honest.0 h)

@@ -45,6 +45,7 @@ pub record Later (s t : Station Term ℕ) : Type 0 where
   pub last : s.last ≤ t.last
   pub free : (air : ℕ) → air < s.next → NoneWaits air s.preps → NoneWaits air t.preps
 
+-- by the kind of the place
 later_spent : (s t : Station Term ℕ) → Later s t → (b : Bool) (place : ℕ) → IsSpent b place s.next s.last s.preps → IsSpent b place t.next t.last t.preps
 later_spent s t l true place h = (let k = l.next in let x = h.0 in omega arith, l.free place h.0 h.1)
 later_spent s t l false place h = let k = l.last in omega arith
@@ -53,15 +54,18 @@ later_spent s t l false place h = let k = l.last in omega arith
 abbrev pub Stays : Context Term ℕ → Context Term ℕ → Type 0
 Stays c d = (d.key.kenb ≡ c.key.kenb) × (d.keys ≡ c.keys) × Rise c.bearers d.bearers
 
+-- by whether there is one
 abbrev pub ContextStays : Option (Context Term ℕ) → Option (Context Term ℕ) → Type 0
 ContextStays o None = ⊤
 ContextStays None (Some d) = ⊥
 ContextStays (Some c) (Some d) = Stays c d
 
+-- a context that does not change stays
 stays_same : (o : Option (Context Term ℕ)) → ContextStays o o
 stays_same None = tt
 stays_same (Some c) = (refl, refl, rise_same c.bearers)
 
+-- so does one that changes in other parts
 stays_map : (f : Context Term ℕ → Context Term ℕ) → ((c : Context Term ℕ) → Stays c (f c)) → (o : Option (Context Term ℕ)) → ContextStays o (option_map f o)
 stays_map f h None = tt
 stays_map f h (Some c) = h c
@@ -75,6 +79,7 @@ restored_kenb key (Some back) = refl
 abbrev pub IsOwn : Homes → Homes → ℕ → KeyUse Term → Type 0
 IsOwn taken given id u = OnKey (λ k type. IsAs type × ((h : Home) × (home taken given k ≡ Some h) × (h.station ≡ id))) u.key
 
+-- a use that is new at a station
 abbrev pub NewAt : Homes → Homes → Station Term ℕ → Station Term ℕ → KeyUse Term → Type 0
 NewAt taken given s t u = (u.dir ≡ Down) × IsOwn taken given s.id u × StationUse taken given t u × (StationUse taken given s u → ⊥)
 
@@ -118,19 +123,23 @@ ActCounts o other = ⊤
 module _ (taken given : Homes) where
   -- CONTEXTS THAT STAY
 
+  -- a KeNB and its keys sit at a station
   abbrev Sits : Station Term ℕ → Term → AsKeys Term → Type 0
   Sits s kenb keys =
       ((h : Home) × (home taken given kenb ≡ Some h) × (h.station ≡ s.id) × IsSpent (is_star kenb) h.place s.next s.last s.preps) × AsKeysOf kenb keys
 
+  -- they sit there later
   sits_later : (s t : Station Term ℕ) → Later s t → (kenb : Term) (keys : AsKeys Term) → Sits s kenb keys → Sits t kenb keys
   sits_later s t l kenb keys h = ((h.0.0, h.0.1, h.0.2 ∙ sym l.same, later_spent s t l (is_star kenb) h.0.0.place h.0.3), h.1)
 
+  -- so the context stands later
   context_later : (s t : Station Term ℕ) → Later s t → (o n : Option (Context Term ℕ)) → ContextStays o n →
       IfSome o (ContextStands taken given s) → IfSome n (ContextStands taken given t)
   context_later s t l o None h k = tt
   context_later s t l None (Some d) h k = absurd h
   context_later s t l (Some c) (Some d) h k = subst₂ (Sits t) (sym h.0) (sym h.1) (sits_later s t l c.key.kenb c.keys k)
 
+  -- and its next COUNTs are above
   ahead_later : (o n : Option (Context Term ℕ)) → ContextStays o n → (k : Term) (type count bearer : ℕ) → ContextAhead o k type count bearer → ContextAhead n k type count bearer
   ahead_later o None h k type count bearer u = tt
   ahead_later None (Some d) h k type count bearer u = absurd h
@@ -154,6 +163,7 @@ module _ (taken given : Homes) where
   later_same : (s : Station Term ℕ) (next : ℕ) (o : Option (Context Term ℕ)) → s.next ≤ next → Later s (record s { next = next; context = o })
   later_same s next o le = record { same = refl; next = le; last = omega arith; free = λ air lt h. h }
 
+  -- preparations stand as numbers are drawn
   preps_rise : (m n : ℕ) (preps : List (Prep Term ℕ)) → m ≤ n → AllOf (PrepStands m) preps → AllOf (PrepStands n) preps
   preps_rise m n preps le h = all_map (PrepStands m) (PrepStands n) (λ p k. (k.0, k.1, let x = k.2 in omega arith)) preps h
 
@@ -164,9 +174,11 @@ module _ (taken given : Homes) where
   changes s next o sent le c h uses apart sends =
       keeps s (record s { next = next; context = o }) sent (later_same s next o le) c (preps_rise s.next next s.preps le h.1) h uses apart sends
 
+  -- nothing changes
   still : (s : Station Term ℕ) → StationStands taken given s → StationKeeps taken given s s None
   still s h = changes s s.next s.context None (omega arith) (stays_same s.context) h tt tt tt
 
+  -- the context changes in other parts
   mapped : (s : Station Term ℕ) (f : Context Term ℕ → Context Term ℕ) → ((c : Context Term ℕ) → Stays c (f c)) → StationStands taken given s →
       StationKeeps taken given s (record s { context = option_map f s.context }) None
   mapped s f c h = changes s s.next (option_map f s.context) None (omega arith) (stays_map f c s.context) h tt tt tt
@@ -174,6 +186,7 @@ module _ (taken given : Homes) where
   -- SENDING
 
   module _ (s : Station Term ℕ) (c : Context Term ℕ) (b : Bearers) (attempt : Option (Attempt Term ℕ)) where
+    -- the next COUNT of a bearer is new
     new_use : (type id count bearer : ℕ) → IsAs type → StationStands taken given (record s { context = Some c }) →
         count < next_on type bearer b → (count < next_on type bearer c.bearers → ⊥) →
         NewAt taken given (record s { context = Some c }) (record s { context = Some (record c { bearers = b; attempt = attempt }) })
@@ -181,6 +194,7 @@ module _ (taken given : Homes) where
     new_use type id count bearer ge h used next =
         (refl, (ge, (h.0.0.0, h.0.0.1, h.0.0.2)), λ a. (h.0.0.0, h.0.0.1, λ e. h.0.0.3, λ g. used), λ old. next ((old ge).3 refl))
 
+    -- the uses of an RRC text, by its keys
     abbrev OfRrc : Srb → List ℕ → AsKeys Term → Type 0
     OfRrc srb text keys =
         AllOf (NewAt taken given (record s { context = Some c }) (record s { context = Some (record c { bearers = b; attempt = attempt }) }))
@@ -245,6 +259,7 @@ module _ (taken given : Homes) where
 
   -- rows by a record
 
+  -- an Initial Context
   given_keeps : (same : Term → Term → Bool) (conn : ℕ) (cell : Place) (caps : Caps) (algs : Algs) (air : ℕ) (key : Option (NumberedKey Term ℕ)) (s : Station Term ℕ) →
       RecordNeeds given s (ContextGiven conn cell caps algs air) key → StationStands taken given s →
       let d = context_given (term_reading_by same) conn cell caps algs air key s in StationKeeps taken given s d.0 d.1.sent
@@ -274,6 +289,7 @@ module _ (taken given : Homes) where
           let same : u.0 ≡ home_at s.id conn = by_some (sym u.1 ∙ here) in
           subst₂ (λ b n. IsSpent b n s.next s.last s.preps) n.3 (ap (λ (h : Home). h.place) same) (u.2 (ap (λ (h : Home). h.station) same))
 
+  -- a pair that is taken
   pair_keeps : (conn : ℕ) (origin : Option Origin) (key : Option (NumberedKey Term ℕ)) (s : Station Term ℕ) → StationStands taken given s →
       let d = pair_taken conn origin key s in StationKeeps taken given s d.0 d.1.sent
   pair_keeps conn origin None s h = still s h
@@ -286,6 +302,7 @@ module _ (taken given : Homes) where
   waits_apart : (s : Station Term ℕ) (p : Prep Term ℕ) (preps : List (Prep Term ℕ)) → s.next ≤ p.air → (air : ℕ) → air < s.next → NoneWaits air preps → NoneWaits air (preps ++ p ∷ [])
   waits_apart s p preps le air lt h = all_append (λ q. q.air ≡ air → ⊥) preps (p ∷ []) h ((λ e. absurd (omega arith)), tt)
 
+  -- a preparation is added
   wanted_keeps : (w : Wanted) (p : Prep Term ℕ) (sent : Option (Outgoing Term ℕ)) (s : Station Term ℕ) → s.last ≤ w.conn → w.air ≡ s.next → p.air ≡ w.air → is_star p.key.kenb ≡ true →
       AsKeysOf p.key.kenb p.keys → StationStands taken given s →
       AllOf (NewAt taken given s (with_wanted w p s)) (uses_in sent) → AllApart (uses_in sent) → IfSome sent (RecordStands taken given) →
@@ -304,12 +321,14 @@ module _ (taken given : Homes) where
       ((star, keys, omega arith), tt))
       h uses apart sends
 
+  -- by a Handover Request on S1
   by_s1_keeps : (same : Term → Term → Bool) (w : Wanted) (key : Option (NumberedKey Term ℕ)) (s : Station Term ℕ) → (s.last ≤ w.conn) × (w.air ≡ s.next) → StationStands taken given s →
       let d = prepared_by_s1 (term_reading_by same) w key s in StationKeeps taken given s d.0 d.1.sent
   by_s1_keeps same w None s n h = still s h
   by_s1_keeps same w (Some pair) s n h =
       wanted_keeps w (wanted_prep (term_reading_by same) w By.S1 (star_line (term_reading_by same) pair w.cell.pci w.cell.earfcn)) _ s n.0 n.1 refl refl refl h tt tt tt
 
+  -- by one on X2
   by_x2_keeps : (same : Term → Term → Bool) (w : Wanted) (key : Option (NumberedKey Term ℕ)) (s : Station Term ℕ) → RecordNeeds given s (PreparedByX2 w) key → StationStands taken given s →
       let d = prepared_by_x2 (term_reading_by same) w key s in StationKeeps taken given s d.0 d.1.sent
   by_x2_keeps same w None s n h = still s h
@@ -321,12 +340,14 @@ module _ (taken given : Homes) where
   fewer s o preps c p f h =
       keeps s (record s { context = o; preps = preps }) None (record { same = refl; next = omega arith; last = omega arith; free = λ a lt. f a }) c p h tt tt tt
 
+  -- preparations of an attempt go
   filtered : (s : Station Term ℕ) (o : Option (Context Term ℕ)) (source attempt : ℕ) → ContextStays s.context o → StationStands taken given s →
       StationKeeps taken given s (record s { context = o; preps = without source attempt s.preps }) None
   filtered s o source attempt c h =
       fewer s o (without source attempt s.preps) c (all_filter (PrepStands s.next) (λ p. not (is_of source attempt p)) s.preps h.1)
       (λ a f. all_filter (λ q. q.air ≡ a → ⊥) (λ p. not (is_of source attempt p)) s.preps f) h
 
+  -- a row of a record
   pub record_keeps : (same : Term → Term → Bool) (row : RecordRow) (key : Option (NumberedKey Term ℕ)) (s : Station Term ℕ) → RecordNeeds given s row key → StationStands taken given s →
       let d = record_does (term_reading_by same) row key s in StationKeeps taken given s d.0 d.1.sent
   record_keeps same (RecordRefused answer) key s n h = still s h
@@ -346,6 +367,7 @@ module _ (taken given : Homes) where
   abbrev WaitsAt : Station Term ℕ → ℕ → Prep Term ℕ → Type 0
   WaitsAt s air p = PrepStands s.next p × (p.air ≡ air) × (NoneWaits air s.preps → ⊥)
 
+  -- and the one that is found does
   waits_at : (s : Station Term ℕ) (air : ℕ) → StationStands taken given s → OfSome (WaitsAt s air) (at_air air s.preps)
   waits_at s air h = by_found (at_air air s.preps) refl (all_find (PrepStands s.next) (is_at air) s.preps h.1) where
     by_found : (o : Option (Prep Term ℕ)) → at_air air s.preps ≡ o → OfSome (λ p. PrepStands s.next p × (is_at air p ≡ true)) o → OfSome (WaitsAt s air) o
@@ -369,21 +391,25 @@ module _ (taken given : Homes) where
       w.0.1 tt uses apart sends
 
   module _ (same : Term → Term → Bool) (s : Station Term ℕ) (air : ℕ) where
+    -- a handover on S1 completes
     s1_keeps : (count : ℕ) (o : Option (Prep Term ℕ)) → OfSome (WaitsAt s air) o → TakenHere taken s.id air o → StationStands taken given s →
         let d = completed_by_s1 (term_reading_by same) count o s in StationKeeps taken given s d.0 d.1.sent
     s1_keeps count None w n h = still s h
     s1_keeps count (Some p) w n h = arrives s air s.next count None None p _ (omega arith) w n tt tt tt
 
+    -- one within the station completes
     within_keeps : (count : ℕ) (origin : Option Origin) (o : Option (Prep Term ℕ)) → OfSome (WaitsAt s air) o → TakenHere taken s.id air o → StationStands taken given s →
         let d = completed_within (term_reading_by same) count origin o s in StationKeeps taken given s d.0 d.1.sent
     within_keeps count origin None w n h = still s h
     within_keeps count origin (Some p) w n h = arrives s air s.next count None origin p None (omega arith) w n tt tt tt
 
+    -- one on X2 completes
     x2_keeps : (count number : ℕ) (o : Option (Prep Term ℕ)) → number ≡ s.next → OfSome (WaitsAt s air) o → TakenHere taken s.id air o → StationStands taken given s →
         let d = completed_by_x2 (term_reading_by same) count number o s in StationKeeps taken given s d.0 d.1.sent
     x2_keeps count number None e w n h = still s h
     x2_keeps count number (Some p) e w n h = arrives s air (number + 1) count (Some number) _ p _ (omega arith) w n tt tt tt
 
+  -- a row of a PDU
   pub air_keeps : (same : Term → Term → Bool) (row : AirRow) (s : Station Term ℕ) → AirDraws s.next row → AirNeeds taken s row → StationStands taken given s →
       let d = air_does (term_reading_by same) row s in StationKeeps taken given s d.0 d.1.sent
   air_keeps same (AirRefused answer) s d n h = still s h
@@ -397,12 +423,14 @@ module _ (taken given : Homes) where
   -- rows by an act
 
   module _ (same : Term → Term → Bool) (s : Station Term ℕ) where
+    -- a handover on X2 begins, with a KeNB* in its request
     by_x2_start_keeps : (number target : ℕ) (cell : Place) (o : Option (Context Term ℕ)) → number ≡ s.next → StationStands taken given (record s { context = o }) →
         let d = started_by_x2 (term_reading_by same) number target cell o (record s { context = o }) in StationKeeps taken given (record s { context = o }) d.0 d.1.sent
     by_x2_start_keeps number target cell None e h = still (record s { context = None }) h
     by_x2_start_keeps number target cell (Some c) e h =
         changes (record s { context = Some c }) (number + 1) _ _ (omega arith) (refl, refl, rise_same c.bearers) h tt tt refl
 
+    -- one on S1 begins
     by_s1_start_keeps : (number target : ℕ) (cell : Place) (o : Option (Context Term ℕ)) → number ≡ s.next → StationStands taken given (record s { context = o }) →
         let d = started_by_s1 number target cell o (record s { context = o }) in StationKeeps taken given (record s { context = o }) d.0 d.1.sent
     by_s1_start_keeps number target cell None e h = still (record s { context = None }) h
@@ -422,6 +450,7 @@ module _ (taken given : Homes) where
         (all_append (PrepStands (air + 1)) s.preps (p ∷ []) (preps_rise s.next (air + 1) s.preps (omega arith) h.1) ((refl, refl, omega arith), tt))
         h tt tt tt
 
+    -- the handover command is sent
     commands_keeps : (order : Order) (count : ℕ) (o : Option (Context Term ℕ)) → IfSome o (λ c. count ≡ c.bearers.srb1.send) → StationStands taken given (record s { context = o }) →
         let d = commands order count o (record s { context = o }) in StationKeeps taken given (record s { context = o }) d.0 d.1.sent
     commands_keeps order count None e h = still (record s { context = None }) h
@@ -429,12 +458,14 @@ module _ (taken given : Homes) where
         subst (λ n. let d = commands order n (Some c) (record s { context = Some c }) in StationKeeps taken given (record s { context = Some c }) d.0 d.1.sent) (sym e)
         (rrc_keeps s c (srb_sent Signalling1 c.bearers) (option_map (commanded order) c.attempt) Signalling1 (order_text order) refl h)
 
+    -- a Path Switch Request again
     asks_keeps : (number : ℕ) (o : Option (Context Term ℕ)) → number ≡ s.next → StationStands taken given (record s { context = o }) →
         let d = asks_again number o (record s { context = o }) in StationKeeps taken given (record s { context = o }) d.0 d.1.sent
     asks_keeps number None e h = still (record s { context = None }) h
     asks_keeps number (Some c) e h =
         changes (record s { context = Some c }) (number + 1) _ _ (omega arith) (refl, refl, rise_same c.bearers) h tt tt tt
 
+    -- a user packet is sent
     packets_keeps : (drb : Drb) (count : ℕ) (text : List ℕ) (o : Option (Context Term ℕ)) → IfSome o (λ c. count ≡ (drb_counts drb c.bearers).send) →
         StationStands taken given (record s { context = o }) →
         let d = sends_packet drb count text o (record s { context = o }) in StationKeeps taken given (record s { context = o }) d.0 d.1.sent
@@ -443,6 +474,7 @@ module _ (taken given : Homes) where
         subst (λ n. let d = sends_packet drb n text (Some c) (record s { context = Some c }) in StationKeeps taken given (record s { context = Some c }) d.0 d.1.sent) (sym e)
         (packet_keeps s c (drb_sent drb c.bearers) c.attempt drb text refl h)
 
+    -- an RRC text is sent
     texts_keeps : (srb : Srb) (count : ℕ) (text : List ℕ) (o : Option (Context Term ℕ)) → IfSome o (λ c. count ≡ (srb_counts srb c.bearers).send) →
         StationStands taken given (record s { context = o }) →
         let d = sends_rrc srb count text o (record s { context = o }) in StationKeeps taken given (record s { context = o }) d.0 d.1.sent
@@ -451,9 +483,11 @@ module _ (taken given : Homes) where
         subst (λ n. let d = sends_rrc srb n text (Some c) (record s { context = Some c }) in StationKeeps taken given (record s { context = Some c }) d.0 d.1.sent) (sym e)
         (rrc_keeps s c (srb_sent srb c.bearers) c.attempt srb (spelling_of (RrcData text)) refl h)
 
+  -- an attempt that is given up leaves the KeNB
   gives_up : (c : Context Term ℕ) → Stays c (given_up c)
   gives_up c = (restored_kenb c.key (spent_in c.attempt), refl, rise_same c.bearers)
 
+  -- a row of an act
   pub act_keeps : (same : Term → Term → Bool) (row : ActRow) (s : Station Term ℕ) → ActDraws s.next row → ActCounts s.context row → StationStands taken given s →
       let d = act_does (term_reading_by same) row s in StationKeeps taken given s d.0 d.1.sent
   act_keeps same (ActRefused answer) s d n h = still s h

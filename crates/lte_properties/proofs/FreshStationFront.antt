@@ -43,32 +43,39 @@ use Rattle.lte_properties.proofs.FreshStation.{RecordNeeds, TakenHere, AirNeeds,
 -- ACTS
 
 module _ (o : Option (Context Term ℕ)) where
+  -- of an active context
   active_counts : (starting : Bool) (row : ActRow) → ActCounts o row → ActCounts o (active_row starting row)
   active_counts true row h = tt
   active_counts false row h = h
 
+  -- with a COUNT left
   unspent_counts : (counts : Counts) (row : ActRow) → ActCounts o row → ActCounts o (unless_spent counts row)
   unspent_counts counts row h = by_test (ActCounts o) (is_spent counts) _ _ (λ e. tt) (λ e. h)
 
+  -- a handover that begins sends no text
   begun_counts : (s : PlainStation) (target : ℕ) (cell : Place) (kind : HoKind) → ActCounts o (begun_row s target cell kind)
   begun_counts s target cell HoKind.X2 = by_test (ActCounts o) (runs_out 1 s.next) _ _ (λ e. tt) (λ e. tt)
   begun_counts s target cell HoKind.S1 = by_test (ActCounts o) (runs_out 1 s.next) _ _ (λ e. tt) (λ e. tt)
   begun_counts s target cell HoKind.Intra =
       by_test (ActCounts o) (is_full s) _ _ (λ e. tt) (λ e. by_test (ActCounts o) (runs_out 2 s.next) _ _ (λ f. tt) (λ f. tt))
 
+  -- with no attempt before
   alone_counts : (s : PlainStation) (target : ℕ) (cell : Place) (kind : HoKind) (attempt : Option PlainAttempt) → ActCounts o (alone_row s target cell kind attempt)
   alone_counts s target cell kind (Some attempt) = tt
   alone_counts s target cell kind None = begun_counts s target cell kind
 
+  -- to its target
   target_counts : (s : PlainStation) (attempt : Option PlainAttempt) (cell : Place) (kind : HoKind) (target : Option ℕ) → ActCounts o (target_row s attempt cell kind target)
   target_counts s attempt cell kind None = tt
   target_counts s attempt cell kind (Some target) =
       by_test (ActCounts o) (is_misplaced kind (target == s.id)) _ _ (λ e. tt) (λ e. alone_counts s target cell kind attempt)
 
+  -- the act of a handover
   start_counts : (s : PlainStation) (kind : HoKind) (cell : Place) (c : Option PlainContext) → ActCounts o (start_row s kind cell c)
   start_counts s kind cell None = tt
   start_counts s kind cell (Some c) = active_counts c.starting _ (target_counts s c.attempt cell kind (station_of cell s.cells))
 
+  -- an attempt is given up
   cancel_counts : (conn : ℕ) (attempt : Option PlainAttempt) → ActCounts o (attempt_cancel_row conn attempt)
   cancel_counts conn None = tt
   cancel_counts conn (Some (OverX2 (X2Open start))) = tt
@@ -81,49 +88,59 @@ module _ (o : Option (Context Term ℕ)) where
   cancel_counts conn (Some (Within (X2Ready acked))) = tt
   cancel_counts conn (Some (Within (X2Commanded sent))) = tt
 
+  -- the act of that
   give_up_counts : (c : Option PlainContext) → ActCounts o (give_up_row c)
   give_up_counts None = tt
   give_up_counts (Some c) = cancel_counts c.conn c.attempt
 
+  -- a Path Switch Request again
   came_counts : (next : ℕ) (origin : Option Origin) → ActCounts o (came_row next origin)
   came_counts next None = tt
   came_counts next (Some origin) = by_test (ActCounts o) (runs_out 1 next) _ _ (λ e. tt) (λ e. tt)
 
+  -- the act of that
   ask_counts : (next : ℕ) (c : Option PlainContext) → ActCounts o (ask_row next c)
   ask_counts next None = tt
   ask_counts next (Some c) = active_counts c.starting _ (came_counts next c.origin)
 
+  -- COUNTs are left out
   skip_counts : (on : Which) (n : ℕ) (c : Option PlainContext) → ActCounts o (skip_row on n c)
   skip_counts on n None = tt
   skip_counts on n (Some c) = active_counts c.starting _ tt
 
 -- a sending takes the next COUNT of its bearer
 module _ (ncc : ℕ → ℕ) where
+  -- the command of an attempt on X2 takes the next COUNT of SRB1
   x2_command_counts : (c : Context Term ℕ) (state : X2State (Unit {0}) ℕ) → ActCounts (Some c) (x2_command_row state c.bearers.srb1)
   x2_command_counts c (X2Open start) = tt
   x2_command_counts c (X2Ready acked) = unspent_counts (Some c) c.bearers.srb1 _ refl
   x2_command_counts c (X2Commanded sent) = unspent_counts (Some c) c.bearers.srb1 _ refl
 
+  -- and on S1
   s1_command_counts : (c : Context Term ℕ) (state : S1State) → ActCounts (Some c) (s1_command_row state c.bearers.srb1)
   s1_command_counts c (S1Open start) = tt
   s1_command_counts c (S1Ready acked) = unspent_counts (Some c) c.bearers.srb1 _ refl
   s1_command_counts c (S1Commanded sent) = unspent_counts (Some c) c.bearers.srb1 _ refl
 
+  -- of any attempt
   attempt_command_counts : (c : Context Term ℕ) (attempt : Option PlainAttempt) → ActCounts (Some c) (attempt_command_row attempt c.bearers.srb1)
   attempt_command_counts c None = tt
   attempt_command_counts c (Some (OverX2 state)) = x2_command_counts c state
   attempt_command_counts c (Some (OverS1 state)) = s1_command_counts c state
   attempt_command_counts c (Some (Within state)) = x2_command_counts c state
 
+  -- the act of that
   command_counts : (o : Option (Context Term ℕ)) → ActCounts o (command_row (option_map (map_context unseen ncc) o))
   command_counts None = tt
   command_counts (Some c) = attempt_command_counts c (map_context unseen ncc c).attempt
 
+  -- a user packet takes the next COUNT of its DRB
   packet_counts : (on : Which) (text : List ℕ) (o : Option (Context Term ℕ)) → ActCounts o (packet_row on text (option_map (map_context unseen ncc) o))
   packet_counts (OnSrb srb) text o = tt
   packet_counts (OnDrb drb) text None = tt
   packet_counts (OnDrb drb) text (Some c) = active_counts (Some c) c.starting _ (unspent_counts (Some c) (drb_counts drb c.bearers) _ refl)
 
+  -- an RRC text that of its SRB
   send_rrc_counts : (on : Which) (text : List ℕ) (o : Option (Context Term ℕ)) → ActCounts o (send_rrc_row on text (option_map (map_context unseen ncc) o))
   send_rrc_counts (OnDrb drb) text o = tt
   send_rrc_counts (OnSrb srb) text None = tt
@@ -148,34 +165,41 @@ FrontAt taken s air (OnPrepared a by count) = a ≡ air
 FrontAt taken s air other = ⊤
 
 module _ (taken : Homes) (s : Station Term ℕ) (air : ℕ) where
+  -- with a COUNT, or refused
   counted_at : (front : ℕ → AirFront) (count : Result ℕ PdcpFault) → ((n : ℕ) → FrontAt taken s air (front n)) → FrontAt taken s air (counted front count)
   counted_at front (Err fault) h = tt
   counted_at front (Ok count) h = h count
 
+  -- a context whose security starts
   starting_at : (bearers : Bearers) (on : Which) (pdu : List ℕ) → FrontAt taken s air (starting_front bearers on pdu)
   starting_at bearers (OnSrb Signalling1) pdu = counted_at OnStarting _ (λ n. tt)
   starting_at bearers (OnSrb Signalling2) pdu = tt
   starting_at bearers (OnDrb drb) pdu = tt
 
+  -- an active context
   active_at : (bearers : Bearers) (on : Which) (pdu : List ℕ) → FrontAt taken s air (active_front bearers on pdu)
   active_at bearers (OnSrb srb) pdu = counted_at (OnSignalling srb) _ (λ n. tt)
   active_at bearers (OnDrb drb) pdu = counted_at (OnUser drb) _ (λ n. tt)
 
+  -- a context
   context_at : (starting : Bool) (bearers : Bearers) (on : Which) (pdu : List ℕ) → FrontAt taken s air (context_front starting bearers on pdu)
   context_at true bearers on pdu = starting_at bearers on pdu
   context_at false bearers on pdu = active_at bearers on pdu
 
+  -- a preparation
   prepared_at : (o : Option (Prep (Unit {0}) ℕ)) (on : Which) (pdu : List ℕ) → FrontAt taken s air (prepared_front o air on pdu)
   prepared_at None on pdu = tt
   prepared_at (Some p) (OnSrb Signalling1) pdu = counted_at (OnPrepared air p.by) _ (λ n. refl)
   prepared_at (Some p) (OnSrb Signalling2) pdu = tt
   prepared_at (Some p) (OnDrb drb) pdu = tt
 
+  -- all fronts
   front_at : (o : Option PlainContext) (p : Option (Prep (Unit {0}) ℕ)) (on : Which) (pdu : List ℕ) → FrontAt taken s air (air_front_by o p air on pdu)
   front_at None p on pdu = prepared_at p on pdu
   front_at (Some c) p on pdu =
       by_test (FrontAt taken s air) (c.air == air) _ _ (λ e. context_at c.starting c.bearers on pdu) (λ e. prepared_at p on pdu)
 
+  -- a context whose security starts completes no preparation
   starting_row_needs : (count : ℕ) (read : Result RrcRecord RecFault) → AirNeeds taken s (starting_row count read)
   starting_row_needs count (Err fault) = tt
   starting_row_needs count (Ok (SecurityModeCommand algs station a)) = tt
@@ -184,6 +208,7 @@ module _ (taken : Homes) (s : Station Term ℕ) (air : ℕ) where
   starting_row_needs count (Ok ReconfigurationComplete) = tt
   starting_row_needs count (Ok (RrcData text)) = tt
 
+  -- nor does an active one
   rrc_row_needs : (srb : Srb) (count : ℕ) (read : Result RrcRecord RecFault) → AirNeeds taken s (rrc_row srb count read)
   rrc_row_needs srb count (Err fault) = tt
   rrc_row_needs srb count (Ok (SecurityModeCommand algs station a)) = tt
@@ -192,11 +217,13 @@ module _ (taken : Homes) (s : Station Term ℕ) (air : ℕ) where
   rrc_row_needs srb count (Ok ReconfigurationComplete) = tt
   rrc_row_needs srb count (Ok (RrcData text)) = tt
 
+  -- a completion is of a key that was taken here
   completed_needs : (next count : ℕ) (by : By) → TakenHere taken s.id air (at_air air s.preps) → AirNeeds taken s (completed_row next air count by)
   completed_needs next count By.X2 h = by_test (AirNeeds taken s) (runs_out 1 next) _ _ (λ e. tt) (λ e. h)
   completed_needs next count By.S1 h = h
   completed_needs next count (By.Intra origin) h = h
 
+  -- whatever the text is
   prepared_row_needs : (next count : ℕ) (by : By) (read : Result RrcRecord RecFault) → TakenHere taken s.id air (at_air air s.preps) →
       AirNeeds taken s (prepared_row next air count by read)
   prepared_row_needs next count by (Err fault) h = tt
@@ -218,12 +245,14 @@ module _ (taken : Homes) (s : Station Term ℕ) (air : ℕ) where
   opened_taken count text (Some p) h f =
       subst (λ k. OnKey (λ t type. taken t ≡ Some (home_at s.id air)) k) (ap (λ keys. keys.rrc_int) h.1) (f _ refl)
 
+  -- the preparation at the air address stands
   prep_stands : AllOf (PrepStands s.next) s.preps → OfSome (λ p. PrepStands s.next p) (at_air air s.preps)
   prep_stands h = only_first (λ p. is_at air p ≡ true) (at_air air s.preps) (all_find (PrepStands s.next) (is_at air) s.preps h) where
     only_first : (Q : Prep Term ℕ → Type 0) (o : Option (Prep Term ℕ)) → OfSome (λ p. PrepStands s.next p × Q p) o → OfSome (λ p. PrepStands s.next p) o
     only_first Q None k = tt
     only_first Q (Some p) k = k.0
 
+  -- each row of a front
   row_needs : (r : Reading Term ℕ) (front : AirFront) (outcome : Outcome) → FrontAt taken s air front → AllOf (PrepStands s.next) s.preps →
       OfTaken (air_expects front s) outcome → AirNeeds taken s (air_row (plain_station r s) front outcome)
   row_needs r (AirSettled row) outcome at h f = at
@@ -258,19 +287,23 @@ s1_station other = 0
 abbrev pub GoesHere : Address → ℕ → Type 0
 GoesHere to id = (station : ℕ) → to ≡ StationS1 station → id ≡ station
 
+-- on S1 to the station
 pub on_s1 : (id : ℕ) → GoesHere (StationS1 id) id
 on_s1 id station e = ap s1_station e
 
+-- on X2 it goes not on S1
 pub on_x2 : (id : ℕ) → GoesHere (StationX2 id) id
 on_x2 id station e = cc
 
 -- what a record that stands gives the row that it comes to
 module _ (given : Homes) (s : Station Term ℕ) (to : Address) (here : GoesHere to s.id) where
+  -- an Initial Context
   context_needs : (conn : ℕ) (cell : Place) (caps : Caps) (algs : Algs) (air : ℕ) (k : NumberedKey Term ℕ) →
       BetweenStands given to (InitialContext conn cell caps) (Some k) → s.last < conn → air ≡ s.next → RecordNeeds given s (ContextGiven conn cell caps algs air) (Some k)
   context_needs conn cell caps algs air k b newer drawn =
       (newer, drawn, b.2 ∙ ap (λ x. Some (home_at x conn)) (sym (here b.0 b.1)), b.3)
 
+  -- each row
   fits_needs : (fields : Fields) (key : Option (NumberedKey Term ℕ)) (row : RecordRow) → BetweenStands given to fields key → RecordFits s fields row → RecordNeeds given s row key
   fits_needs fields None (ContextGiven conn cell caps algs air) b f = tt
   fits_needs fields (Some k) (ContextGiven conn cell caps algs air) b f =

@@ -27,13 +27,16 @@ use Rattle.lte_properties.proofs.FreshStation.{StationKeeps, NewAt, IsOwn}
 
 -- DIRECTIONS
 
+-- whether it is uplink
 abbrev is_up : Dir → Bool
 is_up Up = true
 is_up Down = false
 
+-- uplink is not downlink
 pub up_is_not_down : {d : Dir} → d ≡ Up → d ≡ Down → ⊥
 up_is_not_down e f = let g = ap is_up (sym e ∙ f) in cc
 
+-- what is so of a value that may be there
 pub some_of : {A : Type 0} (P : A → Type 0) (o : Option A) → IfSome o P → OfSome P o
 some_of P None h = h
 some_of P (Some x) h = h
@@ -41,23 +44,28 @@ some_of P (Some x) h = h
 -- AS HOMES GROW
 
 module _ (taken taken' given given' : Homes) (f : Grows taken taken') (g : Grows given given') where
+  -- a context stands
   context_grows : (s : Station Term ℕ) (o : Option (Context Term ℕ)) → IfSome o (ContextStands taken given s) → IfSome o (ContextStands taken' given' s)
   context_grows s None h = h
   context_grows s (Some c) h =
       ((h.0.0, home_grows (is_star c.key.kenb) taken taken' given given' c.key.kenb h.0.0 f g h.0.1, h.0.2, h.0.3), h.1)
 
+  -- a station stands
   pub station_grows : (s : Station Term ℕ) → StationStands taken given s → StationStands taken' given' s
   station_grows s h = (context_grows s s.context h.0, h.1)
 
+  -- its uses stand
   pub use_grows : (s : Station Term ℕ) (u : KeyUse Term) → StationUse taken given s u → StationUse taken' given' s u
   use_grows s u h =
       on_key (λ t type. IsAs type → AsDown taken given s t type u.count u.bearer) (λ t type. IsAs type → AsDown taken' given' s t type u.count u.bearer)
       (λ t type k a. let x = k a in (x.0, home_grows (is_star t) taken taken' given given' t x.0 f g x.1, x.2, x.3)) u.key h
 
+  -- a record on S1 or X2 stands
   between_grows : (to : Address) (fields : Fields) (key : Option (NumberedKey Term ℕ)) → BetweenStands given to fields key → BetweenStands given' to fields key
   between_grows to (InitialContext conn cell caps) (Some key) h = (h.0, h.1, g key.key (home_at h.0 conn) h.2, h.3)
   between_grows to fields key h = h
 
+  -- each record stands
   pub record_grows : (x : Outgoing Term ℕ) → RecordStands taken given x → RecordStands taken' given' x
   record_grows (SealedRrc Up station air srb u e text) h =
       on_key (λ t type. taken t ≡ Some (home_at station air)) (λ t type. taken' t ≡ Some (home_at station air)) (λ t type k. f t (home_at station air) k) u.key h
@@ -71,12 +79,14 @@ module _ (m : Machine Term ℕ (Outgoing Term ℕ)) (w : World Term ℕ (Outgoin
   -- THE PHONE
 
   module _ (d : Phone Term ℕ × Reply Term ℕ) (k : PhoneKeeps h.roots h.taken w.phone d.0 d.1.sent d.1.took) where
+    -- older uplink uses stand
     up_stays : (u : KeyUse Term) → UpUse h.roots h.taken w.phone u → UpUse h.roots k.new d.0 u
     up_stays u x =
         on_key (λ t type. (IsNas type → NasUp h.roots w.phone.partial w.phone.context t u.count) × (IsAs type → AsUp h.taken w.phone.radio t type u.count u.bearer))
         (λ t type. (IsNas type → NasUp h.roots d.0.partial d.0.context t u.count) × (IsAs type → AsUp k.new d.0.radio t type u.count u.bearer))
         (λ t type y. (λ n. k.nas t u.count (y.0 n), λ a. k.link t type u.count u.bearer (y.1 a))) u.key x
 
+    -- the world after a step of the phone
     pub phone_fresh : Fresh (phone_after m w d).0
     phone_fresh = record {
       roots = h.roots;
@@ -114,6 +124,7 @@ module _ (m : Machine Term ℕ (Outgoing Term ℕ)) (w : World Term ℕ (Outgoin
   -- THE CORE
 
   module _ (d : Core Term ℕ × Reply Term ℕ) (k : CoreKeeps h.roots h.given w.core d.0 d.1.sent) where
+    -- older uses of the core stand
     nas_stays : (u : KeyUse Term) → CoreUse h.roots w.core u → CoreUse h.roots d.0 u
     nas_stays u x =
         on_key (λ t type. IsNas type → NasDown h.roots w.core.partial w.core.context t u.count) (λ t type. IsNas type → NasDown h.roots d.0.partial d.0.context t u.count)
@@ -124,6 +135,7 @@ module _ (m : Machine Term ℕ (Outgoing Term ℕ)) (w : World Term ℕ (Outgoin
     nas_is_elsewhere s u x =
         on_key (λ t type. IsNas type) (λ t type. IsAs type → AsDown h.taken k.new s t type u.count u.bearer) (λ t type n a. absurd (omega arith)) u.key x
 
+    -- the world after a step of the core
     pub core_fresh : Fresh (core_after m w d).0
     core_fresh = record {
       roots = h.roots;
@@ -159,16 +171,19 @@ module _ (m : Machine Term ℕ (Outgoing Term ℕ)) (w : World Term ℕ (Outgoin
 
   module _ (id : ℕ) (s : Station Term ℕ) (d : Station Term ℕ × Reply Term ℕ) (named : s.id ≡ id)
       (own : AllOf (λ u. u.dir ≡ Down → StationUse h.taken h.given s u) w.uses) (k : StationKeeps h.taken h.given s d.0 d.1.sent) where
+    -- older uses of the station stand
     down_stays : (u : KeyUse Term) → StationUse h.taken h.given s u → StationUse h.taken h.given d.0 u
     down_stays u x =
         on_key (λ t type. IsAs type → AsDown h.taken h.given s t type u.count u.bearer) (λ t type. IsAs type → AsDown h.taken h.given d.0 t type u.count u.bearer)
         (λ t type y a. k.old t type u.count u.bearer (y a)) u.key x
 
+    -- a use of a station is not of NAS
     own_is_not_nas : (u : KeyUse Term) → IsOwn h.taken h.given s.id u → CoreUse h.roots w.core u
     own_is_not_nas u x =
         on_key (λ t type. IsAs type × ((p : Home) × (home h.taken h.given t ≡ Some p) × (p.station ≡ s.id))) (λ t type. IsNas type → NasDown h.roots w.core.partial w.core.context t u.count)
         (λ t type y n. let z = y.0 in absurd (omega arith)) u.key x
 
+    -- another station has another number
     other : (t : Station Term ℕ) → (t.id == id) ≡ false → s.id ≡ t.id → ⊥
     other t e f = let g : t.id ≡ id = sym f ∙ named in grind (arith, nat_tests)
 
@@ -180,14 +195,17 @@ module _ (m : Machine Term ℕ (Outgoing Term ℕ)) (w : World Term ℕ (Outgoin
         let same : x.0.0 ≡ p = by_some (sym x.0.1 ∙ (ap (home h.taken h.given) (sym i) ∙ f)) in
         absurd (other t e (sym g ∙ (sym (ap (λ (q : Home). q.station) same) ∙ x.0.2)))
 
+    -- so a new use stands beside another station
     other_use : (t : Station Term ℕ) → (t.id == id) ≡ false → StationStands h.taken h.given t → (u : KeyUse Term) → IsOwn h.taken h.given s.id u → StationUse h.taken h.given t u
     other_use t e x u y =
         on_key (λ r type. IsAs type × ((p : Home) × (home h.taken h.given r ≡ Some p) × (p.station ≡ s.id))) (λ r type. IsAs type → AsDown h.taken h.given t r type u.count u.bearer)
         (λ r type z a. (z.1.0, z.1.1, λ i. absurd (other t e (sym z.1.2 ∙ i)), other_ahead t e t.context x.0 r type u.count u.bearer z.1.0 z.1.1 z.1.2)) u.key y
 
+    -- what holds of each station
     abbrev Both : Station Term ℕ → Type 0
     Both t = StationStands h.taken h.given t × AllOf (λ u. u.dir ≡ Down → StationUse h.taken h.given t u) w.uses
 
+    -- the world after a step of a station
     pub station_fresh : Fresh (station_after m w id d).0
     station_fresh = record {
       roots = h.roots;

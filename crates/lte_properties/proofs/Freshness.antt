@@ -1,5 +1,5 @@
 -- No key is used twice with one COUNT, BEARER and DIRECTION, in any run from any setup.
-use Rattle.std.proofs.Common.{◌≡◌, refl, sym, ap, ◌∙◌, subst, ℕ, ◌==◌, ◌&&◌, Bool, true, false, List, [], ◌∷◌, map, Option, Some, None}
+use Rattle.std.proofs.Common.{◌≡◌, refl, sym, ap, ◌∙◌, ℕ, ◌==◌, ◌&&◌, Bool, true, false, List, [], ◌∷◌, map, Option, Some, None}
 use Rattle.rec_base.specs.declared.uses.Dir.{Dir}
 use Rattle.rec_base.specs.declared.uses.Dir.TheVariants.{Up, Down}
 use Rattle.lte_events.specs.declared.events.Event.{Event}
@@ -30,10 +30,12 @@ use Rattle.lte_properties.proofs.FreshRun.{run_fresh}
 
 -- THE FIRST WORLD
 
+-- stations that have served nobody stand
 stations_stand : (sites : List Site) (ss : List StationSetup) → AllOf (StationStands (λ t. None) (λ t. None)) (stations_of sites ss)
 stations_stand sites [] = tt
 stations_stand sites (s ∷ ss) = ((tt, tt), stations_stand sites ss)
 
+-- and have used no key
 no_uses : (sites : List Site) (ss : List StationSetup) →
     AllOf (λ s. AllOf (λ u. u.dir ≡ Down → StationUse (λ t. None) (λ t. None) s u) []) (stations_of sites ss)
 no_uses sites [] = tt
@@ -83,6 +85,7 @@ both_true : (a b : Bool) → (a && b) ≡ true → (a ≡ true) × (b ≡ true)
 both_true true b h = (refl, h)
 both_true false b h = absurd (cc)
 
+-- directions that the test says are one
 dirs_are_one : (d e : Dir) → same_dir d e ≡ true → d ≡ e
 dirs_are_one Up Up h = refl
 dirs_are_one Down Down h = refl
@@ -113,6 +116,7 @@ module _ (c : Ciphers Term) where
   as_expected v e (Opened text) u h = by_some h
   as_expected v e (Differs wanted got) u h = absurd (none_some h)
 
+  -- so its sender's use is that one
   judged_so : (v : KeyUse Term) (e : Option (Ciphering Term)) (pdu text : List ℕ) (i u : KeyUse Term) (a b : Bool) → same_uses same_term v i ≡ a →
       srb_accepted (OpensSrb v e) (open_case c (OpensSrb v e) pdu (judged a b text)) ≡ Some u → i ≡ u
   judged_so v e pdu text i u true true g h = sym (same_term_is_one v i g) ∙ by_some h
@@ -134,10 +138,12 @@ module _ (c : Ciphers Term) where
   module _ (same : Term → Term → Bool) (octets : Outgoing Term ℕ → List ℕ) (sender : Option (Outgoing Term ℕ) → Option (KeyUse Term))
       (opener : Opening Term → List ℕ → Option (Outgoing Term ℕ) → Outcome)
       (by_terms : (v : KeyUse Term) (e : Option (Ciphering Term)) (pdu : List ℕ) (came : Option (Outgoing Term ℕ)) →
-          opener (OpensSrb v e) pdu came ≡ open_by_uses same_term c (OpensSrb v e) pdu came) where
+      opener (OpensSrb v e) pdu came ≡ open_by_uses same_term c (OpensSrb v e) pdu came) where
+    -- the machine
     abbrev m : Machine Term ℕ (Outgoing Term ℕ)
     m = machine_by same Root octets sender opener
 
+    -- whatever is opened
     attempt_sealed : (opening : Opening Term) (pdu : List ℕ) (came : Option (Outgoing Term ℕ)) (u : KeyUse Term) →
         srb_accepted opening (opener opening pdu came) ≡ Some u → sender_of came ≡ Some u
     attempt_sealed OpensNothing pdu came u h = absurd (none_some h)
@@ -145,9 +151,11 @@ module _ (c : Ciphers Term) where
     attempt_sealed (OpensDrb e) pdu came u h = absurd (none_some h)
     attempt_sealed (OpensSrb v e) pdu came u h = sealed_so v e pdu came u (ap (srb_accepted (OpensSrb v e)) (sym (by_terms v e pdu came)) ∙ h)
 
+    -- so it is in each event
     pub sent_under : (w : World Term ℕ (Outgoing Term ℕ)) (e : Event) → SentUnder m w e
     sent_under w e u up h = let a = attempted m w e in attempt_sealed a.opening a.octets a.came u h
 
+    -- and in each run
     all_sent_under : (w : World Term ℕ (Outgoing Term ℕ)) (es : List Event) → AllSentUnder m w es
     all_sent_under w [] = tt
     all_sent_under w (e ∷ es) = (sent_under w e, all_sent_under (happens m w e).0 es)

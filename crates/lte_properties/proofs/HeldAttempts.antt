@@ -1,14 +1,11 @@
 -- The attempts of a station are numbered apart: its next number rises, and an attempt draws it.
-use Rattle.std.proofs.Common.{◌≡◌, refl, sym, ap, ◌∙◌, subst, ℕ, ◌+◌, ◌-◌, ◌≤◌, ◌<◌, ◌==◌, nat_lt, Bool, true, false, ℤ, pos, negsuc, List, [], ◌∷◌, ◌++◌, length, Option, Some, None, option_map, Result, Ok, Err, le_trans, arith}
+use Rattle.std.proofs.Common.{◌≡◌, refl, sym, ◌∙◌, subst, ℕ, ◌+◌, ◌≤◌, ◌<◌, ◌==◌, Bool, true, false, List, [], ◌∷◌, ◌++◌, Option, Some, None, Err, arith}
 use Rattle.std.proofs.lemmas.Bool.Decides.{nat_tests}
-use Rattle.std.specs.Prelude.{find, slice_get, ⊤}
 use Rattle.std.specs.List.{position_from}
 use Rattle.alg_choice.specs.declared.algs.Algs.{Algs}
 use Rattle.alg_choice.specs.declared.caps.Caps.{Caps}
 use Rattle.annex_a_keys.specs.Cell.{Place}
 use Rattle.rec_base.specs.declared.faults.RecFault.{RecFault}
-use Rattle.rec_base.specs.declared.bearers.Bearer.{Bearer}
-use Rattle.lte_events.specs.declared.acts.StationAct.{StationAct}
 use Rattle.lte_events.specs.declared.addresses.Address.{Address}
 use Rattle.lte_events.specs.declared.events.Event.{Event}
 use Rattle.lte_events.specs.declared.setups.Setup.{Setup}
@@ -20,26 +17,25 @@ use Rattle.key_model.specs.Reading.{term_reading_by}
 use Rattle.s1x2_rec.specs.Fields.{Fields}
 use Rattle.ho_prep.specs.Prep.{Prep, at_air}
 use Rattle.x2_handover.specs.declared.orders.Order.{Order}
-use Rattle.lte_machine.specs.Bearers.{Srb, Drb, Which, which}
+use Rattle.lte_machine.specs.Bearers.{Srb, Drb, which}
 use Rattle.lte_machine.specs.Wire.{KeyUse, Outgoing, SealedNas, PlainNas, SealedRrc, UserPacket, Between, address_of}
 use Rattle.lte_machine.specs.Opening.{Opening, Outcome}
 use Rattle.lte_machine.specs.Reply.{Origin, Tried, Reply, unseen}
 use Rattle.lte_machine.specs.StationState.{Station, Context, StationInput, StationActs, AirPdu, StationRecord, Interface, OnS1, OnX2, map_read}
 use Rattle.lte_machine.specs.StationRows.{Wanted, RecordRow, RecordRefused, ContextGiven, ContextReleased, PairTaken, PreparedByS1, PreparedByX2, AckedByS1, AckedByX2, PreparationCancelled, SourceReleased, AirRow, AirRefused, SecurityStarted, RrcTaken, PacketTaken, CompletedByS1, CompletedWithin, CompletedByX2, ActRow, ActRefused, StartedByX2, StartedByS1, StartedWithin, Commands, CancelledByX2, CancelledByS1, CancelledWithin, AsksAgain, SendsPacket, SendsRrc, LeavesOut, StationRow, OfRecord, OfAir, OfAct}
-use Rattle.lte_machine.specs.StationChoice.{record_row, air_front, air_row, act_row}
+use Rattle.lte_machine.specs.StationChoice.{record_row}
 use Rattle.lte_machine.specs.StationKeys.{context_given, pair_taken, prepared_by_s1, prepared_by_x2, completed_by_s1, completed_within, completed_by_x2, started_by_x2, started_by_s1, started_within, commands, asks_again, sends_packet, sends_rrc, record_does, air_does, act_does, station_does}
-use Rattle.lte_machine.specs.StationStep.{plain_station, key_read, station_opens, station_pdu_in, station_row_of, station_key, station_step}
-use Rattle.lte_machine.specs.World.{Machine, World, with_one, put_station, station_after, station_of_id, turn_of, station_turn, auth_unless, known_root, next_root, content_in, arrives, newest_if, chosen, delivered, class_of, is_sent, injected, happens}
-use Rattle.lte_machine.specs.Machines.{content_of, machine_over}
+use Rattle.lte_machine.specs.StationStep.{plain_station, station_opens, station_pdu_in, station_row_of, station_key, station_step}
+use Rattle.lte_machine.specs.World.{Machine, World, with_one, station_after, station_of_id, turn_of, station_turn, auth_unless, known_root, next_root, content_in, arrives, chosen, delivered, class_of, is_sent, injected, happens}
+use Rattle.lte_machine.specs.Machines.{content_of}
 use Rattle.lte_machine.specs.Run.{stations_of, first_world}
-use Rattle.lte_machine.specs.Ciphers.{Ciphers}
 use Rattle.lte_properties.specs.ChainBelow.{AllOf}
 use Rattle.lte_properties.specs.ChainHolds.{machine_by, run}
 use Rattle.lte_properties.specs.ChainRows.{RecordFits, RecordDraws, AirDraws, ActDraws, RowDraws}
 use Rattle.lte_properties.specs.Separation.{AttemptsDiffer}
 use Rattle.lte_properties.proofs.ChainChoice.{record_row_fits}
 use Rattle.lte_properties.proofs.ChainDraws.{air_row_draws, act_row_draws}
-use Rattle.lte_properties.proofs.ChainLists.{OfSome, all_one, all_find, all_both, all_put}
+use Rattle.lte_properties.proofs.ChainLists.{OfSome, all_one, all_find, all_put}
 
 -- ROWS
 
@@ -312,9 +308,3 @@ stations_apart sites (s ∷ ss) = (tt, stations_apart sites ss)
 
 pub first_apart : (setup : Setup) → Apart (first_world setup)
 first_apart setup = record { drawn = stations_apart setup.cells setup.stations; differ = tt }
-
--- in every run of the written machine
-pub written_apart : (same : Term → Term → Bool) (c : Ciphers Term) (between : Fields → Option (NumberedKey Term ℕ) → List ℕ) (setup : Setup) (es : List Event) →
-    AttemptsDiffer (run (machine_over same c between) (first_world setup) es).tried
-written_apart same c between setup es =
-    let m = machine_over same c between in (run_apart same m.root m.octets m.sender m.opener (first_world setup) es (first_apart setup)).differ

@@ -1,5 +1,5 @@
 -- What each row of the core keeps: it gives each key to one station, since each key that it gives is a later one.
-use Rattle.std.proofs.Common.{◌≡◌, refl, sym, ap, ◌∙◌, subst, ℕ, suc, ◌+◌, ◌≤◌, ◌<◌, ◌⊎◌, inl, inr, Bool, List, [], ◌∷◌, Option, Some, None, arith}
+use Rattle.std.proofs.Common.{◌≡◌, refl, sym, ◌∙◌, subst, ℕ, suc, ◌+◌, ◌≤◌, ◌<◌, ◌⊎◌, inl, inr, Bool, List, [], Option, Some, None, arith}
 use Rattle.std.specs.Prelude.{⊤}
 use Rattle.alg_choice.specs.declared.algs.Algs.{Algs}
 use Rattle.alg_choice.specs.declared.caps.Caps.{Caps}
@@ -11,7 +11,6 @@ use Rattle.nas_guard.specs.Keys.{Keys}
 use Rattle.key_model.specs.Term.{Term, Root, Kenb, Nh, Star, Alg, IsRoot, IsDerivationKey, IsWellFormed}
 use Rattle.key_model.specs.Number.{chain_number}
 use Rattle.key_model.specs.Reading.{term_reading_by}
-use Rattle.key_model.specs.HandoverTable.{NumberedKey}
 use Rattle.s1x2_rec.specs.Fields.{Fields, InitialContext, ContextRelease, PathSwitchAnswer, HandoverRequest}
 use Rattle.nh_chain.specs.Chain.{ChainState, stepped, present_pair}
 use Rattle.lte_machine.specs.Bearers.{skipped}
@@ -21,8 +20,7 @@ use Rattle.lte_machine.specs.CoreState.{Core, CorePartial, CoreContext, CoreLink
 use Rattle.lte_machine.specs.CoreRows.{CoreNasRow, NasRefused, PlainReject, SmcComplete, ServiceAsked, NasOpened, SealedReject, CoreRecordRow, RecordRefused, PathSwitched, HandoverAsked, HandoverOrdered, HandoverNotified, HandoverCancelled, CoreActRow, ActRefused, SmcStarted, ContextSetUp, ContextReleased, NasSent, NasSkipped}
 use Rattle.lte_machine.specs.CoreKeys.{CoreDone, authenticated, smc_started, smc_complete, service_asked, nas_opened, sealed_reject, nas_sent, nas_skipped, context_set_up, path_switched, handover_asked, handover_notified, core_does_nas, core_does_record, core_does_act}
 use Rattle.lte_machine.specs.World.{with_one}
-use Rattle.lte_properties.specs.ChainBelow.{AllOf}
-use Rattle.lte_properties.specs.Separation.{AnyOf, Gives, GivenTo}
+use Rattle.lte_properties.specs.Separation.{GivenTo}
 use Rattle.lte_properties.proofs.ChainLists.{OfSome}
 use Rattle.lte_properties.proofs.HeldKeys.{Gifts, GivesIn, given_new, given_split, HasTried, FlyOk, OutsAre}
 use Rattle.lte_properties.proofs.HeldPhone.{root_derives}
@@ -73,8 +71,8 @@ AtMost None t = ⊤
 AtMost (Some l) t =
     (root_number t ≤ root_number l.chain.sync)
     × (root_number t ≡ root_number l.chain.sync →
-        (count_of t ≤ count_of l.chain.sync)
-        × (count_of t ≡ count_of l.chain.sync → chain_number t ≤ chain_number l.chain.sync))
+    (count_of t ≤ count_of l.chain.sync)
+    × (count_of t ≡ count_of l.chain.sync → chain_number t ≤ chain_number l.chain.sync))
 
 abbrev pub PartialOk : ℕ → Option (CorePartial Term) → Type 0
 PartialOk roots o = OfSome (λ p. IsRoot p.root × (root_number p.root < roots)) o
@@ -121,9 +119,10 @@ past_same : (roots : ℕ) (p : Option (CorePartial Term)) (c : Option (CoreConte
 past_same roots p c tr t u e f h = (subst (λ n. n < roots) (sym e) h.0, below_partial_same p t u e h.1, context c h.2) where
   context : (c : Option (CoreContext Term)) → BelowContext c tr t → BelowContext c tr u
   context None k = tt
-  context (Some q) k =
-      (subst (λ n. n ≤ root_number q.nas.root) (sym e) k.0,
-      λ g. subst (λ n. n < next_count tr q.nas.receive) (sym f) (k.1 (sym e ∙ g)))
+  context (Some q) k = (
+    subst (λ n. n ≤ root_number q.nas.root) (sym e) k.0,
+    λ g. subst (λ n. n < next_count tr q.nas.receive) (sym f) (k.1 (sym e ∙ g)),
+  )
 
 -- what a row needs of the record: a request for a handover is of an attempt
 abbrev pub RecordNeeds : List (Tried Term ℕ) → CoreRecordRow → Type 0
@@ -164,13 +163,17 @@ module _ (roots : ℕ) (xs : List (Outgoing Term ℕ)) (sites : List Site) (trie
       OfSome (FlyOk (GivenTo (with_one reply.sent xs)) sites tried) reply.sent → After (t, reply)
   quiet old t reply h e p c tr past none outs sends = record {
     ok = record {
-      partial = p; context = c; trigger = tr;
+      partial = p;
+      context = c;
+      trigger = tr;
       link = subst (LinkOk roots t.partial t.context t.trigger) (sym e)
           (chain_past old.partial t.partial old.context t.context old.trigger t.trigger past old.link h.link);
       given = still reply.sent (λ u. Past roots t.partial t.context t.trigger u × AtMost t.link u) none
           (λ u id g. let k = h.given u id g in (past u k.0, subst (λ o. AtMost o u) (sym e) k.1));
     };
-    outs = outs; sends = sends; fresh = λ u a b g k. none u b k;
+    outs = outs;
+    sends = sends;
+    fresh = λ u a b g k. none u b k;
   }
 
   -- and that keeps the roots, COUNTs and trigger
@@ -188,8 +191,10 @@ module _ (roots : ℕ) (xs : List (Outgoing Term ℕ)) (sites : List Site) (trie
     where
       below : count < count + 1
       below = omega arith
+
       least : (a b n : ℕ) → a < b → (a ≤ b) × (a ≡ b → n < count)
       least a b n lt = (omega arith, λ e. omega arith)
+
       past : (u : Term) → Past roots (Some p) s.context s.trigger u → (root_number u < roots) × ⊤ × ((root_number u ≤ root_number p.root) × (root_number u ≡ root_number p.root → count_of u < count))
       past u k = (k.0, tt, least (root_number u) (root_number p.root) (count_of u) k.1)
 
@@ -200,9 +205,11 @@ module _ (roots : ℕ) (xs : List (Outgoing Term ℕ)) (sites : List Site) (trie
     where
       below : count < count + 1
       below = omega arith
+
       rises : (tr : Option ℕ) → TriggerOk tr (Some c) → (m : ℕ) → m < next_count tr c.nas.receive → m < count
       rises None k m lt = omega arith
       rises (Some old) k m lt = omega arith
+
       past : (u : Term) → Past roots s.partial (Some c) s.trigger u → (root_number u < roots) × BelowPartial s.partial u × ((root_number u ≤ root_number c.nas.root) × (root_number u ≡ root_number c.nas.root → count_of u < count))
       past u k = (k.0, k.1, (k.2.0, λ e. rises s.trigger h.trigger (count_of u) (k.2.1 e)))
 
@@ -212,17 +219,18 @@ module _ (roots : ℕ) (xs : List (Outgoing Term ℕ)) (sites : List Site) (trie
       t.context ≡ Some (record c { nas = record c.nas { receive = count + 1 } }) → reply.sent ≡ None → reply.derived ≡ [] → After (t, reply)
   count_kept count c n t reply h e f g i j k =
       quiet (record s { context = Some c }) t reply h e (subst (PartialOk roots) (sym f) h.partial)
-          (subst (λ p. ContextOk roots p t.context) (sym f) (subst (ContextOk roots s.partial) (sym i) h.context))
-          (subst (λ r. TriggerOk r t.context) (sym g) (subst (TriggerOk s.trigger) (sym i) (triggered s.trigger h.trigger)))
-          (λ u q. subst (λ p. Past roots p t.context t.trigger u) (sym f) (subst (λ r. Past roots s.partial t.context r u) (sym g)
-              (subst (λ o. Past roots s.partial o s.trigger u) (sym i) (q.0, q.1, (q.2.0, λ e. rises s.trigger (count_of u) (q.2.1 e))))))
-          (λ u id. subst (λ x. GivesIn x u id → ⊥) (sym j) (λ l. l))
-          (subst (OutsAre IsWellFormed) (sym k) tt)
-          (subst (λ x. OfSome (FlyOk (GivenTo (with_one x xs)) sites tried) x) (sym j) tt)
+      (subst (λ p. ContextOk roots p t.context) (sym f) (subst (ContextOk roots s.partial) (sym i) h.context))
+      (subst (λ r. TriggerOk r t.context) (sym g) (subst (TriggerOk s.trigger) (sym i) (triggered s.trigger h.trigger)))
+      (λ u q. subst (λ p. Past roots p t.context t.trigger u) (sym f) (subst (λ r. Past roots s.partial t.context r u) (sym g)
+      (subst (λ o. Past roots s.partial o s.trigger u) (sym i) (q.0, q.1, (q.2.0, λ e. rises s.trigger (count_of u) (q.2.1 e))))))
+      (λ u id. subst (λ x. GivesIn x u id → ⊥) (sym j) (λ l. l))
+      (subst (OutsAre IsWellFormed) (sym k) tt)
+      (subst (λ x. OfSome (FlyOk (GivenTo (with_one x xs)) sites tried) x) (sym j) tt)
     where
       rises : (tr : Option ℕ) (m : ℕ) → m < next_count tr c.nas.receive → m < next_count tr (count + 1)
       rises None m lt = omega arith
       rises (Some old) m lt = lt
+
       triggered : (tr : Option ℕ) → TriggerOk tr (Some c) → TriggerOk tr (Some (record c { nas = record c.nas { receive = count + 1 } }))
       triggered None k = tt
       triggered (Some old) k = omega arith
@@ -264,18 +272,24 @@ module _ (roots : ℕ) (xs : List (Outgoing Term ℕ)) (sites : List Site) (trie
   } where
     chain : ChainState Term ℕ
     chain = stepped (term_reading_by same) link.chain
+
     next_past : Past roots s.partial s.context s.trigger (Nh link.chain.root link.chain.sync)
     next_past = past_same roots s.partial s.context s.trigger link.chain.sync (Nh link.chain.root link.chain.sync) h.link.2 refl h.link.3
+
     moved : (u : Term) → Past roots s.partial s.context s.trigger u → Past roots t.partial t.context t.trigger u
     moved u q = subst (λ o. Past roots o t.context t.trigger u) (sym i) (subst (λ o. Past roots s.partial o t.trigger u) (sym j) (subst (λ o. Past roots s.partial s.context o u) (sym k) q))
+
     below : (u : Term) → AtMost (Some link) u → AtMost (Some (record new { chain = chain })) u
     below u q = (subst (λ n. root_number u ≤ n) (sym h.link.2) q.0, λ a. let r = q.1 (a ∙ h.link.2) in (r.0, λ b. rise (r.1 b))) where
       rise : chain_number u ≤ chain_number link.chain.sync → chain_number u ≤ suc (chain_number link.chain.sync)
       rise l = omega arith
+
     itself : AtMost (Some (record new { chain = chain })) (Nh link.chain.root link.chain.sync)
     itself = (omega arith, λ a. (omega arith, λ b. omega arith))
+
     at_most : (u : Term) → AtMost (Some (record new { chain = chain })) u → AtMost t.link u
     at_most u q = subst (λ o. AtMost o u) (sym g) (subst (λ c. AtMost (Some (record new { chain = c })) u) (sym e) q)
+
     by : (u : Term) (id : ℕ) → GivenTo xs u id ⊎ GivesIn (Some (pair_sent link target fields)) u id → Past roots t.partial t.context t.trigger u × AtMost t.link u
     by u id (inl q) = let r = h.given u id q in (moved u r.0, at_most u (below u r.1))
     by u id (inr q) = subst (λ v. Past roots t.partial t.context t.trigger v × AtMost t.link v) q.0 (moved _ next_past, at_most _ itself)
@@ -299,7 +313,7 @@ module _ (roots : ℕ) (xs : List (Outgoing Term ℕ)) (sites : List Site) (trie
         (path_switched (term_reading_by same) conn station number alarm (Some link) (record s { link = Some link })).1
         h refl refl refl refl refl refl;
     outs = ((h.link.0, h.link.1), tt);
-    sends = (step_may link station (PathSwitchAnswer conn number) h, tt);
+    sends = ((step_may link station (PathSwitchAnswer conn number) h, tt), tt);
     fresh = step_fresh link station (PathSwitchAnswer conn number) h;
   }
 
@@ -312,7 +326,7 @@ module _ (roots : ℕ) (xs : List (Outgoing Term ℕ)) (sites : List Site) (trie
         (handover_asked (term_reading_by same) conn source attempt cell target caps (Some link) (record s { link = Some link })).1
         h refl refl refl refl refl refl;
     outs = ((h.link.0, h.link.1), tt);
-    sends = (step_may link target (HandoverRequest conn source attempt cell caps) h, n);
+    sends = ((step_may link target (HandoverRequest conn source attempt cell caps) h, tt), n);
     fresh = step_fresh link target (HandoverRequest conn source attempt cell caps) h;
   }
 
@@ -320,7 +334,9 @@ module _ (roots : ℕ) (xs : List (Outgoing Term ℕ)) (sites : List Site) (trie
   notified_kept station None h = calm _ _ h (λ u id g. g) tt tt
   notified_kept station (Some link) h = record {
     ok = record { partial = h.partial; context = h.context; trigger = h.trigger; link = h.link; given = h.given };
-    outs = tt; sends = tt; fresh = λ u a b g k. k;
+    outs = tt;
+    sends = tt;
+    fresh = λ u a b g k. k;
   }
 
   pub record_kept : (row : CoreRecordRow) → RecordNeeds tried row → Before s → After (core_does_record (term_reading_by same) row s)
@@ -338,7 +354,7 @@ module _ (roots : ℕ) (xs : List (Outgoing Term ℕ)) (sites : List Site) (trie
   started_kept ksi algs caps count None h = calm _ _ h (λ u id g. g) tt tt
   started_kept ksi algs caps count (Some p) h =
       quiet (record s { partial = Some p }) _ _ h refl h.partial h.context h.trigger (λ u k. k) (λ u id g. g)
-          (root_derives p.root h.partial.0, (root_derives p.root h.partial.0, tt)) tt
+      (root_derives p.root h.partial.0, (root_derives p.root h.partial.0, tt)) tt
 
   -- a KeNB of the COUNT that triggered, which was given to nobody before
   set_up_kept : (conn : ℕ) (cell : Place) (target : ℕ) (caps : Caps) (count : ℕ) (o : Option (CoreContext Term)) → s.trigger ≡ Some count → Before (record s { context = o }) →
@@ -346,38 +362,48 @@ module _ (roots : ℕ) (xs : List (Outgoing Term ℕ)) (sites : List Site) (trie
   set_up_kept conn cell target caps count None e h = calm _ _ h (λ u id g. g) tt tt
   set_up_kept conn cell target caps count (Some c) e h = record {
     ok = record {
-      partial = h.partial; context = h.context; trigger = tt;
+      partial = h.partial;
+      context = h.context;
+      trigger = tt;
       link = (h.context.0, h.context.0, refl, kenb_past);
       given = λ u id q. by u id (given_split (Some sent) xs u id q);
     };
     outs = (h.context.0, tt);
-    sends = ((h.context.0, given_new (Some sent) xs (Kenb c.nas.root count) target (refl, refl)), tt);
+    sends = (((h.context.0, given_new (Some sent) xs (Kenb c.nas.root count) target (refl, refl)), tt), tt);
     fresh = λ t a b g k. not_below count ((before (Kenb c.nas.root count) a (subst (λ u. GivenTo xs u a) (sym k.0) g)).2.1 refl);
   } where
     sent : Outgoing Term ℕ
     sent = Between (StationS1 target) (InitialContext conn cell caps) (Some (record { key = Kenb c.nas.root count; number = 0 }))
+
     taken : count < c.nas.receive
     taken = subst (λ o. TriggerOk o (Some c)) e h.trigger
+
     kenb_past : Past roots s.partial (Some c) None (Kenb c.nas.root count)
     kenb_past = (h.context.1, below_partial_same s.partial c.nas.root (Kenb c.nas.root count) refl h.context.2, (omega arith, λ g. taken))
+
     before : (u : Term) (id : ℕ) → GivenTo xs u id → Past roots s.partial (Some c) (Some count) u
     before u id g = subst (λ o. Past roots s.partial (Some c) o u) e (h.given u id g).0
+
     rise : (n : ℕ) → n < count → n < c.nas.receive
     rise n lt = omega (arith, taken)
+
     less : (n : ℕ) → n < count → n ≤ count
     less n lt = omega arith
+
     apart : (n : ℕ) → n < count → n ≡ count → ⊥
     apart n lt e = omega arith
+
     by : (u : Term) (id : ℕ) → GivenTo xs u id ⊎ GivesIn (Some sent) u id →
         Past roots s.partial (Some c) None u × ((root_number u ≤ root_number c.nas.root) × (root_number u ≡ root_number c.nas.root →
-            (count_of u ≤ count) × (count_of u ≡ count → chain_number u ≤ 0)))
+        (count_of u ≤ count) × (count_of u ≡ count → chain_number u ≤ 0)))
     by u id (inl q) =
-        let k = before u id q in
-        ((k.0, k.1, (k.2.0, λ g. rise (count_of u) (k.2.1 g))),
-        (k.2.0, λ g. (less (count_of u) (k.2.1 g), λ i. absurd (apart (count_of u) (k.2.1 g) i))))
+        let k = before u id q in (
+          (k.0, k.1, (k.2.0, λ g. rise (count_of u) (k.2.1 g))),
+          (k.2.0, λ g. (less (count_of u) (k.2.1 g), λ i. absurd (apart (count_of u) (k.2.1 g) i))),
+        )
     by u id (inr q) =
         subst (λ v. Past roots s.partial (Some c) None v × ((root_number v ≤ root_number c.nas.root) × (root_number v ≡ root_number c.nas.root →
-            (count_of v ≤ count) × (count_of v ≡ count → chain_number v ≤ 0)))) q.0 (kenb_past, (omega arith, λ g. (omega arith, λ i. omega arith)))
+        (count_of v ≤ count) × (count_of v ≡ count → chain_number v ≤ 0)))) q.0 (kenb_past, (omega arith, λ g. (omega arith, λ i. omega arith)))
 
   nas_sent_kept : (count : ℕ) (text : List ℕ) (o : Option (CoreContext Term)) → Before (record s { context = o }) → After (nas_sent count text o (record s { context = o }))
   nas_sent_kept count text None h = calm _ _ h (λ u id g. g) tt tt
@@ -403,10 +429,15 @@ module _ (roots : ℕ) (xs : List (Outgoing Term ℕ)) (sites : List Site) (trie
   act_kept (ContextSetUp conn cell target caps count) n h = set_up_kept conn cell target caps count s.context n h
   act_kept (ContextReleased conn station) n h = record {
     ok = record {
-      partial = h.partial; context = h.context; trigger = h.trigger; link = tt;
+      partial = h.partial;
+      context = h.context;
+      trigger = h.trigger;
+      link = tt;
       given = still (Some (Between (StationS1 station) (ContextRelease conn) None)) (λ u. Past roots s.partial s.context s.trigger u × ⊤) (λ u id g. g) (λ u id g. ((h.given u id g).0, tt));
     };
-    outs = tt; sends = (tt, tt); fresh = λ u a b g k. k;
+    outs = tt;
+    sends = (tt, tt);
+    fresh = λ u a b g k. k;
   }
   act_kept (NasSent count text) n h = nas_sent_kept count text s.context h
   act_kept (NasSkipped m) n h = nas_skipped_kept m s.context h
@@ -425,13 +456,16 @@ auth_kept roots G s ksi caps root i e h = record {
 } where
   more : (n : ℕ) → n < roots → n < roots + 1
   more n lt = omega arith
+
   past : (t : Term) → Past roots s.partial s.context s.trigger t → (root_number t < roots + 1) × (root_number t < root_number root) × BelowContext s.context s.trigger t
   past t k = (more (root_number t) k.0, subst (λ n. root_number t < n) (sym e) k.0, k.2)
+
   context : (o : Option (CoreContext Term)) → ContextOk roots s.partial o → OfSome (λ c. IsRoot c.nas.root × (root_number c.nas.root < roots + 1) × (root_number c.nas.root < root_number root)) o
   context None k = tt
   context (Some c) k = (k.0, more (root_number c.nas.root) k.1, subst (λ n. root_number c.nas.root < n) (sym e) k.1)
+
   link : (o : Option (CoreLink Term ℕ)) → LinkOk roots s.partial s.context s.trigger o →
       OfSome (λ l. IsRoot l.chain.root × IsDerivationKey l.chain.sync × (root_number l.chain.root ≡ root_number l.chain.sync)
-          × ((root_number l.chain.sync < roots + 1) × (root_number l.chain.sync < root_number root) × BelowContext s.context s.trigger l.chain.sync)) o
+      × ((root_number l.chain.sync < roots + 1) × (root_number l.chain.sync < root_number root) × BelowContext s.context s.trigger l.chain.sync)) o
   link None k = tt
   link (Some l) k = (k.0, k.1, k.2, past l.chain.sync k.3)

@@ -1,5 +1,5 @@
 -- Which keys a station may have, and what the keys of each actor are.
-use Rattle.std.proofs.Common.{◌≡◌, refl, sym, ap, ◌∙◌, subst, ℕ, ◌+◌, ◌≤◌, ◌<◌, ◌⊎◌, inl, inr, List, [], ◌∷◌, ◌++◌, map, Option, Some, None, arith}
+use Rattle.std.proofs.Common.{◌≡◌, ℕ, ◌⊎◌, inl, inr, List, [], ◌∷◌, ◌++◌, map, Option, Some, None}
 use Rattle.std.specs.Prelude.{⊤}
 use Rattle.annex_a_keys.specs.Cell.{Place}
 use Rattle.lte_events.specs.declared.addresses.Address.{Address}
@@ -18,7 +18,7 @@ use Rattle.lte_machine.specs.StationChoice.{station_of}
 use Rattle.lte_machine.specs.World.{Holder, AtPhone, AtCore, AtStation, Holding, with_one, holds}
 use Rattle.lte_properties.specs.ChainBelow.{AllOf}
 use Rattle.lte_properties.specs.Separation.{AnyOf, Gives, GivenTo}
-use Rattle.lte_properties.proofs.ChainLists.{OfSome, all_append}
+use Rattle.lte_properties.proofs.ChainLists.{OfSome}
 
 -- ONE OF A LIST
 
@@ -251,10 +251,15 @@ abbrev pub IsKenb : Term → Type 0
 IsKenb (Kenb r n) = ⊤
 IsKenb other = ⊥
 
--- a record with a key goes to a station that may have it
+-- a KeNB* is for a cell of the station
+abbrev pub OwnCell : List Site → ℕ → Term → Type 0
+OwnCell sites id (Star t pci earfcn) = CellIs sites pci earfcn id
+OwnCell sites id other = ⊤
+
+-- a record with a key goes to a station that may have it, and with a KeNB* to the one of its cell
 abbrev pub KeyGoes : Gifts → List Site → Address → Term → Type 0
-KeyGoes G sites (StationS1 id) t = May G sites id t
-KeyGoes G sites (StationX2 id) t = May G sites id t
+KeyGoes G sites (StationS1 id) t = May G sites id t × OwnCell sites id t
+KeyGoes G sites (StationX2 id) t = May G sites id t × OwnCell sites id t
 KeyGoes G sites other t = ⊥
 
 -- a first context is under a KeNB, and a request of a handover is of an attempt
@@ -278,8 +283,8 @@ abbrev pub MadeFrom : Gifts → List (Tried Term ℕ) → Made Term ℕ → Opti
 MadeFrom G tried m None = IsKenb m.key
 MadeFrom G tried m (Some o) = AnyOf (λ e. (e.station ≡ o.source) × (e.attempt ≡ o.attempt) × MadeBy G m e.given) tried
 
-abbrev pub MadeOk : Gifts → List (Tried Term ℕ) → Made Term ℕ → Type 0
-MadeOk G tried m = MadeFrom G tried m m.from_attempt
+abbrev pub MadeOk : Gifts → List Site → List (Tried Term ℕ) → Made Term ℕ → Type 0
+MadeOk G sites tried m = MadeFrom G tried m m.from_attempt × OwnCell sites m.station m.key
 
 -- what somebody held is a key of Annex A; at a station one that it may have
 abbrev pub HolderMay : Gifts → List Site → Holder → Term → Type 0
@@ -331,8 +336,8 @@ module _ (G H : Gifts) (le : (t : Term) (a : ℕ) → G t a → H t a) (sites : 
   tried_ok_grows e h = pair_has_map (BaseGiven G e.station) (BaseGiven H e.station) (base_grows e.station) e.given h
 
   key_goes_grows : (to : Address) (t : Term) → KeyGoes G sites to t → KeyGoes H sites to t
-  key_goes_grows (StationS1 id) t h = may_grows G sites id H le t h
-  key_goes_grows (StationX2 id) t h = may_grows G sites id H le t h
+  key_goes_grows (StationS1 id) t h = (may_grows G sites id H le t h.0, h.1)
+  key_goes_grows (StationX2 id) t h = (may_grows G sites id H le t h.0, h.1)
   key_goes_grows (Phone station air bearer) t h = h
   key_goes_grows PhoneNas t h = h
   key_goes_grows CoreNas t h = h
@@ -375,5 +380,5 @@ module _ (G H : Gifts) (le : (t : Term) (a : ℕ) → G t a → H t a) (sites : 
         let Q = λ (e : Tried Term ℕ). (e.station ≡ o.source) × (e.attempt ≡ o.attempt) × MadeBy H m e.given in
         any_old Q one tried (any_map (λ e. (e.station ≡ o.source) × (e.attempt ≡ o.attempt) × MadeBy G m e.given) Q (λ e k. (k.0, k.1, made_by_grows m e.given k.2)) tried h)
 
-    pub made_ok_grows : (m : Made Term ℕ) → MadeOk G tried m → MadeOk H (with_one one tried) m
-    made_ok_grows m h = made_from_grows m m.from_attempt h
+    pub made_ok_grows : (m : Made Term ℕ) → MadeOk G sites tried m → MadeOk H sites (with_one one tried) m
+    made_ok_grows m h = (made_from_grows m m.from_attempt h.0, h.1)

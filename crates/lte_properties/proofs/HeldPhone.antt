@@ -1,5 +1,5 @@
 -- What each row of the phone keeps of its keys: they are keys of TS 33.401 Annex A, and the phone sends none.
-use Rattle.std.proofs.Common.{◌≡◌, refl, ℕ, zero, suc, Bool, List, [], ◌∷◌, ◌++◌, Option, Some, None}
+use Rattle.std.proofs.Common.{ℕ, zero, suc, Bool, List, Option, Some, None}
 use Rattle.std.specs.Prelude.{⊤}
 use Rattle.alg_choice.specs.declared.algs.Algs.{Algs}
 use Rattle.annex_a_keys.specs.Cell.{Place}
@@ -8,18 +8,17 @@ use Rattle.key_model.specs.Term.{Term, Root, Kenb, Nh, Star, Alg, IsRoot, IsDeri
 use Rattle.key_model.specs.Derivation.{Derivation}
 use Rattle.key_model.specs.Reading.{term_reading_by}
 use Rattle.key_model.specs.HandoverLines.{nh_after, key_after}
-use Rattle.nh_chain.specs.Chain.{ChainState, climbed, nhs_made}
+use Rattle.nh_chain.specs.Chain.{ChainState, nhs_made}
 use Rattle.nh_chain.specs.Reach.{phone_of, base_after}
 use Rattle.lte_machine.specs.Bearers.{Srb, Drb, Which}
 use Rattle.lte_machine.specs.Wire.{Outgoing, SealedNas, PlainNas, SealedRrc, UserPacket, Between}
 use Rattle.lte_machine.specs.Reply.{Reply, Tried}
 use Rattle.lte_events.specs.Site.{Site}
-use Rattle.lte_machine.specs.PhoneState.{Partial, NasContext, Waiting, Link, Radio, Idle, Connecting, Connected, Phone}
+use Rattle.lte_machine.specs.PhoneState.{Partial, NasContext, Radio, Idle, Connecting, Connected, Phone}
 use Rattle.lte_machine.specs.PhoneRows.{AuthRow, Authenticated, NasRow, NasRefused, RejectedPlain, RejectedUnder, ContextTaken, ContextTakenConnected, NasOpened, AirRow, AirRefused, LinkSecured, HandedOver, RrcOpened, PacketOpened, ActRow, ActRefused, ServiceRequested, CompleteResent, WentIdle, PacketSent, RrcSent, NasSent, NasLeftOut, BearerLeftOut, PhoneRow, OfAuth, OfNas, OfAir, OfAct}
 use Rattle.lte_machine.specs.PhoneKeys.{authenticated, auth_does, rejected_under, context_taken, context_taken_connected, nas_opened, nas_does, link_secured, handed_over, rrc_opened, packet_opened, air_does, service_requested, complete_resent, packet_sent, rrc_sent, nas_sent, nas_left_out, bearer_left_out, act_does, phone_does}
-use Rattle.lte_properties.specs.ChainBelow.{AllOf}
 use Rattle.lte_properties.proofs.ChainLists.{OfSome, all_append}
-use Rattle.lte_properties.proofs.HeldKeys.{Gifts, GivesIn, FlyOk, OutsAre}
+use Rattle.lte_properties.proofs.HeldKeys.{Gifts, FlyOk, OutsAre}
 
 pub root_derives : (t : Term) → IsRoot t → IsDerivationKey t
 root_derives (Root r octets) h = tt
@@ -38,7 +37,7 @@ nhs_made_well : (same : Term → Term → Bool) (root sync : Term) → IsRoot ro
 nhs_made_well same root sync h k zero = tt
 nhs_made_well same root sync h k (suc steps) =
     all_append (λ (d : Derivation Term). IsWellFormed d.out) (nhs_made (term_reading_by same) root sync steps) _ (nhs_made_well same root sync h k steps)
-        ((h, nh_after_derives same root sync h k steps), tt)
+    ((h, nh_after_derives same root sync h k steps), tt)
 
 star_derives : (same : Term → Term → Bool) (chain : ChainState Term ℕ) (active : Term) → IsRoot chain.root → IsDerivationKey chain.sync → IsDerivationKey active → (steps : ℕ) (cell : Place) →
     IsDerivationKey (key_after (term_reading_by same) (phone_of chain active) steps cell.pci cell.earfcn).key
@@ -145,7 +144,7 @@ module _ (same : Term → Term → Bool) (s : Phone Term ℕ) where
         ok = record { partial = h.partial; context = h.context; radio = (n.0, nh_after_derives same l.chain.root l.chain.sync n.0 n.1 steps, k) };
         outs = all_append (λ (d : Derivation Term). IsWellFormed d.out) _ _
             (all_append (λ (d : Derivation Term). IsWellFormed d.out) (nhs_made (term_reading_by same) l.chain.root l.chain.sync steps) _
-                (nhs_made_well same l.chain.root l.chain.sync n.0 n.1 steps) (base_derives same l.chain l.kenb n.0 n.1 n.2 steps, tt))
+            (nhs_made_well same l.chain.root l.chain.sync n.0 n.1 steps) (base_derives same l.chain l.kenb n.0 n.1 n.2 steps, tt))
             (k, (k, (k, tt)));
         keyless = tt;
       }

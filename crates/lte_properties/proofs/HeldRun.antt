@@ -1,30 +1,22 @@
 -- Separation and holding, in every world of every run.
-use Rattle.std.proofs.Common.{◌≡◌, refl, sym, ap, ◌∙◌, subst, ℕ, zero, suc, ◌⊎◌, inl, inr, Bool, List, [], ◌∷◌, Option, Some, None}
-use Rattle.std.specs.Prelude.{◌↔◌, ⊤}
+use Rattle.std.proofs.Common.{◌≡◌, refl, ◌∙◌, subst, ℕ, zero, suc, ◌⊎◌, inl, inr, List, Option, Some, None}
+use Rattle.std.specs.Prelude.{⊤}
 use Rattle.annex_a_keys.specs.Cell.{Place}
-use Rattle.lte_events.specs.declared.events.Event.{Event}
-use Rattle.lte_events.specs.declared.setups.Setup.{Setup}
 use Rattle.lte_events.specs.Site.{Site}
-use Rattle.key_model.specs.Term.{Term, Root, Kenb, Nh, Star, Alg, IsRoot, IsWellFormed}
+use Rattle.key_model.specs.Term.{Term, Root, Star, IsWellFormed}
 use Rattle.key_model.specs.Chain.{nh}
-use Rattle.key_model.specs.Derivable.{Derivable, HasNoRoot, ComesFrom}
+use Rattle.key_model.specs.Derivable.{Derivable, HasNoRoot}
 use Rattle.key_model.specs.HandoverTable.{NumberedKey}
 use Rattle.key_model.proofs.DerivableFacts.{star_held, derivable_is}
-use Rattle.s1x2_rec.specs.Fields.{Fields}
-use Rattle.lte_machine.specs.Wire.{KeyUse, Outgoing}
-use Rattle.lte_machine.specs.Ciphers.{Ciphers}
-use Rattle.lte_machine.specs.Opening.{Opening, Outcome}
+use Rattle.lte_machine.specs.Wire.{Outgoing}
 use Rattle.lte_machine.specs.Reply.{Origin, Made, Tried}
 use Rattle.lte_machine.specs.StationChoice.{station_of}
-use Rattle.lte_machine.specs.World.{World, Holder, AtPhone, AtCore, AtStation, Holding}
-use Rattle.lte_machine.specs.Machines.{machine_over}
-use Rattle.lte_machine.specs.Run.{first_world}
+use Rattle.lte_machine.specs.World.{World, Holder, AtPhone, AtCore, AtStation}
 use Rattle.lte_properties.specs.ChainBelow.{AllOf}
-use Rattle.lte_properties.specs.ChainHolds.{machine_by, run}
-use Rattle.lte_properties.specs.Separation.{AnyOf, IsStationOf, HeldBy, WasHeld, GivenTo, GivenOnce, NoRootHeld, HasNeither, Those, Separated, AllBut, OthersCannot, HoldingIs, AllWellFormed, Separates, GivenAt, FromAttempt}
+use Rattle.lte_properties.specs.Separation.{IsStationOf, HeldBy, GivenTo, HasNeither, Those, AllBut, AllWellFormed, Separates, GivenAt, FromAttempt}
 use Rattle.lte_properties.proofs.ChainLists.{all_map}
 use Rattle.lte_properties.proofs.HeldKeys.{any_with, any_out, Gifts, MayHold, may_hold_well, BaseGiven, TriedOk, MadeBy, MadeFrom, MadeOk, HolderMay, HoldOk}
-use Rattle.lte_properties.proofs.HeldWorld.{Holders, run_holds, first_holds}
+use Rattle.lte_properties.proofs.HeldWorld.{Holders}
 
 -- a key of a chain that a station may hold was given to it
 chain_given : (G : Gifts) (sites : List Site) (id : ℕ) (r : ℕ) (octets : List ℕ) (n i : ℕ) → MayHold G sites id (nh (Root r octets) n i) → G (nh (Root r octets) n i) id
@@ -59,7 +51,7 @@ module _ (sites : List Site) (w : World Term ℕ (Outgoing Term ℕ)) (h : Holde
   no_root among r octets k = held_may among (Root r octets) (λ id a o. o) k
 
   -- a set of stations that has neither the one to which the key was given nor the one of the cell cannot derive KeNB*
-  neither_derives : (among : ℕ → Type 0) (r : ℕ) (octets : List ℕ) (n i : ℕ) (cell : Place) → HasNeither sites w.sent among (nh (Root r octets) n i) cell →
+  pub neither_derives : (among : ℕ → Type 0) (r : ℕ) (octets : List ℕ) (n i : ℕ) (cell : Place) → HasNeither sites w.sent among (nh (Root r octets) n i) cell →
       Derivable (HeldBy among w.held) (Star (nh (Root r octets) n i) cell.pci cell.earfcn) → ⊥
   neither_derives among r octets n i cell f d =
       by ((star_held (HeldBy among w.held) (no_root among) (Root r octets) n i cell.pci cell.earfcn tt).0 d)
@@ -67,6 +59,7 @@ module _ (sites : List Site) (w : World Term ℕ (Outgoing Term ℕ)) (h : Holde
       known : (id : ℕ) → among id → G (nh (Root r octets) n i) id ⊎ (station_of cell sites ≡ Some id) → ⊥
       known id a (inl g) = f.0 id g a
       known id a (inr e) = f.1 id e a
+
       by : HeldBy among w.held (Star (nh (Root r octets) n i) cell.pci cell.earfcn) ⊎ HeldBy among w.held (nh (Root r octets) n i) → ⊥
       by (inl k) = held_may among (Star (nh (Root r octets) n i) cell.pci cell.earfcn) (λ id a o. known id a (star_given G sites id r octets n i cell o)) k
       by (inr k) = held_may among (nh (Root r octets) n i) (λ id a o. f.0 id (chain_given G sites id r octets n i o) a) k
@@ -97,7 +90,7 @@ module _ (sites : List Site) (w : World Term ℕ (Outgoing Term ℕ)) (h : Holde
       base_given_is G m.station r octets n i pci earfcn (subst (BaseGiven G m.station) is b)
   given_at m e source s (Some star) g k b r octets n i pci earfcn is =
       base_given_is G source r octets n i pci earfcn (subst (λ u. BaseGiven G source u) (b ∙ is)
-          (subst (λ a. BaseGiven G a star.key) s (subst (OfGiven e.station) g k)))
+      (subst (λ a. BaseGiven G a star.key) s (subst (OfGiven e.station) g k)))
     where
       OfGiven : ℕ → Option (NumberedKey Term ℕ) → Type 0
       OfGiven a None = ⊤
@@ -107,35 +100,8 @@ module _ (sites : List Site) (w : World Term ℕ (Outgoing Term ℕ)) (h : Holde
   from_attempt m None k = tt
   from_attempt m (Some o) k = λ r octets n i pci earfcn is.
       any_with (TriedOk G) (λ e. (e.station ≡ o.source) × (e.attempt ≡ o.attempt) × MadeBy G m e.given)
-          (λ e. (e.station ≡ o.source) × (e.attempt ≡ o.attempt) × GivenAt w.sent (nh (Root r octets) n i) o.source m.station e.given)
-          (λ e t q. (q.0, q.1, given_at m e o.source q.0 e.given refl t q.2 r octets n i pci earfcn is)) w.tried h.tried k
+      (λ e. (e.station ≡ o.source) × (e.attempt ≡ o.attempt) × GivenAt w.sent (nh (Root r octets) n i) o.source m.station e.given)
+      (λ e t q. (q.0, q.1, given_at m e o.source q.0 e.given refl t q.2 r octets n i pci earfcn is)) w.tried h.tried k
 
   pub made_from : AllOf (λ m. FromAttempt w m m.from_attempt) w.made
-  made_from = all_map (MadeOk G w.tried) (λ m. FromAttempt w m m.from_attempt) (λ m k. from_attempt m m.from_attempt k) w.made h.made
-
--- EVERY RUN
-
-module _ (same : Term → Term → Bool) (octets : Outgoing Term ℕ → List ℕ) (sender : Option (Outgoing Term ℕ) → Option (KeyUse Term)) (opener : Opening Term → List ℕ → Option (Outgoing Term ℕ) → Outcome) (setup : Setup) (es : List Event) where
-  abbrev last_world : World Term ℕ (Outgoing Term ℕ)
-  last_world = run (machine_by same Root octets sender opener) (first_world setup) es
-
-  pub run_holders : Holders setup.cells last_world
-  run_holders = run_holds setup.cells same octets sender opener (first_world setup) es (first_holds setup)
-
-  -- of every setup and every list of events, with any opener
-  pub run_separates : Separates setup.cells last_world
-  run_separates = separates setup.cells last_world run_holders
-
-  pub run_made_from : AllOf (λ m. FromAttempt last_world m m.from_attempt) last_world.made
-  run_made_from = made_from setup.cells last_world run_holders
-
--- of the written machine
-pub written_separates : (same : Term → Term → Bool) (c : Ciphers Term) (between : Fields → Option (NumberedKey Term ℕ) → List ℕ) (setup : Setup) (es : List Event) →
-    Separates setup.cells (run (machine_over same c between) (first_world setup) es)
-written_separates same c between setup es =
-    let m = machine_over same c between in run_separates same m.octets m.sender m.opener setup es
-
-pub written_made_from : (same : Term → Term → Bool) (c : Ciphers Term) (between : Fields → Option (NumberedKey Term ℕ) → List ℕ) (setup : Setup) (es : List Event) →
-    AllOf (λ m. FromAttempt (run (machine_over same c between) (first_world setup) es) m m.from_attempt) (run (machine_over same c between) (first_world setup) es).made
-written_made_from same c between setup es =
-    let m = machine_over same c between in run_made_from same m.octets m.sender m.opener setup es
+  made_from = all_map (MadeOk G sites w.tried) (λ m. FromAttempt w m m.from_attempt) (λ m k. from_attempt m m.from_attempt k.0) w.made h.made

@@ -1,6 +1,6 @@
 -- What each row of a station keeps of the keys that it may have.
-use Rattle.std.proofs.Common.{◌≡◌, refl, sym, subst, ℕ, ◌+◌, List, [], ◌∷◌, ◌++◌, Option, Some, None, option_map}
-use Rattle.std.specs.Prelude.{not, filter, nat_le, Bool, ⊤}
+use Rattle.std.proofs.Common.{◌≡◌, refl, sym, subst, ℕ, List, [], Option, Some, None, option_map}
+use Rattle.std.specs.Prelude.{not, nat_le, Bool, ⊤}
 use Rattle.alg_choice.specs.declared.algs.Algs.{Algs}
 use Rattle.alg_choice.specs.declared.caps.Caps.{Caps}
 use Rattle.annex_a_keys.specs.Cell.{Place}
@@ -12,7 +12,7 @@ use Rattle.key_model.specs.HandoverTable.{NumberedKey}
 use Rattle.nh_chain.specs.Station.{StationKey, pair_after, restored_if, base_of, opened}
 use Rattle.ho_prep.specs.Prep.{Prep, at_air, drop_below, without, is_of, is_at}
 use Rattle.x2_handover.specs.declared.orders.Order.{Order}
-use Rattle.lte_machine.specs.Bearers.{Srb, Drb, Which}
+use Rattle.lte_machine.specs.Bearers.{Srb, Drb}
 use Rattle.lte_machine.specs.Wire.{Outgoing}
 use Rattle.lte_machine.specs.Reply.{Origin, Made, Tried, Reply}
 use Rattle.lte_machine.specs.StationState.{Station, Context, Attempt, OverX2, OverS1, Within, X2Open, X2Ready, X2Commanded, S1Open, S1Ready, S1Commanded}
@@ -20,10 +20,8 @@ use Rattle.lte_machine.specs.StationRows.{Wanted, RecordRow, RecordRefused, Cont
 use Rattle.lte_machine.specs.StationChoice.{station_of}
 use Rattle.lte_machine.specs.StationKeys.{spent_in, s1_acked, x2_acked, commanded, given_up, with_pair, with_s1_ack, with_x2_ack, with_security, with_rrc_taken, with_packet_taken, with_left_out, source_release, wanted_made, context_given, pair_taken, prepared_by_s1, prepared_by_x2, completed_by_s1, completed_within, completed_by_x2, started_by_x2, started_by_s1, started_within, commands, asks_again, sends_packet, sends_rrc, record_does, air_does, act_does, station_does}
 use Rattle.lte_machine.specs.World.{with_one}
-use Rattle.lte_properties.specs.ChainBelow.{AllOf}
-use Rattle.lte_properties.specs.Separation.{AnyOf}
 use Rattle.lte_properties.proofs.ChainLists.{OfSome, all_append, all_filter, all_find}
-use Rattle.lte_properties.proofs.HeldKeys.{any_map, any_new, GivesIn, Gifts, May, MayHold, may_hold, may_star, may_go, OfPairKey, ContextHas, PrepHas, StationHas, BaseGiven, TriedOk, HasTried, IsKenb, FlyOk, MadeBy, MadeOk, OutsAre}
+use Rattle.lte_properties.proofs.HeldKeys.{any_map, any_new, GivesIn, Gifts, May, MayHold, may_star, may_go, OfPairKey, ContextHas, PrepHas, StationHas, BaseGiven, TriedOk, HasTried, IsKenb, OwnCell, FlyOk, MadeBy, MadeOk, OutsAre}
 
 -- CONTEXTS
 
@@ -88,26 +86,29 @@ pub record StationKept (G : Gifts) (sites : List Site) (tried : List (Tried Term
   pub sends : OfSome (FlyOk G sites (with_one one tried)) sent
   pub gives : (u : Term) (a : ℕ) → GivesIn sent u a → ⊥
   pub tries : OfSome (TriedOk G) one
-  pub makes : OfSome (MadeOk G (with_one one tried)) made
+  pub makes : OfSome (MadeOk G sites (with_one one tried)) made
 
 -- what a row needs of the key of the record that it read
 abbrev pub RecordNeeds : Gifts → List Site → List (Tried Term ℕ) → ℕ → RecordRow → NumberedKey Term ℕ → Type 0
 RecordNeeds G sites tried id (ContextGiven conn cell caps algs air) key = May G sites id key.key × IsKenb key.key
 RecordNeeds G sites tried id (PairTaken conn origin) key = May G sites id key.key
-RecordNeeds G sites tried id (PreparedByS1 w) key = May G sites id key.key × HasTried tried w.from.source w.from.attempt None
-RecordNeeds G sites tried id (PreparedByX2 w) key = May G sites id key.key × HasTried tried w.from.source w.from.attempt (Some key)
+RecordNeeds G sites tried id (PreparedByS1 w) key =
+    May G sites id key.key × HasTried tried w.from.source w.from.attempt None × (station_of w.cell sites ≡ Some id)
+RecordNeeds G sites tried id (PreparedByX2 w) key =
+    May G sites id key.key × HasTried tried w.from.source w.from.attempt (Some key) × OwnCell sites id key.key
 RecordNeeds G sites tried id other key = ⊤
 
 -- and of its choice: KeNB* goes to the station of its cell
-abbrev pub ActNeeds : List Site → ActRow → Type 0
-ActNeeds sites (StartedByX2 number target cell) = station_of cell sites ≡ Some target
-ActNeeds sites other = ⊤
+abbrev pub ActNeeds : List Site → ℕ → ActRow → Type 0
+ActNeeds sites id (StartedByX2 number target cell) = station_of cell sites ≡ Some target
+ActNeeds sites id (StartedWithin number air cell) = station_of cell sites ≡ Some id
+ActNeeds sites id other = ⊤
 
 abbrev pub RowNeeds : Gifts → List Site → List (Tried Term ℕ) → ℕ → StationRow → Option (NumberedKey Term ℕ) → Type 0
 RowNeeds G sites tried id (OfRecord row) None = ⊤
 RowNeeds G sites tried id (OfRecord row) (Some key) = RecordNeeds G sites tried id row key
 RowNeeds G sites tried id (OfAir row) key = ⊤
-RowNeeds G sites tried id (OfAct row) key = ActNeeds sites row
+RowNeeds G sites tried id (OfAct row) key = ActNeeds sites id row
 
 -- the key from which KeNB* comes was given to the station that has it
 base_given : (G : Gifts) (sites : List Site) (id : ℕ) (t : Term) (pci earfcn : ℕ) → May G sites id t → BaseGiven G id (Star t pci earfcn)
@@ -128,7 +129,14 @@ module _ (G : Gifts) (sites : List Site) (tried : List (Tried Term ℕ)) (same :
   calm : (t : Station Term ℕ) (x : Option (Outgoing Term ℕ)) → t.id ≡ s.id → t.cells ≡ s.cells → OfSome (FlyOk G sites tried) x →
       ((u : Term) (a : ℕ) → GivesIn x u a → ⊥) → StationHas P t → StationKept G sites tried s.id t x [] None None
   calm t x e f k g h = record {
-    same = e; cells = subst (λ l. l ≡ sites) (sym f) cells; keys = h; outs = tt; sends = k; gives = g; tries = tt; makes = tt;
+    same = e;
+    cells = subst (λ l. l ≡ sites) (sym f) cells;
+    keys = h;
+    outs = tt;
+    sends = k;
+    gives = g;
+    tries = tt;
+    makes = tt;
   }
 
   quiet : (t : Station Term ℕ) → t.id ≡ s.id → t.cells ≡ s.cells → StationHas P t → StationKept G sites tried s.id t None [] None None
@@ -141,14 +149,25 @@ module _ (G : Gifts) (sites : List Site) (tried : List (Tried Term ℕ)) (same :
 
   -- BY A RECORD
 
+  kenb_own : (t : Term) → IsKenb t → OwnCell sites s.id t
+  kenb_own (Root r octets) k = tt
+  kenb_own (Kenb r n) k = tt
+  kenb_own (Nh r t) k = tt
+  kenb_own (Star t pci earfcn) k = absurd k
+  kenb_own (Alg t type i) k = tt
+
   given_kept : (conn : ℕ) (cell : Place) (caps : Caps) (algs : Algs) (air : ℕ) (key : Option (NumberedKey Term ℕ)) →
       RowNeeds G sites tried s.id (OfRecord (ContextGiven conn cell caps algs air)) key → StationHas P s → After (context_given (term_reading_by same) conn cell caps algs air key s)
   given_kept conn cell caps algs air None n h = quiet s refl refl h
   given_kept conn cell caps algs air (Some key) n h = record {
-    same = refl; cells = cells;
+    same = refl;
+    cells = cells;
     keys = record { context = (n.0, tt, tt); preps = tt };
     outs = (n.0, (n.0, (n.0, tt)));
-    sends = tt; gives = λ u a g. g; tries = tt; makes = n.1;
+    sends = tt;
+    gives = λ u a g. g;
+    tries = tt;
+    makes = (n.1, kenb_own key.key n.1);
   }
 
   released_gives : (conn : ℕ) (o : Option Origin) (u : Term) (a : ℕ) → GivesIn (source_release conn o) u a → ⊥
@@ -164,7 +183,7 @@ module _ (G : Gifts) (sites : List Site) (tried : List (Tried Term ℕ)) (same :
   taken_kept conn origin None n h = quiet s refl refl h
   taken_kept conn origin (Some pair) n h =
       calm (record s { context = option_map (with_pair pair) s.context }) (source_release conn origin) refl refl (released_flies conn origin) (released_gives conn origin)
-          (record { context = context_map_has P (with_pair pair) (λ c k. (k.0, n, k.2)) s.context h.context; preps = h.preps })
+      (record { context = context_map_has P (with_pair pair) (λ c k. (k.0, n, k.2)) s.context h.context; preps = h.preps })
 
   -- what a preparation was made of
   abbrev WantedBy : Wanted → NumberedKey Term ℕ → Option (NumberedKey Term ℕ) → Type 0
@@ -175,30 +194,44 @@ module _ (G : Gifts) (sites : List Site) (tried : List (Tried Term ℕ)) (same :
   prepared_s1_kept w None n h = quiet s refl refl h
   prepared_s1_kept w (Some key) n h =
       let k = may_star G sites s.id key.key w.cell.pci w.cell.earfcn n.0 in record {
-        same = refl; cells = cells;
+        same = refl;
+        cells = cells;
         keys = record {
           context = h.context;
           preps = all_append (PrepHas P) (drop_below w.conn s.preps) _ (all_filter (PrepHas P) (λ p. nat_le w.conn p.conn) s.preps h.preps) ((k, tt), tt);
         };
         outs = (k, (k, (k, (k, tt))));
-        sends = (tt, tt); gives = λ u a g. g; tries = tt;
-        makes = any_map (λ e. (e.station ≡ w.from.source) × (e.attempt ≡ w.from.attempt) × (e.given ≡ None)) _
-            (λ e q. (q.0, q.1, subst (WantedBy w (record { key = Star key.key w.cell.pci w.cell.earfcn; number = key.number })) (sym q.2) (base_given G sites s.id key.key w.cell.pci w.cell.earfcn n.0))) tried n.1;
+        sends = (tt, tt);
+        gives = λ u a g. g;
+        tries = tt;
+        makes = (
+          any_map (λ e. (e.station ≡ w.from.source) × (e.attempt ≡ w.from.attempt) × (e.given ≡ None)) _
+              (λ e q. (q.0, q.1, subst (WantedBy w (record { key = Star key.key w.cell.pci w.cell.earfcn; number = key.number })) (sym q.2) (base_given G sites s.id key.key w.cell.pci w.cell.earfcn n.0))) tried n.1,
+          n.2,
+        );
       }
+
   prepared_x2_kept : (w : Wanted) (key : Option (NumberedKey Term ℕ)) →
       RowNeeds G sites tried s.id (OfRecord (PreparedByX2 w)) key → StationHas P s → After (prepared_by_x2 (term_reading_by same) w key s)
   prepared_x2_kept w None n h = quiet s refl refl h
   prepared_x2_kept w (Some key) n h = record {
-        same = refl; cells = cells;
-        keys = record {
-          context = h.context;
-          preps = all_append (PrepHas P) (drop_below w.conn s.preps) _ (all_filter (PrepHas P) (λ p. nat_le w.conn p.conn) s.preps h.preps) ((n.0, tt), tt);
-        };
-        outs = (n.0, (n.0, (n.0, tt)));
-        sends = (tt, tt); gives = λ u a g. g; tries = tt;
-        makes = any_map (λ e. (e.station ≡ w.from.source) × (e.attempt ≡ w.from.attempt) × (e.given ≡ Some key)) _
-            (λ e q. (q.0, q.1, subst (WantedBy w key) (sym q.2) refl)) tried n.1;
-      }
+    same = refl;
+    cells = cells;
+    keys = record {
+      context = h.context;
+      preps = all_append (PrepHas P) (drop_below w.conn s.preps) _ (all_filter (PrepHas P) (λ p. nat_le w.conn p.conn) s.preps h.preps) ((n.0, tt), tt);
+    };
+    outs = (n.0, (n.0, (n.0, tt)));
+    sends = (tt, tt);
+    gives = λ u a g. g;
+    tries = tt;
+    makes = (
+      any_map (λ e. (e.station ≡ w.from.source) × (e.attempt ≡ w.from.attempt) × (e.given ≡ Some key)) _
+          (λ e q. (q.0, q.1, subst (WantedBy w key) (sym q.2) refl)) tried n.1,
+      n.2,
+    );
+  }
+
   record_kept : (row : RecordRow) (key : Option (NumberedKey Term ℕ)) → RowNeeds G sites tried s.id (OfRecord row) key → StationHas P s →
       After (record_does (term_reading_by same) row key s)
   record_kept (RecordRefused answer) key n h = quiet s refl refl h
@@ -211,7 +244,7 @@ module _ (G : Gifts) (sites : List Site) (tried : List (Tried Term ℕ)) (same :
   record_kept (AckedByX2 algs air) key n h = mapped (with_x2_ack algs air) (λ c k. (k.0, k.1, x2_acked_spent P algs air c.attempt k.2)) h
   record_kept (PreparationCancelled from) key n h =
       quiet (record s { preps = without from.source from.attempt s.preps }) refl refl
-          (record { context = h.context; preps = all_filter (PrepHas P) (λ p. not (is_of from.source from.attempt p)) s.preps h.preps })
+      (record { context = h.context; preps = all_filter (PrepHas P) (λ p. not (is_of from.source from.attempt p)) s.preps h.preps })
   record_kept SourceReleased key n h = quiet (record s { context = None }) refl refl (record { context = tt; preps = h.preps })
 
   -- BY A PDU
@@ -254,11 +287,14 @@ module _ (G : Gifts) (sites : List Site) (tried : List (Tried Term ℕ)) (same :
   started_x2_kept number target cell (Some context) e c h =
       let base = base_of context.key.pair context.key.kenb context.key.number in
       let b = base_has P context.key.pair context.key.kenb context.key.number c.0 c.1 in record {
-        same = refl; cells = cells;
+        same = refl;
+        cells = cells;
         keys = record { context = (c.0, tt, c.1); preps = h.preps };
         outs = (may_star G sites s.id base.key cell.pci cell.earfcn b, tt);
-        sends = (may_go G sites s.id base.key cell target e b,
-            any_new (λ t. (t.station ≡ s.id) × (t.attempt ≡ number) × (t.given ≡ Some (opened (term_reading_by same) context.key cell).star)) _ tried (refl, refl, refl));
+        sends = (
+          (may_go G sites s.id base.key cell target e b, e),
+          any_new (λ t. (t.station ≡ s.id) × (t.attempt ≡ number) × (t.given ≡ Some (opened (term_reading_by same) context.key cell).star)) _ tried (refl, refl, refl),
+        );
         gives = λ u a g. g;
         tries = base_given G sites s.id base.key cell.pci cell.earfcn b;
         makes = tt;
@@ -267,26 +303,31 @@ module _ (G : Gifts) (sites : List Site) (tried : List (Tried Term ℕ)) (same :
   started_s1_kept : (number target : ℕ) (cell : Place) (o : Option (Context Term ℕ)) → Has o → StationHas P s → After (started_by_s1 number target cell o s)
   started_s1_kept number target cell None c h = quiet s refl refl h
   started_s1_kept number target cell (Some context) c h = record {
-    same = refl; cells = cells;
+    same = refl;
+    cells = cells;
     keys = record { context = (c.0, c.1, tt); preps = h.preps };
     outs = tt;
     sends = (tt, any_new (λ t. (t.station ≡ s.id) × (t.attempt ≡ number) × (t.given ≡ None)) _ tried (refl, refl, refl));
-    gives = λ u a g. g; tries = tt; makes = tt;
+    gives = λ u a g. g;
+    tries = tt;
+    makes = tt;
   }
 
-  started_within_kept : (number air : ℕ) (cell : Place) (o : Option (Context Term ℕ)) → Has o → StationHas P s → After (started_within (term_reading_by same) number air cell o s)
-  started_within_kept number air cell None c h = quiet s refl refl h
-  started_within_kept number air cell (Some context) c h =
+  started_within_kept : (number air : ℕ) (cell : Place) (o : Option (Context Term ℕ)) → station_of cell sites ≡ Some s.id → Has o → StationHas P s → After (started_within (term_reading_by same) number air cell o s)
+  started_within_kept number air cell None e c h = quiet s refl refl h
+  started_within_kept number air cell (Some context) e c h =
       let base = base_of context.key.pair context.key.kenb context.key.number in
       let b = base_has P context.key.pair context.key.kenb context.key.number c.0 c.1 in
       let k = may_star G sites s.id base.key cell.pci cell.earfcn b in
       let made : Made Term ℕ = record { station = s.id; air = air; conn = context.conn; cell = cell; key = Star base.key cell.pci cell.earfcn; number = base.number; algs = context.algs; from_attempt = Some (record { source = s.id; attempt = number }) } in record {
-        same = refl; cells = cells;
+        same = refl;
+        cells = cells;
         keys = record { context = (c.0, tt, c.1); preps = all_append (PrepHas P) s.preps _ h.preps ((k, tt), tt) };
         outs = (k, (k, (k, (k, tt))));
-        sends = tt; gives = λ u a g. g;
+        sends = tt;
+        gives = λ u a g. g;
         tries = base_given G sites s.id base.key cell.pci cell.earfcn b;
-        makes = any_new (λ e. (e.station ≡ s.id) × (e.attempt ≡ number) × MadeBy G made e.given) _ tried (refl, refl, refl);
+        makes = (any_new (λ e. (e.station ≡ s.id) × (e.attempt ≡ number) × MadeBy G made e.given) _ tried (refl, refl, refl), e);
       }
 
   commands_kept : (order : Order) (count : ℕ) (o : Option (Context Term ℕ)) → Has o → StationHas P s → After (commands order count o s)
@@ -305,11 +346,11 @@ module _ (G : Gifts) (sites : List Site) (tried : List (Tried Term ℕ)) (same :
   rrc_kept srb count text None c h = quiet s refl refl h
   rrc_kept srb count text (Some context) c h = calm _ _ refl refl tt (λ u a g. g) (record { context = c; preps = h.preps })
 
-  act_kept : (row : ActRow) → ActNeeds sites row → StationHas P s → After (act_does (term_reading_by same) row s)
+  act_kept : (row : ActRow) → ActNeeds sites s.id row → StationHas P s → After (act_does (term_reading_by same) row s)
   act_kept (ActRefused answer) n h = quiet s refl refl h
   act_kept (StartedByX2 number target cell) n h = started_x2_kept number target cell s.context n h.context h
   act_kept (StartedByS1 number target cell) n h = started_s1_kept number target cell s.context h.context h
-  act_kept (StartedWithin number air cell) n h = started_within_kept number air cell s.context h.context h
+  act_kept (StartedWithin number air cell) n h = started_within_kept number air cell s.context n h.context h
   act_kept (Commands order count) n h = commands_kept order count s.context h.context h
   act_kept (CancelledByX2 conn number target) n h =
       calm _ _ refl refl (tt, tt) (λ u a g. g) (record { context = context_map_has P given_up (given_up_has P) s.context h.context; preps = h.preps })

@@ -1,7 +1,7 @@
 -- Which keys are held and given, in every world of every run.
-use Rattle.std.proofs.Common.{◌≡◌, refl, sym, ap, ◌∙◌, subst, ℕ, suc, ◌+◌, ◌-◌, ◌<◌, ◌⊎◌, inl, inr, ◌==◌, nat_lt, Bool, true, false, ℤ, pos, negsuc, List, [], ◌∷◌, ◌++◌, length, map, filter, Option, Some, None, option_map, Result, Ok, Err, arith}
+use Rattle.std.proofs.Common.{◌≡◌, refl, sym, ap, ◌∙◌, subst, ℕ, suc, ◌+◌, ◌-◌, ◌⊎◌, inl, inr, ◌==◌, nat_lt, Bool, true, false, ℤ, pos, negsuc, List, [], ◌∷◌, ◌++◌, length, map, filter, Option, Some, None, option_map, Result, Err, arith}
 use Rattle.std.proofs.lemmas.Bool.Decides.{nat_tests}
-use Rattle.std.specs.Prelude.{find, slice_get, ⊤}
+use Rattle.std.specs.Prelude.{⊤}
 use Rattle.std.specs.List.{position_from}
 use Rattle.alg_choice.specs.declared.caps.Caps.{Caps}
 use Rattle.rec_base.specs.declared.faults.RecFault.{RecFault}
@@ -20,42 +20,42 @@ use Rattle.key_model.specs.Term.{Term, Root, IsRoot, IsWellFormed}
 use Rattle.key_model.specs.Derivation.{Derivation}
 use Rattle.key_model.specs.HandoverTable.{NumberedKey}
 use Rattle.key_model.specs.Reading.{term_reading_by}
-use Rattle.s1x2_rec.specs.Fields.{Fields, InitialContext, HandoverRequired, HandoverRequest, X2Request}
-use Rattle.s1x2_rec.specs.Content.{Content}
+use Rattle.s1x2_rec.specs.Fields.{Fields}
+use Rattle.s1x2_rec.specs.Content.{Content, map_content}
 use Rattle.lte_machine.specs.Bearers.{which}
 use Rattle.lte_machine.specs.Ladder.{RowOrigin, OfRoot, Of}
 use Rattle.lte_machine.specs.Wire.{KeyUse, Outgoing, SealedNas, PlainNas, SealedRrc, UserPacket, Between, address_of}
 use Rattle.lte_machine.specs.Opening.{Opening, Outcome, Opened}
 use Rattle.lte_machine.specs.Reply.{Made, Tried, Reply, unseen}
-use Rattle.lte_machine.specs.PhoneState.{Phone as PhoneState, PhoneInput, PhoneAuth, PhoneActs, PhoneNasPdu, PhoneAirPdu}
+use Rattle.lte_machine.specs.PhoneState.{Phone as PhoneState, PhoneInput, PhoneActs, PhoneNasPdu, PhoneAirPdu}
 use Rattle.lte_machine.specs.PhoneChoice.{phone_row}
 use Rattle.lte_machine.specs.PhoneRows.{Authenticated, OfAuth}
 use Rattle.lte_machine.specs.PhoneStep.{plain_phone, front_of, phone_root, phone_opens, phone_pdu_in, phone_step}
 use Rattle.lte_machine.specs.StationState.{Station, StationInput, StationActs, AirPdu, StationRecord, Interface, OnS1, OnX2, map_read}
-use Rattle.lte_machine.specs.StationRows.{RecordRow, RecordRefused, ContextGiven, ContextReleased, PairTaken, PreparedByS1, PreparedByX2, AckedByS1, AckedByX2, PreparationCancelled, SourceReleased, StationRow, OfRecord, OfAir, OfAct}
-use Rattle.lte_machine.specs.StationChoice.{record_row, air_front, air_row, act_row}
-use Rattle.lte_machine.specs.StationStep.{plain_station, key_read, station_key, station_opens, station_pdu_in, station_row_of, station_step}
+use Rattle.lte_machine.specs.StationRows.{RecordRow, RecordRefused, ContextGiven, ContextReleased, PairTaken, PreparedByS1, PreparedByX2, AckedByS1, AckedByX2, PreparationCancelled, SourceReleased, OfRecord, OfAir, OfAct}
+use Rattle.lte_machine.specs.StationChoice.{station_of, record_row, air_front, air_row, act_row}
+use Rattle.lte_machine.specs.StationStep.{plain_station, station_opens, station_pdu_in, station_step}
 use Rattle.lte_machine.specs.CoreState.{Core, CoreContext, CoreInput, CoreAuth, CoreActs, CoreNasPdu, CoreRecord, map_core_context}
 use Rattle.lte_machine.specs.CoreRows.{CoreNasRow, NasRefused, PlainReject, SmcComplete, ServiceAsked, NasOpened, SealedReject, CoreRecordRow, PathSwitched, HandoverAsked, HandoverOrdered, HandoverNotified, HandoverCancelled, CoreActRow, ActRefused, SmcStarted, ContextSetUp, NasSent, NasSkipped}
 use Rattle.lte_machine.specs.CoreRows as core_rows
 use Rattle.lte_machine.specs.CoreChoice.{core_header, core_nas_front, core_nas_row, core_record_row, core_act_row}
 use Rattle.lte_machine.specs.CoreStep.{plain_core, core_opens, core_pdu_in, core_received, core_step}
-use Rattle.lte_machine.specs.World.{Machine, World, Holder, AtPhone, AtCore, AtStation, Holding, with_one, holds, phone_after, core_after, put_station, station_after, by_world, phone_turn, core_turn, station_of_id, turn_of, station_turn, authenticated, auth_unless, is_root_row, known_root, next_root, content_in, arrives, newest_if, chosen, delivered, class_of, is_sent, injected, happens}
+use Rattle.lte_machine.specs.World.{Machine, World, AtPhone, AtCore, AtStation, Holding, with_one, phone_after, core_after, station_after, by_world, phone_turn, core_turn, station_of_id, turn_of, station_turn, authenticated, auth_unless, is_root_row, known_root, next_root, content_in, arrives, newest_if, chosen, delivered, class_of, is_sent, injected, happens}
 use Rattle.lte_machine.specs.Machines.{content_of}
 use Rattle.lte_machine.specs.Run.{stations_of, first_world}
 use Rattle.lte_properties.specs.ChainBelow.{AllOf}
 use Rattle.lte_properties.specs.ChainHolds.{machine_by, run}
 use Rattle.lte_properties.specs.ChainRows.{RecordFits, CoreFits}
-use Rattle.lte_properties.specs.Separation.{AnyOf, Gives, GivenTo}
+use Rattle.lte_properties.specs.Separation.{Gives, GivenTo}
 use Rattle.lte_properties.proofs.ChainChoice.{record_row_fits}
 use Rattle.lte_properties.proofs.ChainLists.{OfSome, all_append, all_one, all_find, all_get, all_map, all_put}
 use Rattle.lte_properties.proofs.ChainCore.{core_record_fits}
-use Rattle.lte_properties.proofs.HeldKeys.{Gifts, GivesIn, given_old, given_split, May, MayHold, may_hold, may_derives, derives_well, StationHas, StationOk, TriedOk, HasTried, KeyGoes, FieldsOk, FlyOk, MadeOk, HolderMay, HoldOk, OutsAre, step_held, holder_may_grows, station_ok_grows, tried_ok_grows, fly_grows, made_ok_grows}
-use Rattle.lte_properties.proofs.HeldStation.{StationKept, RecordNeeds, RowNeeds, station_kept}
+use Rattle.lte_properties.proofs.HeldKeys.{Gifts, GivesIn, given_old, given_split, May, MayHold, may_hold, StationHas, StationOk, OwnCell, TriedOk, KeyGoes, FieldsOk, FlyOk, MadeOk, HoldOk, OutsAre, step_held, holder_may_grows, station_ok_grows, tried_ok_grows, fly_grows, made_ok_grows}
+use Rattle.lte_properties.proofs.HeldStation.{StationKept, RecordNeeds, station_kept}
 use Rattle.lte_properties.proofs.HeldPhone.{PhoneOk, PhoneKept, Keyless, keyless_flies, phone_kept}
 use Rattle.lte_properties.proofs.HeldCore as core
 use Rattle.lte_properties.proofs.HeldCore.{CoreOk, CoreKept, auth_kept}
-use Rattle.lte_properties.proofs.HeldChoice.{act_goes, RowNext, nas_next, ActTriggered, act_triggered}
+use Rattle.lte_properties.proofs.HeldChoice.{act_goes, CellOwn, record_own, RowNext, nas_next, act_triggered}
 
 -- THE INVARIANT
 
@@ -72,7 +72,7 @@ pub record Holders (sites : List Site) (w : World Term ℕ (Outgoing Term ℕ)) 
   pub held : AllOf (HoldOk (GivenTo w.sent) sites) w.held
   pub once : Once w.sent
   pub tried : AllOf (TriedOk (GivenTo w.sent)) w.tried
-  pub made : AllOf (MadeOk (GivenTo w.sent) w.tried) w.made
+  pub made : AllOf (MadeOk (GivenTo w.sent) sites w.tried) w.made
 
 -- one record gives a key to one station
 gives_one : (t : Term) (a b : ℕ) (x : Outgoing Term ℕ) → Gives t a x → Gives t b x → a ≡ b
@@ -107,7 +107,10 @@ module _ (x : Option (Outgoing Term ℕ)) (xs : List (Outgoing Term ℕ)) where
   -- a step that gives nothing leaves the core as it was
   core_stays : (roots : ℕ) (s : Core Term ℕ) → ((t : Term) (a : ℕ) → GivesIn x t a → ⊥) → CoreOk roots (GivenTo xs) s → CoreOk roots (GivenTo (with_one x xs)) s
   core_stays roots s none h = record {
-    partial = h.partial; context = h.context; trigger = h.trigger; link = h.link;
+    partial = h.partial;
+    context = h.context;
+    trigger = h.trigger;
+    link = h.link;
     given = λ t id g. by t id (given_split x xs t id g);
   } where
     by : (t : Term) (id : ℕ) → GivenTo xs t id ⊎ GivesIn x t id → core.Past roots s.partial s.context s.trigger t × core.AtMost s.link t
@@ -154,20 +157,20 @@ module _ (sites : List Site) (w : World Term ℕ (Outgoing Term ℕ)) (x : Optio
   flying_grow : AllOf (FlyOk Old sites w.tried) w.sent → OfSome (FlyOk New sites (with_one one w.tried)) x → AllOf (FlyOk New sites (with_one one w.tried)) (with_one x w.sent)
   flying_grow h k =
       all_one (FlyOk New sites (with_one one w.tried)) x w.sent
-          (all_map (FlyOk Old sites w.tried) (FlyOk New sites (with_one one w.tried)) (fly_grows Old New grows sites w.tried one) w.sent h) k
+      (all_map (FlyOk Old sites w.tried) (FlyOk New sites (with_one one w.tried)) (fly_grows Old New grows sites w.tried one) w.sent h) k
 
   held_grow : (hs : List (Holding Term)) → AllOf (HoldOk Old sites) w.held → AllOf (HoldOk New sites) hs → AllOf (HoldOk New sites) (w.held ++ hs)
   held_grow hs h k =
       all_append (HoldOk New sites) w.held hs
-          (all_map (HoldOk Old sites) (HoldOk New sites) (λ e l. holder_may_grows Old New grows sites e.holder e.key l) w.held h) k
+      (all_map (HoldOk Old sites) (HoldOk New sites) (λ e l. holder_may_grows Old New grows sites e.holder e.key l) w.held h) k
 
   tried_grow : AllOf (TriedOk Old) w.tried → OfSome (TriedOk New) one → AllOf (TriedOk New) (with_one one w.tried)
   tried_grow h k = all_one (TriedOk New) one w.tried (all_map (TriedOk Old) (TriedOk New) (tried_ok_grows Old New grows sites) w.tried h) k
 
-  made_grow : (made : Option (Made Term ℕ)) → AllOf (MadeOk Old w.tried) w.made → OfSome (MadeOk New (with_one one w.tried)) made → AllOf (MadeOk New (with_one one w.tried)) (with_one made w.made)
+  made_grow : (made : Option (Made Term ℕ)) → AllOf (MadeOk Old sites w.tried) w.made → OfSome (MadeOk New sites (with_one one w.tried)) made → AllOf (MadeOk New sites (with_one one w.tried)) (with_one made w.made)
   made_grow made h k =
-      all_one (MadeOk New (with_one one w.tried)) made w.made
-          (all_map (MadeOk Old w.tried) (MadeOk New (with_one one w.tried)) (made_ok_grows Old New grows sites w.tried one) w.made h) k
+      all_one (MadeOk New sites (with_one one w.tried)) made w.made
+      (all_map (MadeOk Old sites w.tried) (MadeOk New sites (with_one one w.tried)) (made_ok_grows Old New grows sites w.tried one) w.made h) k
 
 some_map : {A : Type 0} (P Q : A → Type 0) → ((x : A) → P x → Q x) → (o : Option A) → OfSome P o → OfSome Q o
 some_map P Q f None h = tt
@@ -193,35 +196,40 @@ module _ (G : Gifts) (sites : List Site) (tried : List (Tried Term ℕ)) (same :
   Stepped d = StationStepped G sites tried s.id d
 
   act_stepped : (act : StationAct) (outcome : Outcome) → Stepped (station_step (term_reading_by same) s (StationActs act) outcome)
-  act_stepped act outcome =
-      (station_kept G sites tried same s h.cells (OfAct (act_row (plain_station (term_reading_by same) s) act)) None
-          (act_goes sites (plain_station (term_reading_by same) s) act h.cells) h.keys, tt)
+  act_stepped act outcome = (
+    station_kept G sites tried same s h.cells (OfAct (act_row (plain_station (term_reading_by same) s) act)) None
+        (act_goes sites s.id (plain_station (term_reading_by same) s) act refl h.cells) h.keys,
+    tt,
+  )
 
   air_stepped : (air : ℕ) (bearer : Bearer) (pdu : List ℕ) (outcome : Outcome) → Stepped (station_step (term_reading_by same) s (AirPdu air bearer pdu) outcome)
-  air_stepped air bearer pdu outcome =
-      (station_kept G sites tried same s h.cells
-          (OfAir (air_row (plain_station (term_reading_by same) s) (air_front (plain_station (term_reading_by same) s) air (which bearer) pdu) outcome)) None tt h.keys, tt)
+  air_stepped air bearer pdu outcome = (
+    station_kept G sites tried same s h.cells
+        (OfAir (air_row (plain_station (term_reading_by same) s) (air_front (plain_station (term_reading_by same) s) air (which bearer) pdu) outcome)) None tt h.keys,
+    tt,
+  )
 
   unread_stepped : (on : Interface) (fault : RecFault) (outcome : Outcome) → Stepped (station_step (term_reading_by same) s (StationRecord on (Err fault)) outcome)
   unread_stepped on fault outcome = (station_kept G sites tried same s h.cells (OfRecord (RecordRefused (BadRecord fault))) None tt h.keys, tt)
 
-  -- a record with a key goes to a station that may have it
-  goes_may : (on : Interface) (to : Address) (t : Term) → to ≡ station_at on s.id → KeyGoes G sites to t → May G sites s.id t
+  -- a record with a key goes to a station that may have it, and with a KeNB* to the one of its cell
+  goes_may : (on : Interface) (to : Address) (t : Term) → to ≡ station_at on s.id → KeyGoes G sites to t → May G sites s.id t × OwnCell sites s.id t
   goes_may OnS1 to t e k = subst (λ a. KeyGoes G sites a t) e k
   goes_may OnX2 to t e k = subst (λ a. KeyGoes G sites a t) e k
 
-  row_needs : (fields : Fields) (key : NumberedKey Term ℕ) → May G sites s.id key.key → FieldsOk tried fields (Some key) → (row : RecordRow) → RecordFits s fields row →
-      RecordNeeds G sites tried s.id row key
-  row_needs fields key m f (RecordRefused answer) r = tt
-  row_needs fields key m f (ContextGiven conn cell caps algs air) r = (m, subst (λ g. FieldsOk tried g (Some key)) r.0 f)
-  row_needs fields key m f ContextReleased r = tt
-  row_needs fields key m f (PairTaken conn origin) r = m
-  row_needs fields key m f (PreparedByS1 w) r = (m, subst (λ g. FieldsOk tried g (Some key)) r.0 f)
-  row_needs fields key m f (PreparedByX2 w) r = (m, subst (λ g. FieldsOk tried g (Some key)) r.0 f)
-  row_needs fields key m f (AckedByS1 ncc algs air) r = tt
-  row_needs fields key m f (AckedByX2 algs air) r = tt
-  row_needs fields key m f (PreparationCancelled from) r = tt
-  row_needs fields key m f SourceReleased r = tt
+  row_needs : (fields : Fields) (key : NumberedKey Term ℕ) → May G sites s.id key.key × OwnCell sites s.id key.key → FieldsOk tried fields (Some key) → (row : RecordRow) → RecordFits s fields row →
+      CellOwn s.cells s.id row → RecordNeeds G sites tried s.id row key
+  row_needs fields key m f (RecordRefused answer) r c = tt
+  row_needs fields key m f (ContextGiven conn cell caps algs air) r c = (m.0, subst (λ g. FieldsOk tried g (Some key)) r.0 f)
+  row_needs fields key m f ContextReleased r c = tt
+  row_needs fields key m f (PairTaken conn origin) r c = m.0
+  row_needs fields key m f (PreparedByS1 w) r c =
+      (m.0, subst (λ g. FieldsOk tried g (Some key)) r.0 f, subst (λ l. station_of w.cell l ≡ Some s.id) h.cells c)
+  row_needs fields key m f (PreparedByX2 w) r c = (m.0, subst (λ g. FieldsOk tried g (Some key)) r.0 f, m.1)
+  row_needs fields key m f (AckedByS1 ncc algs air) r c = tt
+  row_needs fields key m f (AckedByX2 algs air) r c = tt
+  row_needs fields key m f (PreparationCancelled from) r c = tt
+  row_needs fields key m f SourceReleased r c = tt
 
   abbrev row_at : Interface → Outgoing Term ℕ → RecordRow
   row_at on x = record_row (plain_station (term_reading_by same) s) on (map_read unseen (term_reading_by same).ncc (content_of x))
@@ -235,11 +243,13 @@ module _ (G : Gifts) (sites : List Site) (tried : List (Tried Term ℕ)) (same :
   record_stepped on (Between to fields None) outcome a f =
       (station_kept G sites tried same s h.cells (OfRecord (row_at on (Between to fields None))) None tt h.keys, tt)
   record_stepped on (Between to fields (Some key)) outcome a f =
-      let m = goes_may on to key.key a f.0 in
-      (station_kept G sites tried same s h.cells (OfRecord (row_at on (Between to fields (Some key)))) (Some key)
-          (row_needs fields key m f.1 (row_at on (Between to fields (Some key)))
-              (record_row_fits (term_reading_by same) s on (record { fields = fields; key = Some key }))) h.keys,
-      may_hold G sites s.id key.key m)
+      let m = goes_may on to key.key a f.0 in (
+        station_kept G sites tried same s h.cells (OfRecord (row_at on (Between to fields (Some key)))) (Some key)
+            (row_needs fields key m f.1 (row_at on (Between to fields (Some key)))
+            (record_row_fits (term_reading_by same) s on (record { fields = fields; key = Some key }))
+            (record_own (plain_station (term_reading_by same) s) on (map_content unseen (term_reading_by same).ncc (record { fields = fields; key = Some key })))) h.keys,
+        may_hold G sites s.id key.key m.0,
+      )
 
 is_one : (a b : ℕ) → (a == b) ≡ true → a ≡ b
 is_one a b e = grind (arith, nat_tests)
@@ -294,16 +304,16 @@ module _ (sites : List Site) (same : Term → Term → Bool) (octets : Outgoing 
             (λ u f g. station_ok_grows (GivenTo w.sent) after le sites u g) h.stations;
         flying = flying_grow sites w d.1.sent d.1.tried h.flying
             (some_map (FlyOk (GivenTo w.sent) sites (with_one d.1.tried w.tried)) (FlyOk after sites (with_one d.1.tried w.tried))
-                (fly_grows (GivenTo w.sent) after le sites (with_one d.1.tried w.tried) None) d.1.sent k.0.sends);
+            (fly_grows (GivenTo w.sent) after le sites (with_one d.1.tried w.tried) None) d.1.sent k.0.sends);
         held = held_grow sites w d.1.sent None _ h.held
             (step_held after sites (AtStation id) d.1.received d.1.derived
-                (some_map (MayHold (GivenTo w.sent) sites s.id) (MayHold after sites id) (λ t. here t) d.1.received k.1)
-                (outs_map (MayHold (GivenTo w.sent) sites s.id) (MayHold after sites id) (λ t. here t) d.1.derived k.0.outs));
+            (some_map (MayHold (GivenTo w.sent) sites s.id) (MayHold after sites id) (λ t. here t) d.1.received k.1)
+            (outs_map (MayHold (GivenTo w.sent) sites s.id) (MayHold after sites id) (λ t. here t) d.1.derived k.0.outs));
         once = once_one d.1.sent w.sent (λ t a b g l. k.0.gives t b l) h.once;
         tried = tried_grow sites w d.1.sent d.1.tried h.tried (some_map (TriedOk (GivenTo w.sent)) (TriedOk after) (tried_ok_grows (GivenTo w.sent) after le sites) d.1.tried k.0.tries);
         made = made_grow sites w d.1.sent d.1.tried d.1.made h.made
-            (some_map (MadeOk (GivenTo w.sent) (with_one d.1.tried w.tried)) (MadeOk after (with_one d.1.tried w.tried))
-                (made_ok_grows (GivenTo w.sent) after le sites (with_one d.1.tried w.tried) None) d.1.made k.0.makes);
+            (some_map (MadeOk (GivenTo w.sent) sites (with_one d.1.tried w.tried)) (MadeOk after sites (with_one d.1.tried w.tried))
+            (made_ok_grows (GivenTo w.sent) after le sites (with_one d.1.tried w.tried) None) d.1.made k.0.makes);
       }
     where
       here : (t : Term) → MayHold (GivenTo w.sent) sites s.id t → MayHold (GivenTo (with_one d.1.sent w.sent)) sites id t
@@ -311,7 +321,14 @@ module _ (sites : List Site) (same : Term → Term → Bool) (octets : Outgoing 
 
   by_world_holds : (w : TheWorld) (answer : Answer) → Holders sites w → Holders sites (by_world m w answer).0
   by_world_holds w answer h = record {
-    phone = h.phone; core = h.core; stations = h.stations; flying = h.flying; held = h.held; once = h.once; tried = h.tried; made = h.made;
+    phone = h.phone;
+    core = h.core;
+    stations = h.stations;
+    flying = h.flying;
+    held = h.held;
+    once = h.once;
+    tried = h.tried;
+    made = h.made;
   }
 
   -- AT A STATION
@@ -344,7 +361,7 @@ module _ (sites : List Site) (same : Term → Term → Bool) (octets : Outgoing 
       station_turn_holds w id (StationRecord on (Err RecFault.Short)) None (λ s e k outcome. unread_stepped (GivenTo w.sent) sites w.tried same s k on RecFault.Short outcome) h
   station_record_holds w on id (Some x) c h =
       station_turn_holds w id (StationRecord on (content_of x)) (Some x)
-          (λ s e k outcome. record_stepped (GivenTo w.sent) sites w.tried same s k on x outcome (c.0 ∙ ap (station_at on) (sym e)) c.1) h
+      (λ s e k outcome. record_stepped (GivenTo w.sent) sites w.tried same s k on x outcome (c.0 ∙ ap (station_at on) (sym e)) c.1) h
 
   station_acts_holds : (w : TheWorld) (id : ℕ) (act : StationAct) (came : Option (Outgoing Term ℕ)) → Holders sites w → Holders sites (station_turn m w id (StationActs act) came).0
   station_acts_holds w id act came h =
@@ -377,8 +394,8 @@ module _ (sites : List Site) (same : Term → Term → Bool) (octets : Outgoing 
   core_acts_holds : (w : TheWorld) (act : CoreAct) (came : Option (Outgoing Term ℕ)) → Holders sites w → Holders sites (core_turn m w (CoreActs act) came).0
   core_acts_holds w act came h =
       core_turn_holds w (CoreActs act) came tt (λ outcome. let k = core.act_kept (next_root w) w.sent sites w.tried same w.core (core_act_row (plain_core (term_reading_by same) w.core) act)
-          (act_triggered (plain_core (term_reading_by same) w.core) act) h.core in
-          record { ok = k.ok; outs = k.outs; sends = k.sends; fresh = k.fresh }) h
+      (act_triggered (plain_core (term_reading_by same) w.core) act) h.core in
+      record { ok = k.ok; outs = k.outs; sends = k.sends; fresh = k.fresh }) h
 
   unseen_next : (o : Option (CoreContext Term)) (row : CoreNasRow) → RowNext (option_map (map_core_context unseen) o) row → RowNext o row
   unseen_next None row h = none row where
@@ -400,8 +417,8 @@ module _ (sites : List Site) (same : Term → Term → Bool) (octets : Outgoing 
   core_nas_holds w pdu came h =
       let plain = plain_core (term_reading_by same) w.core in
       core_turn_holds w (CoreNasPdu pdu) came tt (λ outcome. let row = core_nas_row plain (core_nas_front plain pdu (core_header pdu)) outcome in
-          let k = core.nas_kept (next_root w) w.sent sites w.tried same w.core row (unseen_next w.core.context row (nas_next plain pdu (core_header pdu) outcome)) h.core in
-          record { ok = k.ok; outs = k.outs; sends = k.sends; fresh = k.fresh }) h
+      let k = core.nas_kept (next_root w) w.sent sites w.tried same w.core row (unseen_next w.core.context row (nas_next plain pdu (core_header pdu) outcome)) h.core in
+      record { ok = k.ok; outs = k.outs; sends = k.sends; fresh = k.fresh }) h
 
   -- a record that asks for a handover is of an attempt
   record_needs : (w : TheWorld) (fields : Fields) (key : Option (NumberedKey Term ℕ)) (row : CoreRecordRow) → CoreFits w.core.link fields row → FieldsOk w.tried fields key → core.RecordNeeds w.tried row
@@ -432,7 +449,7 @@ module _ (sites : List Site) (same : Term → Term → Bool) (octets : Outgoing 
   came_holds w (UserPacket dir station air drb e text) a f h = core_turn_holds w (CoreRecord (Err RecFault.Short)) (Some (UserPacket dir station air drb e text)) tt (read_kept w (Err RecFault.Short) tt h) h
   came_holds w (Between to fields None) a f h =
       core_turn_holds w (CoreRecord (content_of (Between to fields None))) (Some (Between to fields None)) tt (read_kept w (content_of (Between to fields None))
-          (record_needs w fields None (core_row_at w (Between to fields None)) (core_record_fits (term_reading_by same) w.core (record { fields = fields; key = None })) f.1) h) h
+      (record_needs w fields None (core_row_at w (Between to fields None)) (core_record_fits (term_reading_by same) w.core (record { fields = fields; key = None })) f.1) h) h
   came_holds w (Between to fields (Some key)) a f h = absurd (no_key_comes to key.key w a f.0)
 
   core_record_holds : (w : TheWorld) (came : Option (Outgoing Term ℕ)) → CameOk w CoreS1 came → Holders sites w → Holders sites (core_turn m w (CoreRecord (content_in m came)) came).0
@@ -446,9 +463,12 @@ module _ (sites : List Site) (same : Term → Term → Bool) (octets : Outgoing 
     phone = (phone_kept same w.phone (OfAuth (Authenticated ksi)) (Some (Root (next_root w) key)) tt h.phone).ok;
     core = subst (λ n. CoreOk n (GivenTo w.sent) (core_step (term_reading_by same) w.core (CoreAuth ksi (Root (next_root w) key) caps) (Opened [])).0) (sym (roots_rise w.history (Root (next_root w) key)))
         (auth_kept (next_root w) (GivenTo w.sent) w.core ksi caps (Root (next_root w) key) tt refl h.core);
-    stations = h.stations; flying = h.flying;
+    stations = h.stations;
+    flying = h.flying;
     held = all_append (HoldOk (GivenTo w.sent) sites) w.held _ h.held (tt, (tt, tt));
-    once = h.once; tried = h.tried; made = h.made;
+    once = h.once;
+    tried = h.tried;
+    made = h.made;
   }
 
   auth_holds : (w : TheWorld) (ksi : ℕ) (key : List ℕ) (caps : Caps) (o : Option ℕ) → Holders sites w → Holders sites (auth_unless m w ksi (Root (next_root w) key) caps o).0
@@ -507,5 +527,9 @@ first_holds setup = record {
   phone = record { partial = tt; context = tt; radio = tt };
   core = record { partial = tt; context = tt; trigger = tt; link = tt; given = λ t id g. absurd g };
   stations = stations_first (GivenTo []) setup.cells setup.stations;
-  flying = tt; held = tt; once = λ t a b g h. absurd g; tried = tt; made = tt;
+  flying = tt;
+  held = tt;
+  once = λ t a b g h. absurd g;
+  tried = tt;
+  made = tt;
 }

@@ -60,6 +60,18 @@ Grows x (Some before) =
 abbrev pub TermsGrow : {S : Type 0} → World Term ℕ S → Type 0
 TermsGrow w = AllOf (λ x. Grows x x.before) w.took
 
+-- the key before an obeyed command is the one that the phone took last
+abbrev pub Joins : Option (NumberedKey Term ℕ) → Option (NumberedKey Term ℕ) → Type 0
+Joins None last = ⊤
+Joins (Some before) last = last ≡ Some before
+
+abbrev pub Follow : Option (NumberedKey Term ℕ) → List (Took Term ℕ) → Type 0
+Follow last [] = ⊤
+Follow last (x ∷ xs) = Joins x.before last × Follow (Some (record { key = x.key; number = x.number })) xs
+
+abbrev pub TermsFollow : {S : Type 0} → World Term ℕ S → Type 0
+TermsFollow w = Follow None w.took
+
 -- for each air address of a station the phone takes at most one key
 abbrev pub OneTerm : {S : Type 0} → World Term ℕ S → Type 0
 OneTerm w = AllOf (λ x. AllOf (λ y. x.station ≡ y.station → x.air ≡ y.air → x.key ≡ y.key) w.took) w.took
@@ -126,6 +138,7 @@ CompletedTaken w = AllOf (λ s. ComesMade w s.id s.context) w.stations
 pub record Agrees {S : Type 0} (w : World Term ℕ S) : Type 0 where
   pub obeyed : ObeysAgreement w
   pub grow : TermsGrow w
+  pub follow : TermsFollow w
   pub one_term : OneTerm w
   pub joined : JoinedAgree w
   pub completed : CompletedTaken w

@@ -43,17 +43,21 @@ IsPast roots partial mark t =
 abbrev pub NasKeysOf : Term → Keys Term → Type 0
 NasKeysOf root keys = keys ≡ nas_keys_of term_reading root keys.algs
 
+-- the keys of the access stratum
 abbrev pub AsKeysOf : Term → AsKeys Term → Type 0
 AsKeysOf kenb keys = keys ≡ as_keys_of term_reading kenb keys.algs
 
 -- THE PHONE
 
+-- the authentication of the partial context
 abbrev pub partial_root : Option (Partial Term) → Option ℕ
 partial_root partial = option_map (λ p. authentication_of p.root) partial
 
+-- and of the context in use
 abbrev pub context_root : Option (NasContext Term) → Option ℕ
 context_root context = option_map (λ c. authentication_of c.root) context
 
+-- the phone's next KeNB at the earliest
 abbrev pub phone_mark : Option (NasContext Term) → Option Mark
 phone_mark context = option_map (λ c. record { root = authentication_of c.root; count = c.send }) context
 
@@ -66,6 +70,7 @@ RadioStands roots partial mark taken (Connected l) =
     (taken l.kenb ≡ Some (home_at l.station l.air)) × IsLevel l.kenb l.chain.sync × AsKeysOf l.kenb l.keys
     × ((t : Term) (h : Home) → taken t ≡ Some h → IsNotAfter t l.kenb)
 
+-- the phone
 abbrev pub PhoneStands : ℕ → Homes → Phone Term ℕ → Type 0
 PhoneStands roots taken s =
     RootsStand roots (partial_root s.partial) (context_root s.context)
@@ -75,9 +80,11 @@ PhoneStands roots taken s =
 
 -- THE CORE
 
+-- the authentication of the partial context
 abbrev pub core_partial_root : Option (CorePartial Term) → Option ℕ
 core_partial_root partial = option_map (λ p. authentication_of p.root) partial
 
+-- and of the context in use
 abbrev pub core_context_root : Option (CoreContext Term) → Option ℕ
 core_context_root context = option_map (λ c. authentication_of c.nas.root) context
 
@@ -86,9 +93,11 @@ abbrev pub due : Option ℕ → ℕ → ℕ
 due None receive = receive
 due (Some count) receive = count
 
+-- the core's next KeNB at the earliest
 abbrev pub core_mark : Option ℕ → Option (CoreContext Term) → Option Mark
 core_mark trigger context = option_map (λ c. record { root = authentication_of c.nas.root; count = due trigger c.nas.receive }) context
 
+-- the core
 abbrev pub CoreStands : ℕ → Homes → Core Term ℕ → Type 0
 CoreStands roots given s =
     RootsStand roots (core_partial_root s.partial) (core_context_root s.context)
@@ -105,9 +114,11 @@ ContextStands taken given s c =
     ((h : Home) × (home taken given c.key.kenb ≡ Some h) × (h.station ≡ s.id) × IsSpent (is_star c.key.kenb) h.place s.next s.last s.preps)
     × AsKeysOf c.key.kenb c.keys
 
+-- a preparation has a KeNB*, its keys, and an air address that was drawn
 abbrev pub PrepStands : ℕ → Prep Term ℕ → Type 0
 PrepStands next p = (is_star p.key.kenb ≡ true) × AsKeysOf p.key.kenb p.keys × (p.air < next)
 
+-- a station
 abbrev pub StationStands : Homes → Homes → Station Term ℕ → Type 0
 StationStands taken given s = IfSome s.context (ContextStands taken given s) × AllOf (PrepStands s.next) s.preps
 
@@ -121,6 +132,7 @@ BetweenStands given to (InitialContext conn cell caps) (Some key) =
 BetweenStands given to (X2Request conn source attempt cell caps) (Some key) = is_star key.key ≡ true
 BetweenStands given to other key = ⊤
 
+-- by the kind of the record
 abbrev pub RecordStands : Homes → Homes → Outgoing Term ℕ → Type 0
 RecordStands taken given (SealedRrc Up station air srb u e text) = OnKey (λ t type. taken t ≡ Some (home_at station air)) u.key
 RecordStands taken given (SealedRrc Down station air srb u e text) = ⊤

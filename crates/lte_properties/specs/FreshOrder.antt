@@ -34,10 +34,11 @@ InOrder Last t u =
     (nas_count_of t ≤ nas_count_of u) × (nas_count_of t ≡ nas_count_of u →
     (chain_number t ≤ chain_number u) × (chain_number t ≡ chain_number u → Last (stars_of t) (stars_of u))))
 
--- a key comes before another, or not after it
+-- a key comes before another
 abbrev pub IsBefore : Term → Term → Type 0
 IsBefore t u = InOrder (λ m n. m < n) t u
 
+-- a key does not come after another
 abbrev pub IsNotAfter : Term → Term → Type 0
 IsNotAfter t u = InOrder (λ m n. m ≤ n) t u
 

@@ -27,6 +27,7 @@ RadioInOrder took Idle = ⊤
 RadioInOrder took (Connecting w) = AllOf (λ x. IsBefore x.key w.kenb) took × NeverTook w.kenb took
 RadioInOrder took (Connected l) = AllOf (λ x. IsNotAfter x.key l.kenb) took
 
+-- so it is in a world
 abbrev pub PhoneInOrder : World Term ℕ (Outgoing Term ℕ) → Type 0
 PhoneInOrder w = TookInOrder w.took × RadioInOrder w.took w.phone.radio
 

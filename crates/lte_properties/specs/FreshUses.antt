@@ -16,6 +16,7 @@ pub record Home : Type 0 where
   pub station : ℕ
   pub place : ℕ
 
+-- the home at a place of a station
 abbrev pub home_at : ℕ → ℕ → Home
 home_at station place = record { station = station; place = place }
 
@@ -23,6 +24,7 @@ home_at station place = record { station = station; place = place }
 abbrev pub Homes : Type 0
 Homes = Term → Option Home
 
+-- homes of keys are never lost
 abbrev pub Grows : Homes → Homes → Type 0
 Grows old new = (t : Term) (h : Home) → old t ≡ Some h → new t ≡ Some h
 
@@ -39,6 +41,7 @@ abbrev pub home_of : Bool → Option Home → Option Home → Option Home
 home_of true taken given = taken
 home_of false taken given = given
 
+-- by the kind of the key
 abbrev pub home : Homes → Homes → Term → Option Home
 home taken given t = home_of (is_star t) (taken t) (given t)
 
@@ -56,14 +59,17 @@ IsSpent false conn next last preps = conn ≤ last
 abbrev pub srb_send : ℕ → Bearers → ℕ
 srb_send bearer b = if bearer == 0 then b.srb1.send else b.srb2.send
 
+-- of a DRB
 abbrev pub drb_send : ℕ → Bearers → ℕ
 drb_send bearer b =
     if bearer == 0 then b.drb1.send else (if bearer == 1 then b.drb2.send else (if bearer == 2 then b.drb3.send else b.drb4.send))
 
+-- of a DRB or an SRB
 abbrev pub send_on : Bool → ℕ → Bearers → ℕ
 send_on true bearer b = drb_send bearer b
 send_on false bearer b = srb_send bearer b
 
+-- by the type of the key
 abbrev pub next_on : ℕ → ℕ → Bearers → ℕ
 next_on type bearer b = send_on (type == 5) bearer b
 
@@ -79,6 +85,7 @@ OnKey P (Star t pci earfcn) = ⊥
 abbrev pub IsNas : ℕ → Type 0
 IsNas type = type < 3
 
+-- a type of the access stratum
 abbrev pub IsAs : ℕ → Type 0
 IsAs type = 3 ≤ type
 
@@ -99,16 +106,19 @@ LinkAbove (Connected l) t type count bearer = t ≡ l.kenb → count < next_on t
 abbrev pub AsUp : Homes → Radio Term ℕ → Term → ℕ → ℕ → ℕ → Type 0
 AsUp taken radio t type count bearer = (h : Home) × (taken t ≡ Some h) × LinkAbove radio t type count bearer
 
+-- a use of the phone
 abbrev pub UpUse : ℕ → Homes → Phone Term ℕ → KeyUse Term → Type 0
 UpUse roots taken s u =
     OnKey (λ t type. (IsNas type → NasUp roots s.partial s.context t u.count) × (IsAs type → AsUp taken s.radio t type u.count u.bearer)) u.key
 
 -- THE CORE'S, which are downlink
 
+-- a NAS key of this KASME was used: where it is that of the partial context or of the one in use, the next COUNT is above
 abbrev pub NasDown : ℕ → Option (CorePartial Term) → Option (CoreContext Term) → Term → ℕ → Type 0
 NasDown roots partial context t count =
     (authentication_of t < roots) × IfSome partial (λ p. t ≡ p.root → count < p.send) × IfSome context (λ c. t ≡ c.nas.root → count < c.nas.send)
 
+-- a use of the core
 abbrev pub CoreUse : ℕ → Core Term ℕ → KeyUse Term → Type 0
 CoreUse roots s u = OnKey (λ t type. IsNas type → NasDown roots s.partial s.context t u.count) u.key
 
@@ -124,6 +134,7 @@ AsDown taken given s t type count bearer =
     (h : Home) × (home taken given t ≡ Some h) × (h.station ≡ s.id → IsSpent (is_star t) h.place s.next s.last s.preps)
     × ContextAhead s.context t type count bearer
 
+-- a use beside a station
 abbrev pub StationUse : Homes → Homes → Station Term ℕ → KeyUse Term → Type 0
 StationUse taken given s u = OnKey (λ t type. IsAs type → AsDown taken given s t type u.count u.bearer) u.key
 

@@ -33,6 +33,7 @@ SealedAsAccepted m a =
     (u : KeyUse Term) → u.dir ≡ Up → srb_accepted a.opening (m.opener a.opening a.octets a.came) ≡ Some u →
     sender_of a.came ≡ Some u
 
+-- so it is in an event
 abbrev pub SentUnder : Machine Term ℕ (Outgoing Term ℕ) → World Term ℕ (Outgoing Term ℕ) → Event → Type 0
 SentUnder m w e = SealedAsAccepted m (attempted m w e)
 

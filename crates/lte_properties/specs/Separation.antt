@@ -2,23 +2,27 @@
 use Rattle.std.specs.Prelude.{◌≡◌, ℕ, Bool, IsTrue, ◌⊎◌, ◌↔◌, List, [], ◌∷◌, Option, Some, None, ⊤}
 use Rattle.annex_a_keys.specs.Cell.{Place}
 use Rattle.lte_events.specs.declared.addresses.Address.TheVariants.{StationS1}
+use Rattle.lte_events.specs.declared.events.Event.{Event}
+use Rattle.lte_events.specs.declared.setups.Setup.{Setup}
 use Rattle.lte_events.specs.Site.{Site}
 use Rattle.key_model.specs.Term.{Term, Root, Star, IsWellFormed}
 use Rattle.key_model.specs.Chain.{nh}
 use Rattle.key_model.specs.Derivable.{Derivable, HasNoRoot, ComesFrom}
 use Rattle.key_model.specs.HandoverTable.{NumberedKey}
 use Rattle.lte_machine.specs.Wire.{Outgoing, Between}
-use Rattle.lte_machine.specs.Reply.{Origin, Made, Tried, Took}
+use Rattle.lte_machine.specs.Reply.{Origin, Made, Tried}
 use Rattle.lte_machine.specs.StationChoice.{station_of}
-use Rattle.lte_machine.specs.World.{World, Holder, AtPhone, AtCore, AtStation, Holding}
+use Rattle.lte_machine.specs.World.{Machine, World, Holder, AtPhone, AtCore, AtStation, Holding}
+use Rattle.lte_machine.specs.Run.{first_world}
 use Rattle.lte_properties.specs.ChainBelow.{AllOf}
+use Rattle.lte_properties.specs.ChainHolds.{run}
 
 -- some item of a list is so
 abbrev pub AnyOf : {A : Type 0} → (A → Type 0) → List A → Type 0
 AnyOf P [] = ⊥
 AnyOf P (x ∷ xs) = P x ⊎ AnyOf P xs
 
--- the station of a set that a holder is
+-- a holder is a station of the set
 abbrev pub IsStationOf : (ℕ → Type 0) → Holder → Type 0
 IsStationOf among AtPhone = ⊥
 IsStationOf among AtCore = ⊥
@@ -85,7 +89,7 @@ HoldingIs w =
     (test : ℕ → Bool) (t : Term)
     → WasHeld w.held t → Derivable (HeldBy (Those test) w.held) t ↔ ComesFrom (HeldBy (Those test) w.held) t
 
--- and every key that anybody held comes so from a KASME: it is a key of Annex A
+-- and every key that anybody held is one of Annex A
 abbrev pub AllWellFormed : {S : Type 0} → World Term ℕ S → Type 0
 AllWellFormed w = (t : Term) → WasHeld w.held t → IsWellFormed t
 
@@ -113,9 +117,20 @@ FromAttempt w m None = ⊤
 FromAttempt w m (Some o) =
     (r : ℕ) (octets : List ℕ) (n i pci earfcn : ℕ) → m.key ≡ Star (nh (Root r octets) n i) pci earfcn
     → AnyOf (λ e. (e.station ≡ o.source) × (e.attempt ≡ o.attempt)
-        × GivenAt w.sent (nh (Root r octets) n i) o.source m.station e.given) w.tried
+    × GivenAt w.sent (nh (Root r octets) n i) o.source m.station e.given) w.tried
 
 -- an attempt number of a station is of one attempt
 abbrev pub AttemptsDiffer : List (Tried Term ℕ) → Type 0
 AttemptsDiffer [] = ⊤
 AttemptsDiffer (e ∷ es) = AllOf (λ f. e.station ≡ f.station → e.attempt ≡ f.attempt → ⊥) es × AttemptsDiffer es
+
+-- after these events, from this setup
+abbrev pub SeparationHolds : Machine Term ℕ (Outgoing Term ℕ) → Setup → List Event → Type 0
+SeparationHolds m setup events = Separates setup.cells (run m (first_world setup) events)
+
+-- what was made by attempts comes of keys that were given so, and attempts are numbered apart
+abbrev pub GivenAsTried : World Term ℕ (Outgoing Term ℕ) → Type 0
+GivenAsTried w = AllOf (λ m. FromAttempt w m m.from_attempt) w.made × AttemptsDiffer w.tried
+
+abbrev pub GivingHolds : Machine Term ℕ (Outgoing Term ℕ) → Setup → List Event → Type 0
+GivingHolds m setup events = GivenAsTried (run m (first_world setup) events)

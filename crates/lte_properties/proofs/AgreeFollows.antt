@@ -1,0 +1,228 @@
+-- The key before each obeyed command is the one that the phone took last.
+use Rattle.std.proofs.Common.{◌≡◌, refl, sym, ap, ◌∙◌, subst, ℕ, zero, suc, ◌+◌, ◌-◌, Bool, true, false, ℤ, pos, negsuc, List, [], ◌∷◌, ◌++◌, Option, Some, None}
+use Rattle.std.specs.Prelude.{⊤}
+use Rattle.std.specs.List.{position_from}
+use Rattle.alg_choice.specs.declared.algs.Algs.{Algs}
+use Rattle.alg_choice.specs.declared.caps.Caps.{Caps}
+use Rattle.annex_a_keys.specs.Cell.{Place}
+use Rattle.rec_base.specs.declared.uses.Dir.TheVariants.{Up, Down}
+use Rattle.lte_events.specs.declared.addresses.Address.{Address}
+use Rattle.lte_events.specs.declared.answers.Answer.{Answer}
+use Rattle.lte_events.specs.declared.answers.Answer.TheVariants.{NoUe, NoRecord, Sent, RepeatedRoot}
+use Rattle.lte_events.specs.declared.events.Event.{Event}
+use Rattle.lte_events.specs.declared.setups.Setup.{Setup}
+use Rattle.key_model.specs.Term.{Term}
+use Rattle.key_model.specs.HandoverTable.{NumberedKey}
+use Rattle.key_model.specs.Reading.{term_reading_by}
+use Rattle.nh_chain.specs.Reach.{reached_after}
+use Rattle.lte_machine.specs.Bearers.{Srb, Drb, Which}
+use Rattle.lte_machine.specs.Wire.{KeyUse, Outgoing, address_of}
+use Rattle.lte_machine.specs.Opening.{Opening, Outcome}
+use Rattle.lte_machine.specs.Reply.{Took}
+use Rattle.lte_machine.specs.PhoneState.{Partial, NasContext, Link, Radio, Idle, Connecting, Connected, Phone, PhoneInput, PhoneActs, PhoneNasPdu, PhoneAirPdu}
+use Rattle.lte_machine.specs.PhoneRows.{AuthRow, Authenticated, NasRow, NasRefused, RejectedPlain, RejectedUnder, ContextTaken, ContextTakenConnected, NasOpened, AirRow, AirRefused, LinkSecured, HandedOver, RrcOpened, PacketOpened, ActRow, ActRefused, ServiceRequested, CompleteResent, WentIdle, PacketSent, RrcSent, NasSent, NasLeftOut, BearerLeftOut, PhoneRow, OfAuth, OfNas, OfAir, OfAct}
+use Rattle.lte_machine.specs.PhoneChoice.{phone_row}
+use Rattle.lte_machine.specs.PhoneKeys.{PhoneDone, auth_does, rejected_under, context_taken, context_taken_connected, nas_opened, nas_does, link_secured, handed_over, rrc_opened, packet_opened, air_does, service_requested, complete_resent, packet_sent, rrc_sent, nas_sent, nas_left_out, bearer_left_out, act_does, phone_does}
+use Rattle.lte_machine.specs.PhoneStep.{plain_phone, front_of, phone_root, phone_opens, phone_pdu_in}
+use Rattle.lte_machine.specs.StationState.{Station, StationInput, StationActs, AirPdu, StationRecord, OnS1, OnX2}
+use Rattle.lte_machine.specs.CoreState.{CoreInput, CoreActs, CoreNasPdu, CoreRecord}
+use Rattle.lte_machine.specs.World.{Machine, World, with_one, phone_turn, core_turn, station_of_id, turn_of, station_turn, auth_unless, known_root, next_root, content_in, arrives, chosen, delivered, class_of, is_sent, injected, happens}
+use Rattle.lte_machine.specs.Run.{first_world}
+use Rattle.lte_properties.specs.ChainHolds.{machine_by, run}
+use Rattle.lte_properties.specs.Agreement.{Joins, Follow, TermsFollow}
+
+-- the key that was taken last, if one was
+abbrev last_of : Option (NumberedKey Term ℕ) → List (Took Term ℕ) → Option (NumberedKey Term ℕ)
+last_of o [] = o
+last_of o (x ∷ xs) = last_of (Some (record { key = x.key; number = x.number })) xs
+
+-- a connected phone has the one that it took last
+abbrev IsLast : List (Took Term ℕ) → Radio Term ℕ → Type 0
+IsLast took (Connected l) = last_of None took ≡ Some (record { key = l.kenb; number = l.chain.number })
+IsLast took other = ⊤
+
+follow_more : (o : Option (NumberedKey Term ℕ)) (xs : List (Took Term ℕ)) (x : Took Term ℕ) → Follow o xs → Joins x.before (last_of o xs) → Follow o (xs ++ x ∷ [])
+follow_more o [] x h j = (j, tt)
+follow_more o (y ∷ ys) x h j = (h.0, follow_more (Some (record { key = y.key; number = y.number })) ys x h.1 j)
+
+last_more : (o : Option (NumberedKey Term ℕ)) (xs : List (Took Term ℕ)) (x : Took Term ℕ) → last_of o (xs ++ x ∷ []) ≡ Some (record { key = x.key; number = x.number })
+last_more o [] x = refl
+last_more o (y ∷ ys) x = last_more (Some (record { key = y.key; number = y.number })) ys x
+
+-- after a step of the phone
+abbrev Follows : List (Took Term ℕ) → PhoneDone Term ℕ → Type 0
+Follows took d = Follow None (with_one d.1.took took) × IsLast (with_one d.1.took took) d.0.radio
+
+abbrev numbered : Term → ℕ → NumberedKey Term ℕ
+numbered key number = record { key = key; number = number }
+
+module _ (same : Term → Term → Bool) (took : List (Took Term ℕ)) (h : Follow None took) where
+  secured : (station air : ℕ) (algs : Algs) (count : ℕ) (s : Phone Term ℕ) (radio : Radio Term ℕ) → IsLast took s.radio
+      → Follows took (link_secured (term_reading_by same) station air algs count s radio)
+  secured station air algs count s (Connecting w) k = (follow_more None took _ h tt, last_more None took _)
+  secured station air algs count s Idle k = (h, k)
+  secured station air algs count s (Connected l) k = (h, k)
+
+  handed : (cell : Place) (steps : ℕ) (algs : Algs) (station air : ℕ) (s : Phone Term ℕ) (radio : Radio Term ℕ) → IsLast took s.radio → IsLast took radio
+      → Follows took (handed_over (term_reading_by same) cell steps algs station air s radio)
+  handed cell steps algs station air s (Connected l) k last =
+      (follow_more None took _ h last, last_more None took _ ∙ ap (λ n. Some (numbered (reached_after (term_reading_by same) l.chain l.kenb steps cell).star.key n)) (number_is steps))
+    where
+      number_is : (n : ℕ) → (reached_after (term_reading_by same) l.chain l.kenb n cell).star.number ≡ (reached_after (term_reading_by same) l.chain l.kenb n cell).chain.number
+      number_is zero = refl
+      number_is (suc n) = refl
+  handed cell steps algs station air s Idle k last = (h, k)
+  handed cell steps algs station air s (Connecting w) k last = (h, k)
+
+  opened_rrc : (srb : Srb) (count : ℕ) (text : List ℕ) (s : Phone Term ℕ) (radio : Radio Term ℕ) → IsLast took s.radio → IsLast took radio → Follows took (rrc_opened srb count text s radio)
+  opened_rrc srb count text s (Connected l) k last = (h, last)
+  opened_rrc srb count text s Idle k last = (h, k)
+  opened_rrc srb count text s (Connecting w) k last = (h, k)
+
+  opened_packet : (drb : Drb) (count : ℕ) (text : List ℕ) (s : Phone Term ℕ) (radio : Radio Term ℕ) → IsLast took s.radio → IsLast took radio → Follows took (packet_opened drb count text s radio)
+  opened_packet drb count text s (Connected l) k last = (h, last)
+  opened_packet drb count text s Idle k last = (h, k)
+  opened_packet drb count text s (Connecting w) k last = (h, k)
+
+  air_follows : (row : AirRow) (s : Phone Term ℕ) → IsLast took s.radio → Follows took (air_does (term_reading_by same) row s)
+  air_follows (AirRefused answer) s k = (h, k)
+  air_follows (LinkSecured station air algs count) s k = secured station air algs count s s.radio k
+  air_follows (HandedOver cell steps algs station air) s k = handed cell steps algs station air s s.radio k k
+  air_follows (RrcOpened srb count text) s k = opened_rrc srb count text s s.radio k k
+  air_follows (PacketOpened drb count text) s k = opened_packet drb count text s s.radio k k
+
+  rejected : (answer : Answer) (cause : ℕ) (s : Phone Term ℕ) (o : Option (NasContext Term)) → IsLast took s.radio → Follows took (rejected_under answer cause s o)
+  rejected answer cause s None k = (h, k)
+  rejected answer cause s (Some c) k = (h, k)
+
+  taken : (algs : Algs) (count : ℕ) (s : Phone Term ℕ) (o : Option (Partial Term)) → IsLast took s.radio → Follows took (context_taken (term_reading_by same) algs count s o)
+  taken algs count s None k = (h, k)
+  taken algs count s (Some p) k = (h, tt)
+
+  taken_connected : (algs : Algs) (count : ℕ) (s : Phone Term ℕ) (o : Option (Partial Term)) → IsLast took s.radio → Follows took (context_taken_connected (term_reading_by same) algs count s o)
+  taken_connected algs count s None k = (h, k)
+  taken_connected algs count s (Some p) k = (h, k)
+
+  opened_nas : (count : ℕ) (text : List ℕ) (s : Phone Term ℕ) (o : Option (NasContext Term)) → IsLast took s.radio → Follows took (nas_opened count text s o)
+  opened_nas count text s None k = (h, k)
+  opened_nas count text s (Some c) k = (h, k)
+
+  nas_follows : (row : NasRow) (s : Phone Term ℕ) → IsLast took s.radio → Follows took (nas_does (term_reading_by same) row s)
+  nas_follows (NasRefused answer) s k = (h, k)
+  nas_follows (RejectedPlain answer cause) s k = (h, k)
+  nas_follows (RejectedUnder answer cause) s k = rejected answer cause s s.context k
+  nas_follows (ContextTaken algs count) s k = taken algs count s s.partial k
+  nas_follows (ContextTakenConnected algs count) s k = taken_connected algs count s s.partial k
+  nas_follows (NasOpened count text) s k = opened_nas count text s s.context k
+
+  requested : (s : Phone Term ℕ) (o : Option (NasContext Term)) → IsLast took s.radio → Follows took (service_requested (term_reading_by same) s o)
+  requested s None k = (h, k)
+  requested s (Some c) k = (h, tt)
+
+  resent : (s : Phone Term ℕ) (radio : Radio Term ℕ) → IsLast took s.radio → IsLast took radio → Follows took (complete_resent s radio)
+  resent s (Connected l) k last = (h, last)
+  resent s Idle k last = (h, k)
+  resent s (Connecting w) k last = (h, k)
+
+  sent_packet : (drb : Drb) (text : List ℕ) (s : Phone Term ℕ) (radio : Radio Term ℕ) → IsLast took s.radio → IsLast took radio → Follows took (packet_sent drb text s radio)
+  sent_packet drb text s (Connected l) k last = (h, last)
+  sent_packet drb text s Idle k last = (h, k)
+  sent_packet drb text s (Connecting w) k last = (h, k)
+
+  sent_rrc : (srb : Srb) (text : List ℕ) (s : Phone Term ℕ) (radio : Radio Term ℕ) → IsLast took s.radio → IsLast took radio → Follows took (rrc_sent srb text s radio)
+  sent_rrc srb text s (Connected l) k last = (h, last)
+  sent_rrc srb text s Idle k last = (h, k)
+  sent_rrc srb text s (Connecting w) k last = (h, k)
+
+  sent_nas : (text : List ℕ) (s : Phone Term ℕ) (o : Option (NasContext Term)) → IsLast took s.radio → Follows took (nas_sent text s o)
+  sent_nas text s None k = (h, k)
+  sent_nas text s (Some c) k = (h, k)
+
+  left_nas : (n : ℕ) (s : Phone Term ℕ) (o : Option (NasContext Term)) → IsLast took s.radio → Follows took (nas_left_out n s o)
+  left_nas n s None k = (h, k)
+  left_nas n s (Some c) k = (h, k)
+
+  left_bearer : (on : Which) (n : ℕ) (s : Phone Term ℕ) (radio : Radio Term ℕ) → IsLast took s.radio → IsLast took radio → Follows took (bearer_left_out on n s radio)
+  left_bearer on n s (Connected l) k last = (h, last)
+  left_bearer on n s Idle k last = (h, k)
+  left_bearer on n s (Connecting w) k last = (h, k)
+
+  act_follows : (row : ActRow) (s : Phone Term ℕ) → IsLast took s.radio → Follows took (act_does (term_reading_by same) row s)
+  act_follows (ActRefused answer) s k = (h, k)
+  act_follows ServiceRequested s k = requested s s.context k
+  act_follows CompleteResent s k = resent s s.radio k k
+  act_follows WentIdle s k = (h, tt)
+  act_follows (PacketSent drb text) s k = sent_packet drb text s s.radio k k
+  act_follows (RrcSent srb text) s k = sent_rrc srb text s s.radio k k
+  act_follows (NasSent text) s k = sent_nas text s s.context k
+  act_follows (NasLeftOut n) s k = left_nas n s s.context k
+  act_follows (BearerLeftOut on n) s k = left_bearer on n s s.radio k k
+
+  auth_follows : (row : AuthRow) (root : Option Term) (s : Phone Term ℕ) → IsLast took s.radio → Follows took (auth_does row root s)
+  auth_follows (Authenticated ksi) None s k = (h, k)
+  auth_follows (Authenticated ksi) (Some root) s k = (h, k)
+
+  phone_follows : (row : PhoneRow) (root : Option Term) (s : Phone Term ℕ) → IsLast took s.radio → Follows took (phone_does (term_reading_by same) row root s)
+  phone_follows (OfAuth row) root s k = auth_follows row root s k
+  phone_follows (OfNas row) root s k = nas_follows row s k
+  phone_follows (OfAir row) root s k = air_follows row s k
+  phone_follows (OfAct row) root s k = act_follows row s k
+
+-- in a world
+abbrev pub InTurn : World Term ℕ (Outgoing Term ℕ) → Type 0
+InTurn w = Follow None w.took × IsLast w.took w.phone.radio
+
+module _ (same : Term → Term → Bool) (root : ℕ → List ℕ → Term) (octets : Outgoing Term ℕ → List ℕ) (sender : Option (Outgoing Term ℕ) → Option (KeyUse Term)) (opener : Opening Term → List ℕ → Option (Outgoing Term ℕ) → Outcome) where
+  abbrev m : Machine Term ℕ (Outgoing Term ℕ)
+  m = machine_by same root octets sender opener
+
+  module _ (w : World Term ℕ (Outgoing Term ℕ)) (h : InTurn w) where
+    phone_goes : (input : PhoneInput Term) (came : Option (Outgoing Term ℕ)) → InTurn (phone_turn m w input came).0
+    phone_goes input came =
+        phone_follows same w.took h.0
+        (phone_row (plain_phone (term_reading_by same) w.phone) (front_of (term_reading_by same) w.phone input) (opener (phone_opens (term_reading_by same) w.phone input) (phone_pdu_in input) came))
+        (phone_root input) w.phone h.1
+
+    core_goes : (input : CoreInput Term ℕ) (came : Option (Outgoing Term ℕ)) → InTurn (core_turn m w input came).0
+    core_goes input came = h
+
+    turn_goes : (id : ℕ) (input : StationInput Term ℕ) (came : Option (Outgoing Term ℕ)) (o : Option (Station Term ℕ)) → InTurn (turn_of m w id input came o).0
+    turn_goes id input came None = h
+    turn_goes id input came (Some s) = h
+
+    arrives_goes : (to : Address) (pdu : List ℕ) (came : Option (Outgoing Term ℕ)) → InTurn (arrives m w to pdu came).0
+    arrives_goes Address.PhoneNas pdu came = phone_goes (PhoneNasPdu pdu) came
+    arrives_goes (Address.Phone station air bearer) pdu came = phone_goes (PhoneAirPdu station air bearer pdu) came
+    arrives_goes Address.CoreNas pdu came = core_goes (CoreNasPdu pdu) came
+    arrives_goes Address.CoreS1 pdu came = core_goes (CoreRecord (content_in m came)) came
+    arrives_goes (Address.StationAir station air bearer) pdu came = turn_goes station (AirPdu air bearer pdu) came (station_of_id station w.stations)
+    arrives_goes (Address.StationS1 station) pdu came = turn_goes station (StationRecord OnS1 (content_in m came)) came (station_of_id station w.stations)
+    arrives_goes (Address.StationX2 station) pdu came = turn_goes station (StationRecord OnX2 (content_in m came)) came (station_of_id station w.stations)
+
+    delivered_goes : (o : Option (Outgoing Term ℕ)) → InTurn (delivered m w o).0
+    delivered_goes None = h
+    delivered_goes (Some x) = arrives_goes (address_of x) (octets x) (Some x)
+
+    injected_goes : (to : Address) (pdu : List ℕ) (o : Option ℕ) → InTurn (injected m w to pdu o).0
+    injected_goes to pdu None = arrives_goes to pdu None
+    injected_goes to pdu (Some number) = h
+
+    auth_goes : (ksi : ℕ) (key : Term) (caps : Caps) (o : Option ℕ) → InTurn (auth_unless m w ksi key caps o).0
+    auth_goes ksi key caps None = h
+    auth_goes ksi key caps (Some row) = h
+
+    happens_in_turn : (e : Event) → InTurn (happens m w e).0
+    happens_in_turn (Event.Auth ksi key caps) = let k = root (next_root w) key in auth_goes ksi k caps (known_root m w k)
+    happens_in_turn (Event.Phone act) = phone_goes (PhoneActs act) None
+    happens_in_turn (Event.Station id act) = turn_goes id (StationActs act) None (station_of_id id w.stations)
+    happens_in_turn (Event.Core act) = core_goes (CoreActs act) None
+    happens_in_turn (Event.Deliver i) = delivered_goes (chosen i w.sent)
+    happens_in_turn (Event.Inject to pdu) = injected_goes to pdu (position_from (is_sent m (class_of to) pdu) 0 w.sent)
+
+  run_in_turn : (w : World Term ℕ (Outgoing Term ℕ)) (es : List Event) → InTurn w → InTurn (run m w es)
+  run_in_turn w [] h = h
+  run_in_turn w (e ∷ es) h = run_in_turn (happens m w e).0 es (happens_in_turn w h e)
+
+  -- in every run
+  pub terms_follow : (setup : Setup) (es : List Event) → TermsFollow (run m (first_world setup) es)
+  terms_follow setup es = (run_in_turn (first_world setup) es (tt, tt)).0
