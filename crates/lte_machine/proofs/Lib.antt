@@ -34,3 +34,12 @@ pub mod RangePhone
 pub mod RangeWorld
 mod RangeExample
 pub mod WholeRun
+pub mod KnownLists
+pub mod KnownPhone
+pub mod KnownCore
+pub mod KnownStation
+pub mod KnownLadder
+pub mod KnownWorld
+pub mod StillRun
+pub mod LadderRun
+pub mod MixedRun

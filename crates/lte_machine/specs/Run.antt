@@ -8,7 +8,7 @@ use Rattle.lte_machine.specs.Opening.{Opening, Outcome}
 use Rattle.lte_machine.specs.PhoneState.{first_phone}
 use Rattle.lte_machine.specs.StationState.{Station, first_station}
 use Rattle.lte_machine.specs.CoreState.{first_core}
-use Rattle.lte_machine.specs.World.{Machine, World, Line}
+use Rattle.lte_machine.specs.World.{Machine, World, Line, happens}
 use Rattle.lte_machine.specs.Tuples.{Chance}
 use Rattle.lte_machine.specs.Step.{Next, Goes, Ends, next}
 
@@ -29,6 +29,11 @@ turn by_octets m (Still w) e = after (next by_octets m w e)
 abbrev pub replay : {K C S : Type 0} → (Opening K → List ℕ → Outcome) → Machine K C S → Ran K C S → List Event → Ran K C S
 replay by_octets m r [] = r
 replay by_octets m r (e ∷ es) = replay by_octets m (turn by_octets m r e) es
+
+-- the world after these events, where no coincidence ends the run
+abbrev pub run : {K C S : Type 0} → Machine K C S → World K C S → List Event → World K C S
+run m w [] = w
+run m w (e ∷ es) = run m (happens m w e).0 es
 
 -- what is told of an event: its line, or the coincidence
 pub data Said (K : Type 0) : Type 0 where

@@ -24,6 +24,7 @@ pub mod ChainMoves
 pub mod ChainNeeds
 pub mod ChainStation
 pub mod ChainWorld
+pub mod EveryRun
 pub mod FreshBearers
 pub mod FreshCore
 pub mod FreshCoreFront

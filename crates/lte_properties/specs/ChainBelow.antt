@@ -9,11 +9,7 @@ use Rattle.lte_machine.specs.Wire.{Outgoing, Between}
 use Rattle.lte_machine.specs.StationState.{Station, Context, Attempt, OverX2, OverS1, Within, X2State, X2Open, X2Ready, X2Commanded}
 use Rattle.lte_machine.specs.StationKeys.{spent_in}
 use Rattle.lte_machine.specs.CoreState.{Core, CoreLink}
-
--- each item of a list is so
-abbrev pub AllOf : {A : Type 0} → (A → Type 0) → List A → Type 0
-AllOf P [] = ⊤
-AllOf P (x ∷ xs) = P x × AllOf P xs
+pub use Rattle.lte_machine.specs.Ranges.{AllOf}
 
 -- a number is so where there is a pair of it
 abbrev pub OfPair : (ℕ → Type 0) → Option (NumberedKey Term ℕ) → Type 0

@@ -15,6 +15,7 @@ use Rattle.lte_machine.specs.Run.{first_world}
 use Rattle.lte_machine.specs.Machines.{content_of}
 use Rattle.lte_properties.specs.ChainBelow.{AllOf, EachNumber, IsUnder, StationBelow, RecordBelow, CoreTop}
 use Rattle.lte_properties.specs.ChainAbove.{StationAbove, InFlight}
+pub use Rattle.lte_machine.specs.Run.{run}
 
 -- a machine over terms, with any roots, octets, senders and opener
 abbrev pub machine_by : (Term → Term → Bool) → (ℕ → List ℕ → Term) → (Outgoing Term ℕ → List ℕ) → (Option (Outgoing Term ℕ) → Option (KeyUse Term)) → (Opening Term → List ℕ → Option (Outgoing Term ℕ) → Outcome) → Machine Term ℕ (Outgoing Term ℕ)
@@ -28,11 +29,6 @@ machine_by same root octets sender opener = record {
   sender = sender;
   opener = opener;
 }
-
--- the world after these events, where no coincidence ends the run
-abbrev pub run : {K C S : Type 0} → Machine K C S → World K C S → List Event → World K C S
-run m w [] = w
-run m w (e ∷ es) = run m (happens m w e).0 es
 
 -- the core's number for each connection, where these were the ones so far
 abbrev pub noted : Option (CoreLink Term ℕ) → (ℕ → ℕ) → ℕ → ℕ

@@ -1,0 +1,214 @@
+-- The ladder of every run that has met no coincidence: its rows stand for the distinct terms, and every key has one.
+use Rattle.std.proofs.Common.{◌≡◌, refl, sym, subst, ℕ, ◌==◌, Bool, true, false, List, [], Option, Some, None, inl, inr, arith}
+use Rattle.std.specs.Prelude.{◌&&◌, slice_get}
+use Rattle.std.proofs.lemmas.Bool.Decides.{nat_tests}
+use Rattle.rec_base.specs.declared.uses.Dir.{Dir}
+use Rattle.rec_base.specs.declared.uses.Dir.TheVariants.{Up, Down}
+use Rattle.alg_choice.specs.declared.algs.Algs.{Algs}
+use Rattle.lte_events.specs.declared.events.Event.{Event}
+use Rattle.lte_events.specs.declared.setups.Setup.{Setup}
+use Rattle.key_model.specs.HandoverTable.{NumberedKey}
+use Rattle.key_model.specs.Reading.{term_reading_by}
+use Rattle.key_model.specs.Term.{Term, Root}
+use Rattle.key_model.specs.Value.{value_of, same_value}
+use Rattle.key_model.proofs.TermFacts.{same_value-Decides}
+use Rattle.nas_guard.specs.Keys.{Keys}
+use Rattle.nas_guard.specs.Seal.{is_ciphered}
+use Rattle.ho_prep.specs.Prep.{Prep, at_air, is_at}
+use Rattle.s1x2_rec.specs.Fields.{Fields}
+use Rattle.lte_machine.specs.Bearers.{Srb, Drb}
+use Rattle.lte_machine.specs.Wire.{KeyUse, Ciphering, Outgoing, address_of}
+use Rattle.lte_machine.specs.Ciphers.{Ciphers, octets_of}
+use Rattle.lte_machine.specs.Opening.{Opening, OpensNothing, OpensNas, OpensSrb, OpensDrb, Outcome, same_dir, same_uses}
+use Rattle.lte_machine.specs.Ladder.{RowOrigin, ladder_of}
+use Rattle.lte_machine.specs.PhoneState.{Partial, NasContext, Radio, Idle, Connecting, Connected, Phone}
+use Rattle.lte_machine.specs.PhoneChoice.{NasSettled, AtCommand, AtMessage, AirSettled, AtStart, AtSignalling, AtPacket, PhoneFront, Settled, FromNas, FromAir}
+use Rattle.lte_machine.specs.PhoneKeys.{ciphering_if, command_expects, message_expects, start_expects, signalling_expects, packet_expects, phone_expects}
+use Rattle.lte_machine.specs.StationState.{Station, Context}
+use Rattle.lte_machine.specs.StationChoice.{AirSettled as StationSettled, OnStarting, OnSignalling, OnUser, OnPrepared, StationFront, Settled as SettledHere, FromAir as FromStationAir}
+use Rattle.lte_machine.specs.StationKeys.{starting_expects, signalling_expects as context_expects, user_expects, prepared_expects, station_expects}
+use Rattle.lte_machine.specs.CoreState.{Core, CoreContext}
+use Rattle.lte_machine.specs.CoreChoice.{CoreFront, NasSettled as CoreNasSettled, OpensComplete, OpensProtected, Settled as CoreSettled, FromNas as FromCoreNas}
+use Rattle.lte_machine.specs.CoreKeys.{opens_by_procedure, opens_by_context, core_expects, ciphering_if as core_ciphering_if}
+use Rattle.lte_machine.specs.World.{World}
+use Rattle.lte_machine.specs.Machines.{sender_of}
+use Rattle.lte_machine.specs.Run.{Still, replay, first_world}
+use Rattle.lte_machine.specs.Distinct.{keys_of, Member, OneValueOneTerm}
+use Rattle.lte_machine.specs.Mixed.{run, written_with}
+use Rattle.lte_machine.specs.Standing.{RowsStandForTerms}
+use Rattle.lte_machine.specs.Known.{IsReported, NasContextKnown, PartialKnown, RadioKnown, PhoneKnown, ContextKnown, PrepKnown, StationKnown, ProcedureKnown, CoreContextKnown, CoreKnown, CipheringKnown, OpeningKnown, OrAlgOf, AllReported}
+use Rattle.lte_machine.proofs.History.{Laddered, among_distinct, one_value_one_term as one_of_history}
+use Rattle.lte_machine.proofs.KnownLists.{OfSome, all_find, all_get}
+use Rattle.lte_machine.proofs.KnownWorld.{Grounds, run_grounds, first_grounds}
+use Rattle.lte_machine.proofs.StillRun.{still_is_run, still_calm}
+
+-- THE LADDER OF A RUN
+
+-- of a history each of whose keys was derived from keys before it
+pub rows_stand : (history : List (RowOrigin Term)) → Laddered history → (ladder_of same_value history).clash ≡ None → RowsStandForTerms history
+rows_stand history ladder calm =
+    let stand = ladder calm in
+    record {
+      calm = calm;
+      rows = stand.keys;
+      own = stand.well.own;
+      stand = λ t m. subst (Member t) (sym stand.keys) (among_distinct [] (keys_of history) t m);
+      one = one_of_history history ladder calm;
+    }
+
+module _ (c : Ciphers Term) (between : Fields → Option (NumberedKey Term ℕ) → List ℕ) (opener : Opening Term → List ℕ → Option (Outgoing Term ℕ) → Outcome) where
+  -- every world of every run, with any opener
+  pub always_grounds : (setup : Setup) (es : List Event) → Grounds (run (written_with c between opener) (first_world setup) es)
+  always_grounds setup es = run_grounds Root (octets_of c between) address_of sender_of opener (first_world setup) es (first_grounds setup)
+
+  module _ (by_octets : Opening Term → List ℕ → Outcome) (setup : Setup) (es : List Event) (u : World Term ℕ (Outgoing Term ℕ))
+      (is : replay by_octets (written_with c between opener) (Still (first_world setup)) es ≡ Still u) where
+    -- every world that a replay without a coincidence comes to
+    pub still_grounds : Grounds u
+    still_grounds = subst Grounds (sym (still_is_run by_octets (written_with c between opener) (first_world setup) es u is)) (always_grounds setup es)
+
+    -- its ladder has no clash, and its rows are the distinct terms in the order of their first derivation
+    pub ladder_always : RowsStandForTerms u.history
+    ladder_always = rows_stand u.history still_grounds.ladder (still_calm by_octets (written_with c between opener) (first_world setup) es u refl is)
+
+    -- two terms that were derived, or are roots of the run, with one value are one term
+    pub one_value_one_term : OneValueOneTerm (keys_of u.history)
+    one_value_one_term = ladder_always.one
+
+    -- and every key that anybody holds, that was sent or that was used, is one of them
+    pub all_reported : AllReported u
+    all_reported = still_grounds.keys
+
+    -- so that of the uses of the run two with keys of one value have one key
+    pub uses_apart : (i j : ℕ) (a b : KeyUse Term) → slice_get u.uses i ≡ Some a → slice_get u.uses j ≡ Some b → value_of a.key ≡ value_of b.key → a.key ≡ b.key
+    uses_apart i j a b e f v = one_value_one_term a.key b.key (reported i a e) (reported j b f) v
+      where
+        reported : (i : ℕ) (a : KeyUse Term) → slice_get u.uses i ≡ Some a → IsReported u a.key
+        reported i a e = subst (OfSome (λ x. IsReported u x.key)) e (all_get (λ x. IsReported u x.key) u.uses i all_reported.uses)
+
+-- USES
+
+dir_is : (d e : Dir) → same_dir d e ≡ true → d ≡ e
+dir_is Up Up h = refl
+dir_is Up Down h = cc
+dir_is Down Up h = cc
+dir_is Down Down h = refl
+
+four : (a b c d : Bool) → (a && b && c && d) ≡ true → (a ≡ true) × (b ≡ true) × (c ≡ true) × (d ≡ true)
+four true true true true h = (refl, refl, refl, refl)
+four true true true false h = cc
+four true true false d h = cc
+four true false c d h = cc
+four false b c d h = cc
+
+number_is : (m n : ℕ) → (m == n) ≡ true → m ≡ n
+number_is m n h = grind (arith, nat_tests)
+
+-- two uses of such keys that are one by the values of their keys are one
+pub one_use : (ts : List Term) → OneValueOneTerm ts → (u v : KeyUse Term) → Member u.key ts → Member v.key ts → same_uses same_value u v ≡ true → u ≡ v
+one_use ts own u v m n h =
+    let all = four (same_value u.key v.key) (u.count == v.count) (u.bearer == v.bearer) (same_dir u.dir v.dir) h in
+    let key : u.key ≡ v.key = own u.key v.key m n ((same_value-Decides u.key v.key).0 all.0) in
+    let count : u.count ≡ v.count = number_is u.count v.count all.1 in
+    let bearer : u.bearer ≡ v.bearer = number_is u.bearer v.bearer all.2 in
+    let dir : u.dir ≡ v.dir = dir_is u.dir v.dir all.3 in
+    λ j. record { key = key j; count = count j; bearer = bearer j; dir = dir j }
+
+-- WHAT A RECEIVER EXPECTS
+
+module _ (P : Term → Type 0) where
+  -- at the core: the keys of the context in use and of the open procedure
+  core_ciphering_known : (b : Bool) (e : Ciphering Term) → P e.under.key → CipheringKnown P (core_ciphering_if b e)
+  core_ciphering_known true e h = h
+  core_ciphering_known false e h = tt
+
+  procedure_opens : (o : Option (Keys Term)) (count : ℕ) → ProcedureKnown P o → OpeningKnown P (opens_by_procedure o count)
+  procedure_opens None count h = tt
+  procedure_opens (Some keys) count h = (h.1, h.0)
+
+  context_opens : (o : Option (CoreContext Term)) (header count : ℕ) → CoreContextKnown P o → OpeningKnown P (opens_by_context o header count)
+  context_opens None header count h = tt
+  context_opens (Some context) header count h = (h.1.1, core_ciphering_known (is_ciphered header) _ h.1.0)
+
+  pub core_opens_known : (front : CoreFront) (s : Core Term ℕ) → CoreKnown P s → OpeningKnown P (core_expects front s)
+  core_opens_known (CoreSettled row) s h = tt
+  core_opens_known (FromCoreNas (CoreNasSettled row)) s h = tt
+  core_opens_known (FromCoreNas (OpensComplete count)) s h = procedure_opens s.procedure count h.1
+  core_opens_known (FromCoreNas (OpensProtected header count)) s h = context_opens s.context header count h.2
+
+  -- at a station: the keys of its context and of its preparations
+  starting_opens : (count : ℕ) (o : Option (Context Term ℕ)) → ContextKnown P o → OpeningKnown P (starting_expects count o)
+  starting_opens count None h = tt
+  starting_opens count (Some c) h = (h.1.1, tt)
+
+  signalling_opens : (srb : Srb) (count : ℕ) (o : Option (Context Term ℕ)) → ContextKnown P o → OpeningKnown P (context_expects srb count o)
+  signalling_opens srb count None h = tt
+  signalling_opens srb count (Some c) h = (h.1.1, h.1.0)
+
+  user_opens : (drb : Drb) (count : ℕ) (o : Option (Context Term ℕ)) → ContextKnown P o → OpeningKnown P (user_expects drb count o)
+  user_opens drb count None h = tt
+  user_opens drb count (Some c) h = h.1.2
+
+  prepared_opens : (count : ℕ) (o : Option (Prep Term ℕ)) → OfSome (PrepKnown P) o → OpeningKnown P (prepared_expects count o)
+  prepared_opens count None h = tt
+  prepared_opens count (Some p) h = (h.1.1, h.1.0)
+
+  pub station_opens_known : (front : StationFront) (s : Station Term ℕ) → StationKnown P s → OpeningKnown P (station_expects front s)
+  station_opens_known (SettledHere row) s h = tt
+  station_opens_known (FromStationAir (StationSettled row)) s h = tt
+  station_opens_known (FromStationAir (OnStarting count)) s h = starting_opens count s.context h.0
+  station_opens_known (FromStationAir (OnSignalling srb count)) s h = signalling_opens srb count s.context h.0
+  station_opens_known (FromStationAir (OnUser drb count)) s h = user_opens drb count s.context h.0
+  station_opens_known (FromStationAir (OnPrepared air by count)) s h = prepared_opens count (at_air air s.preps) (all_find (PrepKnown P) (is_at air) s.preps h.1)
+
+  -- at the phone: its keys, or KNASint of the KASME and KRRCint of the KeNB that it holds, before it reports them
+  ciphering_known : (b : Bool) (e : Ciphering Term) → P e.under.key → CipheringKnown (OrAlgOf P) (ciphering_if b e)
+  ciphering_known true e h = inl h
+  ciphering_known false e h = tt
+
+  command_opens : (same : Term → Term → Bool) (count : ℕ) (algs : Algs) (o : Option (Partial Term)) → PartialKnown P o → OpeningKnown (OrAlgOf P) (command_expects (term_reading_by same) count algs o)
+  command_opens same count algs None h = tt
+  command_opens same count algs (Some p) h = (inr (p.root, _, _, h, refl), tt)
+
+  message_opens : (count header : ℕ) (o : Option (NasContext Term)) → NasContextKnown P o → OpeningKnown (OrAlgOf P) (message_expects count header o)
+  message_opens count header None h = tt
+  message_opens count header (Some c) h = (inl h.1.1, ciphering_known (is_ciphered header) _ h.1.0)
+
+  start_opens : (same : Term → Term → Bool) (count : ℕ) (algs : Algs) (radio : Radio Term ℕ) → RadioKnown P radio → OpeningKnown (OrAlgOf P) (start_expects (term_reading_by same) count algs radio)
+  start_opens same count algs Idle h = tt
+  start_opens same count algs (Connecting w) h = (inr (w.kenb, _, _, h.1, refl), tt)
+  start_opens same count algs (Connected l) h = tt
+
+  link_opens : (srb : Srb) (count : ℕ) (radio : Radio Term ℕ) → RadioKnown P radio → OpeningKnown P (signalling_expects srb count radio)
+  link_opens srb count Idle h = tt
+  link_opens srb count (Connecting w) h = tt
+  link_opens srb count (Connected l) h = (h.2.1, h.2.0)
+
+  packet_opens : (drb : Drb) (count : ℕ) (radio : Radio Term ℕ) → RadioKnown P radio → OpeningKnown P (packet_expects drb count radio)
+  packet_opens drb count Idle h = tt
+  packet_opens drb count (Connecting w) h = tt
+  packet_opens drb count (Connected l) h = h.2.2
+
+  ciphering_or_alg : (o : Option (Ciphering Term)) → CipheringKnown P o → CipheringKnown (OrAlgOf P) o
+  ciphering_or_alg None h = tt
+  ciphering_or_alg (Some e) h = inl h
+
+  or_alg : (o : Opening Term) → OpeningKnown P o → OpeningKnown (OrAlgOf P) o
+  or_alg OpensNothing h = tt
+  or_alg (OpensNas u e) h = (inl h.0, ciphering_or_alg e h.1)
+  or_alg (OpensSrb u e) h = (inl h.0, ciphering_or_alg e h.1)
+  or_alg (OpensDrb e) h = inl h
+
+  pub phone_opens_known : (same : Term → Term → Bool) (front : PhoneFront) (s : Phone Term ℕ) → PhoneKnown P s → OpeningKnown (OrAlgOf P) (phone_expects (term_reading_by same) front s)
+  phone_opens_known same (Settled row) s h = tt
+  phone_opens_known same (FromNas (NasSettled row)) s h = tt
+  phone_opens_known same (FromNas (AtCommand count algs caps)) s h = command_opens same count algs s.partial h.0
+  phone_opens_known same (FromNas (AtMessage count header)) s h = message_opens count header s.context h.1
+  phone_opens_known same (FromAir (AirSettled row)) s h = tt
+  phone_opens_known same (FromAir (AtStart count algs named station air)) s h = start_opens same count algs s.radio h.2
+  phone_opens_known same (FromAir (AtSignalling srb count own)) s h = or_alg (signalling_expects srb count s.radio) (link_opens srb count s.radio h.2)
+  phone_opens_known same (FromAir (AtPacket drb count)) s h = or_alg (packet_expects drb count s.radio) (packet_opens drb count s.radio h.2)
+
+  -- a phone on a connection expects keys that it has reported
+  pub link_opens_known : (srb : Srb) (count : ℕ) (radio : Radio Term ℕ) → RadioKnown P radio → OpeningKnown P (signalling_expects srb count radio)
+  link_opens_known srb count radio h = link_opens srb count radio h

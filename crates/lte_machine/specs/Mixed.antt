@@ -1,0 +1,25 @@
+-- The written machine, where a PDU of an SRB opens by its sender's use as a term.
+use Rattle.std.specs.Prelude.{ℕ, List, [], ◌∷◌, Option}
+use Rattle.lte_events.specs.declared.events.Event.{Event}
+use Rattle.key_model.specs.HandoverTable.{NumberedKey}
+use Rattle.key_model.specs.Term.{Term, same_term}
+use Rattle.key_model.specs.Value.{same_value}
+use Rattle.s1x2_rec.specs.Fields.{Fields}
+use Rattle.lte_machine.specs.Wire.{Outgoing}
+use Rattle.lte_machine.specs.Ciphers.{Ciphers}
+use Rattle.lte_machine.specs.Opening.{Opening, OpensSrb, Outcome, open_by_uses}
+use Rattle.lte_machine.specs.World.{Machine}
+pub use Rattle.lte_machine.specs.Run.{run}
+use Rattle.lte_machine.specs.Machines.{machine_over}
+
+-- on an SRB two uses are one where their keys are one term, and elsewhere where their keys have one value
+abbrev pub by_terms : Ciphers Term → Opening Term → List ℕ → Option (Outgoing Term ℕ) → Outcome
+by_terms c (OpensSrb u e) pdu came = open_by_uses same_term c (OpensSrb u e) pdu came
+by_terms c other pdu came = open_by_uses same_value c other pdu came
+
+-- the machine whose keys are one where their values are, with this opener
+abbrev pub written_with : Ciphers Term → (Fields → Option (NumberedKey Term ℕ) → List ℕ) → (Opening Term → List ℕ → Option (Outgoing Term ℕ) → Outcome) → Machine Term ℕ (Outgoing Term ℕ)
+written_with c between opener = record (machine_over same_value c between) { opener = opener }
+
+abbrev pub mixed : Ciphers Term → (Fields → Option (NumberedKey Term ℕ) → List ℕ) → Machine Term ℕ (Outgoing Term ℕ)
+mixed c between = written_with c between (by_terms c)

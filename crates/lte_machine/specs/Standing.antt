@@ -1,0 +1,33 @@
+-- What the rows of a run's ladder stand for, and which keys have one.
+use Rattle.std.specs.Prelude.{◌≡◌, ℕ, List, None}
+use Rattle.lte_events.specs.declared.events.Event.{Event}
+use Rattle.lte_events.specs.declared.setups.Setup.{Setup}
+use Rattle.key_model.specs.Term.{Term}
+use Rattle.key_model.specs.Value.{value_of, same_value}
+use Rattle.lte_machine.specs.Wire.{Outgoing}
+use Rattle.lte_machine.specs.Ciphers.{Ciphers, under_keys}
+use Rattle.lte_machine.specs.Opening.{open_octets}
+use Rattle.lte_machine.specs.Ladder.{RowOrigin, ladder_of}
+use Rattle.lte_machine.specs.Distinct.{keys_of, Member, distinct_terms, OneValueOneTerm}
+use Rattle.lte_machine.specs.World.{World}
+use Rattle.lte_machine.specs.Machines.{written_machine}
+use Rattle.lte_machine.specs.Run.{Still, replay, first_world}
+
+-- the keys of the rows of a history's ladder
+abbrev pub row_keys : List (RowOrigin Term) → List Term
+row_keys history = keys_of (ladder_of same_value history).rows
+
+-- the rows of the ladder stand for the distinct terms: it has no clash, the keys of its rows are the distinct terms in the
+-- order of their first derivation, each with a value of its own; every key derived, and every root, has a row, so that two
+-- of them with one value are one term
+pub record RowsStandForTerms (history : List (RowOrigin Term)) : Type 0 where
+  pub calm : (ladder_of same_value history).clash ≡ None
+  pub rows : row_keys history ≡ distinct_terms history
+  pub own : OneValueOneTerm (row_keys history)
+  pub stand : (t : Term) → Member t (keys_of history) → Member t (row_keys history)
+  pub one : OneValueOneTerm (keys_of history)
+
+-- the run of these events in terms has met no coincidence, and is in this world
+abbrev pub RunsTo : Ciphers (List ℕ) → Setup → List Event → World Term ℕ (Outgoing Term ℕ) → Type 0
+RunsTo c setup events w =
+    replay (open_octets (under_keys value_of c)) (written_machine c) (Still (first_world setup)) events ≡ Still w

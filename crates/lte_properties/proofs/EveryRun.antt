@@ -1,0 +1,85 @@
+-- What holds of every run of the written machine that has met no coincidence: the machine whose SRBs open by terms comes to
+-- the same worlds.
+use Rattle.std.proofs.Common.{◌≡◌, ℕ, zero, suc, List, [], ◌∷◌, map, take, Option, refl, ap, sym, ◌∙◌, subst}
+use Rattle.lte_events.specs.declared.events.Event.{Event}
+use Rattle.lte_events.specs.declared.setups.Setup.{Setup}
+use Rattle.key_model.specs.Term.{Term, Root}
+use Rattle.key_model.specs.Use.{map_use}
+use Rattle.key_model.specs.Value.{value_of, same_value}
+use Rattle.lte_machine.specs.Wire.{Outgoing}
+use Rattle.lte_machine.specs.Ciphers.{Ciphers, AreCiphers, under_keys, octets_of}
+use Rattle.lte_machine.specs.Opening.{Opening, Outcome, open_octets}
+use Rattle.lte_machine.specs.World.{Machine, World, happens}
+use Rattle.lte_machine.specs.Machines.{sender_of, written_machine, written_in_values}
+use Rattle.lte_machine.specs.Run.{Still, replay, run, first_world}
+use Rattle.lte_machine.specs.Mixed.{by_terms, mixed}
+use Rattle.lte_machine.specs.Ranges.{AllOf, IsEvent, IsSetup}
+use Rattle.lte_machine.specs.Standing.{RunsTo}
+use Rattle.lte_machine.proofs.AnnexB.{under_keys_ciphers}
+use Rattle.lte_machine.proofs.LadderRun.{uses_apart}
+use Rattle.lte_machine.proofs.MixedRun.{run_by_terms}
+use Rattle.lte_machine.proofs.StillRun.{goes_on, still_is_run, turns_to}
+use Rattle.lte_properties.specs.Agreement.{Agrees, AgreementHolds, NoneThere, NoneEver}
+use Rattle.lte_properties.specs.Freshness.{NoUseTwice, ValuesApart}
+use Rattle.lte_properties.specs.SharedKeys.{SharedApart}
+use Rattle.lte_properties.proofs.Agreement.{agreement_over}
+use Rattle.lte_properties.proofs.Freshness.{no_use_twice_by_terms, no_value_twice_by_terms}
+use Rattle.lte_properties.proofs.HeldEver.{sharing_holds_by}
+
+-- each world on the way of a run that meets no coincidence is one of such a run
+on_the_way : {K C S : Type 0} (by_octets : Opening K → List ℕ → Outcome) (m : Machine K C S) (w : World K C S) (es : List Event) (u : World K C S)
+    → replay by_octets m (Still w) es ≡ Still u → (n : ℕ) → replay by_octets m (Still w) (take n es) ≡ Still (run m w (take n es))
+on_the_way by_octets m w [] u is zero = refl
+on_the_way by_octets m w [] u is (suc n) = refl
+on_the_way by_octets m w (e ∷ es) u is zero = refl
+on_the_way by_octets m w (e ∷ es) u is (suc n) =
+    ap (λ r. replay by_octets m r (take n es)) (turns_to by_octets m w e es u is)
+    ∙ on_the_way by_octets m (happens m w e).0 es u (goes_on by_octets m w e es u is).1 n
+
+module _ (c : Ciphers (List ℕ)) (good : AreCiphers c) (setup : Setup) (events : List Event) (w : World Term ℕ (Outgoing Term ℕ)) (is : RunsTo c setup events w) where
+  abbrev terms : Ciphers Term
+  terms = under_keys value_of c
+
+  -- the world is that of the machine whose SRBs open by terms
+  abbrev in_mixed : w ≡ run (mixed terms written_in_values) (first_world setup) events
+  in_mixed = run_by_terms terms written_in_values (open_octets terms) setup events w is
+
+  pub uses_differ : NoUseTwice w.uses
+  uses_differ =
+      subst (λ (u : World Term ℕ (Outgoing Term ℕ)). NoUseTwice u.uses) (sym in_mixed)
+      (no_use_twice_by_terms terms same_value (octets_of terms written_in_values) sender_of (by_terms terms) (λ v e pdu came. refl) setup events)
+
+  -- and in octets
+  pub values_differ : NoUseTwice (map (map_use value_of) w.uses)
+  values_differ =
+      subst (λ (u : World Term ℕ (Outgoing Term ℕ)). NoUseTwice (map (map_use value_of) u.uses)) (sym in_mixed)
+      (no_value_twice_by_terms terms same_value (octets_of terms written_in_values) sender_of (by_terms terms) (λ v e pdu came. refl) setup events
+        (subst (λ (u : World Term ℕ (Outgoing Term ℕ)). ValuesApart u.uses) in_mixed
+          (uses_apart terms written_in_values (written_machine c).opener (open_octets terms) setup events w is)))
+
+  module _ (set : IsSetup setup) (are : AllOf IsEvent events) where
+    abbrev both : AgreementHolds (mixed terms written_in_values) setup events
+    both = agreement_over same_value terms (under_keys_ciphers value_of c good) written_in_values (by_terms terms) (λ u e pdu came. refl) setup set events are
+
+    -- agreement
+    pub agrees : Agrees w
+    agrees = subst Agrees (sym in_mixed) both.0
+
+    -- each world on the way is that of the machine whose SRBs open by terms
+    way_is : (n : ℕ) → run (written_machine c) (first_world setup) (take n events) ≡ run (mixed terms written_in_values) (first_world setup) (take n events)
+    way_is n = run_by_terms terms written_in_values (open_octets terms) setup (take n events) (run (written_machine c) (first_world setup) (take n events))
+        (on_the_way (open_octets terms) (written_machine c) (first_world setup) events w is n)
+
+    -- and far keys
+    pub none_ever : NoneEver (written_machine c) (first_world setup) events
+    none_ever n =
+        let last : run (written_machine c) (first_world setup) events ≡ run (mixed terms written_in_values) (first_world setup) events =
+            sym (still_is_run (open_octets terms) (written_machine c) (first_world setup) events w is) ∙ in_mixed in
+        subst (λ (v : World Term ℕ (Outgoing Term ℕ)). NoneThere v (run (written_machine c) (first_world setup) events)) (sym (way_is n))
+        (subst (λ (u : World Term ℕ (Outgoing Term ℕ)). NoneThere (run (mixed terms written_in_values) (first_world setup) (take n events)) u) (sym last) (both.1 n))
+
+    -- and who can derive the key
+    pub shared : SharedApart setup.cells w
+    shared =
+        subst (λ (u : World Term ℕ (Outgoing Term ℕ)). SharedApart setup.cells u) (sym in_mixed)
+        (sharing_holds_by same_value (octets_of terms written_in_values) sender_of (by_terms terms) setup events both.0.obeyed)

@@ -1,0 +1,36 @@
+// Agreement of phone and stations on keys.
+ghost use Rattle.std.specs.Prelude.{ℕ, List};
+ghost use Rattle.lte_events.specs.declared.events.Event.{Event};
+ghost use Rattle.lte_events.specs.declared.setups.Setup.{Setup};
+ghost use Rattle.key_model.specs.Term.{Term};
+ghost use Rattle.lte_machine.specs.Ciphers.{annex_b};
+ghost use Rattle.lte_machine.specs.Machines.{written_machine};
+ghost use Rattle.lte_machine.specs.Ranges.{AllOf, IsEvent, IsSetup};
+ghost use Rattle.lte_machine.specs.Run.{first_world};
+ghost use Rattle.lte_machine.specs.Standing.{RunsTo};
+ghost use Rattle.lte_machine.specs.Wire.{Outgoing};
+ghost use Rattle.lte_machine.specs.World.{World};
+ghost use Rattle.lte_properties.specs.Agreement.{Agrees, NoneEver};
+
+/// In every run of the written machine with the algorithms of TS 33.401 Annex B that has met no
+/// coincidence, for every setup and every order of deliveries, losses, repeats and injected octets:
+///
+/// - at each obeyed handover command the target's chain number is not below the phone's; fewer than
+///   eight steps ahead the phone takes the key, number and algorithms that the target made, and at
+///   eight or more another key;
+/// - within a connection the phone's keys grow, and for each air address it takes at most one;
+/// - wherever the phone is connected at a station and air address, and the station's context has that
+///   air address, both have one key, one chain number and the same algorithms;
+/// - a context that came by a handover has a key that the phone had taken at its air address
+///   (`agree`);
+/// - where the key differs, eight or more steps ahead, no context of any world of the run has that air
+///   address (`far`).
+///
+/// TS 33.401 7.2.8.4.4.
+pub fn phone_and_target_agree_in_every_run()
+    ensures agree { (setup : Setup) (events : List Event) (w : World Term ℕ (Outgoing Term ℕ)) →
+        IsSetup setup → AllOf IsEvent events → RunsTo annex_b setup events w → Agrees w }
+    ensures far { (setup : Setup) (events : List Event) (w : World Term ℕ (Outgoing Term ℕ)) →
+        IsSetup setup → AllOf IsEvent events → RunsTo annex_b setup events w →
+        NoneEver (written_machine annex_b) (first_world setup) events }
+{}
