@@ -1,12 +1,11 @@
 -- The ladder of a history that grows: without a clash its rows are the distinct terms.
-use Rattle.std.proofs.Common.{◌≡◌, ℕ, Bool, true, false, List, [], ◌∷◌, ◌++◌, map, Option, Some, None, refl, ap, sym, ◌∙◌, subst, inl, inr}
-use Rattle.std.specs.Prelude.{◌⊎◌}
+use Rattle.std.proofs.Common.{◌≡◌, Bool, true, false, List, [], ◌∷◌, ◌++◌, Option, Some, None, refl, ap, sym, ◌∙◌, subst, inl, inr}
 use Rattle.std.proofs.lemmas.List.{map-append}
 use Rattle.key_model.specs.Term.{Term}
 use Rattle.key_model.specs.Value.{same_value}
-use Rattle.lte_machine.specs.Ladder.{RowOrigin, row_key, Clash, Ladder, add_row, added_unless, add_next, add_rows, no_rows, ladder_of}
+use Rattle.lte_machine.specs.Ladder.{RowOrigin, row_key, Clash, Ladder, add_row, add_next, add_rows, no_rows, ladder_of}
 use Rattle.lte_machine.specs.Distinct.{keys_of, Member, is_member, with_new, distinct_after, distinct_terms, OneValueOneTerm}
-use Rattle.lte_machine.proofs.Rows.{Well, Addable, Grown, add_row_grows, is_member_is, member_left, member_right}
+use Rattle.lte_machine.proofs.Rows.{Well, Addable, add_row_grows, is_member_is, member_left, member_right}
 
 module _ (same : Term → Term → Bool) where
   -- the first clash stays
@@ -52,9 +51,9 @@ rows_grow rows ts (m ∷ ms) s add calm =
     let grown = add_row_grows rows s.well m add.0 one in
     let is : add_row same_value rows m ≡ record { rows = (add_row same_value rows m).rows; clash = None } = λ j. record { rows = (add_row same_value rows m).rows; clash = one j } in
     let keys : keys_of (add_row same_value rows m).rows ≡ with_new (is_member (row_key m) ts) (row_key m) ts =
-        grown.keys ∙ ap (λ us. with_new (is_member (row_key m) us) (row_key m) us) s.keys in
+    grown.keys ∙ ap (λ us. with_new (is_member (row_key m) us) (row_key m) us) s.keys in
     let later = rows_grow (add_row same_value rows m).rows (with_new (is_member (row_key m) ts) (row_key m) ts) ms (record { well = grown.well; keys = keys }) add.1
-        (ap (λ l. (add_rows same_value l ms).clash) (sym is) ∙ calm) in
+    (ap (λ l. (add_rows same_value l ms).clash) (sym is) ∙ calm) in
     subst (λ l. Stand (add_rows same_value l ms).rows (distinct_after (with_new (is_member (row_key m) ts) (row_key m) ts) (keys_of ms))) (sym is) later
 
 -- a history's rows stand for its distinct terms, where it has no clash
@@ -75,10 +74,10 @@ laddered_more history ms ladder add calm =
     let joined = add_rows_append same_value no_rows history ms in
     let is : ladder_of same_value history ≡ record { rows = (ladder_of same_value history).rows; clash = None } = λ j. record { rows = (ladder_of same_value history).rows; clash = before j } in
     let whole : ladder_of same_value (history ++ ms) ≡ add_rows same_value (record { rows = (ladder_of same_value history).rows; clash = None }) ms =
-        joined ∙ ap (λ l. add_rows same_value l ms) is in
+    joined ∙ ap (λ l. add_rows same_value l ms) is in
     let stand = rows_grow (ladder_of same_value history).rows (distinct_terms history) ms (ladder before) (add before) (ap (λ l. l.clash) (sym whole) ∙ calm) in
     let terms : distinct_after (distinct_terms history) (keys_of ms) ≡ distinct_terms (history ++ ms) =
-        sym (distinct_append [] (keys_of history) (keys_of ms)) ∙ ap (distinct_after []) (sym (map-append row_key history ms)) in
+    sym (distinct_append [] (keys_of history) (keys_of ms)) ∙ ap (distinct_after []) (sym (map-append row_key history ms)) in
     record {
       well = subst Well (sym (ap (λ l. l.rows) whole)) stand.well;
       keys = ap (λ l. keys_of l.rows) whole ∙ stand.keys ∙ terms;

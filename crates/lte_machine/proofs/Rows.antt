@@ -1,17 +1,16 @@
 -- The rows of a ladder stand for the distinct terms, each with a value of its own, where no clash has come.
-use Rattle.std.proofs.Common.{◌≡◌, ℕ, ◌+◌, ◌==◌, Bool, true, false, List, [], ◌∷◌, ◌++◌, map, Option, Some, None, refl, ap, sym, ◌∙◌, subst}
+use Rattle.std.proofs.Common.{◌≡◌, ℕ, ◌+◌, Bool, true, false, List, [], ◌∷◌, ◌++◌, Option, Some, None, refl, ap, sym, ◌∙◌, subst}
 use Rattle.std.specs.Prelude.{◌⊎◌, ◌&&◌, ◌||◌}
 use Rattle.std.proofs.Common.{inl, inr}
-use Rattle.std.specs.List.{list_any}
 use Rattle.std.proofs.lemmas.Bool.Decides.{Decides-and, Decides-eqb}
 use Rattle.std.proofs.lemmas.List.{map-append}
 use Rattle.key_model.specs.Derivation.{Input, FromCount, FromSync, FromCell, FromAlg, Derivation}
-use Rattle.key_model.specs.Term.{Term, Root, Kenb, Nh, Star, Alg, same_term}
+use Rattle.key_model.specs.Term.{Term, Kenb, Nh, Star, Alg, same_term}
 use Rattle.key_model.specs.Value.{value_of, same_value}
 use Rattle.key_model.proofs.TermFacts.{same_term-Decides, same_value-Decides}
-use Rattle.lte_machine.specs.Ladder.{RowOrigin, OfRoot, Of, row_key, same_input, same_origin, Clash, Ladder, Hit, hit_if, hit_from, hit, stands_or_not, added_at, add_row, added_unless, add_next, add_rows, no_rows, ladder_of, root_place, root_if, root_row}
+use Rattle.lte_machine.specs.Ladder.{RowOrigin, OfRoot, Of, row_key, same_input, same_origin, Hit, hit_if, hit_from, hit, stands_or_not, added_at, add_row, root_place, root_if, root_row}
 use Rattle.lte_machine.specs.Ranges.{AllOf}
-use Rattle.lte_machine.specs.Distinct.{keys_of, Member, is_member, with_new, distinct_after, distinct_terms, OneValueOneTerm}
+use Rattle.lte_machine.specs.Distinct.{keys_of, Member, is_member, with_new, OneValueOneTerm}
 
 -- membership
 
@@ -212,15 +211,15 @@ stands_same rows well (Of d) add h found at e = by_origin h.found found.holds e
 
 grown_new : (rows : List (RowOrigin Term)) → Well rows → (o : RowOrigin Term) → Addable rows o → hit same_value (row_key o) rows ≡ None → Grown rows (row_key o) (rows ++ o ∷ [])
 grown_new rows well o add none = record {
-    well = record {
-      own = subst OneValueOneTerm (sym (keys_append rows o)) (own_more (keys_of rows) (row_key o) well.own (λ t m v. missed (row_key o) 0 rows none t m v));
-      made = subst (λ ts. AllOf (RowOk ts) (rows ++ o ∷ [])) (sym (keys_append rows o))
-          (all_of_append (RowOk (keys_of rows ++ row_key o ∷ [])) rows o
-            (all_of_weaken (RowOk (keys_of rows)) (RowOk (keys_of rows ++ row_key o ∷ [])) (row_more (keys_of rows) (keys_of rows ++ row_key o ∷ []) (λ t m. member_left t (keys_of rows) (row_key o ∷ []) m)) rows well.made)
-            (row_more (keys_of rows) (keys_of rows ++ row_key o ∷ []) (λ t m. member_left t (keys_of rows) (row_key o ∷ []) m) o (addable_row rows o add)));
-    };
-    keys = keys_append rows o ∙ sym (ap (λ b. with_new b (row_key o) (keys_of rows)) (not_member (is_member (row_key o) (keys_of rows)) refl));
-  }
+  well = record {
+    own = subst OneValueOneTerm (sym (keys_append rows o)) (own_more (keys_of rows) (row_key o) well.own (λ t m v. missed (row_key o) 0 rows none t m v));
+    made = subst (λ ts. AllOf (RowOk ts) (rows ++ o ∷ [])) (sym (keys_append rows o))
+        (all_of_append (RowOk (keys_of rows ++ row_key o ∷ [])) rows o
+        (all_of_weaken (RowOk (keys_of rows)) (RowOk (keys_of rows ++ row_key o ∷ [])) (row_more (keys_of rows) (keys_of rows ++ row_key o ∷ []) (λ t m. member_left t (keys_of rows) (row_key o ∷ []) m)) rows well.made)
+        (row_more (keys_of rows) (keys_of rows ++ row_key o ∷ []) (λ t m. member_left t (keys_of rows) (row_key o ∷ []) m) o (addable_row rows o add)));
+  };
+  keys = keys_append rows o ∙ sym (ap (λ b. with_new b (row_key o) (keys_of rows)) (not_member (is_member (row_key o) (keys_of rows)) refl));
+}
   where
     not_member : (b : Bool) → is_member (row_key o) (keys_of rows) ≡ b → is_member (row_key o) (keys_of rows) ≡ false
     not_member true e = absurd (missed (row_key o) 0 rows none (row_key o) (is_member_is (row_key o) (keys_of rows) e) refl)

@@ -1,6 +1,5 @@
 -- The written machine, where a PDU of an SRB opens by its sender's use as a term.
-use Rattle.std.specs.Prelude.{ℕ, List, [], ◌∷◌, Option}
-use Rattle.lte_events.specs.declared.events.Event.{Event}
+use Rattle.std.specs.Prelude.{ℕ, List, Option}
 use Rattle.key_model.specs.HandoverTable.{NumberedKey}
 use Rattle.key_model.specs.Term.{Term, same_term}
 use Rattle.key_model.specs.Value.{same_value}

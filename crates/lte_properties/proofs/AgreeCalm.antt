@@ -1,60 +1,38 @@
 -- Openings are calm: a phone that waits for the security of its connection opens no ciphered record, since it never took
 -- its KeNB before; and a connected one no unciphered record, since it took the one of its air address before.
-use Rattle.std.proofs.Common.{◌≡◌, refl, sym, ap, ◌∙◌, subst, ℕ, ◌+◌, ◌-◌, ◌<◌, ◌≤◌, ◌==◌, nat_lt, Bool, true, false, ℤ, pos, negsuc, List, [], ◌∷◌, length, Option, Some, None, Result, Ok, Err, arith}
+use Rattle.std.proofs.Common.{◌≡◌, refl, sym, ap, ◌∙◌, subst, ℕ, ◌-◌, ◌≤◌, ◌==◌, nat_lt, Bool, true, false, ℤ, pos, negsuc, List, length, Option, Some, None, Result, Ok, Err, arith}
 use Rattle.std.specs.Prelude.{⊤}
 use Rattle.std.specs.List.{position_from}
-use Rattle.std.proofs.lemmas.Bool.{eqb-true, eqb-false}
 use Rattle.alg_choice.specs.declared.caps.Caps.{Caps}
 use Rattle.rec_base.specs.declared.faults.RecFault.{RecFault}
 use Rattle.rec_base.specs.declared.bearers.Bearer.{Bearer}
-use Rattle.rec_base.specs.declared.uses.Dir.{Dir}
 use Rattle.rec_base.specs.declared.uses.Dir.TheVariants.{Up, Down}
-use Rattle.lte_events.specs.declared.acts.CoreAct.{CoreAct}
-use Rattle.lte_events.specs.declared.acts.PhoneAct.{PhoneAct}
-use Rattle.lte_events.specs.declared.acts.StationAct.{StationAct}
 use Rattle.lte_events.specs.declared.addresses.Address.{Address}
-use Rattle.lte_events.specs.declared.answers.Answer.{Answer}
-use Rattle.lte_events.specs.declared.answers.Answer.TheVariants.{NoUe, NoRecord, Sent, RepeatedRoot}
 use Rattle.lte_events.specs.declared.events.Event.{Event}
 use Rattle.lte_events.specs.Site.{Site}
 use Rattle.key_model.specs.Term.{Term}
-use Rattle.key_model.specs.HandoverTable.{NumberedKey}
 use Rattle.key_model.specs.Reading.{term_reading_by}
-use Rattle.s1x2_rec.specs.Fields.{Fields}
-use Rattle.lte_machine.specs.Bearers.{Srb, Signalling1, Signalling2, Drb, User1, User2, User3, User4, Which, OnSrb, which, of_srb, of_drb}
-use Rattle.lte_machine.specs.Wire.{KeyUse, Ciphering, Outgoing, SealedNas, PlainNas, SealedRrc, UserPacket, Between, address_of}
+use Rattle.lte_machine.specs.Bearers.{Srb, Signalling1, Signalling2, Drb, Which, OnSrb, which, of_srb, of_drb}
+use Rattle.lte_machine.specs.Wire.{KeyUse, Ciphering, Outgoing, SealedNas, PlainNas, SealedRrc, UserPacket, Between}
 use Rattle.lte_machine.specs.Opening.{Opening, Outcome, Opened}
-use Rattle.lte_machine.specs.Ranges.{IsEvent, IsStationAct}
-use Rattle.lte_machine.specs.Reply.{Made, Tried, Took, Reply, unseen}
-use Rattle.lte_machine.specs.PhoneState.{Phone, PhoneInput, PhoneActs, PhoneNasPdu, PhoneAirPdu}
-use Rattle.lte_machine.specs.PhoneChoice.{unciphered_text, phone_row}
-use Rattle.lte_machine.specs.PhoneKeys.{PhoneDone}
-use Rattle.lte_machine.specs.PhoneStep.{plain_phone, front_of, phone_root, phone_opens, phone_pdu_in, phone_step}
-use Rattle.lte_machine.specs.StationState.{Station, Context, StationInput, StationActs, AirPdu, StationRecord, Interface, OnS1, OnX2, map_preps, map_context}
-use Rattle.lte_machine.specs.StationRows.{StationRow, OfRecord, OfAir, OfAct}
+use Rattle.lte_machine.specs.Reply.{Took, unseen}
+use Rattle.lte_machine.specs.PhoneState.{Phone, PhoneNasPdu, PhoneAirPdu}
+use Rattle.lte_machine.specs.PhoneChoice.{unciphered_text}
+use Rattle.lte_machine.specs.PhoneStep.{plain_phone}
+use Rattle.lte_machine.specs.StationState.{Station, Context, StationInput, StationActs, AirPdu, StationRecord, OnS1, OnX2}
 use Rattle.lte_machine.specs.StationKeys.{station_does}
-use Rattle.lte_machine.specs.StationStep.{station_opens, station_pdu_in, station_step, station_row_of, station_key, plain_station}
-use Rattle.lte_machine.specs.CoreState.{Core, CoreInput, CoreAuth, CoreActs, CoreNasPdu, CoreRecord}
-use Rattle.lte_machine.specs.CoreKeys.{CoreDone}
-use Rattle.lte_machine.specs.CoreChoice.{core_row}
-use Rattle.lte_machine.specs.CoreStep.{plain_core, core_root, core_front_of, core_opens, core_pdu_in, core_step}
-use Rattle.lte_machine.specs.World.{Machine, World, phone_after, core_after, station_after, by_world, phone_turn, core_turn, station_of_id, turn_of, station_turn, authenticated, auth_unless, known_root, next_root, content_in, arrives, newest_if, chosen, delivered, class_of, is_sent, injected, happens}
-use Rattle.lte_machine.specs.Step.{Attempted, phone_attempts, core_attempts, attempts_at, station_attempts, arrival_attempts, delivery_attempts, injection_attempts, attempted}
+use Rattle.lte_machine.specs.CoreState.{Core, CoreInput, CoreActs, CoreNasPdu, CoreRecord}
+use Rattle.lte_machine.specs.CoreStep.{core_front_of}
+use Rattle.lte_machine.specs.World.{Machine, station_of_id, content_in, newest_if, chosen, class_of, is_sent}
+use Rattle.lte_machine.specs.Step.{Attempted, phone_attempts, core_attempts, attempts_at, station_attempts, arrival_attempts, delivery_attempts, injection_attempts}
 use Rattle.ho_prep.specs.Prep.{at_air}
-use Rattle.lte_properties.specs.ChainBelow.{AllOf}
-use Rattle.lte_properties.specs.ChainAbove.{ContextAbove, StationAbove, InFlight}
 use Rattle.lte_properties.specs.ChainHolds.{machine_by}
 use Rattle.lte_properties.specs.Agreement.{made_at}
 use Rattle.lte_properties.specs.AgreePremises.{IsHonest, IsCalm, outcome_of, Honest, Calm}
-use Rattle.lte_properties.proofs.ChainLists.{OfSome, all_one, all_find, all_get, all_map, all_both, all_put}
-use Rattle.lte_properties.proofs.AgreeGhost.{Ghost, tried_at, CoreOk, RadioOk, StationOk, SentOk, MadeOk, TriedOk, TookOk, OutOk, BetweenOk, DownOk, UpOk}
-use Rattle.lte_properties.proofs.AgreeLater.{Later, later_itself, later_after, ctx_later, preps_later, radio_later, sent_later, made_later, tried_later, took_later}
-use Rattle.lte_properties.proofs.AgreePhoneWalk.{CameDown, air_walks}
-use Rattle.lte_properties.proofs.AgreeStationOpens.{CameUp, air_walks_by, act_walks}
-use Rattle.lte_properties.specs.ChainHolds.{run, noted, Holds}
-use Rattle.lte_properties.specs.AgreePremises.{Along}
+use Rattle.lte_properties.proofs.ChainLists.{OfSome, all_get}
+use Rattle.lte_properties.proofs.AgreeGhost.{Ghost, RadioOk, SentOk}
+use Rattle.lte_properties.proofs.AgreePhoneWalk.{CameDown}
 use Rattle.std.specs.Prelude.{◌&&◌, if◌then◌else◌}
-use Rattle.std.proofs.lemmas.Bool.Decides.{nat_tests}
 use Rattle.key_model.specs.Chain.{ncc_of}
 use Rattle.key_model.specs.Least.{least}
 use Rattle.alg_choice.specs.declared.algs.Algs.{Algs}
@@ -71,7 +49,7 @@ use Rattle.lte_machine.specs.Bearers.{srb_counts, drb_counts, OnDrb}
 use Rattle.lte_machine.specs.Wire.{srb_use, ciphering_by}
 use Rattle.lte_machine.specs.Opening.{Differs, OpensSrb}
 use Rattle.lte_machine.specs.PhoneState.{Waiting, Link, Radio, Idle, Connecting, Connected, map_radio, map_link, NasContext, Partial}
-use Rattle.lte_machine.specs.PhoneChoice.{NasFront, NasSettled, AtCommand, AtMessage, AirFront, AirSettled, AtStart, AtSignalling, AtPacket, start_read, start_at, waiting_front, signalling_at, packet_at, linked_front, air_front, nas_by_header, header_for_phone}
+use Rattle.lte_machine.specs.PhoneChoice.{NasFront, NasSettled, AtCommand, AtMessage, AirFront, AtStart, start_read, start_at, waiting_front, signalling_at, packet_at, linked_front, air_front, nas_by_header, header_for_phone}
 use Rattle.lte_machine.specs.PhoneKeys.{nas_expects, air_expects, start_expects, signalling_expects, packet_expects, srb_ciphering_down, command_expects, message_expects}
 use Rattle.lte_machine.specs.StationChoice as st
 use Rattle.lte_machine.specs.StationKeys as stk
@@ -82,7 +60,7 @@ use Rattle.lte_machine.specs.CoreState.{CoreContext}
 use Rattle.nas_guard.specs.Keys.{Keys}
 use Rattle.ho_prep.specs.Prep.{Prep}
 use Rattle.lte_properties.specs.Agreement.{IsIn}
-use Rattle.lte_properties.specs.AgreePremises.{WasSealed, CipheredAs, is_ciphered}
+use Rattle.lte_properties.specs.AgreePremises.{WasSealed, CipheredAs}
 use Rattle.lte_properties.proofs.AgreeGhost.{keys_of, LinkIs}
 use Rattle.lte_properties.proofs.AgreePhoneWalk.{by_test, one_key, both_named}
 use Rattle.lte_properties.proofs.AgreeLater.{same_found}

@@ -1,9 +1,8 @@
 -- What the rows of the core leave of the invariant of agreement, and what its choice of a row establishes.
 use Rattle.std.proofs.Common.{◌≡◌, ℕ, suc, ◌+◌, ◌<◌, ◌≤◌, refl, sym, ◌∙◌, ap, subst, arith, Bool, true, false, cond, List, Option, Some, None, option_map, Result, Ok, Err}
-use Rattle.std.specs.Prelude.{◌&&◌, ◌==◌, nat_le, slice_index, ⊤}
+use Rattle.std.specs.Prelude.{◌==◌, nat_le, slice_index, ⊤}
 use Rattle.std.proofs.lemmas.Bool.{eqb-true}
 use Rattle.std.proofs.lemmas.Bool.Decides.{nat_tests}
-use Rattle.rec_base.specs.declared.faults.RecFault.{RecFault}
 use Rattle.alg_choice.specs.declared.algs.Algs.{Algs}
 use Rattle.alg_choice.specs.declared.algs.Eea.{Eea}
 use Rattle.alg_choice.specs.declared.caps.Caps.{Caps}
@@ -21,11 +20,11 @@ use Rattle.key_model.specs.Reading.{term_reading_by}
 use Rattle.nas_count.specs.declared.sending.TheConstants.{LIMIT}
 use Rattle.nas_guard.specs.Keys.{Keys}
 use Rattle.s1x2_rec.specs.Fields.{Fields, InitialContext, ContextRelease, PathSwitchRequest, PathSwitchAnswer, HandoverRequired, HandoverRequest, HandoverRequestAck, HandoverCommand, HandoverNotify, HandoverCancel, X2Request, X2Ack, X2Cancel, X2Release}
-use Rattle.lte_machine.specs.Reply.{Tried, unseen}
+use Rattle.lte_machine.specs.Reply.{unseen}
 use Rattle.lte_machine.specs.CoreState.{Core, CorePartial, CoreContext, CoreLink, map_core_link}
 use Rattle.lte_machine.specs.CoreRows.{CoreNasRow, NasRefused, PlainReject, SmcComplete, ServiceAsked, NasOpened, SealedReject, CoreRecordRow, RecordRefused, PathSwitched, HandoverAsked, HandoverOrdered, HandoverNotified, HandoverCancelled, CoreActRow, ActRefused, SmcStarted, ContextSetUp, ContextReleased, NasSent, NasSkipped, CoreRow, OfNas, OfRecord, OfAct, OfAuth}
-use Rattle.lte_machine.specs.CoreKeys.{CoreDone, authenticated, smc_started, smc_complete, service_asked, nas_opened, sealed_reject, nas_sent, nas_skipped, context_set_up, context_released, path_switched, handover_asked, handover_notified, core_does_nas, core_does_record, core_does_act, core_does}
-use Rattle.lte_machine.specs.CoreChoice.{PlainCore, station_at_cell, path_switch_row, asked_at, caps_in_use, required_row, cancelled_at, of_link, core_fields_row, smc_row, start_smc_row, set_up_row, connect_row, release_row, send_nas_row, skip_nas_row, core_act_row, NUMBERS}
+use Rattle.lte_machine.specs.CoreKeys.{CoreDone, authenticated, smc_started, smc_complete, service_asked, nas_opened, sealed_reject, nas_sent, nas_skipped, context_set_up, path_switched, handover_asked, handover_notified, core_does_nas, core_does_record, core_does_act, core_does}
+use Rattle.lte_machine.specs.CoreChoice.{PlainCore, station_at_cell, asked_at, caps_in_use, cancelled_at, of_link, core_fields_row, smc_row, start_smc_row, connect_row, release_row, send_nas_row, skip_nas_row, core_act_row, NUMBERS}
 use Rattle.lte_machine.specs.CoreStep.{plain_core}
 use Rattle.lte_machine.specs.StationChoice.{station_of}
 use Rattle.lte_properties.specs.ChainBelow.{AllOf}
@@ -114,12 +113,19 @@ module _ (same : Term → Term → Bool) (cells : List Site) (g : Ghost) (tried_
         root = λ i low. elsewhere conn i c.nas.root g.root (omega arith);
         count = λ i low. elsewhere conn i count g.count (omega arith);
         top = λ i low. equal_below (sym (elsewhere conn i 0 g.top (omega arith)));
-        made = λ station air m e. e; tried = λ station number e f. f; took = λ x i. i;
+        made = λ station air m e. e;
+        tried = λ station number e f. f;
+        took = λ x i. i;
       } in
-      let key : Kenb c.nas.root count ≡ chain_at k conn 0 = λ j. Kenb (sym (here conn c.nas.root g.root) j) (sym (here conn count g.count) j) in
-      (root, counts, top, conn + 1, later,
-      ((omega arith, sym (here conn 0 g.top), sym (here conn c.nas.root g.root), key), refl, h.2),
-      (omega arith, key))
+      let key : Kenb c.nas.root count ≡ chain_at k conn 0 = λ j. Kenb (sym (here conn c.nas.root g.root) j) (sym (here conn count g.count) j) in (
+        root,
+        counts,
+        top,
+        conn + 1,
+        later,
+        ((omega arith, sym (here conn 0 g.top), sym (here conn c.nas.root g.root), key), refl, h.2),
+        (omega arith, key),
+      )
 
   -- a step of the chain
   module _ (link : CoreLink Term ℕ) (s : Core Term ℕ) (h : CoreOk cells g s) (k : CoreLinkOk g (Some link)) where
@@ -131,8 +137,13 @@ module _ (same : Term → Term → Bool) (cells : List Site) (g : Ghost) (tried_
 
     steps_later : Later g stepped_ghost
     steps_later = record {
-      next = omega arith; root = λ i low. refl; count = λ i low. refl; top = λ i low. rises link.conn g.top i;
-      made = λ station air m e. e; tried = λ station number e f. f; took = λ x i. i;
+      next = omega arith;
+      root = λ i low. refl;
+      count = λ i low. refl;
+      top = λ i low. rises link.conn g.top i;
+      made = λ station air m e. e;
+      tried = λ station number e f. f;
+      took = λ x i. i;
     }
 
     number_up : link.chain.number + 1 ≡ up link.conn
@@ -151,9 +162,15 @@ module _ (same : Term → Term → Bool) (cells : List Site) (g : Ghost) (tried_
   switched_goes : (conn station number : ℕ) (alarm : Bool) (o : Option (CoreLink Term ℕ)) (s : Core Term ℕ) → CoreOk cells g s → CoreLinkOk g o → LinkConn o conn
       → CoreGoes cells g (path_switched (term_reading_by same) conn station number alarm o s)
   switched_goes conn station number alarm None s h k is = (g.root, g.count, g.top, g.next, later_itself g, h, tt)
-  switched_goes conn station number alarm (Some link) s h k is =
-      (g.root, g.count, up link s h k, g.next, steps_later link s h k,
-      ((k.0, number_up link s h k, k.2, key_up link s h k), h.1, h.2), pair_up link s h k conn is)
+  switched_goes conn station number alarm (Some link) s h k is = (
+    g.root,
+    g.count,
+    up link s h k,
+    g.next,
+    steps_later link s h k,
+    ((k.0, number_up link s h k, k.2, key_up link s h k), h.1, h.2),
+    pair_up link s h k conn is,
+  )
 
   asked_goes : (conn source attempt : ℕ) (cell : Place) (target : ℕ) (caps : Caps) (o : Option (CoreLink Term ℕ)) (s : Core Term ℕ) → CoreOk cells g s → CoreLinkOk g o
       → LinkConn o conn → AskedIs g conn source attempt cell None AnyTried → station_of cell cells ≡ Some target
@@ -165,10 +182,15 @@ module _ (same : Term → Term → Bool) (cells : List Site) (g : Ghost) (tried_
       let to : target ≡ e.target = same_found (station_of cell cells) target e.target there (ap (λ x. station_of x cells) (sym asked.3) ∙ ok.1) in
       let one : e.conn ≡ link.conn = asked.2 ∙ sym is in
       let below : e.number ≤ g.top link.conn = subst (λ c. e.number ≤ g.top c) one ok.0.1 in
-      let low : e.number < link.chain.number + 1 = subst (λ n. e.number < n + 1) (sym k.1) (omega arith) in
-      (g.root, g.count, up link s h k, g.next, steps_later link s h k,
-      ((k.0, number_up link s h k, k.2, key_up link s h k), h.1, h.2),
-      (pair_up link s h k conn is, (e, asked.1, asked.2, asked.3, asked.4, (low, to))))
+      let low : e.number < link.chain.number + 1 = subst (λ n. e.number < n + 1) (sym k.1) (omega arith) in (
+        g.root,
+        g.count,
+        up link s h k,
+        g.next,
+        steps_later link s h k,
+        ((k.0, number_up link s h k, k.2, key_up link s h k), h.1, h.2),
+        (pair_up link s h k conn is, (e, asked.1, asked.2, asked.3, asked.4, (low, to))),
+      )
 
   notified_goes : (station : ℕ) (o : Option (CoreLink Term ℕ)) (s : Core Term ℕ) → CoreOk cells g s → CoreLinkOk g o
       → CoreGoes cells g (handover_notified station o s)

@@ -1,61 +1,38 @@
 -- Every event, and every run, keeps agreement's invariant.
-use Rattle.std.proofs.Common.{◌≡◌, refl, sym, ap, ◌∙◌, subst, ℕ, ◌+◌, ◌-◌, ◌<◌, ◌≤◌, ◌==◌, nat_lt, Bool, true, false, ℤ, pos, negsuc, List, [], ◌∷◌, length, Option, Some, None, Result, Ok, Err, arith}
-use Rattle.std.specs.Prelude.{⊤}
+use Rattle.std.proofs.Common.{◌≡◌, refl, ap, ◌∙◌, ℕ, ◌-◌, nat_lt, Bool, true, false, ℤ, pos, negsuc, List, [], ◌∷◌, length, Option, Some, None, Ok, Err}
 use Rattle.std.specs.List.{position_from}
-use Rattle.std.proofs.lemmas.Bool.{eqb-true, eqb-false}
 use Rattle.alg_choice.specs.declared.caps.Caps.{Caps}
 use Rattle.rec_base.specs.declared.faults.RecFault.{RecFault}
 use Rattle.rec_base.specs.declared.bearers.Bearer.{Bearer}
-use Rattle.rec_base.specs.declared.uses.Dir.{Dir}
 use Rattle.rec_base.specs.declared.uses.Dir.TheVariants.{Up, Down}
-use Rattle.lte_events.specs.declared.acts.CoreAct.{CoreAct}
-use Rattle.lte_events.specs.declared.acts.PhoneAct.{PhoneAct}
-use Rattle.lte_events.specs.declared.acts.StationAct.{StationAct}
 use Rattle.lte_events.specs.declared.addresses.Address.{Address}
-use Rattle.lte_events.specs.declared.answers.Answer.{Answer}
-use Rattle.lte_events.specs.declared.answers.Answer.TheVariants.{NoUe, NoRecord, Sent, RepeatedRoot}
+use Rattle.lte_events.specs.declared.answers.Answer.TheVariants.{NoRecord, Sent, RepeatedRoot}
 use Rattle.lte_events.specs.declared.events.Event.{Event}
 use Rattle.lte_events.specs.Site.{Site}
 use Rattle.key_model.specs.Term.{Term}
 use Rattle.key_model.specs.HandoverTable.{NumberedKey}
-use Rattle.key_model.specs.Reading.{term_reading_by}
 use Rattle.s1x2_rec.specs.Fields.{Fields}
-use Rattle.lte_machine.specs.Bearers.{Srb, Signalling1, Signalling2, Drb, User1, User2, User3, User4, Which, OnSrb, which, of_srb, of_drb}
-use Rattle.lte_machine.specs.Wire.{KeyUse, Ciphering, Outgoing, SealedNas, PlainNas, SealedRrc, UserPacket, Between, address_of}
-use Rattle.lte_machine.specs.Opening.{Opening, Outcome, Opened}
-use Rattle.lte_machine.specs.Ranges.{IsEvent, IsStationAct}
-use Rattle.lte_machine.specs.Reply.{Made, Tried, Took, Reply, unseen}
-use Rattle.lte_machine.specs.PhoneState.{Phone, PhoneInput, PhoneActs, PhoneNasPdu, PhoneAirPdu}
-use Rattle.lte_machine.specs.PhoneChoice.{unciphered_text, phone_row}
-use Rattle.lte_machine.specs.PhoneKeys.{PhoneDone}
-use Rattle.lte_machine.specs.PhoneStep.{plain_phone, front_of, phone_root, phone_opens, phone_pdu_in, phone_step}
-use Rattle.lte_machine.specs.StationState.{Station, Context, StationInput, StationActs, AirPdu, StationRecord, Interface, OnS1, OnX2, map_preps, map_context}
-use Rattle.lte_machine.specs.StationRows.{StationRow, OfRecord, OfAir, OfAct}
-use Rattle.lte_machine.specs.StationKeys.{station_does}
-use Rattle.lte_machine.specs.StationStep.{station_opens, station_pdu_in, station_step, station_row_of, station_key, plain_station}
-use Rattle.lte_machine.specs.CoreState.{Core, CoreInput, CoreAuth, CoreActs, CoreNasPdu, CoreRecord}
-use Rattle.lte_machine.specs.CoreKeys.{CoreDone}
-use Rattle.lte_machine.specs.CoreChoice.{core_row}
-use Rattle.lte_machine.specs.CoreStep.{plain_core, core_root, core_front_of, core_opens, core_pdu_in, core_step}
-use Rattle.lte_machine.specs.World.{Machine, World, phone_after, core_after, station_after, by_world, phone_turn, core_turn, station_of_id, turn_of, station_turn, authenticated, auth_unless, known_root, next_root, content_in, arrives, newest_if, chosen, delivered, class_of, is_sent, injected, happens}
-use Rattle.lte_machine.specs.Step.{Attempted, phone_attempts, core_attempts, attempts_at, station_attempts, arrival_attempts, delivery_attempts, injection_attempts, attempted}
-use Rattle.ho_prep.specs.Prep.{at_air}
+use Rattle.lte_machine.specs.Bearers.{Srb, Signalling1, Signalling2, OnSrb, which, of_srb, of_drb}
+use Rattle.lte_machine.specs.Wire.{KeyUse, Outgoing, SealedNas, PlainNas, SealedRrc, UserPacket, Between}
+use Rattle.lte_machine.specs.Opening.{Opening, Outcome}
+use Rattle.lte_machine.specs.Ranges.{IsEvent}
+use Rattle.lte_machine.specs.PhoneState.{PhoneActs, PhoneNasPdu, PhoneAirPdu}
+use Rattle.lte_machine.specs.PhoneChoice.{unciphered_text}
+use Rattle.lte_machine.specs.StationState.{Station, AirPdu}
+use Rattle.lte_machine.specs.CoreState.{CoreActs, CoreNasPdu, CoreRecord}
+use Rattle.lte_machine.specs.World.{Machine, phone_turn, core_turn, station_of_id, station_turn, authenticated, auth_unless, known_root, next_root, arrives, newest_if, chosen, delivered, class_of, is_sent, injected, happens}
+use Rattle.lte_machine.specs.Step.{Attempted, phone_attempts, station_attempts, arrival_attempts, delivery_attempts, injection_attempts}
 use Rattle.lte_properties.specs.ChainBelow.{AllOf}
-use Rattle.lte_properties.specs.ChainAbove.{ContextAbove, StationAbove, InFlight}
+use Rattle.lte_properties.specs.ChainAbove.{StationAbove, InFlight}
 use Rattle.lte_properties.specs.ChainHolds.{machine_by}
-use Rattle.lte_properties.specs.Agreement.{made_at}
 use Rattle.lte_properties.specs.AgreePremises.{IsHonest, IsCalm, outcome_of, Honest, Calm}
-use Rattle.lte_properties.proofs.ChainLists.{OfSome, all_one, all_find, all_get, all_map, all_both, all_put}
-use Rattle.lte_properties.proofs.AgreeGhost.{Ghost, tried_at, CoreOk, RadioOk, StationOk, SentOk, MadeOk, TriedOk, TookOk, OutOk, BetweenOk, DownOk, UpOk}
-use Rattle.lte_properties.proofs.AgreeLater.{Later, later_itself, later_after, ctx_later, preps_later, radio_later, sent_later, made_later, tried_later, took_later}
-use Rattle.lte_properties.proofs.AgreePhone.{PhoneGoes, NewTook, PhoneNeeds, took_more, phone_goes, with_took}
-use Rattle.lte_properties.proofs.AgreePhoneWalk.{CameDown, air_walks}
-use Rattle.lte_properties.proofs.AgreeTold.{told, told_more, fresh_beside, SiteOk}
-use Rattle.lte_properties.proofs.AgreeStation.{StationGoes, NewMade, NewTried, RecordNeeds, AirNeeds, record_goes, air_goes}
-use Rattle.lte_properties.proofs.AgreeStationAct.{ActNeeds, act_goes}
-use Rattle.lte_properties.proofs.AgreeStationWalk.{s1_walks, x2_walks}
-use Rattle.lte_properties.proofs.AgreeStationOpens.{CameUp, air_walks_by, act_walks}
-use Rattle.lte_properties.proofs.AgreeCore.{CoreGoes, CoreNeeds, with_conns, core_goes, core_record_walks, core_act_walks}
+use Rattle.lte_properties.proofs.ChainLists.{OfSome, all_get, all_map}
+use Rattle.lte_properties.proofs.AgreeGhost.{SentOk, BetweenOk}
+use Rattle.lte_properties.proofs.AgreeLater.{later_itself, later_after}
+use Rattle.lte_properties.proofs.AgreePhoneWalk.{CameDown}
+use Rattle.lte_properties.proofs.AgreeTold.{SiteOk}
+use Rattle.lte_properties.proofs.AgreeStationOpens.{CameUp}
+use Rattle.lte_properties.proofs.AgreeCore.{core_record_walks, core_act_walks}
 use Rattle.lte_properties.specs.ChainHolds.{run, noted, Holds}
 use Rattle.lte_properties.specs.AgreePremises.{Along}
 use Rattle.lte_properties.proofs.ChainWorld.{happens_holds}
@@ -154,9 +131,19 @@ module _ (same : Term → Term → Bool) (root : ℕ → List ℕ → Term) (oct
 
   -- an authentication
   authenticated_goes : (c : Conns) (w : TheWorld) (ksi : ℕ) (key : Term) (caps : Caps) → WorldOk cells c w → Goes cells c w (authenticated m w ksi key caps).0
-  authenticated_goes c w ksi key caps h = (c, later_itself (ghost c w), record {
-    core = h.core; radio = h.radio; stations = h.stations; sent = h.sent; made = h.made; tried = h.tried; took = h.took;
-  })
+  authenticated_goes c w ksi key caps h = (
+    c,
+    later_itself (ghost c w),
+    record {
+      core = h.core;
+      radio = h.radio;
+      stations = h.stations;
+      sent = h.sent;
+      made = h.made;
+      tried = h.tried;
+      took = h.took;
+    },
+  )
 
   auth_goes : (c : Conns) (w : TheWorld) (ksi : ℕ) (key : Term) (caps : Caps) (o : Option ℕ) → WorldOk cells c w → Goes cells c w (auth_unless m w ksi key caps o).0
   auth_goes c w ksi key caps None h = authenticated_goes c w ksi key caps h

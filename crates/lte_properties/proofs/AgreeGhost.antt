@@ -1,8 +1,8 @@
 -- The invariant of agreement, part by part. Facts stand once, in what is told of a run: what was made, tried and taken;
 -- states and records only point to it.
-use Rattle.std.proofs.Common.{◌≡◌, ℕ, ◌+◌, ◌-◌, ◌*◌, ◌^◌, ◌%◌, ◌<◌, ◌≤◌, refl, sym, List, [], ◌∷◌, ◌++◌, Option, Some, None, Ok}
+use Rattle.std.proofs.Common.{◌≡◌, ℕ, ◌-◌, ◌<◌, ◌≤◌, List, Option, Some, None, Ok}
 use Rattle.rec_base.specs.declared.uses.Dir.TheVariants.{Up, Down}
-use Rattle.alg_choice.specs.Algs.{identity_of, eia2_identity}
+use Rattle.alg_choice.specs.Algs.{eia2_identity}
 use Rattle.alg_choice.specs.declared.algs.Algs.{Algs}
 use Rattle.annex_a_keys.specs.Cell.{Place}
 use Rattle.lte_events.specs.declared.addresses.Address.{Address}
@@ -19,22 +19,20 @@ use Rattle.rrc_rec.specs.declared.records.RrcRecord.{RrcRecord}
 use Rattle.rrc_rec.specs.declared.records.RrcRecord.TheVariants.{SecurityModeCommand, Reconfiguration}
 use Rattle.rrc_rec.specs.Reading.{read_rrc}
 use Rattle.s1x2_rec.specs.Fields.{Fields, InitialContext, PathSwitchAnswer, HandoverRequired, HandoverRequest, HandoverRequestAck, HandoverCommand, X2Request, X2Ack}
-use Rattle.s1x2_rec.specs.Spelling.{IsCell}
 use Rattle.ho_prep.specs.Prep.{Prep}
 use Rattle.x2_handover.specs.declared.orders.Order.{Order}
-use Rattle.x2_handover.specs.Attempt.{X2Start, X2Acked, X2Sent, x2_order}
-use Rattle.s1_handover.specs.Attempt.{S1Start, S1Acked, S1Sent, s1_order}
+use Rattle.x2_handover.specs.Attempt.{x2_order}
+use Rattle.s1_handover.specs.Attempt.{s1_order}
 use Rattle.lte_machine.specs.Bearers.{Srb, Signalling1, Bearers}
-use Rattle.lte_machine.specs.Wire.{KeyUse, Ciphering, Outgoing, SealedNas, PlainNas, SealedRrc, UserPacket, Between, srb_use, ciphering_by}
-use Rattle.lte_machine.specs.Reply.{Origin, Made, Tried, Took, Reply}
-use Rattle.lte_machine.specs.PhoneState.{Waiting, Link, Radio, Idle, Connecting, Connected}
+use Rattle.lte_machine.specs.Wire.{KeyUse, Ciphering, Outgoing, SealedRrc, Between, srb_use, ciphering_by}
+use Rattle.lte_machine.specs.Reply.{Origin, Made, Tried, Took}
+use Rattle.lte_machine.specs.PhoneState.{Link, Radio, Idle, Connecting, Connected}
 use Rattle.lte_machine.specs.StationState.{Station, Context, Attempt, OverX2, OverS1, Within, X2State, X2Open, X2Ready, X2Commanded, S1State, S1Open, S1Ready, S1Commanded}
 use Rattle.lte_machine.specs.StationChoice.{station_of}
 use Rattle.lte_machine.specs.CoreState.{Core, CoreLink}
-use Rattle.lte_machine.specs.World.{with_one}
 use Rattle.std.specs.Prelude.{◌==◌, ◌&&◌, Bool, true, false, find, ⊤}
 use Rattle.lte_properties.specs.ChainBelow.{AllOf}
-use Rattle.lte_properties.specs.Agreement.{IsIn, is_made_at, made_at, Obeys, Grows, HadTaken, TakenIfTried}
+use Rattle.lte_properties.specs.Agreement.{made_at, Obeys, Grows, HadTaken, TakenIfTried}
 use Rattle.lte_properties.proofs.AgreeTerms.{base, lands, ChainOf}
 
 -- of each connection its KASME, the COUNT of its KeNB and the greatest chain number so far; the next connection; and what

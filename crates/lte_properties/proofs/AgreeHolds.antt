@@ -1,35 +1,24 @@
 -- Agreement in every world of every run: from the invariant, which the first world has.
-use Rattle.std.proofs.Common.{◌≡◌, refl, sym, ap, ◌∙◌, subst, ℕ, ◌-◌, ◌≤◌, ◌<◌, List, [], ◌∷◌, ◌++◌, take, Option, Some, None, arith, inl, inr, Bool}
-use Rattle.std.specs.Prelude.{⊤}
-use Rattle.lte_events.specs.declared.events.Event.{Event}
+use Rattle.std.proofs.Common.{◌≡◌, refl, sym, ap, ◌∙◌, subst, ℕ, ◌≤◌, List, [], ◌∷◌, Option, Some, None, inl, inr}
 use Rattle.lte_events.specs.declared.setups.Setup.{Setup}
 use Rattle.lte_events.specs.declared.setups.StationSetup.{StationSetup}
 use Rattle.lte_events.specs.Site.{Site}
 use Rattle.key_model.specs.Term.{Term, Root}
-use Rattle.key_model.specs.Chain.{ncc_of}
 use Rattle.key_model.specs.Number.{chain_number}
 use Rattle.key_model.specs.HandoverTable.{NumberedKey}
-use Rattle.lte_machine.specs.Wire.{KeyUse, Outgoing}
-use Rattle.lte_machine.specs.Opening.{Opening, Outcome}
 use Rattle.lte_machine.specs.Ranges.{IsSetup, IsStation, IsSiteOf, IsEvent}
 use Rattle.lte_machine.specs.Ranges as ranges
-use Rattle.lte_machine.specs.Reply.{Origin, Made, Tried, Took}
+use Rattle.lte_machine.specs.Reply.{Origin, Made, Took}
 use Rattle.lte_machine.specs.PhoneState.{Radio, Idle, Connecting, Connected, Link}
 use Rattle.lte_machine.specs.StationState.{Station, Context}
-use Rattle.lte_machine.specs.World.{World, Machine, happens}
 use Rattle.lte_machine.specs.Run.{stations_of, first_world}
 use Rattle.lte_properties.specs.ChainBelow.{AllOf}
-use Rattle.lte_properties.specs.ChainHolds.{machine_by, run, core_numbers, Holds}
-use Rattle.lte_properties.specs.Agreement.{IsIn, made_at, ahead, TookMade, ObeysMade, Obeys, ObeysAgreement, Grows, TermsGrow, TermsFollow, OneTerm, ContextAt, AtStation, Agree, JoinedBy, JoinedAgree, IsFar, NoneThere, HadTaken, TakenIfTried, ComesMade, CompletedTaken, Agrees}
-use Rattle.lte_properties.specs.AgreePremises.{Honest, Calm, Along}
+use Rattle.lte_properties.specs.Agreement.{IsIn, made_at, ahead, Obeys, Grows, TermsFollow, OneTerm, ContextAt, AtStation, Agree, JoinedBy, IsFar, NoneThere, ComesMade, Agrees}
 use Rattle.lte_properties.proofs.ChainLists.{all_map}
-use Rattle.lte_properties.proofs.ChainWorld.{run_holds, first_holds}
-use Rattle.lte_properties.proofs.AgreeTerms.{ChainOf}
-use Rattle.lte_properties.proofs.AgreeGhost.{Ghost, tried_at, keys_of, taken, FromIs, HereIs, TermOk, EntryIs, CtxOk, StationOk, LinkIs, RadioOk, TookOk, MadeOk}
+use Rattle.lte_properties.proofs.AgreeGhost.{Ghost, tried_at, keys_of, taken, FromIs, HereIs, CtxOk, StationOk, LinkIs, RadioOk, TookOk}
 use Rattle.lte_properties.proofs.AgreeLater.{Later, same_found, here_later}
 use Rattle.lte_properties.proofs.AgreeTold.{SiteOk, term_number}
-use Rattle.lte_properties.proofs.AgreeWorld.{TheWorld, Conns, ghost, WorldOk, Goes, PlainReads}
-use Rattle.lte_properties.proofs.AgreeEvents.{run_goes}
+use Rattle.lte_properties.proofs.AgreeWorld.{TheWorld, Conns, ghost, WorldOk}
 
 -- THE FIRST WORLD
 
@@ -91,10 +80,10 @@ module _ (cells : List Site) (c : Conns) (w : TheWorld) (h : WorldOk cells c w) 
   one_term : OneTerm w
   one_term =
       all_in _ w.took (λ x i. all_in _ w.took (λ y j station air.
-        let a = of_each (TookOk (ghost c w)) w.took x h.took i in
-        let b = of_each (TookOk (ghost c w)) w.took y h.took j in
-        one_here (ghost c w) x.station x.air x.key y.key a.0
-        (subst (λ n. HereIs (ghost c w) n x.air y.key) (sym station) (subst (λ n. HereIs (ghost c w) y.station n y.key) (sym air) b.0))))
+      let a = of_each (TookOk (ghost c w)) w.took x h.took i in
+      let b = of_each (TookOk (ghost c w)) w.took y h.took j in
+      one_here (ghost c w) x.station x.air x.key y.key a.0
+      (subst (λ n. HereIs (ghost c w) n x.air y.key) (sym station) (subst (λ n. HereIs (ghost c w) y.station n y.key) (sym air) b.0))))
 
   -- a joined phone and context have what the phone takes there
   joined_one : (l : Link Term ℕ) → LinkIs (ghost c w) l → (s : Station Term ℕ) → s.id ≡ l.station → (o : Option (Context Term ℕ)) → CtxOk (ghost c w) s.id o → ContextAt l.air o (Agree l)
@@ -109,7 +98,7 @@ module _ (cells : List Site) (c : Conns) (w : TheWorld) (h : WorldOk cells c w) 
       let algs : l.keys.algs ≡ x.algs = k.4 ∙ ap (λ y. y.algs) (same_found _ k.2 m k.3 found) ∙ sym e.2.2 in
       let keys : l.keys ≡ x.keys = k.1 ∙ (λ j. keys_of (kenb j) (algs j)) ∙ sym ok.2 in
       let number : l.chain.number ≡ x.key.number =
-          k.0.2 ∙ ap chain_number kenb ∙ term_number (ghost c w) x.conn x.key.kenb x.key.number ok.0 in
+      k.0.2 ∙ ap chain_number kenb ∙ term_number (ghost c w) x.conn x.key.kenb x.key.number ok.0 in
       (kenb, number, keys, algs)
 
   joined : (radio : Radio Term ℕ) → RadioOk (ghost c w) radio → JoinedBy w radio

@@ -1,43 +1,32 @@
 -- What holds of the invariant's parts stays so, as more is told of the run.
 use Rattle.rec_base.specs.declared.uses.Dir.TheVariants.{Up, Down}
-use Rattle.alg_choice.specs.Algs.{identity_of, eia2_identity}
 use Rattle.alg_choice.specs.declared.algs.Algs.{Algs}
 use Rattle.annex_a_keys.specs.Cell.{Place}
 use Rattle.lte_events.specs.declared.addresses.Address.{Address}
 use Rattle.lte_events.specs.declared.addresses.Address.TheVariants.{StationS1, StationX2}
 use Rattle.lte_events.specs.Site.{Site}
-use Rattle.key_model.specs.Term.{Term, Kenb, Alg}
+use Rattle.key_model.specs.Term.{Term}
 use Rattle.key_model.specs.Chain.{nh, ncc_of}
-use Rattle.key_model.specs.Number.{chain_number}
-use Rattle.key_model.specs.Reading.{term_reading}
 use Rattle.key_model.specs.HandoverTable.{NumberedKey}
-use Rattle.key_model.specs.HandoverLines.{steps_to}
-use Rattle.pdcp_guard.specs.AsKeys.{AsKeys, as_keys_of}
 use Rattle.rrc_rec.specs.declared.records.RrcRecord.{RrcRecord}
 use Rattle.rrc_rec.specs.declared.records.RrcRecord.TheVariants.{SecurityModeCommand, Reconfiguration}
-use Rattle.rrc_rec.specs.Reading.{read_rrc}
 use Rattle.s1x2_rec.specs.Fields.{Fields, InitialContext, PathSwitchAnswer, HandoverRequired, HandoverRequest, HandoverRequestAck, HandoverCommand, X2Request, X2Ack}
-use Rattle.s1x2_rec.specs.Spelling.{IsCell}
 use Rattle.ho_prep.specs.Prep.{Prep}
 use Rattle.x2_handover.specs.declared.orders.Order.{Order}
-use Rattle.x2_handover.specs.Attempt.{X2Start, X2Acked, X2Sent, x2_order}
-use Rattle.s1_handover.specs.Attempt.{S1Start, S1Acked, S1Sent, s1_order}
+use Rattle.x2_handover.specs.Attempt.{x2_order}
+use Rattle.s1_handover.specs.Attempt.{s1_order}
 use Rattle.lte_machine.specs.Bearers.{Srb}
-use Rattle.lte_machine.specs.Wire.{KeyUse, Ciphering, Outgoing, SealedNas, PlainNas, SealedRrc, UserPacket, Between, srb_use, ciphering_by}
-use Rattle.lte_machine.specs.Reply.{Origin, Made, Tried, Took, Reply}
-use Rattle.lte_machine.specs.PhoneState.{Waiting, Link, Radio, Idle, Connecting, Connected}
-use Rattle.lte_machine.specs.StationState.{Station, Context, Attempt, OverX2, OverS1, Within, X2State, X2Open, X2Ready, X2Commanded, S1State, S1Open, S1Ready, S1Commanded}
-use Rattle.lte_machine.specs.StationChoice.{station_of}
-use Rattle.lte_machine.specs.CoreState.{Core, CoreLink}
-use Rattle.lte_machine.specs.World.{with_one}
+use Rattle.lte_machine.specs.Wire.{KeyUse, Ciphering, Outgoing, SealedRrc, Between}
+use Rattle.lte_machine.specs.Reply.{Origin, Made, Tried, Took}
+use Rattle.lte_machine.specs.PhoneState.{Radio, Idle, Connecting, Connected}
+use Rattle.lte_machine.specs.StationState.{Context, Attempt, OverX2, OverS1, Within, X2State, X2Open, X2Ready, X2Commanded, S1State, S1Open, S1Ready, S1Commanded}
 use Rattle.lte_properties.specs.ChainBelow.{AllOf}
-use Rattle.std.proofs.Common.{◌≡◌, ℕ, ◌+◌, ◌-◌, ◌<◌, ◌≤◌, refl, sym, ◌∙◌, ap, subst, le_trans, arith, Bool, true, false, cond, List, [], ◌∷◌, ◌++◌, Option, Some, None, Ok, inl, inr}
-use Rattle.std.specs.Prelude.{◌==◌, ◌&&◌, find, ⊤, ◌⊎◌}
+use Rattle.std.proofs.Common.{◌≡◌, ℕ, ◌<◌, ◌≤◌, refl, sym, ◌∙◌, ap, le_trans, arith, Bool, true, false, List, [], ◌∷◌, ◌++◌, Option, Some, None, inl, inr}
+use Rattle.std.specs.Prelude.{find}
 use Rattle.std.specs.Option.{option_or}
 use Rattle.std.proofs.lemmas.List.Folds.{find-append}
-use Rattle.lte_properties.specs.Agreement.{IsIn, is_made_at, made_at, Obeys, HadTaken, TakenIfTried}
-use Rattle.lte_properties.proofs.AgreeTerms.{base}
-use Rattle.lte_properties.proofs.AgreeGhost.{Ghost, tried_at, chain_at, TermOk, PairOk, PairsOk, FromIs, HereIs, FromOk, MadeOk, GivenOk, TriedOk, TookOk, IsMade, EntryIs, OrderIs, IsOrder, StartIs, X2Ok, S1Ok, AttemptOk, StartedOk, CtxOk, PrepOk, LinkIs, RadioOk, SaysOk, TextOk, CipheredSo, DownOk, UpOk, AskedIs, AckIs, CommandTo, X2AckTo, HasNcc, AnyMade, AnyTried, Surpasses, ToStationX2, BetweenOk, SentOk, OutOk}
+use Rattle.lte_properties.specs.Agreement.{IsIn, made_at, Obeys, HadTaken, TakenIfTried}
+use Rattle.lte_properties.proofs.AgreeGhost.{Ghost, tried_at, chain_at, TermOk, PairOk, PairsOk, FromIs, HereIs, FromOk, MadeOk, GivenOk, TriedOk, TookOk, EntryIs, OrderIs, IsOrder, StartIs, X2Ok, S1Ok, AttemptOk, StartedOk, CtxOk, PrepOk, RadioOk, SaysOk, CipheredSo, DownOk, UpOk, AskedIs, AckIs, CommandTo, X2AckTo, HasNcc, AnyMade, AnyTried, Surpasses, ToStationX2, BetweenOk, SentOk}
 
 -- more is told, connections go on, and none begins anew
 pub record Later (g h : Ghost) : Type 0 where
@@ -51,8 +40,13 @@ pub record Later (g h : Ghost) : Type 0 where
 
 pub later_itself : (g : Ghost) → Later g g
 later_itself g = record {
-  next = omega arith; root = λ conn d. refl; count = λ conn d. refl; top = λ conn d. omega arith;
-  made = λ station air m e. e; tried = λ station number e f. f; took = λ x i. i;
+  next = omega arith;
+  root = λ conn d. refl;
+  count = λ conn d. refl;
+  top = λ conn d. omega arith;
+  made = λ station air m e. e;
+  tried = λ station number e f. f;
+  took = λ x i. i;
 }
 
 pub later_after : (g h k : Ghost) → Later g h → Later h k → Later g k
@@ -176,10 +170,14 @@ module _ (g h : Ghost) (l : Later g h) where
 
   pub ctx_later : (id : ℕ) (o : Option (Context Term ℕ)) → CtxOk g id o → CtxOk h id o
   ctx_later id None x = tt
-  ctx_later id (Some c) x =
-      (term_later c.conn c.key.number c.key.kenb x.0, pairs_later c.conn c.key.pair x.1, x.2,
-      entry_later id c.air c.key.kenb c.key.number c.algs x.3, attempt_later id c.conn c.key.kenb c.attempt x.4,
-      started_later id c.air c.key.kenb c.starting c.attempt x.5)
+  ctx_later id (Some c) x = (
+    term_later c.conn c.key.number c.key.kenb x.0,
+    pairs_later c.conn c.key.pair x.1,
+    x.2,
+    entry_later id c.air c.key.kenb c.key.number c.algs x.3,
+    attempt_later id c.conn c.key.kenb c.attempt x.4,
+    started_later id c.air c.key.kenb c.starting c.attempt x.5,
+  )
 
   pub prep_later : (id : ℕ) (p : Prep Term ℕ) → PrepOk g id p → PrepOk h id p
   prep_later id p x =

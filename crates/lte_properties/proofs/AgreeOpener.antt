@@ -1,6 +1,6 @@
 -- An opener that compares the uses of SRB records as terms is honest, and unciphered records read as their texts.
-use Rattle.std.proofs.Common.{◌≡◌, refl, sym, ap, ◌∙◌, subst, ℕ, ◌+◌, ◌-◌, ◌%◌, Bool, true, false, List, [], ◌∷◌, ◌++◌, length, take, Option, Some, None, arith}
-use Rattle.std.specs.Prelude.{◌&&◌, ◌==◌, ⊤}
+use Rattle.std.proofs.Common.{◌≡◌, refl, sym, ◌∙◌, subst, ℕ, ◌-◌, ◌%◌, Bool, true, false, List, ◌∷◌, ◌++◌, length, Option, Some, None, arith}
+use Rattle.std.specs.Prelude.{◌&&◌, ◌==◌}
 use Rattle.std.proofs.lemmas.Bool.{eqb-true, eq-eqb}
 use Rattle.std.proofs.lemmas.List.{take_at, length-append}
 use Rattle.alg_choice.specs.Algs.{identity_of}
@@ -9,18 +9,16 @@ use Rattle.rec_base.specs.declared.uses.Dir.TheVariants.{Up, Down}
 use Rattle.lte_events.specs.declared.events.Event.{Event}
 use Rattle.key_model.specs.Term.{Term, same_term}
 use Rattle.key_model.specs.HandoverTable.{NumberedKey}
-use Rattle.key_model.specs.Use.{Use}
 use Rattle.key_model.proofs.TermFacts.{same_term-Decides}
 use Rattle.s1x2_rec.specs.Fields.{Fields}
 use Rattle.lte_machine.specs.Bearers.{Srb}
 use Rattle.lte_machine.specs.Wire.{KeyUse, Ciphering, Outgoing, SealedNas, PlainNas, SealedRrc, UserPacket, Between}
 use Rattle.lte_machine.specs.Ciphers.{Ciphers, AreCiphers, srb_octets, octets_of}
-use Rattle.lte_machine.specs.Opening.{Opening, OpensNothing, OpensNas, OpensSrb, OpensDrb, Outcome, Opened, Differs, open_octets, open_foreign, same_dir, same_uses, same_ciphering, judged, open_case, srb_sender, open_by_uses}
-use Rattle.lte_machine.specs.PhoneChoice.{unciphered_text}
+use Rattle.lte_machine.specs.Opening.{Opening, OpensNothing, OpensNas, OpensSrb, OpensDrb, Outcome, Opened, Differs, open_octets, open_foreign, same_dir, same_uses, same_ciphering, judged, open_case, open_by_uses}
 use Rattle.lte_machine.specs.World.{World}
 use Rattle.lte_machine.specs.Step.{attempted}
 use Rattle.lte_properties.specs.ChainHolds.{machine_by}
-use Rattle.lte_properties.specs.AgreePremises.{WasSealed, IsHonest, Honest, OpensByTerms}
+use Rattle.lte_properties.specs.AgreePremises.{IsHonest, Honest, OpensByTerms}
 use Rattle.lte_properties.proofs.AgreeWorld.{PlainReads}
 
 one_dir : (a b : Dir) → same_dir a b ≡ true → a ≡ b

@@ -1,12 +1,11 @@
 -- What each row of the phone leaves of the invariant of agreement.
 use Rattle.std.proofs.Common.{◌≡◌, ℕ, zero, suc, ◌+◌, ◌-◌, ◌<◌, ◌≤◌, refl, sym, ◌∙◌, ap, subst, arith, Bool, true, false, cond, List, [], ◌∷◌, ◌++◌, Option, Some, None, inl, inr}
 use Rattle.std.specs.Prelude.{find, ⊤}
-use Rattle.rec_base.specs.declared.uses.Dir.TheVariants.{Up, Down}
 use Rattle.alg_choice.specs.Algs.{eia2_identity}
 use Rattle.alg_choice.specs.declared.algs.Algs.{Algs}
 use Rattle.annex_a_keys.specs.Cell.{Place}
 use Rattle.lte_events.specs.declared.answers.Answer.{Answer}
-use Rattle.key_model.specs.Term.{Term, Kenb, Star, Alg}
+use Rattle.key_model.specs.Term.{Term, Alg}
 use Rattle.key_model.specs.Chain.{ncc_of}
 use Rattle.key_model.specs.Number.{chain_number}
 use Rattle.key_model.specs.Reading.{term_reading_by}
@@ -14,17 +13,16 @@ use Rattle.key_model.specs.HandoverTable.{NumberedKey}
 use Rattle.key_model.specs.HandoverLines.{steps_to}
 use Rattle.nh_chain.specs.Reach.{reached_after}
 use Rattle.lte_machine.specs.Bearers.{Srb, Signalling1, Signalling2, Drb, User1, User2, User3, User4, Which, OnSrb, OnDrb, Bearers, srb_taken, drb_taken, srb_sent, drb_sent, left_out_on}
-use Rattle.lte_machine.specs.Wire.{Outgoing}
-use Rattle.lte_machine.specs.Reply.{Origin, Made, Tried, Took, Reply}
+use Rattle.lte_machine.specs.Reply.{Origin, Made, Tried, Took}
 use Rattle.lte_machine.specs.World.{with_one}
-use Rattle.lte_machine.specs.PhoneState.{Partial, NasContext, Waiting, Link, Radio, Idle, Connecting, Connected, Phone}
+use Rattle.lte_machine.specs.PhoneState.{Partial, NasContext, Link, Radio, Connecting, Connected, Phone}
 use Rattle.lte_machine.specs.PhoneRows.{AuthRow, Authenticated, NasRow, NasRefused, RejectedPlain, RejectedUnder, ContextTaken, ContextTakenConnected, NasOpened, AirRow, AirRefused, LinkSecured, HandedOver, RrcOpened, PacketOpened, ActRow, ActRefused, ServiceRequested, CompleteResent, WentIdle, PacketSent, RrcSent, NasSent, NasLeftOut, BearerLeftOut, PhoneRow, OfAuth, OfNas, OfAir, OfAct}
 use Rattle.lte_machine.specs.PhoneKeys.{PhoneDone, auth_does, rejected_under, context_taken, context_taken_connected, nas_opened, nas_does, link_secured, handed_over, rrc_opened, packet_opened, air_does, service_requested, complete_resent, packet_sent, rrc_sent, nas_sent, nas_left_out, bearer_left_out, act_does, phone_does}
 use Rattle.lte_properties.specs.ChainBelow.{AllOf}
 use Rattle.lte_properties.specs.Agreement.{made_at, ahead, TookMade, ObeysMade, Obeys, Grows, HadTaken}
 use Rattle.lte_properties.proofs.AgreeTerms.{base, root_of, lands, ChainOf, reached_key, reached_number, reached_chain, steps_near, lands_near, lands_far}
-use Rattle.lte_properties.proofs.AgreeGhost.{Ghost, tried_at, keys_of, taken, FromIs, HereIs, Leads, FromOk, MadeOk, TookOk, OrderIs, LinkIs, RadioOk, OutOk, UpOk}
-use Rattle.lte_properties.proofs.AgreeLater.{Later, in_front, in_last, same_found, here_later}
+use Rattle.lte_properties.proofs.AgreeGhost.{Ghost, taken, FromIs, HereIs, Leads, FromOk, MadeOk, TookOk, OrderIs, LinkIs, RadioOk, OutOk}
+use Rattle.lte_properties.proofs.AgreeLater.{Later, in_front, in_last, same_found}
 
 -- what is told after the phone took a key, or none
 abbrev pub with_took : Ghost → Option (Took Term ℕ) → Ghost
@@ -105,12 +103,22 @@ grows same l (suc steps) cell chain x key number = inl (omega arith)
 -- more is told once the phone took a key
 pub took_more : (g : Ghost) (o : Option (Took Term ℕ)) → Later g (with_took g o)
 took_more g None = record {
-  next = omega arith; root = λ conn d. refl; count = λ conn d. refl; top = λ conn d. omega arith;
-  made = λ station air m e. e; tried = λ station number e f. f; took = λ x i. i;
+  next = omega arith;
+  root = λ conn d. refl;
+  count = λ conn d. refl;
+  top = λ conn d. omega arith;
+  made = λ station air m e. e;
+  tried = λ station number e f. f;
+  took = λ x i. i;
 }
 took_more g (Some y) = record {
-  next = omega arith; root = λ conn d. refl; count = λ conn d. refl; top = λ conn d. omega arith;
-  made = λ station air m e. e; tried = λ station number e f. f; took = λ x i. in_front x g.took (y ∷ []) i;
+  next = omega arith;
+  root = λ conn d. refl;
+  count = λ conn d. refl;
+  top = λ conn d. omega arith;
+  made = λ station air m e. e;
+  tried = λ station number e f. f;
+  took = λ x i. in_front x g.took (y ∷ []) i;
 }
 
 -- the next COUNT on SRB1 falls in no row but a handover
@@ -158,9 +166,11 @@ link_secured_goes same g station air algs count s (Connecting w) old h needs =
     let from : FromIs k m w.kenb m.from_attempt = subst (FromIs k m w.kenb) (sym needs.2) needs.3 in
     let heard : 1 ≤ count + 1 = omega arith in
     let had : HadTaken (g.took ++ x ∷ []) station air w.kenb = (x, in_last x g.took, refl, refl, refl) in
-    let here : HereIs k station air w.kenb = (m, needs.1, from) in
-    (((sym (ap root_of h.1), h.1 ∙ sym (ap base h.1), sym (ap chain_number h.1)), refl, m, needs.1, needs.4, from, had, (λ none. heard)),
-    (here, tt, tt), (w.kenb, refl, here, had))
+    let here : HereIs k station air w.kenb = (m, needs.1, from) in (
+      ((sym (ap root_of h.1), h.1 ∙ sym (ap base h.1), sym (ap chain_number h.1)), refl, m, needs.1, needs.4, from, had, (λ none. heard)),
+      (here, tt, tt),
+      (w.kenb, refl, here, had),
+    )
 link_secured_goes same g station air algs count s other old h needs = (old, tt, tt)
 
 no_origin : {o : Option Origin} {from : Origin} → o ≡ Some from → o ≡ None → ⊥
@@ -177,13 +187,17 @@ handed_over_goes same g made cell steps algs station air s (Connected l) old h n
     let o = order.1 in
     let e = order.2 in
     let x : Took Term ℕ = record {
-      station = station; air = air; key = r.star.key; number = r.star.number; algs = algs;
+      station = station;
+      air = air;
+      key = r.star.key;
+      number = r.star.number;
+      algs = algs;
       before = Some (record { key = l.kenb; number = l.chain.number });
     } in
     let k = with_took g (Some x) in
     let lands_so : r.star.key ≡ lands l.kenb steps cell = reached_key same l.kenb l.chain steps cell h.0 in
     let steps_are : steps ≡ steps_to (ncc_of (chain_number e.key)) (ncc_of m.number) =
-        needs.1 ∙ (λ j. steps_to (ncc_of ((h.0.2 ∙ sym (ap chain_number order.6)) j)) (sym order.8 j)) in
+    needs.1 ∙ (λ j. steps_to (ncc_of ((h.0.2 ∙ sym (ap chain_number order.6)) j)) (sym order.8 j)) in
     let takes : r.star.key ≡ taken e m = lands_so ∙ (λ j. lands (sym order.6 j) (steps_are j) (sym order.7 j)) in
     let from : FromIs k m r.star.key m.from_attempt = subst (FromIs k m r.star.key) (sym order.4) (e, order.5, takes) in
     let had : HadTaken (g.took ++ x ∷ []) station air r.star.key = (x, in_last x g.took, refl, refl, refl) in
@@ -194,12 +208,22 @@ handed_over_goes same g made cell steps algs station air s (Connected l) old h n
     let leads : Leads e m.key m.number = subst (λ u. Leads u m.key m.number) one ok.4 in
     let own : l.chain.number ≡ e.number = h.0.2 ∙ sym (ap chain_number order.6) ∙ number in
     let reached : r.star.number ≡ chain_number e.key + steps_to (ncc_of (chain_number e.key)) (ncc_of m.number) =
-        reached_number same l.kenb l.chain steps cell h.0 ∙ (λ j. chain_number (sym order.6 j) + steps_are j) in
+    reached_number same l.kenb l.chain steps cell h.0 ∙ (λ j. chain_number (sym order.6 j) + steps_are j) in
     let obeys : Obeys g.made x x.before =
-        (m, order.3, obeys_made e m x (record { key = l.kenb; number = l.chain.number }) own number leads takes reached (sym order.9)) in
-    (((subst (λ t. ChainOf t r.chain) (sym lands_so) (reached_chain same l.kenb l.chain steps cell h.0)),
-      refl, m, order.3, sym order.9, from, had, (λ none. absurd (no_origin order.4 none))),
-    (here, obeys, grows same l steps cell h.0 x refl refl), (r.star.key, refl, here, had))
+    (m, order.3, obeys_made e m x (record { key = l.kenb; number = l.chain.number }) own number leads takes reached (sym order.9)) in (
+      (
+        (subst (λ t. ChainOf t r.chain) (sym lands_so) (reached_chain same l.kenb l.chain steps cell h.0)),
+        refl,
+        m,
+        order.3,
+        sym order.9,
+        from,
+        had,
+        (λ none. absurd (no_origin order.4 none)),
+      ),
+      (here, obeys, grows same l steps cell h.0 x refl refl),
+      (r.star.key, refl, here, had),
+    )
 handed_over_goes same g made cell steps algs station air s other old h needs = (old, tt, tt)
 
 rrc_opened_goes : (same : Term → Term → Bool) (g : Ghost) (srb : Srb) (count : ℕ) (text : List ℕ) (s : Phone Term ℕ) (radio : Radio Term ℕ)

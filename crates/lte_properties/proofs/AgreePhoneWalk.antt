@@ -1,16 +1,14 @@
 -- What the phone's choice of a row establishes: a record that it accepts says what its station made.
-use Rattle.std.proofs.Common.{◌≡◌, ℕ, zero, suc, ◌-◌, refl, sym, ◌∙◌, ap, subst, arith, Bool, true, false, cond, eqb, List, Option, Some, None, Result, Ok, Err}
+use Rattle.std.proofs.Common.{◌≡◌, ℕ, refl, sym, ◌∙◌, ap, subst, arith, Bool, true, false, List, Option, Some, None, Result, Ok, Err}
 use Rattle.std.specs.Prelude.{◌&&◌, ◌==◌, if◌then◌else◌, ⊤}
-use Rattle.std.proofs.lemmas.Bool.{eqb-true}
 use Rattle.std.proofs.lemmas.Bool.Decides.{nat_tests}
-use Rattle.rec_base.specs.declared.bearers.Bearer.{Bearer}
 use Rattle.rec_base.specs.declared.faults.RecFault.{RecFault}
 use Rattle.rec_base.specs.declared.uses.Dir.TheVariants.{Up, Down}
 use Rattle.alg_choice.specs.declared.algs.Algs.{Algs}
 use Rattle.alg_choice.specs.declared.caps.Caps.{Caps}
 use Rattle.alg_choice.specs.Choice.{are_supported}
 use Rattle.annex_a_keys.specs.Cell.{Place}
-use Rattle.key_model.specs.Term.{Term, Kenb, Star, Alg}
+use Rattle.key_model.specs.Term.{Term, Alg}
 use Rattle.key_model.specs.Chain.{ncc_of}
 use Rattle.key_model.specs.HandoverLines.{steps_to}
 use Rattle.key_model.specs.Reading.{term_reading_by}
@@ -20,17 +18,16 @@ use Rattle.rrc_rec.specs.Reading.{read_rrc}
 use Rattle.pdcp_guard.specs.declared.pdus.PdcpFault.{PdcpFault}
 use Rattle.pdcp_guard.specs.Srb.{srb_count}
 use Rattle.pdcp_guard.specs.Drb.{drb_count}
-use Rattle.lte_machine.specs.Bearers.{Srb, Signalling1, Signalling2, Drb, Which, OnSrb, OnDrb, which, srb_counts, drb_counts}
+use Rattle.lte_machine.specs.Bearers.{Srb, Signalling1, Signalling2, Drb, Which, OnSrb, OnDrb, srb_counts, drb_counts}
 use Rattle.lte_machine.specs.Wire.{KeyUse, Ciphering, Outgoing, SealedNas, PlainNas, SealedRrc, UserPacket, Between, srb_use, ciphering_by}
-use Rattle.lte_machine.specs.Opening.{Opening, OpensNothing, OpensSrb, Outcome, Opened, Differs}
-use Rattle.lte_machine.specs.Reply.{Made, unseen}
+use Rattle.lte_machine.specs.Opening.{Outcome, Opened, Differs}
+use Rattle.lte_machine.specs.Reply.{unseen}
 use Rattle.lte_machine.specs.PhoneState.{Waiting, Link, Radio, Idle, Connecting, Connected, Phone, map_radio, map_link}
-use Rattle.lte_machine.specs.PhoneRows.{AirRow, LinkSecured, HandedOver, AirRefused, RrcOpened, PacketOpened}
-use Rattle.lte_machine.specs.PhoneChoice.{unciphered_text, start_read, start_at, waiting_front, signalling_at, packet_at, linked_front, air_front, AirFront, AirSettled, AtStart, AtSignalling, AtPacket, start_row, command_taken, signalling_read, signalling_row, packet_row, air_row}
-use Rattle.lte_machine.specs.PhoneKeys.{air_expects, start_expects, signalling_expects, packet_expects, srb_ciphering_down}
+use Rattle.lte_machine.specs.PhoneChoice.{unciphered_text, start_read, start_at, waiting_front, signalling_at, packet_at, linked_front, air_front, AirFront, AtStart, command_taken, signalling_read, air_row}
+use Rattle.lte_machine.specs.PhoneKeys.{air_expects, start_expects, signalling_expects, srb_ciphering_down}
 use Rattle.lte_properties.specs.Agreement.{made_at}
 use Rattle.lte_properties.specs.AgreePremises.{WasSealed, IsHonest, CipheredAs, IsCalm, is_ciphered}
-use Rattle.lte_properties.proofs.AgreeGhost.{Ghost, keys_of, SaysOk, TextOk, CipheredSo, DownOk, LinkIs, RadioOk, OrderIs}
+use Rattle.lte_properties.proofs.AgreeGhost.{Ghost, keys_of, TextOk, CipheredSo, DownOk, LinkIs, RadioOk, OrderIs}
 use Rattle.lte_properties.proofs.AgreeLater.{same_found}
 use Rattle.lte_properties.proofs.AgreePhone.{StartNeeds, CommandNeeds, AirNeeds}
 
@@ -147,7 +144,7 @@ module _ (same : Term → Term → Bool) (g : Ghost) (s : Phone Term ℕ) (caps 
       let d = k.3 in
       let m = d.0 in
       let kenb : l.kenb ≡ m.key =
-          one_key l.kenb m.key _ _ _ _ (sym (ap (λ keys. keys.rrc_int) h.1) ∙ ap (λ v. v.key) sealed.0 ∙ ap (λ v. v.key) d.2) in
+      one_key l.kenb m.key _ _ _ _ (sym (ap (λ keys. keys.rrc_int) h.1) ∙ ap (λ v. v.key) sealed.0 ∙ ap (λ v. v.key) d.2) in
       let there : made_at g.made station air ≡ Some h.2 = (λ j. made_at g.made (sym is_s j) (sym is_a j)) ∙ h.3 in
       let one : h.2 ≡ m = same_found _ h.2 m there d.1 in
       let algs : l.keys.algs ≡ m.algs = h.4 ∙ ap (λ x. x.algs) one in
@@ -155,7 +152,7 @@ module _ (same : Term → Term → Bool) (g : Ghost) (s : Phone Term ℕ) (caps 
       let counts : count ≡ i.count = ap (λ v. v.count) sealed.0 in
       let srbs : srb ≡ sr = one_srb srb sr (sym is_on ∙ k.2) in
       let cipher : Some (srb_ciphering_down l.keys srb count) ≡ Some f =
-          (λ j. Some (ciphering_by (algs j).eea (srb_use Down (keys j).rrc_enc (srbs j) (counts j)))) ∙ ap Some (sym d.3.0) in
+      (λ j. Some (ciphering_by (algs j).eea (srb_use Down (keys j).rrc_enc (srbs j) (counts j)))) ∙ ap Some (sym d.3.0) in
       subst (λ t. TextOk g t text) (sym kenb) (subst (TextOk g m.key) (sym (sealed.1 cipher)) d.4)
     where
       one_srb : (a b : Srb) → OnSrb a ≡ OnSrb b → a ≡ b

@@ -1,35 +1,28 @@
 -- What the rows of a station on records and PDUs leave of the invariant of agreement.
-use Rattle.std.proofs.Common.{◌≡◌, ℕ, zero, suc, ◌+◌, ◌-◌, ◌<◌, ◌≤◌, refl, sym, ◌∙◌, ap, subst, arith, Bool, true, false, List, [], ◌∷◌, ◌++◌, Option, Some, None, option_map}
-use Rattle.std.specs.Prelude.{find, ⊤, length}
-use Rattle.rec_base.specs.declared.uses.Dir.TheVariants.{Up, Down}
+use Rattle.std.proofs.Common.{◌≡◌, ℕ, ◌+◌, ◌<◌, ◌≤◌, refl, sym, ◌∙◌, ap, subst, arith, Bool, true, false, List, [], ◌∷◌, ◌++◌, Option, Some, None, option_map}
+use Rattle.std.specs.Prelude.{⊤}
 use Rattle.alg_choice.specs.declared.algs.Algs.{Algs}
 use Rattle.alg_choice.specs.declared.caps.Caps.{Caps}
 use Rattle.annex_a_keys.specs.Cell.{Place}
 use Rattle.lte_events.specs.Site.{Site}
-use Rattle.key_model.specs.Term.{Term, Kenb, Star}
+use Rattle.key_model.specs.Term.{Term, Star}
 use Rattle.key_model.specs.Chain.{ncc_of}
-use Rattle.key_model.specs.Number.{chain_number}
 use Rattle.key_model.specs.Reading.{term_reading_by}
 use Rattle.key_model.specs.HandoverTable.{NumberedKey}
-use Rattle.rrc_rec.specs.declared.records.RrcRecord.{RrcRecord}
 use Rattle.rrc_rec.specs.declared.records.RrcRecord.TheVariants.{SecurityModeCommand}
 use Rattle.ho_prep.specs.declared.origins.By.{By}
-use Rattle.ho_prep.specs.Prep.{Prep, is_at, at_air, without, drop_below}
-use Rattle.x2_handover.specs.declared.orders.Order.{Order}
-use Rattle.lte_machine.specs.Bearers.{Srb, Drb}
-use Rattle.lte_machine.specs.Wire.{Outgoing}
+use Rattle.ho_prep.specs.Prep.{Prep, is_at, at_air}
 use Rattle.lte_machine.specs.Reply.{Origin, Made, Tried, Reply}
-use Rattle.lte_machine.specs.World.{with_one}
-use Rattle.lte_machine.specs.StationState.{Station, Context, Attempt, OverX2, OverS1, Within, X2State, X2Open, X2Ready, X2Commanded, S1State, S1Open, S1Ready, S1Commanded}
-use Rattle.lte_machine.specs.StationRows.{Wanted, RecordRow, RecordRefused, ContextGiven, ContextReleased, PairTaken, PreparedByS1, PreparedByX2, AckedByS1, AckedByX2, PreparationCancelled, SourceReleased, AirRow, AirRefused, SecurityStarted, RrcTaken, PacketTaken, CompletedByS1, CompletedWithin, CompletedByX2, ActRow, ActRefused, StartedByX2, StartedByS1, StartedWithin, Commands, CancelledByX2, CancelledByS1, CancelledWithin, AsksAgain, SendsPacket, SendsRrc, LeavesOut, StationRow, OfRecord, OfAir, OfAct}
+use Rattle.lte_machine.specs.StationState.{Station, Context, Attempt, OverX2, OverS1, Within, X2Open, X2Ready, X2Commanded, S1Open, S1Ready, S1Commanded}
+use Rattle.lte_machine.specs.StationRows.{Wanted, RecordRow, RecordRefused, ContextGiven, ContextReleased, PairTaken, PreparedByS1, PreparedByX2, AckedByS1, AckedByX2, PreparationCancelled, SourceReleased, AirRow, AirRefused, SecurityStarted, RrcTaken, PacketTaken, CompletedByS1, CompletedWithin, CompletedByX2}
 use Rattle.lte_machine.specs.StationKeys.{context_given, with_pair, source_release, pair_taken, wanted_prep, prepared_by_s1, prepared_by_x2, s1_acked, x2_acked, with_s1_ack, with_x2_ack, record_does, with_security, with_rrc_taken, with_packet_taken, completed_by_s1, completed_within, completed_by_x2, air_does}
 use Rattle.lte_properties.specs.ChainBelow.{AllOf}
-use Rattle.lte_properties.specs.Agreement.{made_at, HadTaken, TakenIfTried}
-use Rattle.lte_properties.proofs.AgreeTerms.{base, lands}
-use Rattle.lte_properties.proofs.AgreeGhost.{Ghost, tried_at, chain_at, keys_of, TermOk, PairOk, PairsOk, FromIs, HereIs, Leads, GivenFits, FromOk, MadeOk, GivenOk, TriedOk, IsMade, EntryIs, OrderIs, IsOrder, StartIs, X2Ok, S1Ok, AttemptOk, StartedOk, CtxOk, PrepOk, FreshFrom, StationOk, SaysOk, AskedIs, AckIs, HasNcc, AnyMade, OutOk}
-use Rattle.lte_properties.proofs.AgreeLater.{Later, same_found, term_later, pairs_later, ctx_later, preps_later}
+use Rattle.lte_properties.specs.Agreement.{made_at, HadTaken}
+use Rattle.lte_properties.proofs.AgreeTerms.{base}
+use Rattle.lte_properties.proofs.AgreeGhost.{Ghost, tried_at, chain_at, keys_of, TermOk, PairOk, PairsOk, FromIs, HereIs, Leads, GivenFits, FromOk, MadeOk, GivenOk, TriedOk, EntryIs, AttemptOk, StartedOk, CtxOk, PrepOk, FreshFrom, StationOk, SaysOk, AskedIs, AckIs, HasNcc, AnyMade, OutOk}
+use Rattle.lte_properties.proofs.AgreeLater.{same_found, ctx_later, preps_later}
 use Rattle.lte_properties.proofs.AgreePhone.{all_found}
-use Rattle.lte_properties.proofs.AgreeTold.{told, told_more, made_new, made_none, made_there, MadeBy, TriedBy, all_append, all_filter, SiteOk, reads_as, term_number, leads_up, star_term, if_tried}
+use Rattle.lte_properties.proofs.AgreeTold.{told, told_more, made_new, made_none, MadeBy, TriedBy, all_append, all_filter, reads_as, term_number, leads_up, star_term, if_tried}
 
 -- what is told anew
 abbrev pub NewMade : Ghost → ℕ → Option (Made Term ℕ) → Type 0
@@ -146,17 +139,36 @@ module _ (same : Term → Term → Bool) (cells : List Site) (g : Ghost) (made_o
   context_given_goes conn cell caps algs air None s h needs = (h, tt, tt, tt, refl, tt, tt)
   context_given_goes conn cell caps algs air (Some key) s h needs =
       let m : Made Term ℕ = record {
-        station = s.id; air = air; conn = conn; cell = cell; key = key.key; number = 0; algs = algs; from_attempt = None;
+        station = s.id;
+        air = air;
+        conn = conn;
+        cell = cell;
+        key = key.key;
+        number = 0;
+        algs = algs;
+        from_attempt = None;
       } in
       let draws = needs.0 in
       let here : made_at (g.made ++ m ∷ []) s.id air ≡ Some m = made_new g.made m (h.2 air (omega arith)).0 in
       let low : 1 ≤ air = at_least draws.0 h.5 in
       let text = reads_as (SaysOk (told g (Some m) None) key.key) (SecurityModeCommand algs s.id air) (h.4, low, draws.1) (m, here, refl, refl) in
       let fresh : FreshFrom (told g (Some m) None) s.id (air + 1) =
-          λ n above. (made_none g.made m s.id n (h.2 n (omega arith)).0 (omega arith), (h.2 n (omega arith)).1) in
-      ((((needs.1, omega arith, ap base needs.2), tt, refl, (m, here, (refl, refl, refl), refl, tt), tt, refl),
-      tt, fresh, h.3, h.4, omega arith),
-      (low, draws.1, h.4, refl), tt, (m, here, refl, (refl, refl, refl), text), refl, refl, tt)
+      λ n above. (made_none g.made m s.id n (h.2 n (omega arith)).0 (omega arith), (h.2 n (omega arith)).1) in (
+        (
+          ((needs.1, omega arith, ap base needs.2), tt, refl, (m, here, (refl, refl, refl), refl, tt), tt, refl),
+          tt,
+          fresh,
+          h.3,
+          h.4,
+          omega arith,
+        ),
+        (low, draws.1, h.4, refl),
+        tt,
+        (m, here, refl, (refl, refl, refl), text),
+        refl,
+        refl,
+        tt,
+      )
 
   pair_ctx : (id : ℕ) (pair : NumberedKey Term ℕ) (o : Option (Context Term ℕ)) → CtxOk g id o → PairNeeds g pair o
       → CtxOk g id (option_map (with_pair pair) o)
@@ -181,27 +193,29 @@ module _ (same : Term → Term → Bool) (cells : List Site) (g : Ghost) (made_o
       → p.air ≡ w.air → p.algs ≡ w.algs → p.keys ≡ keys_of star.key w.algs
       → (m : Made Term ℕ) → m ≡ record { station = s.id; air = w.air; conn = w.conn; cell = w.cell; key = star.key; number = star.number; algs = w.algs; from_attempt = Some w.from }
       → let k = told g (Some m) None in
-        (made_at k.made s.id w.air ≡ Some m) × MadeOk k m × PrepOk k s.id p × FreshFrom k s.id (w.air + 1) × (1 ≤ w.air + 1)
+      (made_at k.made s.id w.air ≡ Some m) × MadeOk k m × PrepOk k s.id p × FreshFrom k s.id (w.air + 1) × (1 ≤ w.air + 1)
   prepared_goes w star s h draws e found target term leads given p conn kenb number pair air algs keys m is =
       let k = told g (Some m) None in
       let l = told_more g (Some m) None in
       let none : made_at g.made m.station m.air ≡ None = (λ j. made_at g.made (is j).station (is j).air) ∙ (h.2 w.air (omega arith)).0 in
       let here : made_at k.made s.id w.air ≡ Some m =
-          subst (λ x. made_at (g.made ++ m ∷ []) x.station x.air ≡ Some m) is (made_new g.made m none) in
+      subst (λ x. made_at (g.made ++ m ∷ []) x.station x.air ≡ Some m) is (made_new g.made m none) in
       let is_air : m.air ≡ w.air = ap (λ x. x.air) is in
       let low : 1 ≤ w.air = at_least draws.0 h.5 in
       let fresh : FreshFrom k s.id (w.air + 1) =
-          λ n above. (made_none g.made m s.id n (h.2 n (omega arith)).0 (omega arith), (h.2 n (omega arith)).1) in
+      λ n above. (made_none g.made m s.id n (h.2 n (omega arith)).0 (omega arith), (h.2 n (omega arith)).1) in
       let from : FromOk k (record { station = s.id; air = w.air; conn = w.conn; cell = w.cell; key = star.key; number = star.number; algs = w.algs; from_attempt = Some w.from }) (Some w.from) =
-          (e, found, term_number g e.conn e.key e.number (all_found (TriedOk cells g) _ g.tried e tried_ok found).0, target, leads, given) in
+      (e, found, term_number g e.conn e.key e.number (all_found (TriedOk cells g) _ g.tried e tried_ok found).0, target, leads, given) in
       let made : MadeOk k m = subst (MadeOk k) (sym is) (low, draws.1, h.4, from) in
-      let prep : PrepOk k s.id p =
-          (subst (λ x. TermOk k x p.key.kenb p.key.number) (sym conn)
-          (subst (λ x. TermOk k w.conn x p.key.number) (sym kenb) (subst (λ x. TermOk k w.conn star.key x) (sym number) term)),
-          subst (PairsOk k p.conn) (sym pair) tt,
-          keys ∙ (λ j. keys_of (sym kenb j) (sym algs j)),
-          m, ap (made_at k.made s.id) air ∙ here,
-          (kenb ∙ sym (ap (λ x. x.key) is), number ∙ sym (ap (λ x. x.number) is), algs ∙ sym (ap (λ x. x.algs) is))) in
+      let prep : PrepOk k s.id p = (
+        subst (λ x. TermOk k x p.key.kenb p.key.number) (sym conn)
+            (subst (λ x. TermOk k w.conn x p.key.number) (sym kenb) (subst (λ x. TermOk k w.conn star.key x) (sym number) term)),
+        subst (PairsOk k p.conn) (sym pair) tt,
+        keys ∙ (λ j. keys_of (sym kenb j) (sym algs j)),
+        m,
+        ap (made_at k.made s.id) air ∙ here,
+        (kenb ∙ sym (ap (λ x. x.key) is), number ∙ sym (ap (λ x. x.number) is), algs ∙ sym (ap (λ x. x.algs) is)),
+      ) in
       (here, made, prep, fresh, omega arith)
 
   prepared_s1_goes : (w : Wanted) (key : Option (NumberedKey Term ℕ)) (s : Station Term ℕ)
@@ -219,11 +233,23 @@ module _ (same : Term → Term → Bool) (cells : List Site) (g : Ghost) (made_o
       let leads : Leads e star.key star.number = (omega arith, same_star ∙ up) in
       let given : GivenFits e.given star.number = subst (λ o. GivenFits o star.number) (sym asked.4) tt in
       let goes = prepared_goes w star s h needs.0 e asked.1 asked.5.1 (star_term g w.conn pair w.cell.pci w.cell.earfcn needs.1) leads given
-          (wanted_prep (term_reading_by same) w By.S1 star) refl refl refl refl refl refl refl m refl in
-      let l = told_more g (Some m) None in
-      ((ctx_later g (told g (Some m) None) l s.id s.context h.0,
-      all_append _ _ _ (all_filter _ _ s.preps (preps_later g (told g (Some m) None) l s.id s.preps h.1)) goes.2,
-      goes.3, h.3, h.4, goes.4), goes.1, tt, (m, goes.0, refl, refl, refl), refl, refl, tt)
+      (wanted_prep (term_reading_by same) w By.S1 star) refl refl refl refl refl refl refl m refl in
+      let l = told_more g (Some m) None in (
+        (
+          ctx_later g (told g (Some m) None) l s.id s.context h.0,
+          all_append _ _ _ (all_filter _ _ s.preps (preps_later g (told g (Some m) None) l s.id s.preps h.1)) goes.2,
+          goes.3,
+          h.3,
+          h.4,
+          goes.4,
+        ),
+        goes.1,
+        tt,
+        (m, goes.0, refl, refl, refl),
+        refl,
+        refl,
+        tt,
+      )
 
   prepared_x2_goes : (w : Wanted) (key : Option (NumberedKey Term ℕ)) (s : Station Term ℕ)
       → StationOk cells g s → X2Needs g s.id s.next w key → StationGoes cells g s (prepared_by_x2 (term_reading_by same) w key s)
@@ -236,11 +262,23 @@ module _ (same : Term → Term → Bool) (cells : List Site) (g : Ghost) (made_o
       let of_given : GivenOk g e (Some star) = subst (GivenOk g e) asked.4 own.2 in
       let given : GivenFits e.given star.number = subst (λ o. GivenFits o star.number) (sym asked.4) refl in
       let goes = prepared_goes w star s h needs.0 e asked.1 asked.5 needs.1 of_given.1 given
-          (wanted_prep (term_reading_by same) w By.X2 star) refl refl refl refl refl refl refl m refl in
-      let l = told_more g (Some m) None in
-      ((ctx_later g (told g (Some m) None) l s.id s.context h.0,
-      all_append _ _ _ (all_filter _ _ s.preps (preps_later g (told g (Some m) None) l s.id s.preps h.1)) goes.2,
-      goes.3, h.3, h.4, goes.4), goes.1, tt, (m, goes.0, refl, refl, tt), refl, refl, tt)
+      (wanted_prep (term_reading_by same) w By.X2 star) refl refl refl refl refl refl refl m refl in
+      let l = told_more g (Some m) None in (
+        (
+          ctx_later g (told g (Some m) None) l s.id s.context h.0,
+          all_append _ _ _ (all_filter _ _ s.preps (preps_later g (told g (Some m) None) l s.id s.preps h.1)) goes.2,
+          goes.3,
+          h.3,
+          h.4,
+          goes.4,
+        ),
+        goes.1,
+        tt,
+        (m, goes.0, refl, refl, tt),
+        refl,
+        refl,
+        tt,
+      )
 
   -- the answer to an attempt is the order for the phone
   s1_attempt_acked : (id conn : ℕ) (t : Term) (ncc : ℕ) (algs : Algs) (air : ℕ) (o : Option (Attempt Term ℕ)) → AttemptOk g id conn t o

@@ -1,44 +1,36 @@
 -- What the rows of a station's own acts leave of the invariant of agreement.
-use Rattle.std.proofs.Common.{◌≡◌, ℕ, zero, suc, ◌+◌, ◌-◌, ◌%◌, ◌<◌, ◌≤◌, refl, sym, ◌∙◌, ap, subst, arith, Bool, true, false, List, [], ◌∷◌, ◌++◌, Option, Some, None, option_map}
-use Rattle.std.specs.Prelude.{find, ⊤, length}
-use Rattle.rec_base.specs.declared.uses.Dir.TheVariants.{Up, Down}
-use Rattle.alg_choice.specs.declared.algs.Algs.{Algs}
-use Rattle.alg_choice.specs.declared.caps.Caps.{Caps}
+use Rattle.std.proofs.Common.{◌≡◌, ℕ, ◌+◌, ◌-◌, ◌%◌, ◌<◌, ◌≤◌, refl, ◌∙◌, ap, subst, arith, Bool, true, false, List, [], ◌∷◌, ◌++◌, Option, Some, None, option_map}
+use Rattle.std.specs.Prelude.{⊤, length}
+use Rattle.rec_base.specs.declared.uses.Dir.TheVariants.{Down}
 use Rattle.annex_a_keys.specs.Cell.{Place}
 use Rattle.lte_events.specs.Site.{Site}
-use Rattle.key_model.specs.Term.{Term, Kenb, Star}
-use Rattle.key_model.specs.Chain.{ncc_of}
+use Rattle.key_model.specs.Term.{Term}
 use Rattle.key_model.specs.Number.{chain_number}
 use Rattle.key_model.specs.Reading.{term_reading_by}
 use Rattle.key_model.specs.HandoverTable.{NumberedKey}
-use Rattle.rrc_rec.specs.declared.records.RrcRecord.{RrcRecord}
-use Rattle.ho_prep.specs.declared.origins.By.{By}
 use Rattle.x2_handover.specs.declared.orders.Order.{Order}
 use Rattle.lte_machine.specs.Bearers.{Srb, Drb}
-use Rattle.lte_machine.specs.Wire.{Outgoing}
-use Rattle.lte_machine.specs.Reply.{Origin, Made, Tried, Reply}
-use Rattle.lte_machine.specs.World.{with_one}
+use Rattle.lte_machine.specs.Reply.{Made, Tried}
 use Rattle.lte_machine.specs.StationState.{Station, Context, Attempt, OverX2, OverS1, Within, X2State, X2Open, X2Ready, X2Commanded, S1State, S1Open, S1Ready, S1Commanded}
-use Rattle.lte_machine.specs.StationRows.{Wanted, RecordRow, RecordRefused, ContextGiven, ContextReleased, PairTaken, PreparedByS1, PreparedByX2, AckedByS1, AckedByX2, PreparationCancelled, SourceReleased, AirRow, AirRefused, SecurityStarted, RrcTaken, PacketTaken, CompletedByS1, CompletedWithin, CompletedByX2, ActRow, ActRefused, StartedByX2, StartedByS1, StartedWithin, Commands, CancelledByX2, CancelledByS1, CancelledWithin, AsksAgain, SendsPacket, SendsRrc, LeavesOut, StationRow, OfRecord, OfAir, OfAct}
+use Rattle.lte_machine.specs.StationRows.{ActRow, ActRefused, StartedByX2, StartedByS1, StartedWithin, Commands, CancelledByX2, CancelledByS1, CancelledWithin, AsksAgain, SendsPacket, SendsRrc, LeavesOut}
 use Rattle.lte_properties.specs.ChainBelow.{AllOf}
-use Rattle.lte_properties.specs.Agreement.{made_at, HadTaken, TakenIfTried}
-use Rattle.lte_properties.proofs.AgreeTerms.{base, lands}
-use Rattle.lte_properties.proofs.AgreeGhost.{Ghost, tried_at, chain_at, keys_of, TermOk, PairOk, PairsOk, FromIs, HereIs, Leads, GivenFits, FromOk, MadeOk, GivenOk, TriedOk, IsMade, EntryIs, OrderIs, IsOrder, StartIs, X2Ok, S1Ok, AttemptOk, StartedOk, CtxOk, PrepOk, FreshFrom, StationOk, SaysOk, AskedIs, AckIs, HasNcc, AnyMade, OutOk}
+use Rattle.lte_properties.specs.Agreement.{made_at, HadTaken}
+use Rattle.lte_properties.proofs.AgreeTerms.{lands}
+use Rattle.lte_properties.proofs.AgreeGhost.{Ghost, tried_at, keys_of, TermOk, PairOk, PairsOk, MadeOk, TriedOk, IsOrder, X2Ok, S1Ok, AttemptOk, StartedOk, CtxOk, FreshFrom, StationOk, SaysOk, OutOk}
 use Rattle.lte_properties.proofs.AgreePhone.{all_found}
 use Rattle.rrc_rec.specs.declared.records.RrcRecord.TheVariants.{Reconfiguration, RrcData}
 use Rattle.nh_chain.specs.Station.{restored_if, pair_after, opened, base_of}
 use Rattle.key_model.specs.HandoverLines.{star_line}
-use Rattle.x2_handover.specs.Attempt.{X2Start, X2Acked, x2_order}
-use Rattle.lte_machine.specs.Bearers.{Which, Signalling1}
-use Rattle.lte_machine.specs.Wire.{Ciphering, KeyUse, srb_use, ciphering_by}
-use Rattle.lte_machine.specs.StationKeys.{signalling_sent, order_text, started_by_x2_with, started_by_x2, started_by_s1, own_prep, started_within_with, started_within, x2_commanded, s1_commanded, commanded, commands, x2_spent, spent_in, given_up, asks_again, sends_packet, sends_rrc, with_left_out, act_does}
+use Rattle.lte_machine.specs.Bearers.{Signalling1}
+use Rattle.lte_machine.specs.Wire.{srb_use, ciphering_by}
+use Rattle.lte_machine.specs.StationKeys.{signalling_sent, order_text, started_by_x2_with, started_by_x2, started_by_s1, started_within_with, started_within, x2_commanded, s1_commanded, commanded, commands, spent_in, given_up, asks_again, sends_packet, sends_rrc, with_left_out, act_does}
 use Rattle.lte_machine.specs.StationChoice.{station_of}
 use Rattle.rrc_rec.specs.Spelling.{spelling_of}
 use Rattle.s1x2_rec.specs.Spelling.{IsCell}
 use Rattle.lte_properties.specs.ChainBelow.{OfPair, IsAbove}
 use Rattle.lte_properties.specs.ChainAbove.{ContextAbove}
-use Rattle.lte_properties.proofs.AgreeGhost.{TextOk, DownOk}
-use Rattle.lte_properties.proofs.AgreeLater.{Later, later_itself, same_found, term_later, pairs_later, entry_later, ctx_later, preps_later}
+use Rattle.lte_properties.proofs.AgreeGhost.{TextOk}
+use Rattle.lte_properties.proofs.AgreeLater.{term_later, pairs_later, entry_later, preps_later}
 use Rattle.lte_properties.proofs.AgreeTold.{told, told_more, made_new, made_none, made_there, tried_new, tried_none, all_append, all_filter, SiteOk, cell_found, reads_as, term_number, leads_up, leads_level, star_term}
 use Rattle.lte_properties.proofs.AgreeStation.{StationGoes, map_ctx, started_map}
 
@@ -81,7 +73,7 @@ module _ (same : Term → Term → Bool) (cells : List Site) (cells_ok : AllOf S
   star_ok : (conn : ℕ) (t : Term) (number : ℕ) (cell : Place) (pair : Option (NumberedKey Term ℕ)) → TermOk g conn t number → PairsOk g conn pair
       → OfPair (IsAbove number) pair
       → let star = star_line (term_reading_by same) (base_of pair t number) cell.pci cell.earfcn in
-        TermOk g conn star.key star.number × (number ≤ star.number) × (star.key ≡ lands t (star.number - number) cell)
+      TermOk g conn star.key star.number × (number ≤ star.number) × (star.key ≡ lands t (star.number - number) cell)
   star_ok conn t number cell None h k above = ((h.0, h.1, h.2), omega arith, leads_level t number cell)
   star_ok conn t number cell (Some pair) h k above =
       (star_term g conn pair cell.pci cell.earfcn k, omega arith, leads_up g conn t number pair cell h k above)
@@ -92,8 +84,14 @@ module _ (same : Term → Term → Bool) (cells : List Site) (cells_ok : AllOf S
   x2_with_goes number target cell c s h k above draws there active =
       let o = opened (term_reading_by same) c.key cell in
       let e : Tried Term ℕ = record {
-        station = s.id; attempt = number; target = target; conn = c.conn; cell = cell; key = c.key.kenb;
-        number = c.key.number; given = Some o.star;
+        station = s.id;
+        attempt = number;
+        target = target;
+        conn = c.conn;
+        cell = cell;
+        key = c.key.kenb;
+        number = c.key.number;
+        given = Some o.star;
       } in
       let x = told g None (Some e) in
       let l = told_more g None (Some e) in
@@ -103,12 +101,29 @@ module _ (same : Term → Term → Bool) (cells : List Site) (cells_ok : AllOf S
       let had : HadTaken g.took s.id c.air c.key.kenb = had_by g s.id c.air c.key.kenb c.starting c.attempt active k.5 in
       let own_later : TermOk x c.conn c.key.kenb c.key.number = term_later g x l c.conn c.key.number c.key.kenb k.0 in
       let fresh : FreshFrom x s.id (number + 1) =
-          λ n up. ((h.2 n (omega arith)).0, tried_none g.tried e s.id n (h.2 n (omega arith)).1 (omega arith)) in
-      (((own_later, tt, k.2, entry_later g x l s.id c.air c.key.kenb c.key.number c.algs k.3,
-      ((e, here, refl, refl, refl, refl, refl), pairs_later g x l c.conn c.key.pair k.1), started_any x s.id c.air c.key.kenb c.starting _ active had),
-      preps_later g x l s.id s.preps h.1, fresh, h.3, h.4, omega arith),
-      tt, (own_later, there, (star_later, (star.1, star.2))),
-      (star_later, (e, here, refl, refl, refl, refl)), refl, tt, refl)
+      λ n up. ((h.2 n (omega arith)).0, tried_none g.tried e s.id n (h.2 n (omega arith)).1 (omega arith)) in (
+        (
+          (
+            own_later,
+            tt,
+            k.2,
+            entry_later g x l s.id c.air c.key.kenb c.key.number c.algs k.3,
+            ((e, here, refl, refl, refl, refl, refl), pairs_later g x l c.conn c.key.pair k.1),
+            started_any x s.id c.air c.key.kenb c.starting _ active had,
+          ),
+          preps_later g x l s.id s.preps h.1,
+          fresh,
+          h.3,
+          h.4,
+          omega arith,
+        ),
+        tt,
+        (own_later, there, (star_later, (star.1, star.2))),
+        (star_later, (e, here, refl, refl, refl, refl)),
+        refl,
+        tt,
+        refl,
+      )
 
   by_x2_goes : (number target : ℕ) (cell : Place) (o : Option (Context Term ℕ)) (s : Station Term ℕ) → StationOk cells g s → CtxOk g s.id o → ContextAbove o
       → number ≡ s.next → station_of cell cells ≡ Some target → IsActive o
@@ -122,8 +137,14 @@ module _ (same : Term → Term → Bool) (cells : List Site) (cells_ok : AllOf S
   by_s1_goes number target cell None s h k draws there active = (h, tt, tt, tt, refl, tt, tt)
   by_s1_goes number target cell (Some c) s h k draws there active =
       let e : Tried Term ℕ = record {
-        station = s.id; attempt = number; target = target; conn = c.conn; cell = cell; key = c.key.kenb;
-        number = c.key.number; given = None;
+        station = s.id;
+        attempt = number;
+        target = target;
+        conn = c.conn;
+        cell = cell;
+        key = c.key.kenb;
+        number = c.key.number;
+        given = None;
       } in
       let x = told g None (Some e) in
       let l = told_more g None (Some e) in
@@ -131,11 +152,29 @@ module _ (same : Term → Term → Bool) (cells : List Site) (cells_ok : AllOf S
       let had : HadTaken g.took s.id c.air c.key.kenb = had_by g s.id c.air c.key.kenb c.starting c.attempt active k.5 in
       let own_later : TermOk x c.conn c.key.kenb c.key.number = term_later g x l c.conn c.key.number c.key.kenb k.0 in
       let fresh : FreshFrom x s.id (number + 1) =
-          λ n up. ((h.2 n (omega arith)).0, tried_none g.tried e s.id n (h.2 n (omega arith)).1 (omega arith)) in
-      (((own_later, pairs_later g x l c.conn c.key.pair k.1, k.2, entry_later g x l s.id c.air c.key.kenb c.key.number c.algs k.3,
-      (e, here, refl, refl, refl, refl, refl), started_any x s.id c.air c.key.kenb c.starting _ active had),
-      preps_later g x l s.id s.preps h.1, fresh, h.3, h.4, omega arith),
-      tt, (own_later, there, tt), (e, here, refl, refl, refl, tt), refl, tt, refl)
+      λ n up. ((h.2 n (omega arith)).0, tried_none g.tried e s.id n (h.2 n (omega arith)).1 (omega arith)) in (
+        (
+          (
+            own_later,
+            pairs_later g x l c.conn c.key.pair k.1,
+            k.2,
+            entry_later g x l s.id c.air c.key.kenb c.key.number c.algs k.3,
+            (e, here, refl, refl, refl, refl, refl),
+            started_any x s.id c.air c.key.kenb c.starting _ active had,
+          ),
+          preps_later g x l s.id s.preps h.1,
+          fresh,
+          h.3,
+          h.4,
+          omega arith,
+        ),
+        tt,
+        (own_later, there, tt),
+        (e, here, refl, refl, refl, tt),
+        refl,
+        tt,
+        refl,
+      )
 
   within_with_goes : (number air : ℕ) (cell : Place) (c : Context Term ℕ) (s : Station Term ℕ) → StationOk cells g s → CtxOk g s.id (Some c) → ContextAbove (Some c)
       → number ≡ s.next → air ≡ s.next + 1 → air < 4294967296 → station_of cell cells ≡ Some s.id → IsActive (Some c)
@@ -143,11 +182,23 @@ module _ (same : Term → Term → Bool) (cells : List Site) (cells_ok : AllOf S
   within_with_goes number air cell c s h k above draws draws_air small there active =
       let o = opened (term_reading_by same) c.key cell in
       let e : Tried Term ℕ = record {
-        station = s.id; attempt = number; target = s.id; conn = c.conn; cell = cell; key = c.key.kenb;
-        number = c.key.number; given = Some o.star;
+        station = s.id;
+        attempt = number;
+        target = s.id;
+        conn = c.conn;
+        cell = cell;
+        key = c.key.kenb;
+        number = c.key.number;
+        given = Some o.star;
       } in
       let m : Made Term ℕ = record {
-        station = s.id; air = air; conn = c.conn; cell = cell; key = o.star.key; number = o.star.number; algs = c.algs;
+        station = s.id;
+        air = air;
+        conn = c.conn;
+        cell = cell;
+        key = o.star.key;
+        number = o.star.number;
+        algs = c.algs;
         from_attempt = Some (record { source = s.id; attempt = number });
       } in
       let x = told g (Some m) (Some e) in
@@ -159,14 +210,30 @@ module _ (same : Term → Term → Bool) (cells : List Site) (cells_ok : AllOf S
       let had : HadTaken g.took s.id c.air c.key.kenb = had_by g s.id c.air c.key.kenb c.starting c.attempt active k.5 in
       let own_later : TermOk x c.conn c.key.kenb c.key.number = term_later g x l c.conn c.key.number c.key.kenb k.0 in
       let fresh : FreshFrom x s.id (air + 1) =
-          λ n up. (made_none g.made m s.id n (h.2 n (omega arith)).0 (omega arith), tried_none g.tried e s.id n (h.2 n (omega arith)).1 (omega arith)) in
-      let number_is : chain_number c.key.kenb ≡ c.key.number = term_number g c.conn c.key.kenb c.key.number k.0 in
-      (((own_later, tt, k.2, entry_later g x l s.id c.air c.key.kenb c.key.number c.algs k.3,
-      ((m, record { source = s.id; attempt = number }, e, made_here, refl, tried_here, refl, refl, refl, refl), pairs_later g x l c.conn c.key.pair k.1), started_any x s.id c.air c.key.kenb c.starting _ active had),
-      all_append _ _ _ (preps_later g x l s.id s.preps h.1) (star_later, tt, refl, m, made_here, (refl, refl, refl)),
-      fresh, h.3, h.4, omega arith),
-      (omega arith, small, h.4, (e, tried_here, number_is, refl, (star.1, star.2), refl)),
-      (own_later, there, (star_later, (star.1, star.2))), tt, refl, refl, refl)
+      λ n up. (made_none g.made m s.id n (h.2 n (omega arith)).0 (omega arith), tried_none g.tried e s.id n (h.2 n (omega arith)).1 (omega arith)) in
+      let number_is : chain_number c.key.kenb ≡ c.key.number = term_number g c.conn c.key.kenb c.key.number k.0 in (
+        (
+          (
+            own_later,
+            tt,
+            k.2,
+            entry_later g x l s.id c.air c.key.kenb c.key.number c.algs k.3,
+            ((m, record { source = s.id; attempt = number }, e, made_here, refl, tried_here, refl, refl, refl, refl), pairs_later g x l c.conn c.key.pair k.1),
+            started_any x s.id c.air c.key.kenb c.starting _ active had,
+          ),
+          all_append _ _ _ (preps_later g x l s.id s.preps h.1) (star_later, tt, refl, m, made_here, (refl, refl, refl)),
+          fresh,
+          h.3,
+          h.4,
+          omega arith,
+        ),
+        (omega arith, small, h.4, (e, tried_here, number_is, refl, (star.1, star.2), refl)),
+        (own_later, there, (star_later, (star.1, star.2))),
+        tt,
+        refl,
+        refl,
+        refl,
+      )
 
   within_goes : (number air : ℕ) (cell : Place) (o : Option (Context Term ℕ)) (s : Station Term ℕ) → StationOk cells g s → CtxOk g s.id o → ContextAbove o
       → number ≡ s.next → air ≡ s.next + 1 → air < 4294967296 → station_of cell cells ≡ Some s.id → IsActive o
@@ -181,10 +248,13 @@ module _ (same : Term → Term → Bool) (cells : List Site) (cells_ok : AllOf S
       → OutOk g (Some (signalling_sent id c.air c.keys srb count text))
   sends_down id air c h at_air srb count text says had =
       let m = h.3.0 in
-      let keys : c.keys ≡ keys_of m.key m.algs = h.2 ∙ (λ j. keys_of (h.3.2.0 j) (h.3.2.2 j)) in
-      (m, h.3.1, (λ j. srb_use Down (keys j).rrc_int srb count),
-      ((λ j. ciphering_by (algs_of j).eea (srb_use Down (keys j).rrc_enc srb count)), subst (HadTaken g.took id c.air) h.3.2.0 had),
-      subst (λ t. TextOk g t text) h.3.2.0 says)
+      let keys : c.keys ≡ keys_of m.key m.algs = h.2 ∙ (λ j. keys_of (h.3.2.0 j) (h.3.2.2 j)) in (
+        m,
+        h.3.1,
+        (λ j. srb_use Down (keys j).rrc_int srb count),
+        ((λ j. ciphering_by (algs_of j).eea (srb_use Down (keys j).rrc_enc srb count)), subst (HadTaken g.took id c.air) h.3.2.0 had),
+        subst (λ t. TextOk g t text) h.3.2.0 says,
+      )
     where
       algs_of : c.keys.algs ≡ h.3.0.algs
       algs_of = ap (λ x. x.algs) h.2 ∙ h.3.2.2
@@ -229,9 +299,15 @@ module _ (same : Term → Term → Bool) (cells : List Site) (cells_ok : AllOf S
   commands_goes : (order : Order) (count : ℕ) (o : Option (Context Term ℕ)) (s : Station Term ℕ) → StationOk cells g s → CtxOk g s.id o → OrderNeeds g s.id order o
       → StationGoes cells g s (commands order count o s)
   commands_goes order count None s h k needs = (h, tt, tt, tt, refl, tt, tt)
-  commands_goes order count (Some c) s h k needs =
-      (((k.0, k.1, k.2, k.3, commanded_ok s.id c.conn c.key.kenb order c.attempt k.4 needs.0, started_map g s.id c.air c.key.kenb c.starting (commanded order) c.attempt k.5), h.1, h.2, h.3, h.4, h.5), tt, tt,
-      sends_down s.id c.air c k refl Signalling1 count (order_text order) (order_says c.key.kenb order needs.0) needs.1, refl, tt, tt)
+  commands_goes order count (Some c) s h k needs = (
+    ((k.0, k.1, k.2, k.3, commanded_ok s.id c.conn c.key.kenb order c.attempt k.4 needs.0, started_map g s.id c.air c.key.kenb c.starting (commanded order) c.attempt k.5), h.1, h.2, h.3, h.4, h.5),
+    tt,
+    tt,
+    sends_down s.id c.air c k refl Signalling1 count (order_text order) (order_says c.key.kenb order needs.0) needs.1,
+    refl,
+    tt,
+    tt,
+  )
 
   -- GIVING UP
 
@@ -273,9 +349,15 @@ module _ (same : Term → Term → Bool) (cells : List Site) (cells_ok : AllOf S
   rrc_goes : (srb : Srb) (count : ℕ) (text : List ℕ) (o : Option (Context Term ℕ)) (s : Station Term ℕ) → StationOk cells g s → CtxOk g s.id o → length text ≤ 200 → IsActive o
       → StationGoes cells g s (sends_rrc srb count text o s)
   rrc_goes srb count text None s h k fits active = (h, tt, tt, tt, refl, tt, tt)
-  rrc_goes srb count text (Some c) s h k fits active =
-      ((k, h.1, h.2, h.3, h.4, h.5), tt, tt,
-      sends_down s.id c.air c k refl srb count (spelling_of (RrcData text)) (reads_as (SaysOk g c.key.kenb) (RrcData text) fits tt) (had_by g s.id c.air c.key.kenb c.starting c.attempt active k.5), refl, tt, tt)
+  rrc_goes srb count text (Some c) s h k fits active = (
+    (k, h.1, h.2, h.3, h.4, h.5),
+    tt,
+    tt,
+    sends_down s.id c.air c k refl srb count (spelling_of (RrcData text)) (reads_as (SaysOk g c.key.kenb) (RrcData text) fits tt) (had_by g s.id c.air c.key.kenb c.starting c.attempt active k.5),
+    refl,
+    tt,
+    tt,
+  )
 
   pub act_goes : (row : ActRow) (s : Station Term ℕ) → StationOk cells g s → ContextAbove s.context → ActNeeds cells g s row
       → StationGoes cells g s (act_does (term_reading_by same) row s)

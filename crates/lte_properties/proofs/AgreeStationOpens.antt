@@ -1,24 +1,16 @@
 -- What a station's choice of a row establishes of the PDU that it opened, and of its own act.
-use Rattle.std.proofs.Common.{◌≡◌, ℕ, ◌+◌, ◌<◌, ◌≤◌, refl, sym, ◌∙◌, ap, subst, arith, Bool, true, false, not, List, length, Option, Some, None, option_map, Result, Ok, Err}
-use Rattle.std.specs.Prelude.{◌&&◌, ◌==◌, nat_le, nat_lt, if◌then◌else◌, slice_index, ⊤}
+use Rattle.std.proofs.Common.{◌≡◌, ℕ, ◌≤◌, refl, sym, ◌∙◌, ap, subst, Bool, true, false, List, length, Option, Some, None, option_map, Result, Ok, Err}
+use Rattle.std.specs.Prelude.{◌==◌, ⊤}
 use Rattle.std.proofs.lemmas.Bool.{eqb-true}
-use Rattle.std.proofs.lemmas.Bool.Decides.{nat_tests}
-use Rattle.rec_base.specs.declared.bearers.Bearer.{Bearer}
 use Rattle.rec_base.specs.declared.faults.RecFault.{RecFault}
 use Rattle.rec_base.specs.declared.uses.Dir.TheVariants.{Up, Down}
-use Rattle.alg_choice.specs.declared.algs.Algs.{Algs}
-use Rattle.alg_choice.specs.declared.caps.Caps.{Caps}
-use Rattle.alg_choice.specs.declared.choices.NoAlgorithm.{NoAlgorithm as Unmatched}
-use Rattle.alg_choice.specs.Choice.{choice_of}
 use Rattle.annex_a_keys.specs.Cell.{Place}
-use Rattle.lte_events.specs.declared.addresses.Address.TheVariants.{StationS1, StationX2}
 use Rattle.lte_events.specs.declared.acts.HoKind.{HoKind}
 use Rattle.lte_events.specs.declared.acts.StationAct.{StationAct}
 use Rattle.lte_events.specs.declared.acts.StationAct.TheVariants.{Start, Command, Cancel, Ask, SendUser, SendRrc, Skip}
 use Rattle.lte_events.specs.Site.{Site}
 use Rattle.key_model.specs.Term.{Term, Alg}
 use Rattle.key_model.specs.Chain.{ncc_of}
-use Rattle.key_model.specs.HandoverTable.{NumberedKey}
 use Rattle.key_model.specs.Reading.{term_reading_by}
 use Rattle.pdcp_guard.specs.declared.pdus.PdcpFault.{PdcpFault}
 use Rattle.pdcp_guard.specs.Counts.{Counts}
@@ -27,34 +19,30 @@ use Rattle.pdcp_guard.specs.Drb.{drb_count}
 use Rattle.rrc_rec.specs.declared.records.RrcRecord.{RrcRecord}
 use Rattle.rrc_rec.specs.declared.records.RrcRecord.TheVariants.{SecurityModeCommand, SecurityModeComplete, Reconfiguration, ReconfigurationComplete, RrcData}
 use Rattle.rrc_rec.specs.Reading.{read_rrc}
-use Rattle.s1x2_rec.specs.Fields.{Fields, InitialContext, ContextRelease, PathSwitchRequest, PathSwitchAnswer, HandoverRequired, HandoverRequest, HandoverRequestAck, HandoverCommand, HandoverNotify, HandoverCancel, X2Request, X2Ack, X2Cancel, X2Release}
 use Rattle.ho_prep.specs.declared.origins.By.{By}
-use Rattle.ho_prep.specs.Prep.{Prep, is_at, at_air, has_attempt}
+use Rattle.ho_prep.specs.Prep.{Prep, is_at, at_air}
 use Rattle.lte_machine.specs.Bearers.{Srb, Signalling1, Signalling2, Drb, Which, OnSrb, OnDrb, which, Bearers, srb_counts, drb_counts, is_spent}
 use Rattle.lte_machine.specs.Wire.{KeyUse, Ciphering, Outgoing, SealedNas, PlainNas, SealedRrc, UserPacket, Between, srb_use}
-use Rattle.lte_machine.specs.Opening.{Opening, Outcome, Opened, Differs}
-use Rattle.lte_machine.specs.Reply.{Origin, Made, unseen}
+use Rattle.lte_machine.specs.Opening.{Outcome, Opened, Differs}
+use Rattle.lte_machine.specs.Reply.{Origin, unseen}
 use Rattle.lte_machine.specs.Ranges.{IsStationAct}
-use Rattle.lte_machine.specs.StationState.{Station, Context, Attempt, OverX2, OverS1, Within, X2State, X2Open, X2Ready, X2Commanded, S1State, S1Open, S1Ready, S1Commanded, Interface, OnS1, OnX2, map_context, map_attempt, map_x2_state}
-use Rattle.lte_machine.specs.StationRows.{Wanted, RecordRow, RecordRefused, ContextGiven, PairTaken, PreparedByS1, PreparedByX2, AckedByS1, AckedByX2, AirRow, AirRefused, CompletedByS1, CompletedWithin, CompletedByX2, ActRow, ActRefused, Commands, StationRow, OfRecord, OfAir, OfAct}
-use Rattle.lte_machine.specs.StationChoice.{PlainStation, PlainContext, PlainAttempt, runs_out, station_of, is_own, initial_chosen, initial_row, release_row, answer_row_by, answer_row, wanted_chosen, is_full, wanted_row, acked_open, s1_acked_row, s1_ack_row, x2_acked_row, x2_ack_row, cancel_row, x2_released_row, x2_release_row, s1_row, x2_row, AirFront, AirSettled, OnStarting, OnSignalling, OnUser, OnPrepared, counted, starting_front, active_front, context_front, prepared_front, air_front_by, air_front, starting_row, rrc_row, completed_row, prepared_row, air_row, active_row, unless_spent, is_misplaced, begun_row, alone_row, target_row, start_row, ordered_row, x2_command_row, s1_command_row, attempt_command_row, command_row, x2_cancel_row, s1_cancel_row, within_cancel_row, attempt_cancel_row, give_up_row, came_row, ask_row, packet_row, send_rrc_row, skip_row, act_row}
+use Rattle.lte_machine.specs.StationState.{Station, Context, Attempt, OverX2, OverS1, Within, X2State, X2Open, X2Ready, X2Commanded, S1State, S1Open, S1Ready, S1Commanded, map_context, map_attempt, map_x2_state}
+use Rattle.lte_machine.specs.StationRows.{ActRow, Commands}
+use Rattle.lte_machine.specs.StationChoice.{PlainStation, PlainContext, PlainAttempt, runs_out, station_of, is_full, AirFront, OnStarting, OnSignalling, OnUser, OnPrepared, counted, starting_front, active_front, context_front, prepared_front, air_front_by, starting_row, rrc_row, completed_row, prepared_row, air_row, active_row, unless_spent, is_misplaced, begun_row, alone_row, target_row, start_row, ordered_row, x2_command_row, s1_command_row, attempt_command_row, command_row, attempt_cancel_row, give_up_row, came_row, ask_row, packet_row, send_rrc_row, skip_row, act_row}
 use Rattle.lte_machine.specs.StationKeys.{air_expects, starting_expects, prepared_expects}
 use Rattle.lte_machine.specs.StationStep.{plain_station}
-use Rattle.lte_properties.specs.ChainBelow.{AllOf}
-use Rattle.lte_properties.specs.ChainAbove.{AnswerOk, InFlight}
-use Rattle.lte_properties.specs.Agreement.{made_at, HadTaken}
+use Rattle.lte_properties.specs.Agreement.{HadTaken}
 use Rattle.lte_properties.specs.AgreePremises.{WasSealed, IsHonest}
-use Rattle.lte_properties.proofs.AgreeGhost.{Ghost, keys_of, TermOk, PairOk, HereIs, IsOrder, X2Ok, S1Ok, AttemptOk, StartedOk, CtxOk, PrepOk, StationOk, UpOk, AskedIs, AckIs, HasNcc, AnyMade, BetweenOk}
+use Rattle.lte_properties.proofs.AgreeGhost.{Ghost, HereIs, IsOrder, X2Ok, S1Ok, AttemptOk, StartedOk, CtxOk, PrepOk, StationOk, UpOk}
 use Rattle.lte_properties.proofs.AgreeLater.{same_found}
 use Rattle.lte_properties.proofs.AgreePhone.{all_found}
 use Rattle.lte_properties.proofs.AgreePhoneWalk.{by_test, one_key}
 use Rattle.lte_properties.proofs.AgreeTold.{found_holds}
-use Rattle.lte_properties.proofs.AgreeStation.{DrawsAir, IsTarget, IsTargetAbove, ContextNeeds, PairNeeds, PairTakenNeeds, S1Needs, X2Needs, S1AckNeeds, S1AckOf, X2AckNeeds, X2AckOf, RecordNeeds, TakenThere, StartingNeeds, AirNeeds}
+use Rattle.lte_properties.proofs.AgreeStation.{TakenThere, StartingNeeds, AirNeeds}
 use Rattle.lte_properties.proofs.AgreeStationAct.{OrderNeeds, IsActive, ActNeeds}
-use Rattle.lte_machine.specs.StationRows.{SecurityStarted, RrcTaken, PacketTaken, StartedByX2, StartedByS1, StartedWithin, AsksAgain, SendsPacket, SendsRrc, LeavesOut, CancelledByX2, CancelledByS1, CancelledWithin}
-use Rattle.lte_machine.specs.Wire.{ciphering_by}
+use Rattle.lte_machine.specs.StationRows.{SendsPacket, SendsRrc}
 use Rattle.x2_handover.specs.declared.orders.Order.{Order}
-use Rattle.lte_properties.proofs.AgreeStationWalk.{in_range, in_range_next, own_target}
+use Rattle.lte_properties.proofs.AgreeStationWalk.{in_range_next, own_target}
 
 -- what came to a station's air address: nothing that was sent, or what the phone sent there
 abbrev pub CameUp : Ghost → ℕ → ℕ → Option (Outgoing Term ℕ) → Type 0

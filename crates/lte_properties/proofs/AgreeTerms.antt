@@ -6,10 +6,8 @@ use Rattle.key_model.specs.Chain.{nh, ncc_of}
 use Rattle.key_model.specs.Number.{chain_number}
 use Rattle.key_model.specs.Least.{least}
 use Rattle.key_model.specs.Reading.{term_reading_by}
-use Rattle.key_model.specs.HandoverTable.{NumberedKey}
-use Rattle.key_model.specs.HandoverLines.{PhoneKeys, nh_after, steps_to, key_after}
+use Rattle.key_model.specs.HandoverLines.{nh_after, steps_to}
 use Rattle.key_model.proofs.LeastFacts.{least_from_remainder, eight_ahead}
-use Rattle.key_model.proofs.TermFacts.{chain_number_nh}
 use Rattle.nh_chain.specs.Chain.{ChainState, number_after}
 use Rattle.nh_chain.specs.Reach.{reached_after}
 
@@ -114,10 +112,11 @@ number_climbed same n (suc steps) = refl
 
 pub reached_chain : (same : Term → Term → _) (t : Term) (chain : ChainState Term ℕ) (steps : ℕ) (cell : Place) → ChainOf t chain
     → ChainOf (lands t steps cell) (reached_after (term_reading_by same) chain t steps cell).chain
-reached_chain same t chain steps cell h =
-    (h.0 ∙ sym (root_lands t steps cell),
-    nh_after-climb same chain.root chain.sync steps ∙ (λ j. climb (h.0 j) (h.1 j) steps) ∙ sym (base_lands t steps cell),
-    number_climbed same chain.number steps ∙ ap (λ n. n + steps) h.2 ∙ sym (number_lands t steps cell))
+reached_chain same t chain steps cell h = (
+  h.0 ∙ sym (root_lands t steps cell),
+  nh_after-climb same chain.root chain.sync steps ∙ (λ j. climb (h.0 j) (h.1 j) steps) ∙ sym (base_lands t steps cell),
+  number_climbed same chain.number steps ∙ ap (λ n. n + steps) h.2 ∙ sym (number_lands t steps cell),
+)
 
 -- the steps of a phone with number p for the NCC of number i lead to i exactly where i is fewer than eight ahead
 pub steps_near : (p i : ℕ) → p ≤ i → i - p < 8 → steps_to (ncc_of p) (ncc_of i) ≡ i - p

@@ -1,5 +1,5 @@
 -- What a station tells anew is found, and what it has not told is not; what keys lead to which.
-use Rattle.std.proofs.Common.{◌≡◌, ◌≢◌, ℕ, zero, suc, ◌+◌, ◌-◌, ◌<◌, ◌≤◌, refl, sym, ◌∙◌, ap, subst, arith, Bool, true, false, not, cond, List, [], ◌∷◌, ◌++◌, Option, Some, None, Ok, inl, inr}
+use Rattle.std.proofs.Common.{◌≡◌, ◌≢◌, ℕ, zero, suc, ◌+◌, ◌-◌, ◌<◌, ◌≤◌, refl, sym, ◌∙◌, ap, subst, arith, Bool, true, false, cond, List, [], ◌∷◌, ◌++◌, Option, Some, None, Ok, inl, inr}
 use Rattle.std.specs.Prelude.{◌&&◌, ◌==◌, find, filter, ⊤, ◌⊎◌, Result, option_map}
 use Rattle.std.specs.Option.{option_or}
 use Rattle.std.proofs.lemmas.List.Folds.{find-append}
@@ -8,7 +8,7 @@ use Rattle.rec_base.specs.declared.faults.RecFault.{RecFault}
 use Rattle.annex_a_keys.specs.Cell.{Place}
 use Rattle.lte_events.specs.Site.{Site, is_site}
 use Rattle.key_model.specs.Term.{Term, Star}
-use Rattle.key_model.specs.Chain.{nh, ncc_of}
+use Rattle.key_model.specs.Chain.{nh}
 use Rattle.key_model.specs.Number.{chain_number}
 use Rattle.key_model.specs.HandoverTable.{NumberedKey}
 use Rattle.key_model.proofs.TermFacts.{chain_number_nh}
@@ -21,9 +21,9 @@ use Rattle.lte_machine.specs.Reply.{Origin, Made, Tried, Took}
 use Rattle.lte_machine.specs.StationChoice.{station_of}
 use Rattle.lte_machine.specs.World.{with_one}
 use Rattle.lte_properties.specs.ChainBelow.{AllOf}
-use Rattle.lte_properties.specs.Agreement.{IsIn, is_made_at, made_at, HadTaken, TakenIfTried}
+use Rattle.lte_properties.specs.Agreement.{is_made_at, made_at, HadTaken, TakenIfTried}
 use Rattle.lte_properties.proofs.AgreeTerms.{base, root_of, climb, lands, climb-nh, base_nh, root_nh, root_base, number_base}
-use Rattle.lte_properties.proofs.AgreeGhost.{Ghost, is_tried_at, tried_at, chain_at, TermOk, PairOk, Leads, MadeOk, TriedOk, FreshFrom}
+use Rattle.lte_properties.proofs.AgreeGhost.{Ghost, is_tried_at, tried_at, TermOk, PairOk, FreshFrom}
 use Rattle.lte_properties.proofs.AgreeLater.{Later, found_later, same_found}
 
 -- what is told after a station's step
@@ -36,7 +36,10 @@ found_with p (Some y) xs x e = found_later p xs (y ∷ []) x e
 
 pub told_more : (g : Ghost) (made : Option (Made Term ℕ)) (tried : Option (Tried Term ℕ)) → Later g (told g made tried)
 told_more g made tried = record {
-  next = omega arith; root = λ conn d. refl; count = λ conn d. refl; top = λ conn d. omega arith;
+  next = omega arith;
+  root = λ conn d. refl;
+  count = λ conn d. refl;
+  top = λ conn d. omega arith;
   made = λ station air m e. found_with (is_made_at station air) made g.made m e;
   tried = λ station number t e. found_with (is_tried_at station number) tried g.tried t e;
   took = λ x i. i;
@@ -178,7 +181,7 @@ leads_by r n p zero i t k cell of_chain sum low pair = absurd (omega arith)
 leads_by r n p (suc d) i t k cell of_chain sum low pair =
     let root : root_of t ≡ r = sym (root_base t) ∙ ap root_of of_chain ∙ root_nh r n p in
     let up : climb (root_of t) (base t) (suc d) ≡ nh r n i =
-        (λ j. climb (root j) (of_chain j) (suc d)) ∙ climb-nh r n p (suc d) ∙ ap (nh r n) sum in
+    (λ j. climb (root j) (of_chain j) (suc d)) ∙ climb-nh r n p (suc d) ∙ ap (nh r n) sum in
     ap (λ u. Star u cell.pci cell.earfcn) (pair ∙ sym up)
 
 pub leads_up : (g : Ghost) (conn : ℕ) (t : Term) (number : ℕ) (pair : NumberedKey Term ℕ) (cell : Place)

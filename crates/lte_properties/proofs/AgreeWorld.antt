@@ -1,61 +1,54 @@
 -- Agreement's invariant of a world, and what an event leaves of it.
-use Rattle.std.proofs.Common.{◌≡◌, refl, sym, ap, ◌∙◌, subst, ℕ, ◌+◌, ◌-◌, ◌<◌, ◌≤◌, ◌==◌, nat_lt, Bool, true, false, ℤ, pos, negsuc, List, [], ◌∷◌, length, Option, Some, None, Result, Ok, Err, arith}
+use Rattle.std.proofs.Common.{◌≡◌, refl, sym, ◌∙◌, subst, ℕ, ◌≤◌, ◌==◌, Bool, true, List, Option, Some, None}
 use Rattle.std.specs.Prelude.{⊤}
-use Rattle.std.specs.List.{position_from}
 use Rattle.std.proofs.lemmas.Bool.{eqb-true, eqb-false}
-use Rattle.alg_choice.specs.declared.caps.Caps.{Caps}
-use Rattle.rec_base.specs.declared.faults.RecFault.{RecFault}
 use Rattle.rec_base.specs.declared.bearers.Bearer.{Bearer}
 use Rattle.rec_base.specs.declared.uses.Dir.{Dir}
-use Rattle.rec_base.specs.declared.uses.Dir.TheVariants.{Up, Down}
-use Rattle.lte_events.specs.declared.acts.CoreAct.{CoreAct}
-use Rattle.lte_events.specs.declared.acts.PhoneAct.{PhoneAct}
 use Rattle.lte_events.specs.declared.acts.StationAct.{StationAct}
 use Rattle.lte_events.specs.declared.addresses.Address.{Address}
 use Rattle.lte_events.specs.declared.answers.Answer.{Answer}
-use Rattle.lte_events.specs.declared.answers.Answer.TheVariants.{NoUe, NoRecord, Sent, RepeatedRoot}
-use Rattle.lte_events.specs.declared.events.Event.{Event}
+use Rattle.lte_events.specs.declared.answers.Answer.TheVariants.{NoUe}
 use Rattle.lte_events.specs.Site.{Site}
 use Rattle.key_model.specs.Term.{Term}
 use Rattle.key_model.specs.HandoverTable.{NumberedKey}
 use Rattle.key_model.specs.Reading.{term_reading_by}
 use Rattle.s1x2_rec.specs.Fields.{Fields}
-use Rattle.lte_machine.specs.Bearers.{Srb, Signalling1, Signalling2, Drb, User1, User2, User3, User4, Which, OnSrb, which, of_srb, of_drb}
-use Rattle.lte_machine.specs.Wire.{KeyUse, Ciphering, Outgoing, SealedNas, PlainNas, SealedRrc, UserPacket, Between, address_of}
-use Rattle.lte_machine.specs.Opening.{Opening, Outcome, Opened}
-use Rattle.lte_machine.specs.Ranges.{IsEvent, IsStationAct}
-use Rattle.lte_machine.specs.Reply.{Made, Tried, Took, Reply, unseen}
-use Rattle.lte_machine.specs.PhoneState.{Phone, PhoneInput, PhoneActs, PhoneNasPdu, PhoneAirPdu}
+use Rattle.lte_machine.specs.Bearers.{Srb, which}
+use Rattle.lte_machine.specs.Wire.{KeyUse, Outgoing, SealedNas, PlainNas, SealedRrc, UserPacket, Between}
+use Rattle.lte_machine.specs.Opening.{Opening, Outcome}
+use Rattle.lte_machine.specs.Ranges.{IsStationAct}
+use Rattle.lte_machine.specs.Reply.{Made, Tried, Took, Reply}
+use Rattle.lte_machine.specs.PhoneState.{PhoneInput, PhoneAirPdu}
 use Rattle.lte_machine.specs.PhoneChoice.{unciphered_text, phone_row}
 use Rattle.lte_machine.specs.PhoneKeys.{PhoneDone}
-use Rattle.lte_machine.specs.PhoneStep.{plain_phone, front_of, phone_root, phone_opens, phone_pdu_in, phone_step}
-use Rattle.lte_machine.specs.StationState.{Station, Context, StationInput, StationActs, AirPdu, StationRecord, Interface, OnS1, OnX2, map_preps, map_context}
+use Rattle.lte_machine.specs.PhoneStep.{plain_phone, front_of, phone_root, phone_step}
+use Rattle.lte_machine.specs.StationState.{Station, StationInput, StationActs, AirPdu, StationRecord, OnS1, OnX2}
 use Rattle.lte_machine.specs.StationRows.{StationRow, OfRecord, OfAir, OfAct}
 use Rattle.lte_machine.specs.StationKeys.{station_does}
-use Rattle.lte_machine.specs.StationStep.{station_opens, station_pdu_in, station_step, station_row_of, station_key, plain_station}
-use Rattle.lte_machine.specs.CoreState.{Core, CoreInput, CoreAuth, CoreActs, CoreNasPdu, CoreRecord}
+use Rattle.lte_machine.specs.StationStep.{station_step, station_row_of, station_key, plain_station}
+use Rattle.lte_machine.specs.CoreState.{CoreInput}
 use Rattle.lte_machine.specs.CoreKeys.{CoreDone}
 use Rattle.lte_machine.specs.CoreChoice.{core_row}
-use Rattle.lte_machine.specs.CoreStep.{plain_core, core_root, core_front_of, core_opens, core_pdu_in, core_step}
-use Rattle.lte_machine.specs.World.{Machine, World, phone_after, core_after, station_after, by_world, phone_turn, core_turn, station_of_id, turn_of, station_turn, authenticated, auth_unless, known_root, next_root, content_in, arrives, newest_if, chosen, delivered, class_of, is_sent, injected, happens}
-use Rattle.lte_machine.specs.Step.{Attempted, phone_attempts, core_attempts, attempts_at, station_attempts, arrival_attempts, delivery_attempts, injection_attempts, attempted}
+use Rattle.lte_machine.specs.CoreStep.{plain_core, core_root, core_front_of, core_step}
+use Rattle.lte_machine.specs.World.{Machine, World, phone_after, core_after, station_after, by_world, phone_turn, core_turn, station_of_id, turn_of, station_turn, content_in}
+use Rattle.lte_machine.specs.Step.{phone_attempts, core_attempts, attempts_at}
 use Rattle.ho_prep.specs.Prep.{at_air}
 use Rattle.lte_properties.specs.ChainBelow.{AllOf}
 use Rattle.lte_properties.specs.ChainAbove.{ContextAbove, StationAbove, InFlight}
 use Rattle.lte_properties.specs.ChainHolds.{machine_by}
 use Rattle.lte_properties.specs.Agreement.{made_at}
-use Rattle.lte_properties.specs.AgreePremises.{IsHonest, IsCalm, outcome_of, Honest, Calm}
-use Rattle.lte_properties.proofs.ChainLists.{OfSome, all_one, all_find, all_get, all_map, all_both, all_put}
-use Rattle.lte_properties.proofs.AgreeGhost.{Ghost, tried_at, CoreOk, RadioOk, StationOk, SentOk, MadeOk, TriedOk, TookOk, OutOk, BetweenOk, DownOk, UpOk}
+use Rattle.lte_properties.specs.AgreePremises.{IsHonest, IsCalm, outcome_of}
+use Rattle.lte_properties.proofs.ChainLists.{OfSome, all_one, all_find, all_map, all_both, all_put}
+use Rattle.lte_properties.proofs.AgreeGhost.{Ghost, tried_at, CoreOk, RadioOk, StationOk, SentOk, MadeOk, TriedOk, TookOk, OutOk, BetweenOk}
 use Rattle.lte_properties.proofs.AgreeLater.{Later, later_itself, ctx_later, preps_later, radio_later, sent_later, made_later, tried_later, took_later}
-use Rattle.lte_properties.proofs.AgreePhone.{PhoneGoes, NewTook, PhoneNeeds, took_more, phone_goes, with_took}
+use Rattle.lte_properties.proofs.AgreePhone.{PhoneGoes, NewTook, PhoneNeeds, took_more, phone_goes}
 use Rattle.lte_properties.proofs.AgreePhoneWalk.{CameDown, air_walks}
-use Rattle.lte_properties.proofs.AgreeTold.{told, told_more, fresh_beside, SiteOk}
+use Rattle.lte_properties.proofs.AgreeTold.{told_more, fresh_beside, SiteOk}
 use Rattle.lte_properties.proofs.AgreeStation.{StationGoes, NewMade, NewTried, RecordNeeds, AirNeeds, record_goes, air_goes}
 use Rattle.lte_properties.proofs.AgreeStationAct.{ActNeeds, act_goes}
 use Rattle.lte_properties.proofs.AgreeStationWalk.{s1_walks, x2_walks}
 use Rattle.lte_properties.proofs.AgreeStationOpens.{CameUp, air_walks_by, act_walks}
-use Rattle.lte_properties.proofs.AgreeCore.{CoreGoes, CoreNeeds, with_conns, core_goes, core_record_walks, core_act_walks}
+use Rattle.lte_properties.proofs.AgreeCore.{CoreGoes, CoreNeeds, core_goes}
 
 abbrev pub TheWorld : Type 0
 TheWorld = World Term ℕ (Outgoing Term ℕ)
@@ -69,7 +62,13 @@ pub record Conns : Type 0 where
 
 abbrev pub ghost : Conns → TheWorld → Ghost
 ghost c w = record {
-  root = c.root; count = c.count; top = c.top; next = c.next; made = w.made; tried = w.tried; took = w.took;
+  root = c.root;
+  count = c.count;
+  top = c.top;
+  next = c.next;
+  made = w.made;
+  tried = w.tried;
+  took = w.took;
 }
 
 -- the invariant
@@ -112,9 +111,14 @@ some_map P Q f (Some x) h = f x h
 module _ (cells : List Site) (c d : Conns) (w u : TheWorld) (l : Later (ghost c w) (ghost d u)) where
   -- of a station, where nothing of its own was told
   station_stays : (s : Station Term ℕ) → u.made ≡ w.made → u.tried ≡ w.tried → StationOk cells (ghost c w) s → StationOk cells (ghost d u) s
-  station_stays s made tried h =
-      (ctx_later (ghost c w) (ghost d u) l s.id s.context h.0, preps_later (ghost c w) (ghost d u) l s.id s.preps h.1,
-      subst (λ x. Fresh x u.tried s.id s.next) (sym made) (subst (λ x. Fresh w.made x s.id s.next) (sym tried) h.2), h.3, h.4, h.5)
+  station_stays s made tried h = (
+    ctx_later (ghost c w) (ghost d u) l s.id s.context h.0,
+    preps_later (ghost c w) (ghost d u) l s.id s.preps h.1,
+    subst (λ x. Fresh x u.tried s.id s.next) (sym made) (subst (λ x. Fresh w.made x s.id s.next) (sym tried) h.2),
+    h.3,
+    h.4,
+    h.5,
+  )
 
   stations_stay : (ss : List (Station Term ℕ)) → u.made ≡ w.made → u.tried ≡ w.tried → AllOf (StationOk cells (ghost c w)) ss → AllOf (StationOk cells (ghost d u)) ss
   stations_stay ss made tried h = all_map (StationOk cells (ghost c w)) (StationOk cells (ghost d u)) (λ s k. station_stays s made tried k) ss h
@@ -141,25 +145,38 @@ module _ (same : Term → Term → Bool) (root : ℕ → List ℕ → Term) (oct
   m = machine_by same root octets sender opener
 
   pub by_world_goes : (c : Conns) (w : TheWorld) (answer : Answer) → WorldOk cells c w → Goes cells c w (by_world m w answer).0
-  by_world_goes c w answer h = (c, later_itself (ghost c w), record {
-    core = h.core; radio = h.radio; stations = h.stations; sent = h.sent; made = h.made; tried = h.tried; took = h.took;
-  })
+  by_world_goes c w answer h = (
+    c,
+    later_itself (ghost c w),
+    record {
+      core = h.core;
+      radio = h.radio;
+      stations = h.stations;
+      sent = h.sent;
+      made = h.made;
+      tried = h.tried;
+      took = h.took;
+    },
+  )
 
   -- THE PHONE
 
   phone_after_goes : (c : Conns) (w : TheWorld) (d : PhoneDone Term ℕ) → WorldOk cells c w → PhoneGoes (ghost c w) d → Goes cells c w (phone_after m w d).0
   phone_after_goes c w d h k =
       let u = (phone_after m w d).0 in
-      let l : Later (ghost c w) (ghost c u) = took_more (ghost c w) d.1.took in
-      (c, l, record {
-        core = h.core;
-        radio = k.0;
-        stations = stations_stay cells c c w u l w.stations refl refl h.stations;
-        sent = all_one (SentOk (ghost c u)) d.1.sent w.sent (sent_stays cells c c w u l w.sent h.sent) (out_ok d.1.sent (ghost c u) k.2);
-        made = made_stays cells c c w u l w.made h.made;
-        tried = tried_stays cells c c w u l w.tried h.tried;
-        took = all_one (TookOk (ghost c u)) d.1.took w.took (took_stays cells c c w u l w.took h.took) (new_took d.1.took (ghost c u) k.1);
-      })
+      let l : Later (ghost c w) (ghost c u) = took_more (ghost c w) d.1.took in (
+        c,
+        l,
+        record {
+          core = h.core;
+          radio = k.0;
+          stations = stations_stay cells c c w u l w.stations refl refl h.stations;
+          sent = all_one (SentOk (ghost c u)) d.1.sent w.sent (sent_stays cells c c w u l w.sent h.sent) (out_ok d.1.sent (ghost c u) k.2);
+          made = made_stays cells c c w u l w.made h.made;
+          tried = tried_stays cells c c w u l w.tried h.tried;
+          took = all_one (TookOk (ghost c u)) d.1.took w.took (took_stays cells c c w u l w.took h.took) (new_took d.1.took (ghost c u) k.1);
+        },
+      )
 
   pub phone_turn_goes : (c : Conns) (w : TheWorld) (input : PhoneInput Term) (came : Option (Outgoing Term ℕ)) → WorldOk cells c w
       → PhoneNeeds (ghost c w) w.phone.radio (phone_row (plain_phone (term_reading_by same) w.phone) (front_of (term_reading_by same) w.phone input) (outcome_of m (phone_attempts m w input came)))
@@ -173,7 +190,7 @@ module _ (same : Term → Term → Bool) (root : ℕ → List ℕ → Term) (oct
   pub phone_air_goes : (c : Conns) (w : TheWorld) (station air : ℕ) (bearer : Bearer) (pdu : List ℕ) (came : Option (Outgoing Term ℕ)) → WorldOk cells c w
       → CameDown (ghost c w) station air (which bearer) pdu came
       → let a = phone_attempts m w (PhoneAirPdu station air bearer pdu) came in
-        IsHonest a.opening a.came (outcome_of m a) → IsCalm a.opening a.came (outcome_of m a)
+      IsHonest a.opening a.came (outcome_of m a) → IsCalm a.opening a.came (outcome_of m a)
       → Goes cells c w (phone_turn m w (PhoneAirPdu station air bearer pdu) came).0
   phone_air_goes c w station air bearer pdu came h k honest calm =
       phone_turn_goes c w (PhoneAirPdu station air bearer pdu) came h
@@ -186,16 +203,19 @@ module _ (same : Term → Term → Bool) (root : ℕ → List ℕ → Term) (oct
   core_after_goes c w d h k =
       let u = (core_after m w d).0 in
       let e : Conns = record { root = k.0; count = k.1; top = k.2; next = k.3 } in
-      let l : Later (ghost c w) (ghost e u) = k.4 in
-      (e, l, record {
-        core = k.5;
-        radio = radio_later (ghost c w) (ghost e u) l w.phone.radio h.radio;
-        stations = stations_stay cells c e w u l w.stations refl refl h.stations;
-        sent = all_one (SentOk (ghost e u)) d.1.sent w.sent (sent_stays cells c e w u l w.sent h.sent) (out_ok d.1.sent (ghost e u) k.6);
-        made = made_stays cells c e w u l w.made h.made;
-        tried = tried_stays cells c e w u l w.tried h.tried;
-        took = took_stays cells c e w u l w.took h.took;
-      })
+      let l : Later (ghost c w) (ghost e u) = k.4 in (
+        e,
+        l,
+        record {
+          core = k.5;
+          radio = radio_later (ghost c w) (ghost e u) l w.phone.radio h.radio;
+          stations = stations_stay cells c e w u l w.stations refl refl h.stations;
+          sent = all_one (SentOk (ghost e u)) d.1.sent w.sent (sent_stays cells c e w u l w.sent h.sent) (out_ok d.1.sent (ghost e u) k.6);
+          made = made_stays cells c e w u l w.made h.made;
+          tried = tried_stays cells c e w u l w.tried h.tried;
+          took = took_stays cells c e w u l w.took h.took;
+        },
+      )
 
   pub core_turn_goes : (c : Conns) (w : TheWorld) (input : CoreInput Term ℕ) (came : Option (Outgoing Term ℕ)) → WorldOk cells c w
       → CoreNeeds cells (ghost c w) w.core (core_row (plain_core (term_reading_by same) w.core) (core_front_of (term_reading_by same) w.core input) (outcome_of m (core_attempts m w input came)))
@@ -226,19 +246,22 @@ module _ (same : Term → Term → Bool) (root : ℕ → List ℕ → Term) (oct
       → StationGoes cells (ghost c w) s d → Goes cells c w (station_after m w id d).0
   station_after_goes c w id s d is h k =
       let u = (station_after m w id d).0 in
-      let l : Later (ghost c w) (ghost c u) = told_more (ghost c w) d.1.made d.1.tried in
-      (c, l, record {
-        core = h.core;
-        radio = radio_later (ghost c w) (ghost c u) l w.phone.radio h.radio;
-        stations = all_put (StationOk cells (ghost c w)) (StationOk cells (ghost c u)) id d.0 w.stations k.0
-            (λ t other ok. beside c w u l t ok
-            (fresh_beside (ghost c w) d.1.made d.1.tried s.id t.id t.next k.5 k.6 (λ e. eqb-false t.id id other (sym e ∙ is)) ok.2))
-            h.stations;
-        sent = all_one (SentOk (ghost c u)) d.1.sent w.sent (sent_stays cells c c w u l w.sent h.sent) (out_ok d.1.sent (ghost c u) k.3);
-        made = all_one (MadeOk (ghost c u)) d.1.made w.made (made_stays cells c c w u l w.made h.made) (new_made d.1.made (ghost c u) s.id k.1);
-        tried = all_one (TriedOk cells (ghost c u)) d.1.tried w.tried (tried_stays cells c c w u l w.tried h.tried) (new_tried d.1.tried (ghost c u) s.id k.2);
-        took = took_stays cells c c w u l w.took h.took;
-      })
+      let l : Later (ghost c w) (ghost c u) = told_more (ghost c w) d.1.made d.1.tried in (
+        c,
+        l,
+        record {
+          core = h.core;
+          radio = radio_later (ghost c w) (ghost c u) l w.phone.radio h.radio;
+          stations = all_put (StationOk cells (ghost c w)) (StationOk cells (ghost c u)) id d.0 w.stations k.0
+              (λ t other ok. beside c w u l t ok
+              (fresh_beside (ghost c w) d.1.made d.1.tried s.id t.id t.next k.5 k.6 (λ e. eqb-false t.id id other (sym e ∙ is)) ok.2))
+              h.stations;
+          sent = all_one (SentOk (ghost c u)) d.1.sent w.sent (sent_stays cells c c w u l w.sent h.sent) (out_ok d.1.sent (ghost c u) k.3);
+          made = all_one (MadeOk (ghost c u)) d.1.made w.made (made_stays cells c c w u l w.made h.made) (new_made d.1.made (ghost c u) s.id k.1);
+          tried = all_one (TriedOk cells (ghost c u)) d.1.tried w.tried (tried_stays cells c c w u l w.tried h.tried) (new_tried d.1.tried (ghost c u) s.id k.2);
+          took = took_stays cells c c w u l w.took h.took;
+        },
+      )
 
   -- what a row needs
   abbrev StationNeeds : Ghost → Station Term ℕ → StationRow → Option (NumberedKey Term ℕ) → Type 0
@@ -257,7 +280,7 @@ module _ (same : Term → Term → Bool) (root : ℕ → List ℕ → Term) (oct
   turn_goes : (c : Conns) (w : TheWorld) (id : ℕ) (input : StationInput Term ℕ) (came : Option (Outgoing Term ℕ)) (o : Option (Station Term ℕ)) → WorldOk cells c w
       → OfSome (λ s. (StationOk cells (ghost c w) s × StationAbove s) × ((s.id == id) ≡ true)) o
       → OfSome (λ s. StationOk cells (ghost c w) s → s.id ≡ id →
-          StationNeeds (ghost c w) s (station_row_of (term_reading_by same) s input (outcome_of m (attempts_at m input came (Some s)))) (station_key input)) o
+      StationNeeds (ghost c w) s (station_row_of (term_reading_by same) s input (outcome_of m (attempts_at m input came (Some s)))) (station_key input)) o
       → Goes cells c w (turn_of m w id input came o).0
   turn_goes c w id input came None h ok needs = by_world_goes c w NoUe h
   turn_goes c w id input came (Some s) h ok needs =

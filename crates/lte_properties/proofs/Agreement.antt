@@ -1,6 +1,5 @@
 -- Agreement of phone and stations in every world of every run.
-use Rattle.std.proofs.Common.{◌≡◌, refl, ℕ, zero, suc, Bool, List, [], ◌∷◌, take, Option}
-use Rattle.std.specs.Prelude.{⊤}
+use Rattle.std.proofs.Common.{◌≡◌, refl, ℕ, zero, suc, Bool, List, [], ◌∷◌, Option}
 use Rattle.lte_events.specs.declared.events.Event.{Event}
 use Rattle.lte_events.specs.declared.setups.Setup.{Setup}
 use Rattle.lte_events.specs.Site.{Site}
@@ -14,19 +13,19 @@ use Rattle.lte_machine.specs.Ranges.{IsSetup, IsEvent}
 use Rattle.lte_machine.specs.Ranges as ranges
 use Rattle.lte_machine.specs.PhoneState.{Radio, Idle, Connecting, Connected}
 use Rattle.lte_machine.specs.Reply.{Took}
-use Rattle.lte_machine.specs.World.{World, Machine, happens}
+use Rattle.lte_machine.specs.World.{Machine, happens}
 use Rattle.lte_machine.specs.Machines.{machine_over, sender_of}
 use Rattle.lte_machine.specs.Run.{first_world}
 use Rattle.lte_properties.specs.ChainBelow.{AllOf}
 use Rattle.lte_properties.specs.ChainHolds.{machine_by, run, noted, Holds}
-use Rattle.lte_properties.specs.Agreement.{NoneThere, NoneEver, Agrees, AgreementHolds}
+use Rattle.lte_properties.specs.Agreement.{NoneEver, AgreementHolds}
 use Rattle.lte_properties.specs.AgreePremises.{Honest, Calm, Along, OpensByTerms}
 use Rattle.lte_properties.proofs.ChainWorld.{happens_holds, first_holds}
 use Rattle.lte_properties.specs.FreshPhone.{RadioInOrder, PhoneFresh}
 use Rattle.lte_properties.proofs.FreshPhoneRun.{in_order, happens_order, first_order}
 use Rattle.lte_properties.proofs.AgreeLater.{later_itself}
 use Rattle.lte_properties.proofs.AgreeTold.{SiteOk}
-use Rattle.lte_properties.proofs.AgreeWorld.{TheWorld, Conns, ghost, WorldOk, Goes, PlainReads}
+use Rattle.lte_properties.proofs.AgreeWorld.{TheWorld, Conns, ghost, WorldOk, PlainReads}
 use Rattle.lte_properties.proofs.AgreeEvents.{happens_goes, run_goes}
 use Rattle.lte_properties.proofs.AgreeHolds.{cells_of, no_conns, first_ok, agrees, none_before, of_each}
 use Rattle.lte_properties.proofs.AgreeFollows.{terms_follow}
@@ -59,9 +58,10 @@ module _ (same : Term → Term → Bool) (root : ℕ → List ℕ → Term) (oct
 honest_along : (same : Term → Term → Bool) (root : ℕ → List ℕ → Term) (octets : Outgoing Term ℕ → List ℕ) (sender : Option (Outgoing Term ℕ) → Option (KeyUse Term)) (opener : Opening Term → List ℕ → Option (Outgoing Term ℕ) → Outcome) (c : Ciphers Term) → OpensByTerms c opener
     → (w : TheWorld) (es : List Event) → Along (Honest (machine_by same root octets sender opener)) (machine_by same root octets sender opener) w es
 honest_along same root octets sender opener c is w [] = tt
-honest_along same root octets sender opener c is w (e ∷ es) =
-    (honest same root octets sender opener c is w e,
-    honest_along same root octets sender opener c is (happens (machine_by same root octets sender opener) w e).0 es)
+honest_along same root octets sender opener c is w (e ∷ es) = (
+  honest same root octets sender opener c is w e,
+  honest_along same root octets sender opener c is (happens (machine_by same root octets sender opener) w e).0 es,
+)
 
 -- every run of a machine whose openings are honest and calm, and whose unciphered records read as their texts
 pub agreement_by : (same : Term → Term → Bool) (root : ℕ → List ℕ → Term) (octets : Outgoing Term ℕ → List ℕ) (sender : Option (Outgoing Term ℕ) → Option (KeyUse Term)) (opener : Opening Term → List ℕ → Option (Outgoing Term ℕ) → Outcome) → PlainReads octets
@@ -73,10 +73,11 @@ agreement_by same root octets sender opener reads setup is events are honest cal
     let cells_ok = cells_of setup is in
     let each = each_event events are in
     let first = first_ok setup is in
-    let g = run_goes same root octets sender opener reads setup.cells cells_ok (λ conn. 0) (no_conns setup) (first_world setup) events (first_holds setup) first each honest calm in
-    (agrees setup.cells g.0 (run (machine_by same root octets sender opener) (first_world setup) events) g.2
-    (terms_follow same root octets sender opener setup events),
-    none_ever same root octets sender opener reads setup.cells cells_ok (λ conn. 0) (no_conns setup) (first_world setup) events (first_holds setup) first each honest calm)
+    let g = run_goes same root octets sender opener reads setup.cells cells_ok (λ conn. 0) (no_conns setup) (first_world setup) events (first_holds setup) first each honest calm in (
+      agrees setup.cells g.0 (run (machine_by same root octets sender opener) (first_world setup) events) g.2
+          (terms_follow same root octets sender opener setup events),
+      none_ever same root octets sender opener reads setup.cells cells_ok (λ conn. 0) (no_conns setup) (first_world setup) events (first_holds setup) first each honest calm,
+    )
 
 -- where the phone waits with a KeNB that it never took
 new_kenb : (radio : Radio Term ℕ) (took : List (Took Term ℕ)) → RadioInOrder took radio → NewKenb took radio

@@ -1,9 +1,9 @@
 -- What holds of every run of the written machine that has met no coincidence: the machine whose SRBs open by terms comes to
 -- the same worlds.
-use Rattle.std.proofs.Common.{◌≡◌, ℕ, zero, suc, List, [], ◌∷◌, map, take, Option, refl, ap, sym, ◌∙◌, subst}
+use Rattle.std.proofs.Common.{◌≡◌, ℕ, zero, suc, List, [], ◌∷◌, map, take, refl, ap, sym, ◌∙◌, subst}
 use Rattle.lte_events.specs.declared.events.Event.{Event}
 use Rattle.lte_events.specs.declared.setups.Setup.{Setup}
-use Rattle.key_model.specs.Term.{Term, Root}
+use Rattle.key_model.specs.Term.{Term}
 use Rattle.key_model.specs.Use.{map_use}
 use Rattle.key_model.specs.Value.{value_of, same_value}
 use Rattle.lte_machine.specs.Wire.{Outgoing}
@@ -54,8 +54,8 @@ module _ (c : Ciphers (List ℕ)) (good : AreCiphers c) (setup : Setup) (events 
   values_differ =
       subst (λ (u : World Term ℕ (Outgoing Term ℕ)). NoUseTwice (map (map_use value_of) u.uses)) (sym in_mixed)
       (no_value_twice_by_terms terms same_value (octets_of terms written_in_values) sender_of (by_terms terms) (λ v e pdu came. refl) setup events
-        (subst (λ (u : World Term ℕ (Outgoing Term ℕ)). ValuesApart u.uses) in_mixed
-          (uses_apart terms written_in_values (written_machine c).opener (open_octets terms) setup events w is)))
+      (subst (λ (u : World Term ℕ (Outgoing Term ℕ)). ValuesApart u.uses) in_mixed
+      (uses_apart terms written_in_values (written_machine c).opener (open_octets terms) setup events w is)))
 
   module _ (set : IsSetup setup) (are : AllOf IsEvent events) where
     abbrev both : AgreementHolds (mixed terms written_in_values) setup events
@@ -74,7 +74,7 @@ module _ (c : Ciphers (List ℕ)) (good : AreCiphers c) (setup : Setup) (events 
     pub none_ever : NoneEver (written_machine c) (first_world setup) events
     none_ever n =
         let last : run (written_machine c) (first_world setup) events ≡ run (mixed terms written_in_values) (first_world setup) events =
-            sym (still_is_run (open_octets terms) (written_machine c) (first_world setup) events w is) ∙ in_mixed in
+        sym (still_is_run (open_octets terms) (written_machine c) (first_world setup) events w is) ∙ in_mixed in
         subst (λ (v : World Term ℕ (Outgoing Term ℕ)). NoneThere v (run (written_machine c) (first_world setup) events)) (sym (way_is n))
         (subst (λ (u : World Term ℕ (Outgoing Term ℕ)). NoneThere (run (mixed terms written_in_values) (first_world setup) (take n events)) u) (sym last) (both.1 n))
 

@@ -1,12 +1,12 @@
 -- What is taken for granted of the openings of a run, step by step.
 use Rattle.std.specs.Prelude.{◌≡◌, ℕ, Bool, true, false, List, [], ◌∷◌, Option, Some, None, ⊤}
 use Rattle.rec_base.specs.declared.uses.Dir.{Dir}
-use Rattle.rec_base.specs.declared.uses.Dir.TheVariants.{Up, Down}
+use Rattle.rec_base.specs.declared.uses.Dir.TheVariants.{Down}
 use Rattle.lte_events.specs.declared.events.Event.{Event}
 use Rattle.key_model.specs.Term.{Term, same_term}
-use Rattle.lte_machine.specs.Wire.{KeyUse, Ciphering, Outgoing, SealedNas, PlainNas, SealedRrc, UserPacket, Between}
+use Rattle.lte_machine.specs.Wire.{KeyUse, Ciphering, Outgoing, SealedNas, SealedRrc}
 use Rattle.lte_machine.specs.Ciphers.{Ciphers}
-use Rattle.lte_machine.specs.Opening.{Opening, OpensNothing, OpensNas, OpensSrb, OpensDrb, Outcome, Opened, open_by_uses}
+use Rattle.lte_machine.specs.Opening.{Opening, OpensSrb, Outcome, Opened, open_by_uses}
 use Rattle.lte_machine.specs.World.{Machine, World, happens}
 use Rattle.lte_machine.specs.Step.{Attempted, attempted}
 

@@ -1,6 +1,6 @@
 -- Agreement of phone and stations on keys over handovers (TS 33.401 7.2.8): what a station made for an air address against
 -- what the phone took there.
-use Rattle.std.specs.Prelude.{◌≡◌, ◌≢◌, ℕ, ◌+◌, ◌-◌, ◌≤◌, ◌<◌, ◌==◌, ◌&&◌, Bool, ◌⊎◌, List, [], ◌∷◌, find, take, Option, Some, None, ⊤}
+use Rattle.std.specs.Prelude.{◌≡◌, ◌≢◌, ℕ, ◌-◌, ◌≤◌, ◌<◌, ◌==◌, ◌&&◌, Bool, ◌⊎◌, List, [], ◌∷◌, find, take, Option, Some, None, ⊤}
 use Rattle.key_model.specs.Term.{Term, Star}
 use Rattle.key_model.specs.HandoverTable.{NumberedKey}
 use Rattle.lte_machine.specs.Reply.{Origin, Made, Took}
