@@ -15,14 +15,14 @@ use Rattle.s1x2_rec.specs.Content.{Content}
 use Rattle.rec_base.specs.declared.faults.RecFault.{RecFault}
 use Rattle.rec_base.specs.declared.uses.Dir.TheVariants.{Up}
 use Rattle.lte_machine.specs.CoreChoice.{CoreFront, Settled, FromNas, NasSettled, OpensComplete, OpensProtected, core_front, core_row}
-use Rattle.lte_machine.specs.CoreKeys.{ciphering_if, uplink_ciphering, opens_by_procedure, opens_by_context, core_expects, authenticated, smc_started, smc_complete, service_asked, nas_opened, sealed_reject, nas_sent, nas_skipped, context_set_up, path_switched, handover_asked, handover_notified, core_does_nas, core_does_record, core_does_act, core_does}
+use Rattle.lte_machine.specs.CoreKeys.{uplink_ciphering, opens_by_procedure, opens_by_context, core_expects, authenticated, smc_started, smc_complete, service_asked, nas_opened, sealed_reject, nas_sent, nas_skipped, context_set_up, path_switched, handover_asked, handover_notified, core_does_nas, core_does_record, core_does_act, core_does}
 use Rattle.lte_machine.specs.CoreRows.{CoreNasRow, NasRefused, PlainReject, SmcComplete, ServiceAsked, NasOpened, SealedReject, CoreRecordRow, RecordRefused, PathSwitched, HandoverAsked, HandoverOrdered, HandoverNotified, HandoverCancelled, CoreActRow, ActRefused, SmcStarted, ContextSetUp, ContextReleased, NasSent, NasSkipped, CoreRow, OfNas, OfRecord, OfAct, OfAuth}
 use Rattle.lte_machine.specs.CoreState.{Core, CorePartial, CoreContext, CoreLink, CoreInput, CoreAuth, CoreActs, CoreNasPdu, CoreRecord, map_core_partial, map_core_context, map_core_link, map_core, map_core_input}
 use Rattle.lte_machine.specs.CoreStep.{plain_core, plain_core_input, core_front_of, core_root, core_received, core_opens, core_ends, core_step, map_core_done}
 use Rattle.lte_machine.specs.Opening.{Opening, OpensNothing, OpensNas, OpensSrb, OpensDrb, Outcome, Opened, Differs, map_opening, accepted_of}
 use Rattle.lte_machine.specs.Reply.{unseen}
 use Rattle.lte_machine.specs.StationState.{map_read}
-use Rattle.lte_machine.specs.Wire.{Ciphering, map_ciphering, nas_use}
+use Rattle.lte_machine.specs.Wire.{Ciphering, map_ciphering, nas_use, ciphering_if}
 
 -- what the choice sees is the same in both readings
 

@@ -17,19 +17,19 @@ use Rattle.nas_guard.specs.Seal.{is_ciphered}
 use Rattle.ho_prep.specs.Prep.{Prep, at_air, is_at}
 use Rattle.s1x2_rec.specs.Fields.{Fields}
 use Rattle.lte_machine.specs.Bearers.{Srb, Drb}
-use Rattle.lte_machine.specs.Wire.{KeyUse, Ciphering, Outgoing, address_of}
+use Rattle.lte_machine.specs.Wire.{KeyUse, Ciphering, Outgoing, address_of, ciphering_if}
 use Rattle.lte_machine.specs.Ciphers.{Ciphers, octets_of}
 use Rattle.lte_machine.specs.Opening.{Opening, OpensNothing, OpensNas, OpensSrb, OpensDrb, Outcome, same_dir, same_uses}
 use Rattle.lte_machine.specs.Ladder.{RowOrigin, ladder_of}
 use Rattle.lte_machine.specs.PhoneState.{Partial, NasContext, Radio, Idle, Connecting, Connected, Phone}
 use Rattle.lte_machine.specs.PhoneChoice.{NasSettled, AtCommand, AtMessage, AirSettled, AtStart, AtSignalling, AtPacket, PhoneFront, Settled, FromNas, FromAir}
-use Rattle.lte_machine.specs.PhoneKeys.{ciphering_if, command_expects, message_expects, start_expects, signalling_expects, packet_expects, phone_expects}
+use Rattle.lte_machine.specs.PhoneKeys.{command_expects, message_expects, start_expects, signalling_expects, packet_expects, phone_expects}
 use Rattle.lte_machine.specs.StationState.{Station, Context}
 use Rattle.lte_machine.specs.StationChoice.{AirSettled as StationSettled, OnStarting, OnSignalling, OnUser, OnPrepared, StationFront, Settled as SettledHere, FromAir as FromStationAir}
 use Rattle.lte_machine.specs.StationKeys.{starting_expects, signalling_expects as context_expects, user_expects, prepared_expects, station_expects}
 use Rattle.lte_machine.specs.CoreState.{Core, CoreContext}
 use Rattle.lte_machine.specs.CoreChoice.{CoreFront, NasSettled as CoreNasSettled, OpensComplete, OpensProtected, Settled as CoreSettled, FromNas as FromCoreNas}
-use Rattle.lte_machine.specs.CoreKeys.{opens_by_procedure, opens_by_context, core_expects, ciphering_if as core_ciphering_if}
+use Rattle.lte_machine.specs.CoreKeys.{opens_by_procedure, opens_by_context, core_expects}
 use Rattle.lte_machine.specs.World.{World}
 use Rattle.lte_machine.specs.Machines.{sender_of}
 use Rattle.lte_machine.specs.Run.{Still, replay, first_world}
@@ -118,7 +118,7 @@ one_use ts own u v m n h =
 
 module _ (P : Term → Type 0) where
   -- at the core: the keys of the context in use and of the open procedure
-  core_ciphering_known : (b : Bool) (e : Ciphering Term) → P e.under.key → CipheringKnown P (core_ciphering_if b e)
+  core_ciphering_known : (b : Bool) (e : Ciphering Term) → P e.under.key → CipheringKnown P (ciphering_if b e)
   core_ciphering_known true e h = h
   core_ciphering_known false e h = tt
 

@@ -12,13 +12,13 @@ use Rattle.key_model.specs.Use.{map_use}
 use Rattle.nh_chain.specs.Reach.{Reached, reached_after}
 use Rattle.pdcp_guard.specs.AsKeys.{as_derivations}
 use Rattle.lte_machine.specs.Bearers.{Srb, Drb, Which}
-use Rattle.lte_machine.specs.Wire.{Ciphering, map_ciphering}
+use Rattle.lte_machine.specs.Wire.{Ciphering, map_ciphering, ciphering_if}
 use Rattle.lte_machine.specs.Opening.{Opening, OpensNothing, OpensNas, OpensSrb, OpensDrb, map_opening, Outcome, Opened, Differs, accepted_of}
 use Rattle.lte_machine.specs.Reply.{finished, unseen}
 use Rattle.lte_machine.specs.PhoneState.{Partial, map_partial, NasContext, map_context, Link, map_link, Radio, Idle, Connecting, Connected, map_radio, Phone, map_phone, PhoneInput, PhoneAuth, PhoneActs, PhoneNasPdu, PhoneAirPdu, map_phone_input}
 use Rattle.lte_machine.specs.PhoneRows.{Authenticated, NasRow, NasRefused, RejectedPlain, RejectedUnder, ContextTaken, ContextTakenConnected, NasOpened, AirRow, AirRefused, LinkSecured, HandedOver, RrcOpened, PacketOpened, ActRow, ActRefused, ServiceRequested, CompleteResent, WentIdle, PacketSent, RrcSent, NasSent, NasLeftOut, BearerLeftOut, PhoneRow, OfAuth, OfNas, OfAir, OfAct}
 use Rattle.lte_machine.specs.PhoneChoice.{NasFront, NasSettled, AtCommand, AtMessage, AirFront, AirSettled, AtStart, AtSignalling, AtPacket, PhoneFront, Settled, FromNas, FromAir, phone_front, phone_row}
-use Rattle.lte_machine.specs.PhoneKeys.{ciphering_if, command_expects, message_expects, nas_expects, start_expects, signalling_expects, packet_expects, air_expects, phone_expects, authenticated, rejected_under, context_taken, context_taken_connected, nas_opened, nas_does, link_secured, arrived, handed_over, rrc_opened, packet_opened, air_does, service_requested, complete_resent, packet_sent, rrc_sent, nas_sent, nas_left_out, bearer_left_out, act_does, phone_does}
+use Rattle.lte_machine.specs.PhoneKeys.{command_expects, message_expects, nas_expects, start_expects, signalling_expects, packet_expects, air_expects, phone_expects, authenticated, rejected_under, context_taken, context_taken_connected, nas_opened, nas_does, link_secured, arrived, handed_over, rrc_opened, packet_opened, air_does, service_requested, complete_resent, packet_sent, rrc_sent, nas_sent, nas_left_out, bearer_left_out, act_does, phone_does}
 use Rattle.lte_machine.specs.PhoneStep.{phone_root, plain_phone, plain_input, front_of, phone_opens, phone_step, map_phone_step}
 use Rattle.lte_machine.proofs.ReachMap.{map_reached, reached_after-map}
 

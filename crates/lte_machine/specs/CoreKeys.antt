@@ -1,7 +1,7 @@
 -- What the core does with keys: each new key is derived from one that it holds, or is such a key moved (TS 33.401 6.2,
 -- 7.2.8 and Annex A).
-use Rattle.std.specs.Prelude.{ℕ, ◌+◌, Bool, true, false, List, [], ◌∷◌, slice_set, Option, Some, None}
-use Rattle.alg_choice.specs.Algs.{identity_of, eia2_identity}
+use Rattle.std.specs.Prelude.{ℕ, ◌+◌, Bool, false, List, [], ◌∷◌, slice_set, Option, Some, None}
+use Rattle.alg_choice.specs.Algs.{eia2_identity}
 use Rattle.alg_choice.specs.declared.algs.Algs.{Algs}
 use Rattle.alg_choice.specs.declared.caps.Caps.{Caps}
 use Rattle.annex_a_keys.specs.Cell.{Place}
@@ -10,7 +10,7 @@ use Rattle.rec_base.specs.declared.ways.Way.TheVariants.{Initial, Chained}
 use Rattle.lte_events.specs.declared.addresses.Address.TheVariants.{StationS1}
 use Rattle.lte_events.specs.declared.answers.Answer.{Answer}
 use Rattle.lte_events.specs.declared.answers.Answer.TheVariants.{Done}
-use Rattle.key_model.specs.Derivation.{Derivation, kenb_made, nh_made, alg_made}
+use Rattle.key_model.specs.Derivation.{Derivation, kenb_made, nh_made}
 use Rattle.key_model.specs.Reading.{Reading}
 use Rattle.nas_count.specs.declared.sending.TheConstants.{LIMIT}
 use Rattle.nas_guard.specs.Keys.{Keys}
@@ -25,19 +25,15 @@ use Rattle.lte_machine.specs.CoreChoice.{CoreFront, Settled, FromNas, CoreNasFro
 use Rattle.lte_machine.specs.CoreRows.{CoreNasRow, NasRefused, PlainReject, SmcComplete, ServiceAsked, NasOpened, SealedReject, CoreRecordRow, RecordRefused, PathSwitched, HandoverAsked, HandoverOrdered, HandoverNotified, HandoverCancelled, CoreActRow, ActRefused, SmcStarted, ContextSetUp, ContextReleased, NasSent, NasSkipped, CoreRow, OfNas, OfRecord, OfAct, OfAuth}
 use Rattle.lte_machine.specs.CoreState.{Core, CorePartial, CoreContext, CoreLink}
 use Rattle.lte_machine.specs.Opening.{Opening, OpensNothing, OpensNas}
-use Rattle.lte_machine.specs.PhoneState.{nas_keys_of}
+use Rattle.lte_machine.specs.PhoneState.{nas_keys_of, nas_derivations}
 use Rattle.lte_machine.specs.Reply.{Note, Reply, only}
-use Rattle.lte_machine.specs.Wire.{Ciphering, Outgoing, SealedNas, Between, nas_use, ciphering_by}
+use Rattle.lte_machine.specs.Wire.{Ciphering, Outgoing, SealedNas, Between, nas_use, ciphering_by, ciphering_if}
 
 -- which uses an opening needs
 
 -- the ciphering of an uplink message, with the key of encryption also where the algorithm is EEA0 (TS 24.301 4.4.5)
 abbrev pub uplink_ciphering : {K : Type 0} → Keys K → ℕ → Ciphering K
 uplink_ciphering keys count = ciphering_by keys.algs.eea (nas_use Up keys.enc count)
-
-abbrev pub ciphering_if : {K : Type 0} → Bool → Ciphering K → Option (Ciphering K)
-ciphering_if false c = None
-ciphering_if true c = Some c
 
 -- a Security Mode Complete is ciphered (TS 24.301 9.3.1, header type 4)
 abbrev pub opens_by_procedure : {K : Type 0} → Option (Keys K) → ℕ → Opening K
@@ -92,10 +88,6 @@ authenticated ksi caps (Some root) s = silent (record s {
   procedure = None;
 })
 
--- the two NAS keys (A.7)
-abbrev pub nas_keys_made : {K C : Type 0} → Reading K C → K → Algs → List (Derivation K)
-nas_keys_made r root algs = alg_made r root 1 (identity_of algs.eea) ∷ alg_made r root 2 eia2_identity ∷ []
-
 -- the Security Mode Command, under the new keys and not ciphered (TS 24.301 5.4.3.2, header type 3)
 abbrev pub smc_command : {K C : Type 0} → K → ℕ → ℕ → Algs → Caps → Outgoing K C
 smc_command int count ksi algs caps =
@@ -105,7 +97,7 @@ abbrev pub smc_started : {K C : Type 0} → Reading K C → ℕ → Algs → Cap
 smc_started r ksi algs caps count None s = silent s
 smc_started r ksi algs caps count (Some partial) s =
     sending (smc_command (r.alg partial.root 2 eia2_identity) count ksi algs caps)
-    (nas_keys_made r partial.root algs)
+    (nas_derivations r partial.root algs)
     (record s { partial = Some (record partial { send = count + 1 }); procedure = Some (nas_keys_of r partial.root algs) })
 
 -- the new context in use: its uplink goes on behind the Complete, its downlink behind the Command (TS 24.301 4.4.3.1

@@ -1,15 +1,14 @@
 -- The phone's keys: which uses an opening needs, and what a row does, each new key a derivation of a key that the phone
 -- holds (TS 33.401 6.2, 7.2.4.4, 7.2.4.5 and 7.2.8).
-use Rattle.std.specs.Prelude.{ℕ, ◌+◌, Bool, true, false, List, [], ◌∷◌, ◌++◌, Option, Some, None}
+use Rattle.std.specs.Prelude.{ℕ, ◌+◌, true, false, List, [], ◌∷◌, ◌++◌, Option, Some, None}
 use Rattle.alg_choice.specs.declared.algs.Algs.{Algs}
-use Rattle.alg_choice.specs.Algs.{identity_of, eia2_identity}
 use Rattle.annex_a_keys.specs.Cell.{Place}
 use Rattle.rec_base.specs.declared.uses.Dir.TheVariants.{Up, Down}
 use Rattle.rec_base.specs.declared.ways.Way.TheVariants.{Initial}
 use Rattle.lte_events.specs.declared.answers.Answer.{Answer}
 use Rattle.lte_events.specs.declared.answers.Answer.TheVariants.{Done}
 use Rattle.key_model.specs.Reading.{Reading}
-use Rattle.key_model.specs.Derivation.{Derivation, kenb_made, alg_made}
+use Rattle.key_model.specs.Derivation.{kenb_made}
 use Rattle.nas_count.specs.declared.sending.TheConstants.{LIMIT as NAS_LIMIT}
 use Rattle.nas_guard.specs.Keys.{Keys}
 use Rattle.nas_guard.specs.Seal.{is_ciphered, first_octet}
@@ -23,10 +22,10 @@ use Rattle.nh_chain.specs.Chain.{begun}
 use Rattle.nh_chain.specs.Reach.{Reached, reached_after}
 use Rattle.pdcp_guard.specs.AsKeys.{AsKeys, as_keys_of, as_derivations}
 use Rattle.lte_machine.specs.Bearers.{Srb, Signalling1, Drb, Which, Bearers, new_bearers, srb_counts, drb_counts, srb_sent, drb_sent, srb_taken, drb_taken, left_out_on, skipped}
-use Rattle.lte_machine.specs.Wire.{Ciphering, ciphering_by, nas_use, srb_use, drb_use, Outgoing, SealedNas, PlainNas, SealedRrc, UserPacket}
+use Rattle.lte_machine.specs.Wire.{Ciphering, ciphering_by, nas_use, srb_use, drb_use, Outgoing, SealedNas, PlainNas, SealedRrc, UserPacket, ciphering_if}
 use Rattle.lte_machine.specs.Opening.{Opening, OpensNothing, OpensNas, OpensSrb, OpensDrb}
 use Rattle.lte_machine.specs.Reply.{Reply, only}
-use Rattle.lte_machine.specs.PhoneState.{nas_keys_of, Partial, NasContext, Link, Radio, Idle, Connecting, Connected, Phone}
+use Rattle.lte_machine.specs.PhoneState.{nas_keys_of, Partial, NasContext, Link, Radio, Idle, Connecting, Connected, Phone, nas_derivations}
 use Rattle.lte_machine.specs.PhoneRows.{AuthRow, Authenticated, NasRow, NasRefused, RejectedPlain, RejectedUnder, ContextTaken, ContextTakenConnected, NasOpened, AirRow, AirRefused, LinkSecured, HandedOver, RrcOpened, PacketOpened, ActRow, ActRefused, ServiceRequested, CompleteResent, WentIdle, PacketSent, RrcSent, NasSent, NasLeftOut, BearerLeftOut, PhoneRow, OfAuth, OfNas, OfAir, OfAct}
 use Rattle.lte_machine.specs.PhoneChoice.{NasFront, NasSettled, AtCommand, AtMessage, AirFront, AirSettled, AtStart, AtSignalling, AtPacket, PhoneFront, Settled, FromNas, FromAir}
 
@@ -35,11 +34,6 @@ abbrev pub PhoneDone : Type 0 → Type 0 → Type 0
 PhoneDone K C = Phone K C × Reply K C
 
 -- the uses that an opening needs
-
--- a ciphering where it is on
-abbrev pub ciphering_if : {K : Type 0} → Bool → Ciphering K → Option (Ciphering K)
-ciphering_if true e = Some e
-ciphering_if false e = None
 
 -- the ciphering of a NAS message (TS 24.301 4.4.5), of a PDU of an SRB, and of one of a DRB (TS 36.323 5.6)
 abbrev pub nas_ciphering_up : {K : Type 0} → Keys K → ℕ → Ciphering K
@@ -123,10 +117,6 @@ one_nas_sent c = record c { send = c.send + 1 }
 -- the connection with these COUNTs
 abbrev pub with_bearers : {K C : Type 0} → Link K C → Bearers → Radio K C
 with_bearers l bearers = Connected (record l { bearers = bearers })
-
--- the derivations of KNASenc and KNASint, by rising type (TS 33.401 A.7)
-abbrev pub nas_derivations : {K C : Type 0} → Reading K C → K → Algs → List (Derivation K)
-nas_derivations r root algs = alg_made r root 1 (identity_of algs.eea) ∷ alg_made r root 2 eia2_identity ∷ []
 
 -- done, and this is sent
 abbrev pub sends : {K C : Type 0} → Outgoing K C → Reply K C

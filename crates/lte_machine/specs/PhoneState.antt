@@ -1,11 +1,12 @@
 -- The phone: what it keeps (TS 24.301 4.4, TS 36.331 5.3, TS 33.401 6.2 and 7.2.8), in keys K and chain numbers C.
-use Rattle.std.specs.Prelude.{ℕ, Bool, List, Option, None, option_map}
+use Rattle.std.specs.Prelude.{ℕ, Bool, List, [], ◌∷◌, Option, None, option_map}
 use Rattle.alg_choice.specs.declared.algs.Algs.{Algs}
 use Rattle.alg_choice.specs.Algs.{identity_of, eia2_identity}
 use Rattle.alg_choice.specs.declared.caps.Caps.{Caps}
 use Rattle.rec_base.specs.declared.bearers.Bearer.{Bearer}
 use Rattle.lte_events.specs.declared.acts.PhoneAct.{PhoneAct}
 use Rattle.key_model.specs.Reading.{Reading}
+use Rattle.key_model.specs.Derivation.{Derivation, alg_made}
 use Rattle.nas_guard.specs.Keys.{Keys, map_keys}
 use Rattle.nh_chain.specs.Chain.{ChainState, map_chain}
 use Rattle.pdcp_guard.specs.AsKeys.{AsKeys, map_as_keys}
@@ -15,6 +16,10 @@ use Rattle.lte_machine.specs.Bearers.{Bearers}
 abbrev pub nas_keys_of : {K C : Type 0} → Reading K C → K → Algs → Keys K
 nas_keys_of r root algs =
     record { enc = r.alg root 1 (identity_of algs.eea); int = r.alg root 2 eia2_identity; algs = algs }
+
+-- the derivations of KNASenc and KNASint, by rising type (TS 33.401 A.7)
+abbrev pub nas_derivations : {K C : Type 0} → Reading K C → K → Algs → List (Derivation K)
+nas_derivations r root algs = alg_made r root 1 (identity_of algs.eea) ∷ alg_made r root 2 eia2_identity ∷ []
 
 -- a partial context: what an authentication left (TS 24.301 4.4.2)
 pub record Partial (K : Type 0) : Type 0 where

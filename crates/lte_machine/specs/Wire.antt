@@ -1,5 +1,5 @@
 -- What the actors send, and under which keys: generic in keys K and chain numbers C.
-use Rattle.std.specs.Prelude.{ℕ, List, [], ◌∷◌, ◌++◌, Option, Some, None, option_map}
+use Rattle.std.specs.Prelude.{ℕ, Bool, true, false, List, [], ◌∷◌, ◌++◌, Option, Some, None, option_map}
 use Rattle.alg_choice.specs.declared.algs.Eea.{Eea}
 use Rattle.rec_base.specs.declared.uses.Dir.{Dir}
 use Rattle.rec_base.specs.declared.uses.Dir.TheVariants.{Up, Down}
@@ -22,6 +22,11 @@ KeyUse K = Use K Dir
 pub record Ciphering (K : Type 0) : Type 0 where
   pub under : KeyUse K
   pub eea : Eea
+
+-- a ciphering where it is on
+abbrev pub ciphering_if : {K : Type 0} → Bool → Ciphering K → Option (Ciphering K)
+ciphering_if true e = Some e
+ciphering_if false e = None
 
 -- a record as its sender makes it. The kind fixes the address
 pub data Outgoing (K C : Type 0) : Type 0 where
