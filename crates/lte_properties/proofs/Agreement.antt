@@ -55,7 +55,7 @@ module _ (same : Term → Term → Bool) (root : ℕ → List ℕ → Term) (oct
       none_ever (noted u.core.link top) step.0 u es next step.2 is.1 honest.1 calm.1 n
 
 -- an opener by terms is honest along every run
-honest_along : (same : Term → Term → Bool) (root : ℕ → List ℕ → Term) (octets : Outgoing Term ℕ → List ℕ) (sender : Option (Outgoing Term ℕ) → Option (KeyUse Term)) (opener : Opening Term → List ℕ → Option (Outgoing Term ℕ) → Outcome) (c : Ciphers Term) → OpensByTerms c opener
+pub honest_along : (same : Term → Term → Bool) (root : ℕ → List ℕ → Term) (octets : Outgoing Term ℕ → List ℕ) (sender : Option (Outgoing Term ℕ) → Option (KeyUse Term)) (opener : Opening Term → List ℕ → Option (Outgoing Term ℕ) → Outcome) (c : Ciphers Term) → OpensByTerms c opener
     → (w : TheWorld) (es : List Event) → Along (Honest (machine_by same root octets sender opener)) (machine_by same root octets sender opener) w es
 honest_along same root octets sender opener c is w [] = tt
 honest_along same root octets sender opener c is w (e ∷ es) = (
@@ -101,15 +101,29 @@ module _ (same : Term → Term → Bool) (octets : Outgoing Term ℕ → List �
       let order = happens_order same octets sender opener w fresh e in
       (calm, calm_along (noted u.core.link top) step.0 u es next step.2 order is.1 honest.1)
 
+-- at every event of a run whose openings are honest
+calm_if_honest : (same : Term → Term → Bool) (octets : Outgoing Term ℕ → List ℕ) (sender : Option (Outgoing Term ℕ) → Option (KeyUse Term)) (opener : Opening Term → List ℕ → Option (Outgoing Term ℕ) → Outcome) → PlainReads octets
+    → (setup : Setup) → IsSetup setup → (events : List Event) → ranges.AllOf IsEvent events
+    → Along (Honest (machine_by same Root octets sender opener)) (machine_by same Root octets sender opener) (first_world setup) events
+    → Along (Calm (machine_by same Root octets sender opener)) (machine_by same Root octets sender opener) (first_world setup) events
+calm_if_honest same octets sender opener reads setup is events are honest =
+    calm_along same octets sender opener reads setup.cells (cells_of setup is) (λ conn. 0) (no_conns setup) (first_world setup) events (first_holds setup)
+    (first_ok setup is) (first_order same octets sender opener setup) (each_event events are) honest
+
+pub calm_over : (same : Term → Term → Bool) (c : Ciphers Term) → AreCiphers c → (between : Fields → Option (NumberedKey Term ℕ) → List ℕ) (opener : Opening Term → List ℕ → Option (Outgoing Term ℕ) → Outcome) → OpensByTerms c opener
+    → (setup : Setup) → IsSetup setup → (events : List Event) → ranges.AllOf IsEvent events
+    → Along (Calm (record (machine_over same c between) { opener = opener })) (record (machine_over same c between) { opener = opener }) (first_world setup) events
+calm_over same c good between opener by_terms setup is events are =
+    calm_if_honest same (octets_of c between) sender_of opener (plain_reads c good between) setup is events are
+    (honest_along same Root (octets_of c between) sender_of opener c by_terms (first_world setup) events)
+
 -- every run whose openings are honest
 pub agreement_if_honest : (same : Term → Term → Bool) (octets : Outgoing Term ℕ → List ℕ) (sender : Option (Outgoing Term ℕ) → Option (KeyUse Term)) (opener : Opening Term → List ℕ → Option (Outgoing Term ℕ) → Outcome) → PlainReads octets
     → (setup : Setup) → IsSetup setup → (events : List Event) → ranges.AllOf IsEvent events
     → Along (Honest (machine_by same Root octets sender opener)) (machine_by same Root octets sender opener) (first_world setup) events
     → AgreementHolds (machine_by same Root octets sender opener) setup events
 agreement_if_honest same octets sender opener reads setup is events are honest =
-    agreement_by same Root octets sender opener reads setup is events are honest
-    (calm_along same octets sender opener reads setup.cells (cells_of setup is) (λ conn. 0) (no_conns setup) (first_world setup) events (first_holds setup)
-    (first_ok setup is) (first_order same octets sender opener setup) (each_event events are) honest)
+    agreement_by same Root octets sender opener reads setup is events are honest (calm_if_honest same octets sender opener reads setup is events are honest)
 
 -- every run of a machine over these ciphers that compares the uses on SRBs as terms
 pub agreement_over : (same : Term → Term → Bool) (c : Ciphers Term) → AreCiphers c → (between : Fields → Option (NumberedKey Term ℕ) → List ℕ) (opener : Opening Term → List ℕ → Option (Outgoing Term ℕ) → Outcome) → OpensByTerms c opener

@@ -8,7 +8,8 @@ use Rattle.key_model.specs.Use.{map_use}
 use Rattle.key_model.specs.Value.{value_of, same_value}
 use Rattle.lte_machine.specs.Wire.{Outgoing}
 use Rattle.lte_machine.specs.Ciphers.{Ciphers, AreCiphers, under_keys, octets_of}
-use Rattle.lte_machine.specs.Opening.{Opening, Outcome, open_octets}
+use Rattle.lte_machine.specs.Opening.{Opening, Outcome, open_octets, open_by_uses}
+use Rattle.key_model.proofs.TermFacts.{same_value-Decides}
 use Rattle.lte_machine.specs.World.{Machine, World, happens}
 use Rattle.lte_machine.specs.Machines.{sender_of, written_machine, written_in_values}
 use Rattle.lte_machine.specs.Run.{Still, replay, run, first_world}
@@ -22,6 +23,11 @@ use Rattle.lte_machine.proofs.StillRun.{goes_on, still_is_run, turns_to}
 use Rattle.lte_properties.specs.Agreement.{Agrees, AgreementHolds, NoneThere, NoneEver}
 use Rattle.lte_properties.specs.Freshness.{NoUseTwice, ValuesApart}
 use Rattle.lte_properties.specs.SharedKeys.{SharedApart}
+use Rattle.lte_machine.proofs.KnownWorld.{first_grounds}
+use Rattle.lte_properties.specs.Packets.{OpensToSent}
+use Rattle.lte_properties.proofs.PacketOpens.{by_uses_open}
+use Rattle.lte_properties.proofs.PacketSender.{roots_along}
+use Rattle.lte_properties.proofs.Packets.{packets_open}
 use Rattle.lte_properties.proofs.Agreement.{agreement_over}
 use Rattle.lte_properties.proofs.Freshness.{no_use_twice_by_terms, no_value_twice_by_terms}
 use Rattle.lte_properties.proofs.HeldEver.{sharing_holds_by}
@@ -83,3 +89,11 @@ module _ (c : Ciphers (List ℕ)) (good : AreCiphers c) (setup : Setup) (events 
     shared =
         subst (λ (u : World Term ℕ (Outgoing Term ℕ)). SharedApart setup.cells u) (sym in_mixed)
         (sharing_holds_by same_value (octets_of terms written_in_values) sender_of (by_terms terms) setup events both.0.obeyed)
+
+    -- and packets
+    pub packets : OpensToSent (written_machine c) w
+    packets =
+        let one = roots_along terms written_in_values (open_octets terms) (first_world setup) events w (first_grounds setup) refl is in
+        subst (OpensToSent (written_machine c)) (sym in_mixed)
+        (packets_open same_value terms (under_keys_ciphers value_of c good) written_in_values (by_terms terms) (λ u e pdu came. refl) setup set events are one
+        (open_by_uses same_value terms) (by_uses_open same_value (λ t. (same_value-Decides t t).1 refl) terms (under_keys_ciphers value_of c good)))

@@ -47,3 +47,16 @@ pub mod HeldRun
 pub mod HeldShared
 pub mod HeldStation
 pub mod HeldWorld
+pub mod PacketAir
+pub mod PacketAirWalk
+pub mod PacketCounts
+pub mod PacketDelivered
+pub mod PacketFits
+pub mod PacketNas
+pub mod PacketNasRows
+pub mod PacketNasWalk
+pub mod PacketOpens
+pub mod PacketSender
+pub mod PacketSteps
+pub mod PacketWorld
+pub mod Packets

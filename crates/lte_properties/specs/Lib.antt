@@ -11,3 +11,4 @@ pub mod FreshHolds
 pub mod FreshPhone
 pub mod Separation
 pub mod SharedKeys
+pub mod Packets

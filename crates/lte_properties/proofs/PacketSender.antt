@@ -1,0 +1,180 @@
+-- In a run that has met no coincidence a NAS message that the phone accepts was sealed under the key that it expected.
+use Rattle.std.proofs.Common.{◌≡◌, refl, sym, ap, subst, ℕ, Bool, true, false, List, [], ◌∷◌, Option, Some, None}
+use Rattle.std.specs.List.{position_from}
+use Rattle.alg_choice.specs.declared.caps.Caps.{Caps}
+use Rattle.lte_events.specs.declared.addresses.Address.{Address}
+use Rattle.lte_events.specs.declared.events.Event.{Event}
+use Rattle.key_model.specs.HandoverTable.{NumberedKey}
+use Rattle.key_model.specs.Term.{Term, Root}
+use Rattle.key_model.specs.Value.{same_value}
+use Rattle.s1x2_rec.specs.Fields.{Fields}
+use Rattle.lte_machine.specs.Wire.{KeyUse, Ciphering, Outgoing, SealedNas, PlainNas, SealedRrc, UserPacket, Between, address_of}
+use Rattle.lte_machine.specs.Ciphers.{Ciphers, octets_of}
+use Rattle.lte_machine.specs.Opening.{Opening, OpensNothing, OpensNas, OpensSrb, OpensDrb, Outcome, Opened, Differs, same_uses, same_ciphering, judged, nas_wanted, open_case, open_foreign}
+use Rattle.nas_guard.specs.Open.{mac_in}
+use Rattle.lte_machine.specs.Ladder.{OfRoot, ladder_of}
+use Rattle.lte_machine.specs.StationState.{Station, StationInput, StationActs, AirPdu, StationRecord, OnS1, OnX2}
+use Rattle.lte_machine.specs.World.{Machine, World, Line, station_of_id, turn_of, auth_unless, known_root, next_root, content_in, arrives, chosen, delivered, class_of, is_sent, injected, happens}
+use Rattle.lte_machine.specs.Step.{attempted, attempts_at, arrival_attempts, delivery_attempts, injection_attempts}
+use Rattle.lte_machine.specs.Machines.{machine_over, sender_of}
+use Rattle.lte_machine.specs.Run.{Still, replay}
+use Rattle.lte_machine.specs.Distinct.{keys_of, Member, OneValueOneTerm}
+use Rattle.lte_machine.specs.Mixed.{by_terms, mixed}
+use Rattle.lte_machine.specs.Known.{SentKnown, IsReported}
+use Rattle.lte_machine.proofs.History.{one_value_one_term}
+use Rattle.lte_machine.proofs.KnownLadder.{still_in}
+use Rattle.lte_machine.proofs.KnownLists.{OfSome, all_chosen, sent_more}
+use Rattle.lte_machine.proofs.KnownWorld.{Grounds, happens_grounds}
+use Rattle.lte_machine.proofs.LadderRun.{one_use}
+use Rattle.lte_machine.proofs.MixedRun.{happens_same}
+use Rattle.lte_machine.proofs.StillRun.{goes_on}
+use Rattle.lte_properties.specs.AgreePremises.{Along}
+use Rattle.lte_properties.specs.Packets.{SenderIs, SameRoot}
+
+-- WHAT IS REPORTED STAYS SO
+
+module _ (m : Machine Term ℕ (Outgoing Term ℕ)) (w : World Term ℕ (Outgoing Term ℕ)) where
+  abbrev Grows : World Term ℕ (Outgoing Term ℕ) × Line Term → Type 0
+  Grows h = (t : Term) → IsReported w t → IsReported h.0 t
+
+  turn_grows : (id : ℕ) (input : StationInput Term ℕ) (came : Option (Outgoing Term ℕ)) (o : Option (Station Term ℕ)) → Grows (turn_of m w id input came o)
+  turn_grows id input came None t h = h
+  turn_grows id input came (Some s) t h = still_in w.history _ t h
+
+  arrives_grows : (to : Address) (pdu : List ℕ) (came : Option (Outgoing Term ℕ)) → Grows (arrives m w to pdu came)
+  arrives_grows Address.PhoneNas pdu came t h = still_in w.history _ t h
+  arrives_grows (Address.Phone station air bearer) pdu came t h = still_in w.history _ t h
+  arrives_grows Address.CoreNas pdu came t h = still_in w.history _ t h
+  arrives_grows Address.CoreS1 pdu came t h = still_in w.history _ t h
+  arrives_grows (Address.StationAir station air bearer) pdu came t h = turn_grows station (AirPdu air bearer pdu) came (station_of_id station w.stations) t h
+  arrives_grows (Address.StationS1 station) pdu came t h = turn_grows station (StationRecord OnS1 (content_in m came)) came (station_of_id station w.stations) t h
+  arrives_grows (Address.StationX2 station) pdu came t h = turn_grows station (StationRecord OnX2 (content_in m came)) came (station_of_id station w.stations) t h
+
+  auth_grows : (ksi : ℕ) (root : Term) (caps : Caps) (o : Option ℕ) → Grows (auth_unless m w ksi root caps o)
+  auth_grows ksi root caps None t h = still_in w.history (OfRoot root ∷ []) t h
+  auth_grows ksi root caps (Some row) t h = h
+
+  delivered_grows : (o : Option (Outgoing Term ℕ)) → Grows (delivered m w o)
+  delivered_grows None t h = h
+  delivered_grows (Some x) t h = arrives_grows (m.address x) (m.octets x) (Some x) t h
+
+  injected_grows : (to : Address) (pdu : List ℕ) (o : Option ℕ) → Grows (injected m w to pdu o)
+  injected_grows to pdu None t h = arrives_grows to pdu None t h
+  injected_grows to pdu (Some number) t h = h
+
+  happens_grows : (e : Event) → Grows (happens m w e)
+  happens_grows (Event.Auth ksi octets caps) t h =
+      let root : Term = m.root (next_root w) octets in auth_grows ksi root caps (known_root m w root) t h
+  happens_grows (Event.Phone act) t h = still_in w.history _ t h
+  happens_grows (Event.Station id act) t h = turn_grows id (StationActs act) None (station_of_id id w.stations) t h
+  happens_grows (Event.Core act) t h = still_in w.history _ t h
+  happens_grows (Event.Deliver i) t h = delivered_grows (chosen i w.sent) t h
+  happens_grows (Event.Inject to pdu) t h = injected_grows to pdu (position_from (is_sent m (class_of to) pdu) 0 w.sent) t h
+
+  -- WHAT COMES WAS SENT UNDER REPORTED KEYS
+
+  abbrev CameKnown : Option (Outgoing Term ℕ) → Type 0
+  CameKnown came = OfSome (SentKnown (IsReported w)) came
+
+  station_came : (input : StationInput Term ℕ) (came : Option (Outgoing Term ℕ)) (o : Option (Station Term ℕ)) → CameKnown came → CameKnown (attempts_at m input came o).came
+  station_came input came None h = tt
+  station_came input came (Some s) h = h
+
+  arrival_came : (to : Address) (pdu : List ℕ) (came : Option (Outgoing Term ℕ)) → CameKnown came → CameKnown (arrival_attempts m w to pdu came).came
+  arrival_came Address.PhoneNas pdu came h = h
+  arrival_came (Address.Phone station air bearer) pdu came h = h
+  arrival_came Address.CoreNas pdu came h = h
+  arrival_came Address.CoreS1 pdu came h = h
+  arrival_came (Address.StationAir station air bearer) pdu came h = station_came (AirPdu air bearer pdu) came (station_of_id station w.stations) h
+  arrival_came (Address.StationS1 station) pdu came h = station_came (StationRecord OnS1 (content_in m came)) came (station_of_id station w.stations) h
+  arrival_came (Address.StationX2 station) pdu came h = station_came (StationRecord OnX2 (content_in m came)) came (station_of_id station w.stations) h
+
+  delivery_came : (o : Option (Outgoing Term ℕ)) → CameKnown o → CameKnown (delivery_attempts m w o).came
+  delivery_came None h = tt
+  delivery_came (Some x) h = arrival_came (m.address x) (m.octets x) (Some x) h
+
+  injection_came : (to : Address) (pdu : List ℕ) (o : Option ℕ) → CameKnown (injection_attempts m w to pdu o).came
+  injection_came to pdu None = arrival_came to pdu None tt
+  injection_came to pdu (Some number) = tt
+
+  event_came : Grounds w → (e : Event) → CameKnown (attempted m w e).came
+  event_came g (Event.Auth ksi octets caps) = tt
+  event_came g (Event.Phone act) = tt
+  event_came g (Event.Station id act) = station_came (StationActs act) None (station_of_id id w.stations) tt
+  event_came g (Event.Core act) = tt
+  event_came g (Event.Deliver i) = delivery_came (chosen i w.sent) (all_chosen (SentKnown (IsReported w)) i w.sent g.keys.sent)
+  event_came g (Event.Inject to pdu) = injection_came to pdu (position_from (is_sent m (class_of to) pdu) 0 w.sent)
+
+came_more : (P Q : Term → Type 0) → ((t : Term) → P t → Q t) → (o : Option (Outgoing Term ℕ)) → OfSome (SentKnown P) o → OfSome (SentKnown Q) o
+came_more P Q f None h = tt
+came_more P Q f (Some x) h = sent_more P Q f x h
+
+-- WHO SEALED WHAT OPENED
+
+module _ (c : Ciphers Term) (ts : List Term) (own : OneValueOneTerm ts) where
+  abbrev InTs : Term → Type 0
+  InTs t = Member t ts
+
+  under_one_key : (u i : KeyUse Term) (e : Option (Ciphering Term)) (o : Outcome) → (InTs u.key → i.key ≡ u.key) → SenderIs ts (OpensNas u e) (Some i) o
+  under_one_key u i e (Opened text) f = λ down here. f here
+  under_one_key u i e (Differs wanted got) f = tt
+
+  foreign_differs : (u : KeyUse Term) (e : Option (Ciphering Term)) (pdu : List ℕ) → open_foreign c (OpensNas u e) pdu ≡ Differs (nas_wanted c u pdu) (mac_in pdu)
+  unfolding open_foreign
+  foreign_differs u e pdu = refl
+
+  foreign : (u : KeyUse Term) (e : Option (Ciphering Term)) (pdu : List ℕ) (sender : Option (KeyUse Term)) → SenderIs ts (OpensNas u e) sender (open_foreign c (OpensNas u e) pdu)
+  foreign u e pdu sender = subst (SenderIs ts (OpensNas u e) sender) (sym (foreign_differs u e pdu)) tt
+
+  judged_so : (u i : KeyUse Term) (e : Option (Ciphering Term)) (pdu : List ℕ) (a b : Bool) (text : List ℕ) → same_uses same_value u i ≡ a → InTs i.key
+      → SenderIs ts (OpensNas u e) (Some i) (open_case c (OpensNas u e) pdu (judged a b text))
+  judged_so u i e pdu false b text is here = foreign u e pdu (Some i)
+  judged_so u i e pdu true b text is here =
+      under_one_key u i e (open_case c (OpensNas u e) pdu (judged true b text)) (λ there. ap (λ x. x.key) (sym (one_use ts own u i there here is)))
+
+  nas_sender_is : (u : KeyUse Term) (e : Option (Ciphering Term)) (pdu : List ℕ) (came : Option (Outgoing Term ℕ)) → OfSome (SentKnown InTs) came
+      → SenderIs ts (OpensNas u e) (sender_of came) (by_terms c (OpensNas u e) pdu came)
+  nas_sender_is u e pdu None h = foreign u e pdu None
+  nas_sender_is u e pdu (Some (SealedNas dir header i f text)) h =
+      judged_so u i e pdu (same_uses same_value u i) (same_ciphering same_value e f) text refl h.0
+  nas_sender_is u e pdu (Some (PlainNas octets)) h = foreign u e pdu None
+  nas_sender_is u e pdu (Some (SealedRrc dir station air srb i f text)) h = judged_so u i e pdu (same_uses same_value u i) false text refl h.0
+  nas_sender_is u e pdu (Some (UserPacket dir station air drb f text)) h = foreign u e pdu None
+  nas_sender_is u e pdu (Some (Between to fields key)) h = foreign u e pdu None
+
+  sender_is : (o : Opening Term) (pdu : List ℕ) (came : Option (Outgoing Term ℕ)) → OfSome (SentKnown InTs) came → SenderIs ts o (sender_of came) (by_terms c o pdu came)
+  sender_is OpensNothing pdu came h = tt
+  sender_is (OpensNas u e) pdu came h = nas_sender_is u e pdu came h
+  sender_is (OpensSrb u e) pdu came h = tt
+  sender_is (OpensDrb e) pdu came h = tt
+
+-- ALONG A RUN
+
+module _ (c : Ciphers Term) (between : Fields → Option (NumberedKey Term ℕ) → List ℕ) where
+  abbrev TheWorld : Type 0
+  TheWorld = World Term ℕ (Outgoing Term ℕ)
+
+  abbrev written : Machine Term ℕ (Outgoing Term ℕ)
+  written = machine_over same_value c between
+
+  abbrev no_clash : TheWorld → Type 0
+  no_clash w = (ladder_of same_value w.history).clash ≡ None
+
+  one_root : (w : TheWorld) (e : Event) → Grounds w → Grounds (happens (mixed c between) w e).0 → no_clash (happens (mixed c between) w e).0 → SameRoot (mixed c between) w e
+  one_root w e g h calm done =
+      let u = (happens (mixed c between) w e).0 in
+      let a = attempted (mixed c between) w e in
+      sender_is c (keys_of u.history) (one_value_one_term u.history h.ladder calm) a.opening a.octets a.came
+      (came_more (IsReported w) (IsReported u) (happens_grows (mixed c between) w e) a.came (event_came (mixed c between) w g e))
+
+  pub roots_along : (by_octets : Opening Term → List ℕ → Outcome) (w : TheWorld) (es : List Event) (u : TheWorld) → Grounds w → no_clash w
+      → replay by_octets written (Still w) es ≡ Still u → Along (SameRoot (mixed c between)) (mixed c between) w es
+  roots_along by_octets w [] u g calm is = tt
+  roots_along by_octets w (e ∷ es) u g calm is =
+      let on = goes_on by_octets written w e es u is in
+      let next : (happens written w e).0 ≡ (happens (mixed c between) w e).0 = happens_same c between w g calm e on.0 in
+      let grounds : Grounds (happens (mixed c between) w e).0 = happens_grounds Root (octets_of c between) address_of sender_of (by_terms c) w e g in (
+        one_root w e g grounds (subst no_clash next on.0),
+        subst (λ v. Along (SameRoot (mixed c between)) (mixed c between) v es) next
+            (roots_along by_octets (happens written w e).0 es u (subst Grounds (sym next) grounds) on.0 on.1),
+      )
