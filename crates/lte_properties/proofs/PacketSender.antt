@@ -29,7 +29,7 @@ use Rattle.lte_machine.proofs.LadderRun.{one_use}
 use Rattle.lte_machine.proofs.MixedRun.{happens_same}
 use Rattle.lte_machine.proofs.StillRun.{goes_on}
 use Rattle.lte_properties.specs.AgreePremises.{Along}
-use Rattle.lte_properties.specs.Packets.{SenderIs, SameRoot}
+use Rattle.lte_properties.specs.PacketPremises.{SenderIs, SameRoot}
 
 -- WHAT IS REPORTED STAYS SO
 

@@ -31,7 +31,8 @@ use Rattle.lte_machine.specs.Distinct.{keys_of}
 use Rattle.lte_properties.specs.ChainBelow.{AllOf}
 use Rattle.lte_properties.specs.ChainHolds.{machine_by, run, noted, Holds}
 use Rattle.lte_properties.specs.AgreePremises.{Honest, Calm, Along, OpensByTerms}
-use Rattle.lte_properties.specs.Packets.{SenderIs, SameRoot, OpensToSent}
+use Rattle.lte_properties.specs.Packets.{OpensToSent}
+use Rattle.lte_properties.specs.PacketPremises.{SenderIs, SameRoot}
 use Rattle.lte_properties.proofs.ChainLists.{OfSome, all_get}
 use Rattle.lte_properties.proofs.ChainWorld.{happens_holds, first_holds}
 use Rattle.lte_properties.proofs.AgreeGhost.{Ghost}

@@ -12,3 +12,4 @@ pub mod FreshPhone
 pub mod Separation
 pub mod SharedKeys
 pub mod Packets
+pub mod PacketPremises

@@ -1,5 +1,5 @@
 -- Packets that open to what was sent (TS 36.323 5.1.2, TS 24.301 4.4.3): user packets, RRC data and NAS data.
-use Rattle.std.specs.Prelude.{◌≡◌, ℤ, ℕ, ◌+◌, ◌<◌, ◌≤◌, List, Option, Some, None, false, ⊤}
+use Rattle.std.specs.Prelude.{◌≡◌, ℤ, ℕ, ◌+◌, ◌<◌, ◌≤◌, List, Option, Some, None, false}
 use Rattle.rec_base.specs.declared.uses.Dir.TheVariants.{Up, Down}
 use Rattle.alg_choice.specs.Algs.{eia2_identity}
 use Rattle.lte_events.specs.declared.answers.Answer.TheVariants.{Done}
@@ -11,14 +11,10 @@ use Rattle.rrc_rec.specs.declared.records.RrcRecord.TheVariants.{RrcData}
 use Rattle.rrc_rec.specs.Spelling.{spelling_of as rrc_spelling}
 use Rattle.lte_machine.specs.Bearers.{Srb, Drb, srb_counts, drb_counts}
 use Rattle.lte_machine.specs.Wire.{KeyUse, Outgoing, SealedNas, SealedRrc, UserPacket}
-use Rattle.lte_machine.specs.Opening.{Opening, OpensNas, Outcome, Opened}
 use Rattle.lte_machine.specs.PhoneState.{NasContext, Link, Radio, Connected}
 use Rattle.lte_machine.specs.StationState.{Station, Context}
 use Rattle.lte_machine.specs.CoreState.{CoreContext}
 use Rattle.lte_machine.specs.World.{Machine, World, station_of_id, chosen, happens}
-use Rattle.lte_machine.specs.Step.{attempted}
-use Rattle.lte_machine.specs.Machines.{sender_of}
-use Rattle.lte_machine.specs.Distinct.{Member, keys_of}
 
 -- a record that carries these data: a user packet, an RRC text of data, a NAS text of data
 abbrev pub IsPacket : Outgoing Term ℕ → List ℕ → Type 0
@@ -105,24 +101,3 @@ abbrev pub OpensToSent : Machine Term ℕ (Outgoing Term ℕ) → World Term ℕ
 OpensToSent m w =
     (i : ℤ) (x : Outgoing Term ℕ) (sent : List ℕ) → chosen i w.sent ≡ Some x → IsPacket x sent → ReadyFor w x
     → OpensTo m w (Event.Deliver i) sent
-
--- WHAT IS TAKEN FOR GRANTED OF A RUN
-
--- a message was sealed under this key
-abbrev pub SealedUnder : Term → Option (KeyUse Term) → Type 0
-SealedUnder key None = ⊥
-SealedUnder key (Some u) = u.key ≡ key
-
--- a NAS message for the phone that came out so, in a step after which these keys are known: where its KNASint is one of
--- them, its sender's KNASint is that key
-abbrev pub SenderIs : List Term → Opening Term → Option (KeyUse Term) → Outcome → Type 0
-SenderIs known (OpensNas u e) sender (Opened text) = u.dir ≡ Down → Member u.key known → SealedUnder u.key sender
-SenderIs known other sender outcome = ⊤
-
--- an event that is done: where the phone accepted a NAS message in it, under a KNASint that was derived by then, the
--- sender's KNASint is the same term; two keys of one value that are two terms are a coincidence, and end a run
-abbrev pub SameRoot : Machine Term ℕ (Outgoing Term ℕ) → World Term ℕ (Outgoing Term ℕ) → Event → Type 0
-SameRoot m w e =
-    let a = attempted m w e in
-    let h = happens m w e in
-    h.1.answer ≡ Done → SenderIs (keys_of h.0.history) a.opening (sender_of a.came) (m.opener a.opening a.octets a.came)

@@ -1,5 +1,6 @@
 //! What holds of every run of the written machine, for every setup and every list of events: chain
-//! numbers, agreement of phone and stations, freshness of key uses, and who can derive which key.
+//! numbers, agreement of phone and stations, packets that open, freshness of key uses, and who can derive
+//! which key.
 //!
 //! The statements stand in `specs/`. Each function here has an empty body: its contract is a law.
 #![tactic(auto)]
@@ -7,11 +8,13 @@
 mod chain;
 mod keys_agree;
 mod keys_shared;
+mod packets_open;
 mod separation;
 mod uses_differ;
 
 pub use chain::chain_numbers_hold_in_every_run;
 pub use keys_agree::phone_and_target_agree_in_every_run;
 pub use keys_shared::only_source_and_target_share_the_key_in_every_run;
+pub use packets_open::packets_open_to_what_was_sent_in_every_run;
 pub use separation::{keys_are_given_as_tried_in_every_run, separation_holds_in_every_run};
 pub use uses_differ::no_use_comes_twice_in_every_run;
