@@ -94,7 +94,7 @@ abbrev pub GivenFits : Option (NumberedKey Term ℕ) → ℕ → Type 0
 GivenFits None number = ⊤
 GivenFits (Some star) number = star.number ≡ number
 
--- what was made
+-- what was made; it is all that was made for its air address
 abbrev pub FromOk : Ghost → Made Term ℕ → Option Origin → Type 0
 FromOk g m None = m.number ≡ 0
 FromOk g m (Some o) =
@@ -102,7 +102,9 @@ FromOk g m (Some o) =
     × (e.target ≡ m.station) × Leads e m.key m.number × GivenFits e.given m.number
 
 abbrev pub MadeOk : Ghost → Made Term ℕ → Type 0
-MadeOk g m = (1 ≤ m.air) × (m.air < 4294967296) × (m.station ≤ 7) × FromOk g m m.from_attempt
+MadeOk g m =
+    (1 ≤ m.air) × (m.air < 4294967296) × (m.station ≤ 7) × FromOk g m m.from_attempt
+    × (made_at g.made m.station m.air ≡ Some m)
 
 -- what was tried
 abbrev pub GivenOk : Ghost → Tried Term ℕ → Option (NumberedKey Term ℕ) → Type 0

@@ -15,7 +15,7 @@ use Rattle.lte_machine.specs.Run.{stations_of, first_world}
 use Rattle.lte_properties.specs.ChainBelow.{AllOf}
 use Rattle.lte_properties.specs.Agreement.{IsIn, made_at, ahead, Obeys, Grows, TermsFollow, OneTerm, ContextAt, AtStation, Agree, JoinedBy, IsFar, NoneThere, ComesMade, Agrees}
 use Rattle.lte_properties.proofs.ChainLists.{all_map}
-use Rattle.lte_properties.proofs.AgreeGhost.{Ghost, tried_at, keys_of, taken, FromIs, HereIs, CtxOk, StationOk, LinkIs, RadioOk, TookOk}
+use Rattle.lte_properties.proofs.AgreeGhost.{MadeOk, Ghost, tried_at, keys_of, taken, FromIs, HereIs, CtxOk, StationOk, LinkIs, RadioOk, TookOk}
 use Rattle.lte_properties.proofs.AgreeLater.{Later, same_found, here_later}
 use Rattle.lte_properties.proofs.AgreeTold.{SiteOk, term_number}
 use Rattle.lte_properties.proofs.AgreeWorld.{TheWorld, Conns, ghost, WorldOk}
@@ -115,6 +115,7 @@ module _ (cells : List Site) (c : Conns) (w : TheWorld) (h : WorldOk cells c w) 
   pub agrees : TermsFollow w → Agrees w
   agrees follow = record {
     follow = follow;
+    made_once = all_map (MadeOk (ghost c w)) (λ m. made_at w.made m.station m.air ≡ Some m) (λ m k. k.4) w.made h.made;
     obeyed = all_map (TookOk (ghost c w)) (λ x. Obeys w.made x x.before) (λ x k. k.1) w.took h.took;
     grow = all_map (TookOk (ghost c w)) (λ x. Grows x x.before) (λ x k. k.2) w.took h.took;
     one_term = one_term;
@@ -133,7 +134,7 @@ module _ (cells : List Site) (c d : Conns) (v u : TheWorld) (l : Later (ghost c 
       let one : obeys.0 ≡ m = same_found _ obeys.0 m obeys.1 found in
       let also : far.0 ≡ m = same_found _ far.0 m far.1 found in
       let wide : 8 ≤ ahead obeys.0 before = subst (λ y. 8 ≤ ahead y before) (also ∙ sym one) far.2 in
-      obeys.2.2 wide (one_here (ghost d u) x.station x.air x.key m.key k.0 here ∙ sym (ap (λ y. y.key) one))
+      (obeys.2.2 wide).0 (one_here (ghost d u) x.station x.air x.key m.key k.0 here ∙ sym (ap (λ y. y.key) one))
 
   -- a context of the earlier world
   none_before_at : (x : Took Term ℕ) → TookOk (ghost d u) x → IsFar u.made x x.before → (s : Station Term ℕ) → s.id ≡ x.station

@@ -109,7 +109,7 @@ module _ (g h : Ghost) (l : Later g h) where
   from_ok_later m (Some o) x = (x.0, l.tried o.source o.attempt x.0 x.1, x.2, x.3, x.4, x.5)
 
   pub made_later : (m : Made Term ℕ) → MadeOk g m → MadeOk h m
-  made_later m x = (x.0, x.1, x.2, from_ok_later m m.from_attempt x.3)
+  made_later m x = (x.0, x.1, x.2, from_ok_later m m.from_attempt x.3, l.made m.station m.air m x.4)
 
   given_later : (e : Tried Term ℕ) (o : Option (NumberedKey Term ℕ)) → GivenOk g e o → GivenOk h e o
   given_later e None x = tt

@@ -20,7 +20,7 @@ use Rattle.lte_machine.specs.PhoneRows.{AuthRow, Authenticated, NasRow, NasRefus
 use Rattle.lte_machine.specs.PhoneKeys.{PhoneDone, auth_does, rejected_under, context_taken, context_taken_connected, nas_opened, nas_does, link_secured, handed_over, rrc_opened, packet_opened, air_does, service_requested, complete_resent, packet_sent, rrc_sent, nas_sent, nas_left_out, bearer_left_out, act_does, phone_does}
 use Rattle.lte_properties.specs.ChainBelow.{AllOf}
 use Rattle.lte_properties.specs.Agreement.{made_at, ahead, TookMade, ObeysMade, Obeys, Grows, HadTaken}
-use Rattle.lte_properties.proofs.AgreeTerms.{base, root_of, lands, ChainOf, reached_key, reached_number, reached_chain, steps_near, lands_near, lands_far}
+use Rattle.lte_properties.proofs.AgreeTerms.{base, root_of, lands, ChainOf, reached_key, reached_number, reached_chain, steps_near, lands_near, steps_far, lands_far}
 use Rattle.lte_properties.proofs.AgreeGhost.{Ghost, taken, FromIs, HereIs, Leads, FromOk, MadeOk, TookOk, OrderIs, LinkIs, RadioOk, OutOk}
 use Rattle.lte_properties.proofs.AgreeLater.{Later, in_front, in_last, same_found}
 
@@ -87,10 +87,12 @@ obeys_made e m x before own number leads key reached algs = (omega arith, near, 
         let steps = steps_near (chain_number e.key) m.number below close in
         (key ∙ lands_near e.key (chain_number e.key) m.number e.cell refl below close ∙ sym made_is, omega arith, algs)
 
-    far : 8 ≤ ahead m before → x.key ≡ m.key → ⊥
-    far many same =
-        let wide : 8 ≤ m.number - chain_number e.key = omega arith in
-        lands_far e.key (chain_number e.key) m.number e.cell refl below wide (sym key ∙ same ∙ made_is)
+    far : 8 ≤ ahead m before → (x.key ≡ m.key → ⊥) × (x.number ≡ m.number → ⊥)
+    far many =
+        let wide : 8 ≤ m.number - chain_number e.key = omega arith in (
+          λ same. lands_far e.key (chain_number e.key) m.number e.cell refl below wide (sym key ∙ same ∙ made_is),
+          λ same. steps_far (chain_number e.key) m.number below wide (sym reached ∙ same),
+        )
 
 -- the phone's keys grow
 grows : (same : Term → Term → Bool) (l : Link Term ℕ) (steps : ℕ) (cell : Place) → ChainOf l.kenb l.chain

@@ -162,7 +162,7 @@ module _ (same : Term → Term → Bool) (cells : List Site) (g : Ghost) (made_o
           h.4,
           omega arith,
         ),
-        (low, draws.1, h.4, refl),
+        (low, draws.1, h.4, refl, here),
         tt,
         (m, here, refl, (refl, refl, refl), text),
         refl,
@@ -206,7 +206,7 @@ module _ (same : Term → Term → Bool) (cells : List Site) (g : Ghost) (made_o
       λ n above. (made_none g.made m s.id n (h.2 n (omega arith)).0 (omega arith), (h.2 n (omega arith)).1) in
       let from : FromOk k (record { station = s.id; air = w.air; conn = w.conn; cell = w.cell; key = star.key; number = star.number; algs = w.algs; from_attempt = Some w.from }) (Some w.from) =
       (e, found, term_number g e.conn e.key e.number (all_found (TriedOk cells g) _ g.tried e tried_ok found).0, target, leads, given) in
-      let made : MadeOk k m = subst (MadeOk k) (sym is) (low, draws.1, h.4, from) in
+      let made : MadeOk k m = subst (MadeOk k) (sym is) (low, draws.1, h.4, from, here ∙ ap Some is) in
       let prep : PrepOk k s.id p = (
         subst (λ x. TermOk k x p.key.kenb p.key.number) (sym conn)
             (subst (λ x. TermOk k w.conn x p.key.number) (sym kenb) (subst (λ x. TermOk k w.conn star.key x) (sym number) term)),

@@ -227,7 +227,7 @@ module _ (same : Term → Term → Bool) (cells : List Site) (cells_ok : AllOf S
           h.4,
           omega arith,
         ),
-        (omega arith, small, h.4, (e, tried_here, number_is, refl, (star.1, star.2), refl)),
+        (omega arith, small, h.4, (e, tried_here, number_is, refl, (star.1, star.2), refl), made_here),
         (own_later, there, (star_later, (star.1, star.2))),
         tt,
         refl,

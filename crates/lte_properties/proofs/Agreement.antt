@@ -18,7 +18,7 @@ use Rattle.lte_machine.specs.Machines.{machine_over, sender_of}
 use Rattle.lte_machine.specs.Run.{first_world}
 use Rattle.lte_properties.specs.ChainBelow.{AllOf}
 use Rattle.lte_properties.specs.ChainHolds.{machine_by, run, noted, Holds}
-use Rattle.lte_properties.specs.Agreement.{NoneEver, AgreementHolds}
+use Rattle.lte_properties.specs.Agreement.{NoneEver, CompletedLines, AgreementHolds}
 use Rattle.lte_properties.specs.AgreePremises.{Honest, Calm, Along, OpensByTerms}
 use Rattle.lte_properties.proofs.ChainWorld.{happens_holds, first_holds}
 use Rattle.lte_properties.specs.FreshPhone.{RadioInOrder, PhoneFresh}
@@ -29,6 +29,8 @@ use Rattle.lte_properties.proofs.AgreeWorld.{TheWorld, Conns, ghost, WorldOk, Pl
 use Rattle.lte_properties.proofs.AgreeEvents.{happens_goes, run_goes}
 use Rattle.lte_properties.proofs.AgreeHolds.{cells_of, no_conns, first_ok, agrees, none_before, of_each}
 use Rattle.lte_properties.proofs.AgreeFollows.{terms_follow}
+use Rattle.lte_properties.proofs.AgreeLines.{line_told}
+use Rattle.lte_properties.proofs.AgreeNoted.{keys_told}
 use Rattle.lte_properties.proofs.AgreeCalm.{NewKenb, calm_at}
 use Rattle.lte_properties.proofs.AgreeOpener.{honest, plain_reads}
 
@@ -54,6 +56,18 @@ module _ (same : Term → Term → Bool) (root : ℕ → List ℕ → Term) (oct
       let next = happens_holds same root octets sender opener top w e holds in
       none_ever (noted u.core.link top) step.0 u es next step.2 is.1 honest.1 calm.1 n
 
+  -- at each line of a completed handover the phone had taken the new context's key
+  lines_along : (top : ℕ → ℕ) (c : Conns) (w : TheWorld) (es : List Event) → Holds top w → WorldOk cells c w → AllOf IsEvent es
+      → Along (Honest m) m w es → Along (Calm m) m w es → CompletedLines m w es
+  lines_along top c w [] holds h is honest calm = tt
+  lines_along top c w (e ∷ es) holds h is honest calm =
+      let u = (happens m w e).0 in
+      let step = happens_goes same root octets sender opener reads cells cells_ok c w e is.0 h holds.above holds.flight honest.0 calm.0 in
+      let next = happens_holds same root octets sender opener top w e holds in (
+        line_told same root octets sender opener w e cells step.0 step.2,
+        lines_along (noted u.core.link top) step.0 u es next step.2 is.1 honest.1 calm.1,
+      )
+
 -- an opener by terms is honest along every run
 pub honest_along : (same : Term → Term → Bool) (root : ℕ → List ℕ → Term) (octets : Outgoing Term ℕ → List ℕ) (sender : Option (Outgoing Term ℕ) → Option (KeyUse Term)) (opener : Opening Term → List ℕ → Option (Outgoing Term ℕ) → Outcome) (c : Ciphers Term) → OpensByTerms c opener
     → (w : TheWorld) (es : List Event) → Along (Honest (machine_by same root octets sender opener)) (machine_by same root octets sender opener) w es
@@ -77,6 +91,8 @@ agreement_by same root octets sender opener reads setup is events are honest cal
       agrees setup.cells g.0 (run (machine_by same root octets sender opener) (first_world setup) events) g.2
           (terms_follow same root octets sender opener setup events),
       none_ever same root octets sender opener reads setup.cells cells_ok (λ conn. 0) (no_conns setup) (first_world setup) events (first_holds setup) first each honest calm,
+      lines_along same root octets sender opener reads setup.cells cells_ok (λ conn. 0) (no_conns setup) (first_world setup) events (first_holds setup) first each honest calm,
+      keys_told same root octets sender opener (first_world setup) events,
     )
 
 -- where the phone waits with a KeNB that it never took
@@ -139,3 +155,19 @@ pub agreement_of_terms : (c : Ciphers Term) → AreCiphers c → (between : Fiel
     → AgreementHolds (machine_over same_term c between) setup events
 agreement_of_terms c good between setup is events are =
     agreement_over same_term c good between (open_by_uses same_term c) (λ u e pdu came. refl) setup is events are
+
+-- and every world of it has the invariant
+pub always_ok : (same : Term → Term → Bool) (c : Ciphers Term) → AreCiphers c → (between : Fields → Option (NumberedKey Term ℕ) → List ℕ) (opener : Opening Term → List ℕ → Option (Outgoing Term ℕ) → Outcome) → OpensByTerms c opener
+    → (setup : Setup) → IsSetup setup → (events : List Event) → ranges.AllOf IsEvent events
+    → (d : Conns) × WorldOk setup.cells d (run (record (machine_over same c between) { opener = opener }) (first_world setup) events)
+always_ok same c good between opener by_terms setup is events are =
+    let octets = octets_of c between in
+    let reads = plain_reads c good between in
+    let cells_ok = cells_of setup is in
+    let each = each_event events are in
+    let first = first_ok setup is in
+    let honest = honest_along same Root octets sender_of opener c by_terms (first_world setup) events in
+    let calm = calm_along same octets sender_of opener reads setup.cells cells_ok (λ conn. 0) (no_conns setup) (first_world setup) events (first_holds setup)
+    first (first_order same octets sender_of opener setup) each honest in
+    let g = run_goes same Root octets sender_of opener reads setup.cells cells_ok (λ conn. 0) (no_conns setup) (first_world setup) events (first_holds setup) first each honest calm in
+    (g.0, g.2)

@@ -63,6 +63,11 @@ module _ (c : Ciphers (List ℕ)) (good : AreCiphers c) (setup : Setup) (events 
       (subst (λ (u : World Term ℕ (Outgoing Term ℕ)). ValuesApart u.uses) in_mixed
       (uses_apart terms written_in_values (written_machine c).opener (open_octets terms) setup events w is)))
 
+  -- each world on the way is that of the machine whose SRBs open by terms
+  pub way_is : (n : ℕ) → run (written_machine c) (first_world setup) (take n events) ≡ run (mixed terms written_in_values) (first_world setup) (take n events)
+  way_is n = run_by_terms terms written_in_values (open_octets terms) setup (take n events) (run (written_machine c) (first_world setup) (take n events))
+      (on_the_way (open_octets terms) (written_machine c) (first_world setup) events w is n)
+
   module _ (set : IsSetup setup) (are : AllOf IsEvent events) where
     abbrev both : AgreementHolds (mixed terms written_in_values) setup events
     both = agreement_over same_value terms (under_keys_ciphers value_of c good) written_in_values (by_terms terms) (λ u e pdu came. refl) setup set events are
@@ -70,11 +75,6 @@ module _ (c : Ciphers (List ℕ)) (good : AreCiphers c) (setup : Setup) (events 
     -- agreement
     pub agrees : Agrees w
     agrees = subst Agrees (sym in_mixed) both.0
-
-    -- each world on the way is that of the machine whose SRBs open by terms
-    way_is : (n : ℕ) → run (written_machine c) (first_world setup) (take n events) ≡ run (mixed terms written_in_values) (first_world setup) (take n events)
-    way_is n = run_by_terms terms written_in_values (open_octets terms) setup (take n events) (run (written_machine c) (first_world setup) (take n events))
-        (on_the_way (open_octets terms) (written_machine c) (first_world setup) events w is n)
 
     -- and far keys
     pub none_ever : NoneEver (written_machine c) (first_world setup) events

@@ -5,6 +5,9 @@ pub mod AgreeFollows
 pub mod AgreeGhost
 pub mod AgreeHolds
 pub mod AgreeLater
+pub mod AgreeLines
+pub mod AgreeNoted
+pub mod AgreeNotedPhone
 pub mod AgreeOpener
 pub mod AgreePhone
 pub mod AgreePhoneWalk
@@ -24,6 +27,7 @@ pub mod ChainMoves
 pub mod ChainNeeds
 pub mod ChainStation
 pub mod ChainWorld
+pub mod EveryLine
 pub mod EveryRun
 pub mod FreshBearers
 pub mod FreshCore

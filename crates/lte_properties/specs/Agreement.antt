@@ -1,15 +1,18 @@
 -- Agreement of phone and stations on keys over handovers (TS 33.401 7.2.8): what a station made for an air address against
 -- what the phone took there.
-use Rattle.std.specs.Prelude.{◌≡◌, ◌≢◌, ℕ, ◌-◌, ◌≤◌, ◌<◌, ◌==◌, ◌&&◌, Bool, ◌⊎◌, List, [], ◌∷◌, find, take, Option, Some, None, ⊤}
+use Rattle.std.specs.Prelude.{◌≡◌, ◌≢◌, ℕ, ◌-◌, ◌≤◌, ◌<◌, ◌==◌, ◌&&◌, Bool, ◌⊎◌, List, [], ◌∷◌, ◌++◌, find, take, Option, Some, None, ⊤}
 use Rattle.key_model.specs.Term.{Term, Star}
 use Rattle.key_model.specs.HandoverTable.{NumberedKey}
-use Rattle.lte_machine.specs.Reply.{Origin, Made, Took}
+use Rattle.lte_machine.specs.Reply.{Note, Origin, Made, Took}
 use Rattle.lte_machine.specs.PhoneState.{Link, Radio, Idle, Connecting, Connected}
 use Rattle.lte_machine.specs.StationState.{Station, Context}
 use Rattle.lte_machine.specs.Wire.{Outgoing}
-use Rattle.lte_machine.specs.World.{Machine, World}
+use Rattle.lte_machine.specs.World.{Machine, World, Line, happens}
 use Rattle.lte_machine.specs.Run.{first_world}
 use Rattle.lte_events.specs.declared.setups.Setup.{Setup}
+use Rattle.lte_events.specs.declared.lines.Who.{Who}
+use Rattle.rec_base.specs.declared.ways.Way.{Way}
+use Rattle.key_model.specs.Chain.{ncc_of}
 use Rattle.lte_events.specs.declared.events.Event.{Event}
 use Rattle.lte_properties.specs.ChainBelow.{AllOf}
 use Rattle.lte_properties.specs.ChainHolds.{run}
@@ -26,6 +29,10 @@ is_made_at station air m = (m.station == station) && (m.air == air)
 abbrev pub made_at : List (Made Term ℕ) → ℕ → ℕ → Option (Made Term ℕ)
 made_at made station air = find (is_made_at station air) made
 
+-- for each air address a station makes one thing alone
+abbrev pub MadeOnce : {S : Type 0} → World Term ℕ S → Type 0
+MadeOnce w = AllOf (λ m. made_at w.made m.station m.air ≡ Some m) w.made
+
 -- how many NH steps the key made is ahead of the key that the phone had before (7.2.8.4.4)
 abbrev pub ahead : Made Term ℕ → NumberedKey Term ℕ → ℕ
 ahead m before = m.number - before.number
@@ -35,11 +42,12 @@ abbrev pub TookMade : Took Term ℕ → Made Term ℕ → Type 0
 TookMade x m = (x.key ≡ m.key) × (x.number ≡ m.number) × (x.algs ≡ m.algs)
 
 -- at an obeyed handover command for this air address: the station there made something; its number is not below the
--- phone's; fewer than eight steps ahead the phone took what was made, and at eight or more another key, since NCC has three
--- bits (7.2.8.4.4 and TS 36.331 6.3.3)
+-- phone's; fewer than eight steps ahead the phone took what was made, and at eight or more another key and number, since NCC
+-- has three bits (7.2.8.4.4 and TS 36.331 6.3.3)
 abbrev pub ObeysMade : Took Term ℕ → NumberedKey Term ℕ → Made Term ℕ → Type 0
 ObeysMade x before m =
-    (before.number ≤ m.number) × (ahead m before < 8 → TookMade x m) × (8 ≤ ahead m before → x.key ≢ m.key)
+    (before.number ≤ m.number) × (ahead m before < 8 → TookMade x m)
+    × (8 ≤ ahead m before → (x.key ≢ m.key) × (x.number ≢ m.number))
 
 abbrev pub Obeys : List (Made Term ℕ) → Took Term ℕ → Option (NumberedKey Term ℕ) → Type 0
 Obeys made x None = ⊤
@@ -134,8 +142,52 @@ ComesMade w station (Some c) =
 abbrev pub CompletedTaken : {S : Type 0} → World Term ℕ S → Type 0
 CompletedTaken w = AllOf (λ s. ComesMade w s.id s.context) w.stations
 
+-- the context of a station
+abbrev pub HasContext : Option (Context Term ℕ) → (Context Term ℕ → Type 0) → Type 0
+HasContext None P = ⊥
+HasContext (Some c) P = P c
+
+-- a station tells that a handover completed, with the key of its new context: the phone had taken that key at the
+-- context's air address
+abbrev pub TellsWay : {S : Type 0} → World Term ℕ S → ℕ → Term → Way → Type 0
+TellsWay w id key Way.Completed =
+    AtStation w id (λ s. HasContext s.context (λ c. (c.key.kenb ≡ key) × HadTaken w.took id c.air key))
+TellsWay w id key other = ⊤
+
+abbrev pub TellsNote : {S : Type 0} → World Term ℕ S → Who → Option (Note Term) → Type 0
+TellsNote w (Who.Station id) (Some note) = TellsWay w id note.key note.way
+TellsNote w who told = ⊤
+
+-- at each such line of a run, in the world after it
+abbrev pub CompletedLines : Machine Term ℕ (Outgoing Term ℕ) → World Term ℕ (Outgoing Term ℕ) → List Event → Type 0
+CompletedLines m w [] = ⊤
+CompletedLines m w (e ∷ es) =
+    let h = happens m w e in TellsNote h.0 h.1.who h.1.note × CompletedLines m h.0 es
+
+-- a line tells this key, with the NCC of its number
+abbrev pub Tells : Line Term → Who → Term → ℕ → Type 0
+Tells l who key number =
+    (note : Note Term) × (l.who ≡ who) × (l.note ≡ Some note) × (note.key ≡ key) × (note.ncc ≡ ncc_of number)
+
+-- what a station makes, and what the phone takes, is told in the line of its event
+abbrev pub MadeIsTold : {S : Type 0} → World Term ℕ S → World Term ℕ S → Line Term → Type 0
+MadeIsTold w u l =
+    (u.made ≡ w.made)
+    ⊎ ((m : Made Term ℕ) × (u.made ≡ w.made ++ m ∷ []) × Tells l (Who.Station m.station) m.key m.number)
+
+abbrev pub TookIsTold : {S : Type 0} → World Term ℕ S → World Term ℕ S → Line Term → Type 0
+TookIsTold w u l =
+    (u.took ≡ w.took) ⊎ ((x : Took Term ℕ) × (u.took ≡ w.took ++ x ∷ []) × Tells l Who.Phone x.key x.number)
+
+-- at each event of a run
+abbrev pub KeysTold : Machine Term ℕ (Outgoing Term ℕ) → World Term ℕ (Outgoing Term ℕ) → List Event → Type 0
+KeysTold m w [] = ⊤
+KeysTold m w (e ∷ es) =
+    let h = happens m w e in MadeIsTold w h.0 h.1 × TookIsTold w h.0 h.1 × KeysTold m h.0 es
+
 -- all of it, in one world
 pub record Agrees {S : Type 0} (w : World Term ℕ S) : Type 0 where
+  pub made_once : MadeOnce w
   pub obeyed : ObeysAgreement w
   pub grow : TermsGrow w
   pub follow : TermsFollow w
@@ -143,6 +195,8 @@ pub record Agrees {S : Type 0} (w : World Term ℕ S) : Type 0 where
   pub joined : JoinedAgree w
   pub completed : CompletedTaken w
 
--- in the world after these events, and of far keys in each world on the way
+-- in the world after these events, of far keys in each world on the way, and in each line
 abbrev pub AgreementHolds : Machine Term ℕ (Outgoing Term ℕ) → Setup → List Event → Type 0
-AgreementHolds m setup events = Agrees (run m (first_world setup) events) × NoneEver m (first_world setup) events
+AgreementHolds m setup events =
+    Agrees (run m (first_world setup) events) × NoneEver m (first_world setup) events
+    × CompletedLines m (first_world setup) events × KeysTold m (first_world setup) events

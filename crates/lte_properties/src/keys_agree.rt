@@ -17,7 +17,7 @@ ghost use Rattle.lte_properties.specs.Agreement.{Agrees, NoneEver};
 ///
 /// - at each obeyed handover command the target's chain number is not below the phone's; fewer than
 ///   eight steps ahead the phone takes the key, number and algorithms that the target made, and at
-///   eight or more another key;
+///   eight or more another key and another number;
 /// - within a connection the phone's keys grow, and for each air address it takes at most one;
 /// - wherever the phone is connected at a station and air address, and the station's context has that
 ///   air address, both have one key, one chain number and the same algorithms;

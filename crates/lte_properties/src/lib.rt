@@ -8,6 +8,7 @@
 mod chain;
 mod keys_agree;
 mod keys_shared;
+mod keys_told;
 mod packets_open;
 mod separation;
 mod uses_differ;
@@ -15,6 +16,7 @@ mod uses_differ;
 pub use chain::chain_numbers_hold_in_every_run;
 pub use keys_agree::phone_and_target_agree_in_every_run;
 pub use keys_shared::only_source_and_target_share_the_key_in_every_run;
+pub use keys_told::lines_tell_the_keys_in_every_run;
 pub use packets_open::packets_open_to_what_was_sent_in_every_run;
 pub use separation::{keys_are_given_as_tried_in_every_run, separation_holds_in_every_run};
 pub use uses_differ::no_use_comes_twice_in_every_run;

@@ -1,0 +1,134 @@
+-- What the phone takes is told in its reply: the key, and the NCC of its number.
+use Rattle.std.proofs.Common.{◌≡◌, refl, ℕ, Bool, List, Option, Some, None}
+use Rattle.std.specs.Prelude.{⊤}
+use Rattle.alg_choice.specs.declared.algs.Algs.{Algs}
+use Rattle.annex_a_keys.specs.Cell.{Place}
+use Rattle.lte_events.specs.declared.answers.Answer.{Answer}
+use Rattle.key_model.specs.Term.{Term}
+use Rattle.key_model.specs.Reading.{term_reading_by}
+use Rattle.lte_machine.specs.Bearers.{Srb, Drb, Which}
+use Rattle.lte_machine.specs.Reply.{Took}
+use Rattle.lte_machine.specs.PhoneState.{Partial, NasContext, Radio, Idle, Connecting, Connected, Phone}
+use Rattle.lte_machine.specs.PhoneRows.{AuthRow, Authenticated, NasRow, NasRefused, RejectedPlain, RejectedUnder, ContextTaken, ContextTakenConnected, NasOpened, AirRow, AirRefused, LinkSecured, HandedOver, RrcOpened, PacketOpened, ActRow, ActRefused, ServiceRequested, CompleteResent, WentIdle, PacketSent, RrcSent, NasSent, NasLeftOut, BearerLeftOut, PhoneRow, OfAuth, OfNas, OfAir, OfAct}
+use Rattle.lte_machine.specs.PhoneKeys.{PhoneDone, auth_does, rejected_under, context_taken, context_taken_connected, nas_opened, nas_does, link_secured, handed_over, rrc_opened, packet_opened, air_does, service_requested, complete_resent, packet_sent, rrc_sent, nas_sent, nas_left_out, bearer_left_out, act_does, phone_does}
+use Rattle.key_model.specs.Chain.{ncc_of}
+use Rattle.lte_machine.specs.Reply.{Note}
+
+-- a note has a key, and the NCC of its number
+abbrev pub NotedAs : Option (Note Term) → Term → ℕ → Type 0
+NotedAs None key number = ⊥
+NotedAs (Some note) key number = (note.key ≡ key) × (note.ncc ≡ ncc_of number)
+
+abbrev pub TookNoted : Option (Note Term) → Option (Took Term ℕ) → Type 0
+TookNoted told None = ⊤
+TookNoted told (Some x) = NotedAs told x.key x.number
+
+abbrev Noted : PhoneDone Term ℕ → Type 0
+Noted d = TookNoted d.1.note d.1.took
+
+module _ (same : Term → Term → Bool) where
+  secured : (station air : ℕ) (algs : Algs) (count : ℕ) (s : Phone Term ℕ) (radio : Radio Term ℕ)
+      → Noted (link_secured (term_reading_by same) station air algs count s radio)
+  secured station air algs count s (Connecting w) = (refl, refl)
+  secured station air algs count s Idle = tt
+  secured station air algs count s (Connected l) = tt
+
+  handed : (cell : Place) (steps : ℕ) (algs : Algs) (station air : ℕ) (s : Phone Term ℕ) (radio : Radio Term ℕ)
+      → Noted (handed_over (term_reading_by same) cell steps algs station air s radio)
+  handed cell steps algs station air s (Connected l) = (refl, refl)
+  handed cell steps algs station air s Idle = tt
+  handed cell steps algs station air s (Connecting w) = tt
+
+  opened_rrc : (srb : Srb) (count : ℕ) (text : List ℕ) (s : Phone Term ℕ) (radio : Radio Term ℕ) → Noted (rrc_opened srb count text s radio)
+  opened_rrc srb count text s (Connected l) = tt
+  opened_rrc srb count text s Idle = tt
+  opened_rrc srb count text s (Connecting w) = tt
+
+  opened_packet : (drb : Drb) (count : ℕ) (text : List ℕ) (s : Phone Term ℕ) (radio : Radio Term ℕ) → Noted (packet_opened drb count text s radio)
+  opened_packet drb count text s (Connected l) = tt
+  opened_packet drb count text s Idle = tt
+  opened_packet drb count text s (Connecting w) = tt
+
+  air_notes : (row : AirRow) (s : Phone Term ℕ) → Noted (air_does (term_reading_by same) row s)
+  air_notes (AirRefused answer) s = tt
+  air_notes (LinkSecured station air algs count) s = secured station air algs count s s.radio
+  air_notes (HandedOver cell steps algs station air) s = handed cell steps algs station air s s.radio
+  air_notes (RrcOpened srb count text) s = opened_rrc srb count text s s.radio
+  air_notes (PacketOpened drb count text) s = opened_packet drb count text s s.radio
+
+  rejected : (answer : Answer) (cause : ℕ) (s : Phone Term ℕ) (o : Option (NasContext Term)) → Noted (rejected_under answer cause s o)
+  rejected answer cause s None = tt
+  rejected answer cause s (Some c) = tt
+
+  taken : (algs : Algs) (count : ℕ) (s : Phone Term ℕ) (o : Option (Partial Term)) → Noted (context_taken (term_reading_by same) algs count s o)
+  taken algs count s None = tt
+  taken algs count s (Some p) = tt
+
+  taken_connected : (algs : Algs) (count : ℕ) (s : Phone Term ℕ) (o : Option (Partial Term)) → Noted (context_taken_connected (term_reading_by same) algs count s o)
+  taken_connected algs count s None = tt
+  taken_connected algs count s (Some p) = tt
+
+  opened_nas : (count : ℕ) (text : List ℕ) (s : Phone Term ℕ) (o : Option (NasContext Term)) → Noted (nas_opened count text s o)
+  opened_nas count text s None = tt
+  opened_nas count text s (Some c) = tt
+
+  nas_notes : (row : NasRow) (s : Phone Term ℕ) → Noted (nas_does (term_reading_by same) row s)
+  nas_notes (NasRefused answer) s = tt
+  nas_notes (RejectedPlain answer cause) s = tt
+  nas_notes (RejectedUnder answer cause) s = rejected answer cause s s.context
+  nas_notes (ContextTaken algs count) s = taken algs count s s.partial
+  nas_notes (ContextTakenConnected algs count) s = taken_connected algs count s s.partial
+  nas_notes (NasOpened count text) s = opened_nas count text s s.context
+
+  requested : (s : Phone Term ℕ) (o : Option (NasContext Term)) → Noted (service_requested (term_reading_by same) s o)
+  requested s None = tt
+  requested s (Some c) = tt
+
+  resent : (s : Phone Term ℕ) (radio : Radio Term ℕ) → Noted (complete_resent s radio)
+  resent s (Connected l) = tt
+  resent s Idle = tt
+  resent s (Connecting w) = tt
+
+  sent_packet : (drb : Drb) (text : List ℕ) (s : Phone Term ℕ) (radio : Radio Term ℕ) → Noted (packet_sent drb text s radio)
+  sent_packet drb text s (Connected l) = tt
+  sent_packet drb text s Idle = tt
+  sent_packet drb text s (Connecting w) = tt
+
+  sent_rrc : (srb : Srb) (text : List ℕ) (s : Phone Term ℕ) (radio : Radio Term ℕ) → Noted (rrc_sent srb text s radio)
+  sent_rrc srb text s (Connected l) = tt
+  sent_rrc srb text s Idle = tt
+  sent_rrc srb text s (Connecting w) = tt
+
+  sent_nas : (text : List ℕ) (s : Phone Term ℕ) (o : Option (NasContext Term)) → Noted (nas_sent text s o)
+  sent_nas text s None = tt
+  sent_nas text s (Some c) = tt
+
+  left_nas : (n : ℕ) (s : Phone Term ℕ) (o : Option (NasContext Term)) → Noted (nas_left_out n s o)
+  left_nas n s None = tt
+  left_nas n s (Some c) = tt
+
+  left_bearer : (on : Which) (n : ℕ) (s : Phone Term ℕ) (radio : Radio Term ℕ) → Noted (bearer_left_out on n s radio)
+  left_bearer on n s (Connected l) = tt
+  left_bearer on n s Idle = tt
+  left_bearer on n s (Connecting w) = tt
+
+  act_notes : (row : ActRow) (s : Phone Term ℕ) → Noted (act_does (term_reading_by same) row s)
+  act_notes (ActRefused answer) s = tt
+  act_notes ServiceRequested s = requested s s.context
+  act_notes CompleteResent s = resent s s.radio
+  act_notes WentIdle s = tt
+  act_notes (PacketSent drb text) s = sent_packet drb text s s.radio
+  act_notes (RrcSent srb text) s = sent_rrc srb text s s.radio
+  act_notes (NasSent text) s = sent_nas text s s.context
+  act_notes (NasLeftOut n) s = left_nas n s s.context
+  act_notes (BearerLeftOut on n) s = left_bearer on n s s.radio
+
+  auth_notes : (row : AuthRow) (root : Option Term) (s : Phone Term ℕ) → Noted (auth_does row root s)
+  auth_notes (Authenticated ksi) None s = tt
+  auth_notes (Authenticated ksi) (Some root) s = tt
+
+  pub phone_notes : (row : PhoneRow) (root : Option Term) (s : Phone Term ℕ) → Noted (phone_does (term_reading_by same) row root s)
+  phone_notes (OfAuth row) root s = auth_notes row root s
+  phone_notes (OfNas row) root s = nas_notes row s
+  phone_notes (OfAir row) root s = air_notes row s
+  phone_notes (OfAct row) root s = act_notes row s
