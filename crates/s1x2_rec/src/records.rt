@@ -162,7 +162,7 @@ pub enum CoreRecord {
         /// The address of the phone at the target.
         air: u32,
     },
-    /// 32, from source to target: X2 Handover Cancel (TS 36.423 8.2.3), 10 octets.
+    /// 32, from source to target: X2 Handover Cancel (TS 36.423 8.2.4), 10 octets.
     X2Cancel {
         /// The connection.
         conn: u32,
@@ -171,7 +171,7 @@ pub enum CoreRecord {
         /// The attempt.
         attempt: u32,
     },
-    /// 33, from target to source: X2 UE Context Release (TS 36.423 8.2.4), 9 octets.
+    /// 33, from target to source: X2 UE Context Release (TS 36.423 8.2.3), 9 octets.
     X2Release {
         /// The connection.
         conn: u32,
