@@ -60,6 +60,7 @@ pub mod PacketNas
 pub mod PacketNasRows
 pub mod PacketNasWalk
 pub mod PacketOpens
+pub mod PacketReady
 pub mod PacketSender
 pub mod PacketSteps
 pub mod PacketWorld

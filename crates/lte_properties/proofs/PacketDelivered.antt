@@ -29,10 +29,11 @@ use Rattle.nas_guard.specs.Keys.{Keys}
 use Rattle.lte_machine.specs.World.{Machine, World, Line, arrives, delivered, chosen, newest_if, station_of_id, turn_of}
 use Rattle.lte_properties.specs.ChainBelow.{AllOf}
 use Rattle.lte_properties.specs.ChainHolds.{machine_by}
-use Rattle.lte_properties.specs.Packets.{IsPacket, ConnectedAt, HasActive, ActiveAt, UsesRootOf, PhoneUses, CoreUses, InSrb, InDrb, InSrbOf, InDrbOf, InNas, ReadyFor, OpensToSent}
+use Rattle.lte_properties.specs.Packets.{IsPacket, UsesRootOf, OpensToSent}
 use Rattle.lte_properties.proofs.ChainLists.{OfSome, all_get}
 use Rattle.lte_properties.proofs.PacketOpens.{OpensBack}
 use Rattle.lte_properties.proofs.PacketCounts.{estimated, nas_parts, header_down, header_up, srb_counted, drb_counted}
+use Rattle.lte_properties.proofs.PacketReady.{ConnectedAt, HasActive, ActiveAt, PhoneUses, CoreUses, InSrb, InDrb, InSrbOf, InDrbOf, InNas, ReadyFor, ready_for}
 use Rattle.lte_properties.proofs.PacketSteps.{phone_nas_opens, phone_rrc_opens, phone_packet_opens, station_rrc_opens, station_packet_opens, core_nas_opens}
 
 abbrev W : Type 0
@@ -222,9 +223,9 @@ module _ (same : Term → Term → Bool) (root : ℕ → List ℕ → Term) (sen
 
   -- wherever the packets that were sent fit their receivers
   pub opens_where_fits : (w : W) → AllOf (λ x. (sent : List ℕ) → IsPacket x sent → Fits w x sent) w.sent → OpensToSent m w
-  opens_where_fits w all i x sent is packet ready =
+  opens_where_fits w all i x sent is packet ready window =
       let fits = subst (OfSome (λ y. (sent : List ℕ) → IsPacket y sent → Fits w y sent)) is (chosen_of i w.sent all) in
-      let opens = delivered_opens w x sent packet ready (fits sent packet) in
+      let opens = delivered_opens w x sent packet (ready_for w x ready window) (fits sent packet) in
       (ap (λ o. (delivered m w o).1.answer) is ∙ opens.0, ap (λ o. (delivered m w o).1.opened) is ∙ opens.1)
     where
       newest_of : (b : Bool) (i : ℕ) (xs : List (Outgoing Term ℕ)) → AllOf (λ x. (sent : List ℕ) → IsPacket x sent → Fits w x sent) xs

@@ -9,9 +9,9 @@ use Rattle.nas_rec.specs.declared.records.NasRecord.TheVariants.{NasData}
 use Rattle.nas_rec.specs.Spelling.{spelling_of as nas_spelling}
 use Rattle.rrc_rec.specs.declared.records.RrcRecord.TheVariants.{RrcData}
 use Rattle.rrc_rec.specs.Spelling.{spelling_of as rrc_spelling}
-use Rattle.lte_machine.specs.Bearers.{Srb, Drb, srb_counts, drb_counts}
+use Rattle.lte_machine.specs.Bearers.{Bearers, srb_counts, drb_counts}
 use Rattle.lte_machine.specs.Wire.{KeyUse, Outgoing, SealedNas, SealedRrc, UserPacket}
-use Rattle.lte_machine.specs.PhoneState.{NasContext, Link, Radio, Connected}
+use Rattle.lte_machine.specs.PhoneState.{NasContext, Radio, Connected}
 use Rattle.lte_machine.specs.StationState.{Station, Context}
 use Rattle.lte_machine.specs.CoreState.{CoreContext}
 use Rattle.lte_machine.specs.World.{Machine, World, station_of_id, chosen, happens}
@@ -23,11 +23,90 @@ IsPacket (SealedRrc dir station air srb u e text) sent = text ≡ rrc_spelling (
 IsPacket (SealedNas dir header u e text) sent = text ≡ nas_spelling (NasData sent)
 IsPacket other sent = ⊥
 
--- a receiver that expects the COUNT `next`, and gets the lowest part of a COUNT alone, takes the COUNT that was sent where
--- it is one of the next w: on an SRB 2^5, on a DRB 2^12 (TS 36.323 5.1.2 and 6.3.5), on NAS 2^8 (TS 24.301 4.4.3.1)
-abbrev pub InWindow : ℕ → ℕ → ℕ → Type 0
-InWindow next count w = (next ≤ count) × (count < next + w)
+-- THE RECEIVER IS READY
 
+-- the phone is connected at this station and air address
+abbrev pub IsConnectedAt : Radio Term ℕ → ℕ → ℕ → Type 0
+IsConnectedAt (Connected l) station air = (l.station ≡ station) × (l.air ≡ air)
+IsConnectedAt other station air = ⊥
+
+-- the station has a context at this air address, whose security is active (TS 36.331 5.3.4)
+abbrev pub HasActiveAt : Option (Context Term ℕ) → ℕ → Type 0
+HasActiveAt None air = ⊥
+HasActiveAt (Some c) air = (c.air ≡ air) × (c.starting ≡ false)
+
+abbrev pub IsActiveAt : Option (Station Term ℕ) → ℕ → Type 0
+IsActiveAt None air = ⊥
+IsActiveAt (Some s) air = HasActiveAt s.context air
+
+-- a NAS context is of the KASME under which a message was sealed: the message's key is KNASint of that KASME (TS 33.401 A.7)
+abbrev pub UsesRootOf : NasContext Term → KeyUse Term → Type 0
+UsesRootOf c u = u.key ≡ Alg c.root 2 eia2_identity
+
+abbrev pub PhoneHasRoot : Option (NasContext Term) → KeyUse Term → Type 0
+PhoneHasRoot None u = ⊥
+PhoneHasRoot (Some c) u = UsesRootOf c u
+
+abbrev pub CoreHasRoot : Option (CoreContext Term) → KeyUse Term → Type 0
+CoreHasRoot None u = ⊥
+CoreHasRoot (Some c) u = UsesRootOf c.nas u
+
+-- the receiver of a record is ready for it. On the air, down: the phone is connected at the record's station and air
+-- address. Up: the station's context has that air address and is active. On NAS: the receiver's context in use is of the
+-- KASME under which the record was sealed
+abbrev pub IsReady : {S : Type 0} → World Term ℕ S → Outgoing Term ℕ → Type 0
+IsReady w (UserPacket Down station air drb e text) = IsConnectedAt w.phone.radio station air
+IsReady w (UserPacket Up station air drb e text) = IsActiveAt (station_of_id station w.stations) air
+IsReady w (SealedRrc Down station air srb u e text) = IsConnectedAt w.phone.radio station air
+IsReady w (SealedRrc Up station air srb u e text) = IsActiveAt (station_of_id station w.stations) air
+IsReady w (SealedNas Down header u e text) = PhoneHasRoot w.phone.context u
+IsReady w (SealedNas Up header u e text) = CoreHasRoot w.core.context u
+IsReady w other = ⊥
+
+-- THE COUNT IS IN ITS WINDOW
+
+-- the next COUNT that is expected: on a bearer by a phone, in a context and by a station, and on NAS by phone and core
+abbrev pub next_of_phone : Radio Term ℕ → (Bearers → ℕ) → ℕ
+next_of_phone (Connected l) of_bearer = of_bearer l.bearers
+next_of_phone other of_bearer = 0
+
+abbrev pub next_of_context : Option (Context Term ℕ) → (Bearers → ℕ) → ℕ
+next_of_context None of_bearer = 0
+next_of_context (Some c) of_bearer = of_bearer c.bearers
+
+abbrev pub next_of_station : Option (Station Term ℕ) → (Bearers → ℕ) → ℕ
+next_of_station None of_bearer = 0
+next_of_station (Some s) of_bearer = next_of_context s.context of_bearer
+
+abbrev pub next_of_nas : Option (NasContext Term) → ℕ
+next_of_nas None = 0
+next_of_nas (Some c) = c.receive
+
+abbrev pub next_of_core : Option (CoreContext Term) → ℕ
+next_of_core None = 0
+next_of_core (Some c) = c.nas.receive
+
+-- by the receiver of a record
+abbrev pub next_for : {S : Type 0} → World Term ℕ S → Outgoing Term ℕ → ℕ
+next_for w (UserPacket Down station air drb e text) = next_of_phone w.phone.radio (λ b. (drb_counts drb b).receive)
+next_for w (UserPacket Up station air drb e text) =
+    next_of_station (station_of_id station w.stations) (λ b. (drb_counts drb b).receive)
+next_for w (SealedRrc Down station air srb u e text) = next_of_phone w.phone.radio (λ b. (srb_counts srb b).receive)
+next_for w (SealedRrc Up station air srb u e text) =
+    next_of_station (station_of_id station w.stations) (λ b. (srb_counts srb b).receive)
+next_for w (SealedNas Down header u e text) = next_of_nas w.phone.context
+next_for w (SealedNas Up header u e text) = next_of_core w.core.context
+next_for w other = 0
+
+-- the COUNT of a record
+abbrev pub count_of : Outgoing Term ℕ → ℕ
+count_of (UserPacket dir station air drb e text) = e.under.count
+count_of (SealedRrc dir station air srb u e text) = u.count
+count_of (SealedNas dir header u e text) = u.count
+count_of other = 0
+
+-- how many COUNTs the sequence number of a record tells apart: 2^5 on an SRB, 2^12 on a DRB (TS 36.323 6.2.2, 6.2.3 and
+-- 6.3.5), 2^8 on NAS (TS 24.301 4.4.3.1)
 abbrev pub on_srb : ℕ
 on_srb = 32
 
@@ -37,67 +116,27 @@ on_drb = 4096
 abbrev pub on_nas : ℕ
 on_nas = 256
 
--- a phone that is connected at this station and air address
-abbrev pub ConnectedAt : Radio Term ℕ → ℕ → ℕ → (Link Term ℕ → Type 0) → Type 0
-ConnectedAt (Connected l) station air P = (l.station ≡ station) × (l.air ≡ air) × P l
-ConnectedAt other station air P = ⊥
+abbrev pub window_of : Outgoing Term ℕ → ℕ
+window_of (UserPacket dir station air drb e text) = on_drb
+window_of (SealedRrc dir station air srb u e text) = on_srb
+window_of (SealedNas dir header u e text) = on_nas
+window_of other = 0
 
--- a station that has a context at this air address, whose security is active (TS 36.331 5.3.4)
-abbrev pub HasActive : Option (Context Term ℕ) → ℕ → (Context Term ℕ → Type 0) → Type 0
-HasActive None air P = ⊥
-HasActive (Some c) air P = (c.air ≡ air) × (c.starting ≡ false) × P c
+-- a COUNT is one of the w from `next` on: a receiver that expects `next`, and gets the lowest part of the COUNT alone, then
+-- takes the COUNT that was sent (TS 36.323 5.1.2, TS 24.301 4.4.3.1)
+abbrev pub InWindow : ℕ → ℕ → ℕ → Type 0
+InWindow next count w = (next ≤ count) × (count < next + w)
 
-abbrev pub ActiveAt : Option (Station Term ℕ) → ℕ → (Context Term ℕ → Type 0) → Type 0
-ActiveAt None air P = ⊥
-ActiveAt (Some s) air P = HasActive s.context air P
-
--- a NAS context in use, of the KASME under which a message was sealed: its KNASint is KNASint of that KASME (TS 33.401 A.7)
-abbrev pub UsesRootOf : NasContext Term → KeyUse Term → Type 0
-UsesRootOf c u = u.key ≡ Alg c.root 2 eia2_identity
-
-abbrev pub PhoneUses : Option (NasContext Term) → KeyUse Term → (NasContext Term → Type 0) → Type 0
-PhoneUses None u P = ⊥
-PhoneUses (Some c) u P = UsesRootOf c u × P c
-
-abbrev pub CoreUses : Option (CoreContext Term) → KeyUse Term → (NasContext Term → Type 0) → Type 0
-CoreUses None u P = ⊥
-CoreUses (Some c) u P = UsesRootOf c.nas u × P c.nas
-
--- the COUNT of a record in the window of a bearer, and of a NAS context
-abbrev pub InSrb : Srb → ℕ → Link Term ℕ → Type 0
-InSrb srb count l = InWindow (srb_counts srb l.bearers).receive count on_srb
-
-abbrev pub InDrb : Drb → ℕ → Link Term ℕ → Type 0
-InDrb drb count l = InWindow (drb_counts drb l.bearers).receive count on_drb
-
-abbrev pub InSrbOf : Srb → ℕ → Context Term ℕ → Type 0
-InSrbOf srb count c = InWindow (srb_counts srb c.bearers).receive count on_srb
-
-abbrev pub InDrbOf : Drb → ℕ → Context Term ℕ → Type 0
-InDrbOf drb count c = InWindow (drb_counts drb c.bearers).receive count on_drb
-
-abbrev pub InNas : ℕ → NasContext Term → Type 0
-InNas count c = InWindow c.receive count on_nas
-
--- the receiver of a record is ready for it, and the use of the record is in the receiver's window: on the air, down, the
--- phone is connected at the record's station and air address; up, the station's context has that air address and is
--- active; on NAS, the receiver's context in use is of the KASME under which the record was sealed
-abbrev pub ReadyFor : {S : Type 0} → World Term ℕ S → Outgoing Term ℕ → Type 0
-ReadyFor w (UserPacket Down station air drb e text) = ConnectedAt w.phone.radio station air (InDrb drb e.under.count)
-ReadyFor w (UserPacket Up station air drb e text) = ActiveAt (station_of_id station w.stations) air (InDrbOf drb e.under.count)
-ReadyFor w (SealedRrc Down station air srb u e text) = ConnectedAt w.phone.radio station air (InSrb srb u.count)
-ReadyFor w (SealedRrc Up station air srb u e text) = ActiveAt (station_of_id station w.stations) air (InSrbOf srb u.count)
-ReadyFor w (SealedNas Down header u e text) = PhoneUses w.phone.context u (InNas u.count)
-ReadyFor w (SealedNas Up header u e text) = CoreUses w.core.context u (InNas u.count)
-ReadyFor w other = ⊥
+-- THE PACKET OPENS
 
 -- an event is done, and opens these data
 abbrev pub OpensTo : {S : Type 0} → Machine Term ℕ S → World Term ℕ S → Event → List ℕ → Type 0
 OpensTo m w e sent = ((happens m w e).1.answer ≡ Done) × ((happens m w e).1.opened ≡ Some sent)
 
--- in a world: wherever a packet that was sent comes to a receiver that is ready for it, in its window and with the octets
--- sent, it opens to the data that were sent
+-- in a world: wherever a packet that was sent comes with the octets sent to a receiver that is ready for it, in the
+-- receiver's COUNT window, it opens to the data that were sent
 abbrev pub OpensToSent : Machine Term ℕ (Outgoing Term ℕ) → World Term ℕ (Outgoing Term ℕ) → Type 0
 OpensToSent m w =
-    (i : ℤ) (x : Outgoing Term ℕ) (sent : List ℕ) → chosen i w.sent ≡ Some x → IsPacket x sent → ReadyFor w x
+    (i : ℤ) (x : Outgoing Term ℕ) (sent : List ℕ) → chosen i w.sent ≡ Some x → IsPacket x sent
+    → IsReady w x → InWindow (next_for w x) (count_of x) (window_of x)
     → OpensTo m w (Event.Deliver i) sent
