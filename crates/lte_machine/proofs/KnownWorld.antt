@@ -14,7 +14,7 @@ use Rattle.key_model.specs.HandoverTable.{NumberedKey}
 use Rattle.key_model.specs.Reading.{Reading, term_reading_by}
 use Rattle.key_model.specs.Term.{Term}
 use Rattle.key_model.specs.Value.{same_value}
-use Rattle.lte_machine.specs.Wire.{KeyUse, Outgoing, SealedNas, PlainNas, SealedRrc, UserPacket, Between}
+use Rattle.lte_machine.specs.Wire.{KeyUse, Outgoing, SealedNas, PlainNas, SealedRrc, UserPacket, Between, address_of}
 use Rattle.lte_machine.specs.Opening.{Opening, Outcome}
 use Rattle.lte_machine.specs.Ranges.{AllOf}
 use Rattle.lte_machine.specs.Reply.{Reply}
@@ -30,7 +30,7 @@ use Rattle.lte_machine.specs.CoreRows.{OfAuth as OfCoreAuth}
 use Rattle.lte_machine.specs.CoreChoice.{core_row}
 use Rattle.lte_machine.specs.CoreStep.{plain_core, core_front_of, core_root, core_received, core_opens, core_pdu_in, core_step}
 use Rattle.lte_machine.specs.World.{Holder, AtPhone, AtCore, AtStation, Machine, World, holds, uses_in, phone_after, core_after, station_after, by_world, phone_turn, core_turn, station_of_id, turn_of, station_turn, authenticated, auth_unless, known_root, next_root, content_in, arrives, chosen, delivered, class_of, is_sent, injected, happens}
-use Rattle.lte_machine.specs.Machines.{content_of}
+use Rattle.lte_machine.specs.Machines.{content_of, machine_by}
 use Rattle.lte_machine.specs.Run.{stations_of, first_world}
 use Rattle.lte_machine.specs.Distinct.{keys_of, Member}
 use Rattle.lte_machine.specs.Mixed.{run}
@@ -79,26 +79,13 @@ some_more : (P Q : Term → Type 0) → ((t : Term) → P t → Q t) → (o : Op
 some_more P Q f None h = tt
 some_more P Q f (Some t) h = f t h
 
--- any machine over terms that keeps what is sent as it is
-abbrev pub machine_of : (ℕ → List ℕ → Term) → (Outgoing Term ℕ → List ℕ) → (Outgoing Term ℕ → Address) → (Option (Outgoing Term ℕ) → Option (KeyUse Term))
-    → (Opening Term → List ℕ → Option (Outgoing Term ℕ) → Outcome) → Machine Term ℕ (Outgoing Term ℕ)
-machine_of root octets address sender opener = record {
-  reading = term_reading_by same_value;
-  root = root;
-  keep = λ x. x;
-  octets = octets;
-  address = address;
-  content = content_of;
-  sender = sender;
-  opener = opener;
-}
-
-module _ (root : ℕ → List ℕ → Term) (octets : Outgoing Term ℕ → List ℕ) (address : Outgoing Term ℕ → Address) (sender : Option (Outgoing Term ℕ) → Option (KeyUse Term)) (opener : Opening Term → List ℕ → Option (Outgoing Term ℕ) → Outcome) where
+-- of any machine over terms whose keys are one where their values are
+module _ (root : ℕ → List ℕ → Term) (octets : Outgoing Term ℕ → List ℕ) (sender : Option (Outgoing Term ℕ) → Option (KeyUse Term)) (opener : Opening Term → List ℕ → Option (Outgoing Term ℕ) → Outcome) where
   abbrev TheWorld : Type 0
   TheWorld = World Term ℕ (Outgoing Term ℕ)
 
   abbrev m : Machine Term ℕ (Outgoing Term ℕ)
-  m = machine_of root octets address sender opener
+  m = machine_by same_value root octets sender opener
 
   abbrev r : Reading Term ℕ
   r = term_reading_by same_value
@@ -275,7 +262,7 @@ module _ (root : ℕ → List ℕ → Term) (octets : Outgoing Term ℕ → List
 
   delivered_grounds : (w : TheWorld) (o : Option (Outgoing Term ℕ)) → CameKnown w o → Grounds w → Grounds (delivered m w o).0
   delivered_grounds w None c g = by_world_grounds w NoRecord g
-  delivered_grounds w (Some x) c g = arrives_grounds w (address x) (octets x) (Some x) c g
+  delivered_grounds w (Some x) c g = arrives_grounds w (address_of x) (octets x) (Some x) c g
 
   injected_grounds : (w : TheWorld) (to : Address) (pdu : List ℕ) (o : Option ℕ) → Grounds w → Grounds (injected m w to pdu o).0
   injected_grounds w to pdu None g = arrives_grounds w to pdu None tt g

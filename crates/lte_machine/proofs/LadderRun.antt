@@ -17,7 +17,7 @@ use Rattle.nas_guard.specs.Seal.{is_ciphered}
 use Rattle.ho_prep.specs.Prep.{Prep, at_air, is_at}
 use Rattle.s1x2_rec.specs.Fields.{Fields}
 use Rattle.lte_machine.specs.Bearers.{Srb, Drb}
-use Rattle.lte_machine.specs.Wire.{KeyUse, Ciphering, Outgoing, address_of, ciphering_if}
+use Rattle.lte_machine.specs.Wire.{KeyUse, Ciphering, Outgoing, ciphering_if}
 use Rattle.lte_machine.specs.Ciphers.{Ciphers, octets_of}
 use Rattle.lte_machine.specs.Opening.{Opening, OpensNothing, OpensNas, OpensSrb, OpensDrb, Outcome, same_dir, same_uses}
 use Rattle.lte_machine.specs.Ladder.{RowOrigin, ladder_of}
@@ -59,7 +59,7 @@ rows_stand history ladder calm =
 module _ (c : Ciphers Term) (between : Fields → Option (NumberedKey Term ℕ) → List ℕ) (opener : Opening Term → List ℕ → Option (Outgoing Term ℕ) → Outcome) where
   -- every world of every run, with any opener
   pub always_grounds : (setup : Setup) (es : List Event) → Grounds (run (written_with c between opener) (first_world setup) es)
-  always_grounds setup es = run_grounds Root (octets_of c between) address_of sender_of opener (first_world setup) es (first_grounds setup)
+  always_grounds setup es = run_grounds Root (octets_of c between) sender_of opener (first_world setup) es (first_grounds setup)
 
   module _ (by_octets : Opening Term → List ℕ → Outcome) (setup : Setup) (es : List Event) (u : World Term ℕ (Outgoing Term ℕ))
       (is : replay by_octets (written_with c between opener) (Still (first_world setup)) es ≡ Still u) where

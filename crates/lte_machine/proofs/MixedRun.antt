@@ -372,7 +372,7 @@ module _ (c : Ciphers Term) (between : Fields → Option (NumberedKey Term ℕ) 
   goes_by_terms by_octets w [] u g calm is = sym (still_one is)
   goes_by_terms by_octets w (e ∷ es) u g calm is =
       let on = goes_on by_octets m w e es u is in
-      goes_by_terms by_octets (happens m w e).0 es u (happens_grounds Root (octets_of c between) address_of sender_of (open_by_uses same_value c) w e g) on.0 on.1
+      goes_by_terms by_octets (happens m w e).0 es u (happens_grounds Root (octets_of c between) sender_of (open_by_uses same_value c) w e g) on.0 on.1
       ∙ ap (λ v. run (mixed c between) v es) (happens_same w g calm e on.0)
 
   -- the written machine's run that has met no coincidence

@@ -11,7 +11,6 @@ use Rattle.lte_events.specs.Site.{Site}
 use Rattle.key_model.specs.Chain.{ncc_of}
 use Rattle.key_model.specs.HandoverLines.{map_numbered}
 use Rattle.key_model.specs.HandoverTable.{NumberedKey}
-use Rattle.key_model.specs.Reading.{term_reading_by}
 use Rattle.key_model.specs.Term.{Term}
 use Rattle.key_model.specs.Value.{value_of}
 use Rattle.s1x2_rec.specs.Fields.{Fields, InitialContext, ContextRelease, PathSwitchRequest, PathSwitchAnswer, HandoverRequired, HandoverRequest, HandoverRequestAck, HandoverCommand, HandoverNotify, HandoverCancel, X2Request, X2Ack, X2Cancel, X2Release}
@@ -31,7 +30,7 @@ use Rattle.lte_machine.specs.StationStep.{station_opens, station_pdu_in, station
 use Rattle.lte_machine.specs.CoreState.{Core, CoreInput, CoreAuth, CoreActs, CoreNasPdu, CoreRecord}
 use Rattle.lte_machine.specs.CoreStep.{core_opens, core_pdu_in, core_step}
 use Rattle.lte_machine.specs.World.{Machine, World, with_one, phone_after, core_after, put_if, put_station, station_after, phone_turn, core_turn, station_of_id, turn_of, station_turn, auth_unless, known_root, next_root, content_in, arrives, newest_if, chosen, delivered, class_of, is_sent, injected, happens}
-use Rattle.lte_machine.specs.Machines.{content_of}
+use Rattle.lte_machine.specs.Machines.{machine_by, content_of}
 use Rattle.lte_machine.specs.Run.{stations_of, first_world}
 use Rattle.lte_machine.proofs.RangeKeys.{octets_value, length_value}
 use Rattle.lte_machine.proofs.RangeHolds.{HasKey, HasNoKey, KeyRanged, RecordRanged, SentRanged, StationRanged, ReadRanged, StationInputRanged, CoreInputRanged, Ranged}
@@ -90,25 +89,13 @@ read_ranged (Between to fields key) h = h.0
 
 -- ONE EVENT, of any machine over terms that keeps records as they are sent
 
-module _ (same : Term → Term → Bool) (root : ℕ → List ℕ → Term) (octets : Outgoing Term ℕ → List ℕ) (address : Outgoing Term ℕ → Address)
+module _ (same : Term → Term → Bool) (root : ℕ → List ℕ → Term) (octets : Outgoing Term ℕ → List ℕ)
     (sender : Option (Outgoing Term ℕ) → Option (KeyUse Term)) (opener : Opening Term → List ℕ → Option (Outgoing Term ℕ) → Outcome) where
   abbrev TheWorld : Type 0
   TheWorld = World Term ℕ (Outgoing Term ℕ)
 
-  abbrev pub machine_of : Machine Term ℕ (Outgoing Term ℕ)
-  machine_of = record {
-    reading = term_reading_by same;
-    root = root;
-    keep = λ x. x;
-    octets = octets;
-    address = address;
-    content = content_of;
-    sender = sender;
-    opener = opener;
-  }
-
   abbrev m : Machine Term ℕ (Outgoing Term ℕ)
-  m = machine_of
+  m = machine_by same root octets sender opener
 
   came_ranged : (came : Option (Outgoing Term ℕ)) → SentRanged came → ReadRanged (content_in m came)
   came_ranged None h = tt

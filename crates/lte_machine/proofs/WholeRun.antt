@@ -74,7 +74,7 @@ module _ (c : Ciphers (List ℕ)) where
   -- so ranges are a property of worlds by which what was sent reads back
   pub ranged_keeps_back : KeepsBack c Ranged
   ranged_keeps_back = record {
-    keeps = ranged_keeps same_value Root (octets_of (under_keys value_of c) written_in_values) address_of sender_of (λ opening pdu came. open_octets (under_keys value_of c) opening pdu);
+    keeps = ranged_keeps same_value Root (octets_of (under_keys value_of c) written_in_values) sender_of (λ opening pdu came. open_octets (under_keys value_of c) opening pdu);
     back = λ w e is h. ranged_back w e h;
   }
 

@@ -13,7 +13,7 @@ use Rattle.s1x2_rec.specs.Fields.{Fields}
 use Rattle.s1x2_rec.specs.Reading.{read_core}
 use Rattle.lte_machine.specs.Wire.{KeyUse, Outgoing, Between, integrity_of, address_of, map_outgoing}
 use Rattle.lte_machine.specs.Ciphers.{Ciphers, under_keys, octets_of, written}
-use Rattle.lte_machine.specs.Opening.{open_octets, open_by_uses}
+use Rattle.lte_machine.specs.Opening.{Opening, Outcome, open_octets, open_by_uses}
 use Rattle.lte_machine.specs.World.{Machine}
 
 -- what the program keeps of a record that was sent: its address, its octets, and its integrity use if it is sealed
@@ -51,18 +51,22 @@ abbrev pub sender_of : {K C : Type 0} → Option (Outgoing K C) → Option (KeyU
 sender_of None = None
 sender_of (Some x) = integrity_of x
 
--- a machine over terms, where this test says which keys are one, by these ciphers and this writing of S1 and X2
-abbrev pub machine_over : (Term → Term → Bool) → Ciphers Term → (Fields → Option (NumberedKey Term ℕ) → List ℕ) → Machine Term ℕ (Outgoing Term ℕ)
-machine_over same c between = record {
+-- a machine over terms, with any roots, octets, senders and opener
+abbrev pub machine_by : (Term → Term → Bool) → (ℕ → List ℕ → Term) → (Outgoing Term ℕ → List ℕ) → (Option (Outgoing Term ℕ) → Option (KeyUse Term)) → (Opening Term → List ℕ → Option (Outgoing Term ℕ) → Outcome) → Machine Term ℕ (Outgoing Term ℕ)
+machine_by same root octets sender opener = record {
   reading = term_reading_by same;
-  root = Root;
+  root = root;
   keep = λ x. x;
-  octets = octets_of c between;
+  octets = octets;
   address = address_of;
   content = content_of;
-  sender = sender_of;
-  opener = open_by_uses same c;
+  sender = sender;
+  opener = opener;
 }
+
+-- by these ciphers and this writing of S1 and X2, where this test says which keys are one
+abbrev pub machine_over : (Term → Term → Bool) → Ciphers Term → (Fields → Option (NumberedKey Term ℕ) → List ℕ) → Machine Term ℕ (Outgoing Term ℕ)
+machine_over same c between = machine_by same Root (octets_of c between) sender_of (open_by_uses same c)
 
 -- the same, but that octets open by themselves
 abbrev pub opening_by_octets : (Term → Term → Bool) → Ciphers Term → (Fields → Option (NumberedKey Term ℕ) → List ℕ) → Machine Term ℕ (Outgoing Term ℕ)

@@ -8,7 +8,7 @@ use Rattle.key_model.specs.HandoverTable.{NumberedKey}
 use Rattle.key_model.specs.Term.{Term, Root}
 use Rattle.key_model.specs.Value.{same_value}
 use Rattle.s1x2_rec.specs.Fields.{Fields}
-use Rattle.lte_machine.specs.Wire.{KeyUse, Ciphering, Outgoing, SealedNas, PlainNas, SealedRrc, UserPacket, Between, address_of}
+use Rattle.lte_machine.specs.Wire.{KeyUse, Ciphering, Outgoing, SealedNas, PlainNas, SealedRrc, UserPacket, Between}
 use Rattle.lte_machine.specs.Ciphers.{Ciphers, octets_of}
 use Rattle.lte_machine.specs.Opening.{Opening, OpensNothing, OpensNas, OpensSrb, OpensDrb, Outcome, Opened, Differs, same_uses, same_ciphering, judged, nas_wanted, open_case, open_foreign}
 use Rattle.nas_guard.specs.Open.{mac_in}
@@ -173,7 +173,7 @@ module _ (c : Ciphers Term) (between : Fields → Option (NumberedKey Term ℕ) 
   roots_along by_octets w (e ∷ es) u g calm is =
       let on = goes_on by_octets written w e es u is in
       let next : (happens written w e).0 ≡ (happens (mixed c between) w e).0 = happens_same c between w g calm e on.0 in
-      let grounds : Grounds (happens (mixed c between) w e).0 = happens_grounds Root (octets_of c between) address_of sender_of (by_terms c) w e g in (
+      let grounds : Grounds (happens (mixed c between) w e).0 = happens_grounds Root (octets_of c between) sender_of (by_terms c) w e g in (
         one_root w e g grounds (subst no_clash next on.0),
         subst (λ v. Along (SameRoot (mixed c between)) (mixed c between) v es) next
             (roots_along by_octets (happens written w e).0 es u (subst Grounds (sym next) grounds) on.0 on.1),

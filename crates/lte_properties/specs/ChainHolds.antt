@@ -1,34 +1,19 @@
 -- What holds of the chain numbers in every world of every run (TS 33.401 7.2.8).
-use Rattle.std.specs.Prelude.{ℕ, ◌≤◌, ◌==◌, if◌then◌else◌, Bool, List, [], ◌∷◌, Option, Some, None, ⊤}
+use Rattle.std.specs.Prelude.{ℕ, ◌≤◌, ◌==◌, if◌then◌else◌, List, [], ◌∷◌, Option, Some, None, ⊤}
 use Rattle.lte_events.specs.declared.events.Event.{Event}
 use Rattle.lte_events.specs.declared.setups.Setup.{Setup}
 use Rattle.key_model.specs.Term.{Term}
 use Rattle.key_model.specs.HandoverTable.{NumberedKey}
-use Rattle.key_model.specs.Reading.{term_reading_by}
-use Rattle.lte_machine.specs.Wire.{Outgoing, KeyUse, address_of}
-use Rattle.lte_machine.specs.Opening.{Opening, Outcome}
+use Rattle.lte_machine.specs.Wire.{Outgoing}
 use Rattle.lte_machine.specs.StationState.{Station, Context}
 use Rattle.lte_machine.specs.StationRows.{RecordRow, PairTaken, PreparedByS1, PreparedByX2, StationRow, OfRecord}
 use Rattle.lte_machine.specs.CoreState.{CoreLink}
 use Rattle.lte_machine.specs.World.{Machine, World, happens}
 use Rattle.lte_machine.specs.Run.{first_world}
-use Rattle.lte_machine.specs.Machines.{content_of}
 use Rattle.lte_properties.specs.ChainBelow.{AllOf, EachNumber, IsUnder, StationBelow, RecordBelow, CoreTop}
 use Rattle.lte_properties.specs.ChainAbove.{StationAbove, InFlight}
 pub use Rattle.lte_machine.specs.Run.{run}
-
--- a machine over terms, with any roots, octets, senders and opener
-abbrev pub machine_by : (Term → Term → Bool) → (ℕ → List ℕ → Term) → (Outgoing Term ℕ → List ℕ) → (Option (Outgoing Term ℕ) → Option (KeyUse Term)) → (Opening Term → List ℕ → Option (Outgoing Term ℕ) → Outcome) → Machine Term ℕ (Outgoing Term ℕ)
-machine_by same root octets sender opener = record {
-  reading = term_reading_by same;
-  root = root;
-  keep = λ x. x;
-  octets = octets;
-  address = address_of;
-  content = content_of;
-  sender = sender;
-  opener = opener;
-}
+pub use Rattle.lte_machine.specs.Machines.{machine_by}
 
 -- the core's number for each connection, where these were the ones so far
 abbrev pub noted : Option (CoreLink Term ℕ) → (ℕ → ℕ) → ℕ → ℕ
