@@ -1,5 +1,5 @@
 -- Every event, and every run, keeps agreement's invariant.
-use Rattle.std.proofs.Common.{◌≡◌, refl, ap, ◌∙◌, ℕ, ◌-◌, nat_lt, Bool, true, false, ℤ, pos, negsuc, List, [], ◌∷◌, length, Option, Some, None, Ok, Err}
+use Rattle.std.proofs.Common.{◌≡◌, refl, ap, ◌∙◌, ℕ, Bool, List, [], ◌∷◌, Option, Some, None, Ok, Err}
 use Rattle.std.specs.List.{position_from}
 use Rattle.alg_choice.specs.declared.caps.Caps.{Caps}
 use Rattle.rec_base.specs.declared.faults.RecFault.{RecFault}
@@ -20,13 +20,13 @@ use Rattle.lte_machine.specs.PhoneState.{PhoneActs, PhoneNasPdu, PhoneAirPdu}
 use Rattle.lte_machine.specs.PhoneChoice.{unciphered_text}
 use Rattle.lte_machine.specs.StationState.{Station, AirPdu}
 use Rattle.lte_machine.specs.CoreState.{CoreActs, CoreNasPdu, CoreRecord}
-use Rattle.lte_machine.specs.World.{Machine, phone_turn, core_turn, station_of_id, station_turn, authenticated, auth_unless, known_root, next_root, arrives, newest_if, chosen, delivered, class_of, is_sent, injected, happens}
+use Rattle.lte_machine.specs.World.{Machine, phone_turn, core_turn, station_of_id, station_turn, authenticated, auth_unless, known_root, next_root, arrives, chosen, delivered, class_of, is_sent, injected, happens}
 use Rattle.lte_machine.specs.Step.{Attempted, phone_attempts, station_attempts, arrival_attempts, delivery_attempts, injection_attempts}
 use Rattle.lte_properties.specs.ChainBelow.{AllOf}
 use Rattle.lte_properties.specs.ChainAbove.{StationAbove, InFlight}
 use Rattle.lte_properties.specs.ChainHolds.{machine_by}
 use Rattle.lte_properties.specs.AgreePremises.{IsHonest, IsCalm, outcome_of, Honest, Calm}
-use Rattle.lte_properties.proofs.ChainLists.{OfSome, all_get, all_map}
+use Rattle.lte_properties.proofs.ChainLists.{OfSome, all_map, all_chosen}
 use Rattle.lte_properties.proofs.AgreeGhost.{SentOk, BetweenOk}
 use Rattle.lte_properties.proofs.AgreeLater.{later_itself, later_after}
 use Rattle.lte_properties.proofs.AgreePhoneWalk.{CameDown}
@@ -150,14 +150,6 @@ module _ (same : Term → Term → Bool) (root : ℕ → List ℕ → Term) (oct
   auth_goes c w ksi key caps (Some row) h = by_world_goes same root octets sender opener plain_reads cells cells_ok c w (RepeatedRoot row) h
 
   -- a record of those that were sent
-  newest_of : (P : Outgoing Term ℕ → Type 0) (b : Bool) (i : ℕ) (xs : List (Outgoing Term ℕ)) → AllOf P xs → OfSome P (newest_if b i xs)
-  newest_of P true i xs h = all_get P xs i h
-  newest_of P false i xs h = tt
-
-  chosen_of : (P : Outgoing Term ℕ → Type 0) (i : ℤ) (xs : List (Outgoing Term ℕ)) → AllOf P xs → OfSome P (chosen i xs)
-  chosen_of P (pos i) xs h = all_get P xs i h
-  chosen_of P (negsuc i) xs h = newest_of P (nat_lt i (length xs)) (length xs - 1 - i) xs h
-
   flight_turned : (ss : List (Station Term ℕ)) (o : Option (Outgoing Term ℕ)) → AllOf (λ s. OfSome (InFlight s) o) ss → OfSome (λ x. AllOf (λ s. InFlight s x) ss) o
   flight_turned ss None h = tt
   flight_turned ss (Some x) h = h
@@ -176,9 +168,9 @@ module _ (same : Term → Term → Bool) (root : ℕ → List ℕ → Term) (oct
       core_turn_goes same root octets sender opener plain_reads cells cells_ok c w (CoreActs act) None h
       (core_act_walks same cells (ghost c w) w.core h.core act)
   happens_goes c w (Event.Deliver i) is h above flight honest calm =
-      delivered_goes c w (chosen i w.sent) h above (chosen_of (SentOk (ghost c w)) i w.sent h.sent)
+      delivered_goes c w (chosen i w.sent) h above (all_chosen (SentOk (ghost c w)) i w.sent h.sent)
       (flight_turned w.stations (chosen i w.sent)
-      (all_map (λ s. AllOf (InFlight s) w.sent) (λ s. OfSome (InFlight s) (chosen i w.sent)) (λ s f. chosen_of (InFlight s) i w.sent f) w.stations flight))
+      (all_map (λ s. AllOf (InFlight s) w.sent) (λ s. OfSome (InFlight s) (chosen i w.sent)) (λ s f. all_chosen (InFlight s) i w.sent f) w.stations flight))
       honest calm
   happens_goes c w (Event.Inject to pdu) is h above flight honest calm =
       injected_goes c w to pdu (position_from (is_sent m (class_of to) pdu) 0 w.sent) h above honest calm

@@ -1,5 +1,5 @@
 -- The chain numbers in every world of every run.
-use Rattle.std.proofs.Common.{◌≡◌, refl, sym, ap, ◌∙◌, subst, ℕ, ◌-◌, ◌≤◌, ◌==◌, nat_lt, Bool, true, false, ℤ, pos, negsuc, List, [], ◌∷◌, length, Option, Some, None, Result, Err, le_trans, arith}
+use Rattle.std.proofs.Common.{◌≡◌, refl, sym, ap, ◌∙◌, subst, ℕ, ◌≤◌, ◌==◌, Bool, true, false, List, [], ◌∷◌, Option, Some, None, Result, Err, le_trans, arith}
 use Rattle.std.proofs.lemmas.Bool.Decides.{nat_tests}
 use Rattle.std.specs.Prelude.{⊤}
 use Rattle.std.specs.List.{position_from}
@@ -33,14 +33,14 @@ use Rattle.lte_machine.specs.CoreState.{Core, CoreInput, CoreAuth, CoreActs, Cor
 use Rattle.lte_machine.specs.CoreRows.{CoreRecordRow, RecordRefused, PathSwitched, HandoverAsked, HandoverOrdered, HandoverNotified, HandoverCancelled, CoreRow, OfRecord, OfAuth}
 use Rattle.lte_machine.specs.CoreChoice.{core_record_row, core_row}
 use Rattle.lte_machine.specs.CoreStep.{plain_core, core_root, core_front_of, core_opens, core_pdu_in, core_step}
-use Rattle.lte_machine.specs.World.{Machine, World, with_one, phone_after, core_after, station_after, by_world, phone_turn, core_turn, station_of_id, turn_of, station_turn, authenticated, auth_unless, known_root, next_root, content_in, arrives, newest_if, chosen, delivered, class_of, is_sent, injected, happens}
+use Rattle.lte_machine.specs.World.{Machine, World, with_one, phone_after, core_after, station_after, by_world, phone_turn, core_turn, station_of_id, turn_of, station_turn, authenticated, auth_unless, known_root, next_root, content_in, arrives, chosen, delivered, class_of, is_sent, injected, happens}
 use Rattle.lte_machine.specs.Machines.{content_of, sender_of, machine_over, opening_by_octets}
 use Rattle.lte_machine.specs.Run.{stations_of, first_world}
 use Rattle.lte_properties.specs.ChainBelow.{AllOf, AtMost, ContextBelow, PrepBelow, StationBelow, conn_of, RecordBelow}
 use Rattle.lte_properties.specs.ChainAbove.{StationAbove, InFlight}
 use Rattle.lte_properties.specs.ChainHolds.{machine_by, run, noted, core_numbers, Holds, ChainNumbersHold}
 use Rattle.lte_properties.specs.ChainRows.{CoreFits}
-use Rattle.lte_properties.proofs.ChainLists.{OfSome, all_one, all_find, all_get, all_map, all_both, all_put}
+use Rattle.lte_properties.proofs.ChainLists.{OfSome, all_one, all_find, all_map, all_both, all_put, all_chosen}
 use Rattle.lte_properties.proofs.ChainMoves.{flight_moves}
 use Rattle.lte_properties.proofs.ChainStation.{OwnRequest, SentOk}
 use Rattle.lte_properties.proofs.ChainCore.{core_record_fits, core_act_draws, CoreKept, Asked, CoreNeeds, Plainly, each_weaker, core_does_kept, silent_kept}
@@ -327,14 +327,6 @@ module _ (same : Term → Term → Bool) (root : ℕ → List ℕ → Term) (oct
   arrives_holds top w (Address.StationX2 station) pdu came c h = station_record_holds top w OnX2 station came c h
 
   -- a record of those that were sent
-  newest_of : (P : Outgoing Term ℕ → Type 0) (b : Bool) (i : ℕ) (xs : List (Outgoing Term ℕ)) → AllOf P xs → OfSome P (newest_if b i xs)
-  newest_of P true i xs h = all_get P xs i h
-  newest_of P false i xs h = tt
-
-  chosen_of : (P : Outgoing Term ℕ → Type 0) (i : ℤ) (xs : List (Outgoing Term ℕ)) → AllOf P xs → OfSome P (chosen i xs)
-  chosen_of P (pos i) xs h = all_get P xs i h
-  chosen_of P (negsuc i) xs h = newest_of P (nat_lt i (length xs)) (length xs - 1 - i) xs h
-
   delivered_holds : (top : ℕ → ℕ) (w : TheWorld) (o : Option (Outgoing Term ℕ)) → OfSome (RecordBelow top) o → AllOf (λ s. OfSome (InFlight s) o) w.stations → Holds top w →
       Now top (delivered m w o).0
   delivered_holds top w None b f h = by_world_holds top w NoRecord h
@@ -352,8 +344,8 @@ module _ (same : Term → Term → Bool) (root : ℕ → List ℕ → Term) (oct
   happens_holds top w (Event.Station id act) h = station_acts_holds top w id act None h
   happens_holds top w (Event.Core act) h = core_acts_holds top w act None h
   happens_holds top w (Event.Deliver i) h =
-      delivered_holds top w (chosen i w.sent) (chosen_of (RecordBelow top) i w.sent h.sent)
-      (all_map (λ s. AllOf (InFlight s) w.sent) (λ s. OfSome (InFlight s) (chosen i w.sent)) (λ s f. chosen_of (InFlight s) i w.sent f) w.stations h.flight) h
+      delivered_holds top w (chosen i w.sent) (all_chosen (RecordBelow top) i w.sent h.sent)
+      (all_map (λ s. AllOf (InFlight s) w.sent) (λ s. OfSome (InFlight s) (chosen i w.sent)) (λ s f. all_chosen (InFlight s) i w.sent f) w.stations h.flight) h
   happens_holds top w (Event.Inject to pdu) h =
       injected_holds top w to pdu (position_from (is_sent m (class_of to) pdu) 0 w.sent) h
 

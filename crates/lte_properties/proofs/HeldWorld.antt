@@ -1,5 +1,5 @@
 -- Which keys are held and given, in every world of every run.
-use Rattle.std.proofs.Common.{◌≡◌, refl, sym, ap, ◌∙◌, subst, ℕ, suc, ◌+◌, ◌-◌, ◌⊎◌, inl, inr, ◌==◌, nat_lt, Bool, true, false, ℤ, pos, negsuc, List, [], ◌∷◌, ◌++◌, length, map, filter, Option, Some, None, option_map, Result, Err, arith}
+use Rattle.std.proofs.Common.{◌≡◌, refl, sym, ap, ◌∙◌, subst, ℕ, suc, ◌+◌, ◌⊎◌, inl, inr, ◌==◌, Bool, true, List, [], ◌∷◌, ◌++◌, length, map, filter, Option, Some, None, option_map, Result, Err, arith}
 use Rattle.std.proofs.lemmas.Bool.Decides.{nat_tests}
 use Rattle.std.specs.Prelude.{⊤}
 use Rattle.std.specs.List.{position_from}
@@ -40,7 +40,7 @@ use Rattle.lte_machine.specs.CoreRows.{CoreNasRow, NasRefused, PlainReject, SmcC
 use Rattle.lte_machine.specs.CoreRows as core_rows
 use Rattle.lte_machine.specs.CoreChoice.{core_header, core_nas_front, core_nas_row, core_record_row, core_act_row}
 use Rattle.lte_machine.specs.CoreStep.{plain_core, core_opens, core_pdu_in, core_received, core_step}
-use Rattle.lte_machine.specs.World.{Machine, World, AtPhone, AtCore, AtStation, Holding, with_one, phone_after, core_after, station_after, by_world, phone_turn, core_turn, station_of_id, turn_of, station_turn, authenticated, auth_unless, is_root_row, known_root, next_root, content_in, arrives, newest_if, chosen, delivered, class_of, is_sent, injected, happens}
+use Rattle.lte_machine.specs.World.{Machine, World, AtPhone, AtCore, AtStation, Holding, with_one, phone_after, core_after, station_after, by_world, phone_turn, core_turn, station_of_id, turn_of, station_turn, authenticated, auth_unless, is_root_row, known_root, next_root, content_in, arrives, chosen, delivered, class_of, is_sent, injected, happens}
 use Rattle.lte_machine.specs.Machines.{content_of}
 use Rattle.lte_machine.specs.Run.{stations_of, first_world}
 use Rattle.lte_properties.specs.ChainBelow.{AllOf}
@@ -48,7 +48,7 @@ use Rattle.lte_properties.specs.ChainHolds.{machine_by, run}
 use Rattle.lte_properties.specs.ChainRows.{RecordFits, CoreFits}
 use Rattle.lte_properties.specs.Separation.{Gives, GivenTo}
 use Rattle.lte_properties.proofs.ChainChoice.{record_row_fits}
-use Rattle.lte_properties.proofs.ChainLists.{OfSome, all_append, all_one, all_find, all_get, all_map, all_put}
+use Rattle.lte_properties.proofs.ChainLists.{OfSome, all_append, all_one, all_find, all_map, all_put, all_chosen}
 use Rattle.lte_properties.proofs.ChainCore.{core_record_fits}
 use Rattle.lte_properties.proofs.HeldKeys.{Gifts, GivesIn, given_old, given_split, May, MayHold, may_hold, StationHas, StationOk, OwnCell, TriedOk, KeyGoes, FieldsOk, FlyOk, MadeOk, HoldOk, OutsAre, step_held, holder_may_grows, station_ok_grows, tried_ok_grows, fly_grows, made_ok_grows}
 use Rattle.lte_properties.proofs.HeldStation.{StationKept, RecordNeeds, station_kept}
@@ -485,14 +485,6 @@ module _ (sites : List Site) (same : Term → Term → Bool) (octets : Outgoing 
   arrives_holds w (Address.StationX2 station) pdu came c h = station_record_holds w OnX2 station came c h
 
   -- a record of those that were sent
-  newest_of : (P : Outgoing Term ℕ → Type 0) (b : Bool) (i : ℕ) (xs : List (Outgoing Term ℕ)) → AllOf P xs → OfSome P (newest_if b i xs)
-  newest_of P true i xs h = all_get P xs i h
-  newest_of P false i xs h = tt
-
-  chosen_of : (P : Outgoing Term ℕ → Type 0) (i : ℤ) (xs : List (Outgoing Term ℕ)) → AllOf P xs → OfSome P (chosen i xs)
-  chosen_of P (pos i) xs h = all_get P xs i h
-  chosen_of P (negsuc i) xs h = newest_of P (nat_lt i (length xs)) (length xs - 1 - i) xs h
-
   delivered_holds : (w : TheWorld) (o : Option (Outgoing Term ℕ)) → OfSome (FlyOk (GivenTo w.sent) sites w.tried) o → Holders sites w → Holders sites (delivered m w o).0
   delivered_holds w None f h = by_world_holds w NoRecord h
   delivered_holds w (Some x) f h = arrives_holds w (address_of x) (octets x) (Some x) (refl, f) h
@@ -507,7 +499,7 @@ module _ (sites : List Site) (same : Term → Term → Bool) (octets : Outgoing 
   happens_holds w (Event.Phone act) h = phone_turn_holds w (PhoneActs act) None tt h
   happens_holds w (Event.Station id act) h = station_acts_holds w id act None h
   happens_holds w (Event.Core act) h = core_acts_holds w act None h
-  happens_holds w (Event.Deliver i) h = delivered_holds w (chosen i w.sent) (chosen_of (FlyOk (GivenTo w.sent) sites w.tried) i w.sent h.flying) h
+  happens_holds w (Event.Deliver i) h = delivered_holds w (chosen i w.sent) (all_chosen (FlyOk (GivenTo w.sent) sites w.tried) i w.sent h.flying) h
   happens_holds w (Event.Inject to pdu) h = injected_holds w to pdu (position_from (is_sent m (class_of to) pdu) 0 w.sent) h
 
   -- every run keeps it

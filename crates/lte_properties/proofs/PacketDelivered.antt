@@ -1,6 +1,6 @@
 -- A packet that comes to a receiver whose keys are those that it was sealed under opens to what was sent.
-use Rattle.std.proofs.Common.{◌≡◌, ℕ, ◌+◌, ◌-◌, ◌*◌, ◌≤◌, ◌<◌, Bool, true, false, ℤ, pos, negsuc, List, length, Option, Some, None, refl, ap, sym, ◌∙◌, subst}
-use Rattle.std.specs.Prelude.{nat_lt, ⊤}
+use Rattle.std.proofs.Common.{◌≡◌, ℕ, ◌+◌, ◌*◌, ◌≤◌, ◌<◌, Bool, List, length, Option, Some, None, refl, ap, sym, ◌∙◌, subst}
+use Rattle.std.specs.Prelude.{⊤}
 use Rattle.rec_base.specs.declared.uses.Dir.TheVariants.{Up, Down}
 use Rattle.lte_events.specs.declared.addresses.Address.{Address}
 use Rattle.lte_events.specs.declared.answers.Answer.TheVariants.{Done}
@@ -26,11 +26,11 @@ use Rattle.lte_machine.specs.PhoneState.{NasContext, Link, Radio, Idle, Connecti
 use Rattle.lte_machine.specs.StationState.{Station, Context, AirPdu}
 use Rattle.lte_machine.specs.CoreState.{CoreContext}
 use Rattle.nas_guard.specs.Keys.{Keys}
-use Rattle.lte_machine.specs.World.{Machine, World, Line, arrives, delivered, chosen, newest_if, station_of_id, turn_of}
+use Rattle.lte_machine.specs.World.{Machine, World, Line, arrives, delivered, station_of_id, turn_of}
 use Rattle.lte_properties.specs.ChainBelow.{AllOf}
 use Rattle.lte_properties.specs.ChainHolds.{machine_by}
 use Rattle.lte_properties.specs.Packets.{IsPacket, UsesRootOf, OpensToSent}
-use Rattle.lte_properties.proofs.ChainLists.{OfSome, all_get}
+use Rattle.lte_properties.proofs.ChainLists.{OfSome, all_chosen}
 use Rattle.lte_properties.proofs.PacketOpens.{OpensBack}
 use Rattle.lte_properties.proofs.PacketCounts.{estimated, nas_parts, header_down, header_up, srb_counted, drb_counted}
 use Rattle.lte_properties.proofs.PacketReady.{ConnectedAt, HasActive, ActiveAt, PhoneUses, CoreUses, InSrb, InDrb, InSrbOf, InDrbOf, InNas, ReadyFor, ready_for}
@@ -224,16 +224,6 @@ module _ (same : Term → Term → Bool) (root : ℕ → List ℕ → Term) (sen
   -- wherever the packets that were sent fit their receivers
   pub opens_where_fits : (w : W) → AllOf (λ x. (sent : List ℕ) → IsPacket x sent → Fits w x sent) w.sent → OpensToSent m w
   opens_where_fits w all i x sent is packet ready window =
-      let fits = subst (OfSome (λ y. (sent : List ℕ) → IsPacket y sent → Fits w y sent)) is (chosen_of i w.sent all) in
+      let fits = subst (OfSome (λ y. (sent : List ℕ) → IsPacket y sent → Fits w y sent)) is (all_chosen (λ y. (sent : List ℕ) → IsPacket y sent → Fits w y sent) i w.sent all) in
       let opens = delivered_opens w x sent packet (ready_for w x ready window) (fits sent packet) in
       (ap (λ o. (delivered m w o).1.answer) is ∙ opens.0, ap (λ o. (delivered m w o).1.opened) is ∙ opens.1)
-    where
-      newest_of : (b : Bool) (i : ℕ) (xs : List (Outgoing Term ℕ)) → AllOf (λ x. (sent : List ℕ) → IsPacket x sent → Fits w x sent) xs
-          → OfSome (λ x. (sent : List ℕ) → IsPacket x sent → Fits w x sent) (newest_if b i xs)
-      newest_of true i xs h = all_get (λ x. (sent : List ℕ) → IsPacket x sent → Fits w x sent) xs i h
-      newest_of false i xs h = tt
-
-      chosen_of : (i : ℤ) (xs : List (Outgoing Term ℕ)) → AllOf (λ x. (sent : List ℕ) → IsPacket x sent → Fits w x sent) xs
-          → OfSome (λ x. (sent : List ℕ) → IsPacket x sent → Fits w x sent) (chosen i xs)
-      chosen_of (pos i) xs h = all_get (λ x. (sent : List ℕ) → IsPacket x sent → Fits w x sent) xs i h
-      chosen_of (negsuc i) xs h = newest_of (nat_lt i (length xs)) (length xs - 1 - i) xs h

@@ -1,5 +1,5 @@
 -- Packets open to what was sent, in every world of every run.
-use Rattle.std.proofs.Common.{◌≡◌, refl, ℕ, ◌+◌, ◌-◌, ◌<◌, ◌≤◌, nat_lt, Bool, true, false, ℤ, pos, negsuc, List, [], ◌∷◌, length, Option, Some, None, arith}
+use Rattle.std.proofs.Common.{◌≡◌, refl, ℕ, ◌+◌, ◌<◌, ◌≤◌, Bool, List, [], ◌∷◌, Option, Some, None, arith}
 use Rattle.std.specs.List.{position_from}
 use Rattle.alg_choice.specs.Choice.{choice_of}
 use Rattle.alg_choice.specs.declared.caps.Caps.{Caps}
@@ -24,7 +24,7 @@ use Rattle.lte_machine.specs.StationState.{StationActs}
 use Rattle.lte_machine.specs.StationStep.{plain_station}
 use Rattle.lte_machine.specs.CoreState.{CoreActs}
 use Rattle.lte_machine.specs.Run.{first_world}
-use Rattle.lte_machine.specs.World.{Machine, authenticated, auth_unless, known_root, next_root, newest_if, chosen, delivered, class_of, is_sent, injected, happens}
+use Rattle.lte_machine.specs.World.{Machine, authenticated, auth_unless, known_root, next_root, chosen, delivered, class_of, is_sent, injected, happens}
 use Rattle.lte_machine.specs.Step.{delivery_attempts, injection_attempts}
 use Rattle.lte_machine.specs.Machines.{machine_over, sender_of}
 use Rattle.lte_machine.specs.Distinct.{keys_of}
@@ -33,7 +33,7 @@ use Rattle.lte_properties.specs.ChainHolds.{machine_by, run, noted, Holds}
 use Rattle.lte_properties.specs.AgreePremises.{Honest, Calm, Along, OpensByTerms}
 use Rattle.lte_properties.specs.Packets.{OpensToSent}
 use Rattle.lte_properties.specs.PacketPremises.{SenderIs, SameRoot}
-use Rattle.lte_properties.proofs.ChainLists.{OfSome, all_get}
+use Rattle.lte_properties.proofs.ChainLists.{OfSome, all_chosen}
 use Rattle.lte_properties.proofs.ChainWorld.{happens_holds, first_holds}
 use Rattle.lte_properties.proofs.AgreeGhost.{Ghost}
 use Rattle.lte_properties.proofs.AgreeLater.{Later}
@@ -141,14 +141,6 @@ module _ (same : Term → Term → Bool) (sender : Option (Outgoing Term ℕ) �
   auth_keeps g k d w ksi octets caps None fits h later = authenticated_keeps g k d w ksi octets caps fits h later
   auth_keeps g k d w ksi octets caps (Some row) fits h later = by_world_keeps same sender opener c good between cells g k d w (RepeatedRoot row) h later
 
-  newest_of : (P : Outgoing Term ℕ → Type 0) (b : Bool) (i : ℕ) (xs : List (Outgoing Term ℕ)) → AllOf P xs → OfSome P (newest_if b i xs)
-  newest_of P true i xs h = all_get P xs i h
-  newest_of P false i xs h = tt
-
-  chosen_of : (P : Outgoing Term ℕ → Type 0) (i : ℤ) (xs : List (Outgoing Term ℕ)) → AllOf P xs → OfSome P (chosen i xs)
-  chosen_of P (pos i) xs h = all_get P xs i h
-  chosen_of P (negsuc i) xs h = newest_of P (nat_lt i (length xs)) (length xs - 1 - i) xs h
-
   -- EVERY EVENT
 
   pub happens_keeps : (g : Choices) (k d : Conns) (w : TheWorld) (e : Event) → IsEvent e → WorldOk cells k w → PacketsOk g k w → SameRoot m w e
@@ -162,7 +154,7 @@ module _ (same : Term → Term → Bool) (sender : Option (Outgoing Term ℕ) �
   happens_keeps g k d w (Event.Core act) is ok h one later =
       core_turn_keeps same sender opener c good between cells g k d w (CoreActs act) None h tt (core_act_needs same w.core act is) later
   happens_keeps g k d w (Event.Deliver i) is ok h one later =
-      delivered_keeps g k d w (chosen i w.sent) ok h (chosen_of (SentOk g (next_root w)) i w.sent h.nas) one later
+      delivered_keeps g k d w (chosen i w.sent) ok h (all_chosen (SentOk g (next_root w)) i w.sent h.nas) one later
   happens_keeps g k d w (Event.Inject to pdu) is ok h one later =
       injected_keeps g k d w to pdu (position_from (is_sent m (class_of to) pdu) 0 w.sent) ok h one later
 
