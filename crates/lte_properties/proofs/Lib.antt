@@ -55,6 +55,7 @@ pub mod PacketAir
 pub mod PacketAirWalk
 pub mod PacketCounts
 pub mod PacketDelivered
+mod PacketExamples
 pub mod PacketFits
 pub mod PacketNas
 pub mod PacketNasRows
