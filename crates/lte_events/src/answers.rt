@@ -21,7 +21,7 @@ pub enum Answer {
     AlgUnsupported(Algs),
     /// The MAC is wrong: COUNT, the MAC wanted, the MAC got.
     MacFails(u32, [u8; 4], [u8; 4]),
-    /// The COUNT has reached its end.
+    /// The COUNT has reached its end: 2^24 for NAS, 2^32 on a bearer.
     CountSpent,
     /// A NAS security mode command procedure is open.
     SmcOpen,
@@ -29,7 +29,8 @@ pub enum Answer {
     NoAlgorithm,
     /// A text or record does not read: its fault, with the place of a field.
     BadRecord(RecFault),
-    /// A protected message is shorter than its header and MAC.
+    /// A protected message is shorter than its header and MAC: 6 octets for NAS, 5 on an SRB, 2 on a
+    /// DRB, which has no MAC.
     Short,
     /// The first octet of a protected message is none of those taken.
     BadHeader(u8),
@@ -45,9 +46,9 @@ pub enum Answer {
     AlreadyConnected,
     /// There is no context of the phone.
     NoUe,
-    /// The number is not that of the outstanding request: outstanding, got.
+    /// The number is not that of the outstanding request: outstanding (0 for none), got.
     Stale(u32, u32),
-    /// The connection number is not the one wanted: held, got.
+    /// The connection number is not the one wanted: held (0 for none), got.
     OldConnection(u32, u32),
     /// The context is not active yet.
     NotActive,
@@ -61,7 +62,8 @@ pub enum Answer {
     NoAttempt,
     /// The handover command was sent already.
     CommandSent,
-    /// The number is not above the greatest seen: seen, got.
+    /// The number is not above the greatest seen: seen, got. Of an answer to an attempt that was answered
+    /// already: the attempt's number, twice.
     Repeated(u32, u32),
     /// Eight handover preparations stand.
     PrepFull,

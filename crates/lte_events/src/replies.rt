@@ -40,7 +40,7 @@ pub struct ActorOut {
     pub derived: Few<Derived, 12>,
     /// The key that was received from another actor, if one was: 32 octets.
     pub received: Option<[u8; 32]>,
-    /// The uses of keys in sending, integrity first, at most 2.
+    /// The uses of keys in sending, encryption first and then integrity, at most 2.
     pub used: Few<Use, 2>,
     /// The use of the integrity key by which the record accepted was protected, if it was.
     pub accepted: Option<Use>,

@@ -88,6 +88,7 @@ impl Cells {
         ensures stands { IsSome result ↔ IsTrue (list_any (is_site cell.now) self.now) }
         ensures station { IfSome result (λ station. station ≤ 7) }
     {
+        // Reading the entries brings their invariant, that each station is at most 7, into the proof.
         let _ = &self.entries;
         self.first_station(cell)
     }

@@ -35,7 +35,7 @@ pub data Fields : Type 0 where
   -- connection, attempt
   X2Release : ℕ → ℕ → Fields
 
--- the kind, the first octet: 20 to 29 on S1, 30 to 33 on X2
+-- the kind, the first octet, in hex: 20 to 29 on S1, 30 to 33 on X2
 abbrev pub kind_of : Fields → ℕ
 kind_of (InitialContext conn cell caps) = 0x20
 kind_of (ContextRelease conn) = 0x21

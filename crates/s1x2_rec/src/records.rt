@@ -6,7 +6,7 @@ use alg_choice::{Algs, Caps};
 use annex_a_keys::{Cell, Kenb, Nh, Star};
 use rec_base::{Octets, RecFault};
 
-/// A record of S1 or X2: its kind, one octet, and then its fields in order. A connection, an attempt, a
+/// A record of S1 or X2: its kind, one octet, given here in hex, and then its fields in order. A connection, an attempt, a
 /// number and an air address are four octets and at least 1; a station, a source and an NCC are one
 /// octet from 0 to 7; a cell is its PCI in two octets and its EARFCN-DL in four; capabilities are two
 /// octets, algorithms one and a key 32.
@@ -121,7 +121,8 @@ pub enum CoreRecord {
         /// The cell that it has come to.
         cell: Cell,
     },
-    /// 29, both ways: Handover Cancel (TS 36.413 8.4.5), 16 octets.
+    /// 29, from the source to the core (Handover Cancel, TS 36.413 8.4.5), which passes it on to the
+    /// target in this form, where the standard has a UE Context Release Command: 16 octets.
     HandoverCancel {
         /// The connection.
         conn: u32,
