@@ -13,7 +13,7 @@ abbrev map_hit : {K L : Type 0} → (K → L) → Hit K → Hit L
 map_hit f h = record { place = h.place; found = map_row f h.found }
 
 module _ {K L : Type 0} (same : K → K → Bool) (same' : L → L → Bool) (f : K → L) (e : (a b : K) → same' (f a) (f b) ≡ same a b) where
-  row_key-map : (row : RowOrigin K) → f (row_key row) ≡ row_key (map_row f row)
+  pub row_key-map : (row : RowOrigin K) → f (row_key row) ≡ row_key (map_row f row)
   row_key-map (OfRoot key) = refl
   row_key-map (Of d) = refl
 

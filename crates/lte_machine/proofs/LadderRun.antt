@@ -1,5 +1,5 @@
 -- The ladder of every run that has met no coincidence: its rows stand for the distinct terms, and every key has one.
-use Rattle.std.proofs.Common.{◌≡◌, refl, sym, subst, ℕ, ◌==◌, Bool, true, false, List, [], Option, Some, None, inl, inr, arith}
+use Rattle.std.proofs.Common.{◌≡◌, refl, sym, subst, ℕ, ◌==◌, Bool, true, false, List, [], Option, Some, None, inl, inr, arith, map, ◌∷◌, ap, ◌∙◌}
 use Rattle.std.specs.Prelude.{◌&&◌, slice_get}
 use Rattle.std.proofs.lemmas.Bool.Decides.{nat_tests}
 use Rattle.rec_base.specs.declared.uses.Dir.{Dir}
@@ -20,7 +20,7 @@ use Rattle.lte_machine.specs.Bearers.{Srb, Drb}
 use Rattle.lte_machine.specs.Wire.{KeyUse, Ciphering, Outgoing, ciphering_if}
 use Rattle.lte_machine.specs.Ciphers.{Ciphers, octets_of}
 use Rattle.lte_machine.specs.Opening.{Opening, OpensNothing, OpensNas, OpensSrb, OpensDrb, Outcome, same_dir, same_uses}
-use Rattle.lte_machine.specs.Ladder.{RowOrigin, ladder_of}
+use Rattle.lte_machine.specs.Ladder.{RowOrigin, ladder_of, map_row, row_key}
 use Rattle.lte_machine.specs.PhoneState.{Partial, NasContext, Radio, Idle, Connecting, Connected, Phone}
 use Rattle.lte_machine.specs.PhoneChoice.{NasSettled, AtCommand, AtMessage, AirSettled, AtStart, AtSignalling, AtPacket, PhoneFront, Settled, FromNas, FromAir}
 use Rattle.lte_machine.specs.PhoneKeys.{command_expects, message_expects, start_expects, signalling_expects, packet_expects, phone_expects}
@@ -35,8 +35,10 @@ use Rattle.lte_machine.specs.Machines.{sender_of}
 use Rattle.lte_machine.specs.Run.{Still, replay, first_world}
 use Rattle.lte_machine.specs.Distinct.{keys_of, Member, OneValueOneTerm}
 use Rattle.lte_machine.specs.Mixed.{run, written_with}
-use Rattle.lte_machine.specs.Standing.{RowsStandForTerms}
+use Rattle.lte_machine.specs.Standing.{RowsStandForTerms, OctetRowsStand}
 use Rattle.lte_machine.specs.Known.{IsReported, NasContextKnown, PartialKnown, RadioKnown, PhoneKnown, ContextKnown, PrepKnown, StationKnown, ProcedureKnown, CoreContextKnown, CoreKnown, CipheringKnown, OpeningKnown, OrAlgOf, AllReported}
+use Rattle.std.specs.Str.{bytes_eq}
+use Rattle.lte_machine.proofs.LadderMap.{row_key-map, rows-map}
 use Rattle.lte_machine.proofs.History.{Laddered, among_distinct, one_value_one_term as one_of_history}
 use Rattle.lte_machine.proofs.KnownLists.{OfSome, all_find, all_get}
 use Rattle.lte_machine.proofs.KnownWorld.{Grounds, run_grounds, first_grounds}
@@ -56,6 +58,16 @@ rows_stand history ladder calm =
       one = one_of_history history ladder calm;
     }
 
+-- the same ladder in octets
+pub octet_rows_stand : (history : List (RowOrigin Term)) → RowsStandForTerms history → OctetRowsStand history
+octet_rows_stand history h =
+    ap (map row_key) (sym (rows-map same_value bytes_eq value_of (λ a b. refl) history))
+    ∙ keys-map (ladder_of same_value history).rows ∙ ap (map value_of) h.rows
+  where
+    keys-map : (rows : List (RowOrigin Term)) → map row_key (map (map_row value_of) rows) ≡ map value_of (map row_key rows)
+    keys-map [] = refl
+    keys-map (row ∷ rows) = λ j. sym (row_key-map same_value bytes_eq value_of (λ a b. refl) row) j ∷ keys-map rows j
+
 module _ (c : Ciphers Term) (between : Fields → Option (NumberedKey Term ℕ) → List ℕ) (opener : Opening Term → List ℕ → Option (Outgoing Term ℕ) → Outcome) where
   -- every world of every run, with any opener
   pub always_grounds : (setup : Setup) (es : List Event) → Grounds (run (written_with c between opener) (first_world setup) es)
@@ -70,6 +82,10 @@ module _ (c : Ciphers Term) (between : Fields → Option (NumberedKey Term ℕ) 
     -- its ladder has no clash, and its rows are the distinct terms in the order of their first derivation
     pub ladder_always : RowsStandForTerms u.history
     ladder_always = rows_stand u.history still_grounds.ladder (still_calm by_octets (written_with c between opener) (first_world setup) es u refl is)
+
+    -- and in octets their values
+    pub octets_always : OctetRowsStand u.history
+    octets_always = octet_rows_stand u.history ladder_always
 
     -- two terms that were derived, or are roots of the run, with one value are one term
     pub one_value_one_term : OneValueOneTerm (keys_of u.history)

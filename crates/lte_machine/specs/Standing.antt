@@ -1,5 +1,6 @@
 -- What the rows of a run's ladder stand for, and which keys have one.
-use Rattle.std.specs.Prelude.{◌≡◌, ℕ, List, None}
+use Rattle.std.specs.Prelude.{◌≡◌, ℕ, List, map, None}
+use Rattle.std.specs.Str.{bytes_eq}
 use Rattle.lte_events.specs.declared.events.Event.{Event}
 use Rattle.lte_events.specs.declared.setups.Setup.{Setup}
 use Rattle.key_model.specs.Term.{Term}
@@ -7,7 +8,7 @@ use Rattle.key_model.specs.Value.{value_of, same_value}
 use Rattle.lte_machine.specs.Wire.{Outgoing}
 use Rattle.lte_machine.specs.Ciphers.{Ciphers, under_keys}
 use Rattle.lte_machine.specs.Opening.{open_octets}
-use Rattle.lte_machine.specs.Ladder.{RowOrigin, ladder_of}
+use Rattle.lte_machine.specs.Ladder.{RowOrigin, map_row, row_key, ladder_of}
 use Rattle.lte_machine.specs.Distinct.{keys_of, Member, distinct_terms, OneValueOneTerm}
 use Rattle.lte_machine.specs.World.{World}
 use Rattle.lte_machine.specs.Machines.{written_machine}
@@ -26,6 +27,11 @@ pub record RowsStandForTerms (history : List (RowOrigin Term)) : Type 0 where
   pub own : OneValueOneTerm (row_keys history)
   pub stand : (t : Term) → Member t (keys_of history) → Member t (row_keys history)
   pub one : OneValueOneTerm (keys_of history)
+
+-- and in octets: the keys of the rows are the values of the distinct terms, in the same order
+abbrev pub OctetRowsStand : List (RowOrigin Term) → Type 0
+OctetRowsStand history =
+    map row_key (ladder_of bytes_eq (map (map_row value_of) history)).rows ≡ map value_of (distinct_terms history)
 
 -- the run of these events in terms has met no coincidence, and is in this world
 abbrev pub RunsTo : Ciphers (List ℕ) → Setup → List Event → World Term ℕ (Outgoing Term ℕ) → Type 0

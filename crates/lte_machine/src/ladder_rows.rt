@@ -7,15 +7,18 @@ ghost use Rattle.lte_machine.specs.Wire.{Outgoing};
 ghost use Rattle.lte_machine.specs.Ciphers.{Ciphers};
 ghost use Rattle.lte_machine.specs.World.{World};
 ghost use Rattle.lte_machine.specs.Known.{AllReported};
-ghost use Rattle.lte_machine.specs.Standing.{RowsStandForTerms, RunsTo};
+ghost use Rattle.lte_machine.specs.Standing.{RowsStandForTerms, OctetRowsStand, RunsTo};
 
 /// The rows of the ladder stand for the distinct terms. In every run that has met no coincidence,
 /// for every setup, every list of events and any ciphers: the keys of the rows are the distinct
 /// terms of the run's roots and derivations (TS 33.401 Annex A), in the order of their first
-/// derivation, and two terms with one value are one term.
+/// derivation, and two terms with one value are one term (`terms`). In octets the keys of the rows are
+/// the values of these terms, in the same order (`octets`).
 pub fn rows_stand_for_the_distinct_terms()
-    ensures { (c : Ciphers (List ℕ)) (setup : Setup) (events : List Event) (w : World Term ℕ (Outgoing Term ℕ)) →
+    ensures terms { (c : Ciphers (List ℕ)) (setup : Setup) (events : List Event) (w : World Term ℕ (Outgoing Term ℕ)) →
         RunsTo c setup events w → RowsStandForTerms w.history }
+    ensures octets { (c : Ciphers (List ℕ)) (setup : Setup) (events : List Event) (w : World Term ℕ (Outgoing Term ℕ)) →
+        RunsTo c setup events w → OctetRowsStand w.history }
 {}
 
 /// And every key has a row: each key that the phone, a station or the core holds, each key in a record
