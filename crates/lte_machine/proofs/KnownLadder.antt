@@ -18,7 +18,7 @@ still_in history ms t h = subst (Member t) (sym (map-append row_key history ms))
 pub new_in : (history ms : List (RowOrigin Term)) (t : Term) → Member t (keys_of ms) → Member t (keys_of (history ++ ms))
 new_in history ms t h = subst (Member t) (sym (map-append row_key history ms)) (member_right t (keys_of history) (keys_of ms) h)
 
-outs_more : (P Q : Term → Type 0) → ((t : Term) → P t → Q t) → (ds : List (Derivation Term)) → AllOut P ds → AllOut Q ds
+pub outs_more : (P Q : Term → Type 0) → ((t : Term) → P t → Q t) → (ds : List (Derivation Term)) → AllOut P ds → AllOut Q ds
 outs_more P Q f [] o = tt
 outs_more P Q f (d ∷ ds) o = (f d.out o.0, outs_more P Q f ds o.1)
 

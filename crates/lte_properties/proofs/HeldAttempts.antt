@@ -168,7 +168,7 @@ module _ (same : Term → Term → Bool) (s : Station Term ℕ) where
   fits_draw fields (PreparationCancelled from) h = tt
   fits_draw fields SourceReleased h = tt
 
-  read_draws : (on : Interface) (x : Outgoing Term ℕ) → RecordDraws s.next (record_row (plain_station (term_reading_by same) s) on (map_read unseen (term_reading_by same).ncc (content_of x)))
+  pub read_draws : (on : Interface) (x : Outgoing Term ℕ) → RecordDraws s.next (record_row (plain_station (term_reading_by same) s) on (map_read unseen (term_reading_by same).ncc (content_of x)))
   read_draws on (SealedNas dir header u e text) = tt
   read_draws on (PlainNas octets) = tt
   read_draws on (SealedRrc dir station air srb u e text) = tt
@@ -179,7 +179,7 @@ module _ (same : Term → Term → Bool) (s : Station Term ℕ) where
   told : (t : Station Term ℕ) (a b : Reply Term ℕ) → a.tried ≡ b.tried → Numbered s (t, a) → Numbered s (t, b)
   told t a b e h = record { same = h.same; rises = h.rises; draws = subst (OfSome (λ a. (a.station ≡ s.id) × (s.next ≤ a.attempt) × (a.attempt < t.next))) e h.draws }
 
-  step_numbered : (input : StationInput Term ℕ) (outcome : Outcome) → RowDraws s.next (station_row_of (term_reading_by same) s input outcome) → Numbered s (station_step (term_reading_by same) s input outcome)
+  pub step_numbered : (input : StationInput Term ℕ) (outcome : Outcome) → RowDraws s.next (station_row_of (term_reading_by same) s input outcome) → Numbered s (station_step (term_reading_by same) s input outcome)
   step_numbered input outcome e =
       let does = station_does (term_reading_by same) (station_row_of (term_reading_by same) s input outcome) (station_key input) s in
       told does.0 does.1 _ refl (row_numbered (station_row_of (term_reading_by same) s input outcome) (station_key input) e)
@@ -228,7 +228,7 @@ module _ (s : Station Term ℕ) (d : Station Term ℕ × Reply Term ℕ) (n : Nu
   new_differs es h k None l = k
   new_differs es h k (Some one) l = differ_one one es (none_such one l.0 l.1 es h) k
 
-is_one : (a b : ℕ) → (a == b) ≡ true → a ≡ b
+pub is_one : (a b : ℕ) → (a == b) ≡ true → a ≡ b
 is_one a b e = grind (arith, nat_tests)
 
 is_not : (a b : ℕ) → (a == b) ≡ false → a ≡ b → ⊥

@@ -15,6 +15,7 @@ use Rattle.lte_properties.specs.ChainHolds.{machine_by, run}
 use Rattle.lte_properties.specs.Agreement.{ObeysAgreement}
 use Rattle.lte_properties.specs.Separation.{SeparationHolds, GivingHolds}
 use Rattle.lte_properties.specs.SharedKeys.{SharedApart}
+use Rattle.lte_properties.proofs.HeldAll.{HeldAll, run_held, first_held}
 use Rattle.lte_properties.proofs.HeldWorld.{Holders, run_holds, first_holds}
 use Rattle.lte_properties.proofs.HeldRun.{separates, made_from}
 use Rattle.lte_properties.proofs.HeldAttempts.{run_apart, first_apart}
@@ -28,8 +29,11 @@ module _ (same : Term → Term → Bool) (octets : Outgoing Term ℕ → List �
   pub run_holders : Holders setup.cells last_world
   run_holders = run_holds setup.cells same octets sender opener (first_world setup) events (first_holds setup)
 
+  run_all_held : HeldAll last_world
+  run_all_held = run_held same Root octets sender opener (first_world setup) events (first_held setup)
+
   pub separation_holds_by : SeparationHolds (machine_by same Root octets sender opener) setup events
-  separation_holds_by = separates setup.cells last_world run_holders
+  separation_holds_by = separates setup.cells last_world run_holders run_all_held
 
   pub giving_holds_by : GivingHolds (machine_by same Root octets sender opener) setup events
   giving_holds_by = (made_from setup.cells last_world run_holders, (run_apart same Root octets sender opener (first_world setup) events (first_apart setup)).differ)

@@ -16,6 +16,7 @@ use Rattle.lte_properties.specs.ChainBelow.{AllOf}
 use Rattle.lte_properties.specs.Separation.{IsStationOf, HeldBy, GivenTo, HasNeither, Those, AllBut, AllWellFormed, Separates, GivenAt, FromAttempt}
 use Rattle.lte_properties.proofs.ChainLists.{all_map}
 use Rattle.lte_properties.proofs.HeldKeys.{any_with, any_out, Gifts, MayHold, may_hold_well, BaseGiven, TriedOk, MadeBy, MadeFrom, MadeOk, HolderMay, HoldOk}
+use Rattle.lte_properties.proofs.HeldAll.{HeldAll}
 use Rattle.lte_properties.proofs.HeldWorld.{Holders}
 
 -- a key of a chain that a station may hold was given to it
@@ -71,14 +72,16 @@ module _ (sites : List Site) (w : World Term ℕ (Outgoing Term ℕ)) (h : Holde
     well AtCore key o = o
     well (AtStation id) key o = may_hold_well G sites id key o
 
-  pub separates : Separates sites w
-  separates = record {
+  pub separates : HeldAll w → Separates sites w
+  separates a = record {
     no_root = no_root (λ id. ⊤);
     once = h.once;
     separated = λ test r octets n i cell f d. neither_derives (Those test) r octets n i cell f d;
     others = λ r octets n i cell d. neither_derives (AllBut sites w.sent (nh (Root r octets) n i) cell) r octets n i cell ((λ id g a. a.0 g), (λ id e a. a.1 e)) d;
     well_formed = all_well_formed;
     holding = λ test t k. derivable_is (HeldBy (Those test) w.held) (no_root (Those test)) t (all_well_formed t k);
+    all_held = a.all;
+    own = a.own;
   }
 
   -- WHO GAVE

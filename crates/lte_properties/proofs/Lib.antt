@@ -41,6 +41,7 @@ pub mod FreshStation
 pub mod FreshStationFront
 pub mod FreshWorld
 pub mod Freshness
+pub mod HeldAll
 pub mod HeldAttempts
 pub mod HeldChoice
 pub mod HeldCore

@@ -12,6 +12,8 @@ use Rattle.key_model.specs.HandoverTable.{NumberedKey}
 use Rattle.lte_machine.specs.Wire.{Outgoing, Between}
 use Rattle.lte_machine.specs.Reply.{Origin, Made, Tried}
 use Rattle.lte_machine.specs.StationChoice.{station_of}
+use Rattle.lte_machine.specs.Distinct.{keys_of, Member}
+use Rattle.lte_machine.specs.Known.{StationKnown}
 use Rattle.lte_machine.specs.World.{Machine, World, Holder, AtPhone, AtCore, AtStation, Holding}
 use Rattle.lte_machine.specs.Run.{first_world}
 use Rattle.lte_properties.specs.ChainBelow.{AllOf}
@@ -93,6 +95,14 @@ HoldingIs w =
 abbrev pub AllWellFormed : {S : Type 0} → World Term ℕ S → Type 0
 AllWellFormed w = (t : Term) → WasHeld w.held t → IsWellFormed t
 
+-- every key of the run, a KASME or one that was derived, was held by somebody
+abbrev pub AllHeld : {S : Type 0} → World Term ℕ S → Type 0
+AllHeld w = (t : Term) → Member t (keys_of w.history) → WasHeld w.held t
+
+-- and each key that a station has in its context, in a preparation or in an attempt is one that it held
+abbrev pub OwnHeld : {S : Type 0} → World Term ℕ S → Type 0
+OwnHeld w = AllOf (λ s. StationKnown (HeldBy (λ id. id ≡ s.id) w.held) s) w.stations
+
 -- in one world of a run over these cells
 pub record Separates (sites : List Site) (w : World Term ℕ (Outgoing Term ℕ)) : Type 0 where
   pub no_root : NoRootHeld w
@@ -101,6 +111,8 @@ pub record Separates (sites : List Site) (w : World Term ℕ (Outgoing Term ℕ)
   pub others : OthersCannot sites w
   pub well_formed : AllWellFormed w
   pub holding : HoldingIs w
+  pub all_held : AllHeld w
+  pub own : OwnHeld w
 
 -- TO WHOM THE KEY OF A HANDOVER WAS GIVEN
 

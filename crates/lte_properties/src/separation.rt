@@ -15,7 +15,12 @@ ghost use Rattle.lte_properties.specs.Separation.{SeparationHolds, GivingHolds};
 /// a chain nor the one of a cell cannot derive KeNB* of that key for that cell, from all that they held
 /// at any time of the run together; and a set of stations can derive a key that anybody held exactly
 /// where one of them held it, or held a key from which it comes by KeNB* steps and, for an algorithm
-/// key, one step of A.7 (TS 33.401 7.2.8.4 and Annex A).
+/// key, one step of A.7; every key of the run was held by somebody, and each station held the keys that
+/// it has (TS 33.401 7.2.8.4 and Annex A).
+///
+/// It holds for any ciphers and any writing of S1 and X2, whichever test says that two keys are one:
+/// where records open by their senders' uses, as in the written machine (`by_uses`), and where octets
+/// open by themselves (`by_octets`); also behind a coincidence.
 pub fn separation_holds_in_every_run()
     ensures by_uses { (same : Term → Term → Bool) (c : Ciphers Term)
         (between : Fields → Option (NumberedKey Term ℕ) → List ℕ) (setup : Setup) (events : List Event)
