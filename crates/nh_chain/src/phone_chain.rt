@@ -1,4 +1,4 @@
-ghost use Rattle.std.specs.Prelude.{◌≡◌, ℕ, ◌≤◌, All, map};
+ghost use Rattle.std.specs.Prelude.{◌≡◌, ℕ, ◌+◌, ◌-◌, ◌≤◌, All, length, map};
 ghost use Rattle.hmac_kdf.specs.Kdf.{IsKdfInput};
 ghost use Rattle.key_model.specs.Term.{Term};
 ghost use Rattle.key_model.specs.Chain.{ncc_of};
@@ -9,7 +9,7 @@ ghost use Rattle.key_model.specs.HandoverLines.{phone_line, steps_to};
 ghost use Rattle.key_model.specs.Derivation.{star_made};
 ghost use Rattle.nh_chain.specs.Chain.{begun};
 ghost use Rattle.nh_chain.specs.Climb.{base_by, way_by};
-ghost use Rattle.nh_chain.specs.Reach.{phone_of, reached};
+ghost use Rattle.nh_chain.specs.Reach.{handover_made, phone_of, reached, way_after};
 ghost use Rattle.key_model.specs.Derivation.{derived_of};
 ghost use Rattle.nh_chain.specs.Terms.{chain_at, chain_in_octets};
 
@@ -65,6 +65,13 @@ impl PhoneChain {
             self.old ≡ chain_in_octets (chain_at r n p) → active.now ≡ value_of t → ncc ≡ ncc_of i →
             let line = key_at_phone r n t p i cell.now.pci cell.now.earfcn in
             (result.0 ≡ value_of line.key) × (self.new ≡ chain_in_octets (chain_at r n line.number)) }
+        // In whole chain numbers its NH steps are as many as lie from p to the number of that line, each with
+        // its derivation, and KeNB* is derived last; after none the way is horizontal, and else vertical.
+        ensures steps { (r t : Term) (n p i : ℕ) →
+            self.old ≡ chain_in_octets (chain_at r n p) → active.now ≡ value_of t → ncc ≡ ncc_of i →
+            let steps = (key_at_phone r n t p i cell.now.pci cell.now.earfcn).number - p in
+            (result.2.items ≡ map derived_of (handover_made octet_reading (phone_of self.old active.now) steps cell.now))
+            × (length result.2.items ≡ steps + 1) × (result.1 ≡ way_after steps) }
         ensures way { result.1 ≡ (reached octet_reading self.old active.now ncc cell.now).way }
         ensures made { result.2.items ≡ map derived_of (reached octet_reading self.old active.now ncc cell.now).made }
         ensures inputs { All (λ d. IsKdfInput d.input) result.2.items }

@@ -1,7 +1,7 @@
 use Rattle.std.proofs.Common.{◌∙◌, ap}
 use Rattle.std.proofs.lemmas.List.Elements.{All-push}
 use Rattle.hmac_kdf.specs.Kdf.{IsKdfInput}
-use Rattle.nh_chain.proofs.ReachFacts.{terms_reached}
+use Rattle.nh_chain.proofs.ReachFacts.{steps_reached, terms_reached}
 use Rattle.nh_chain.proofs.phone_chain.PhoneChain.reach.Goals as goal
 
 pub returns-clause-terms : goal.returns-clause-terms
@@ -13,6 +13,21 @@ returns-clause-terms c =
       climbs = rw (← c.self.view_is) c.climb-nh.ensures.chain;
       reaches = rw (← c.self.view_is) c.climb-nh.ensures.nh;
       derives = c.star_from-star.ensures.star;
+    })
+
+pub returns-clause-steps : goal.returns-clause-steps
+returns-clause-steps c =
+    steps_reached c.args.self.now c.args.active.now c.args.ncc c.args.cell.now c.push.new.self.items c.star_from-star.result.1 (record {
+      steps = c.steps_to-steps.result;
+      nh = c.climb-nh.result.0;
+      counted = rw (← c.self.view_is) c.steps_to-steps.ensures.steps;
+      reaches = rw (← c.self.view_is) c.climb-nh.ensures.nh;
+      nhs = c.climb-nh.result.1.items;
+      star = c.star_from-star.result.2;
+      climbs = rw (← c.self.view_is) c.climb-nh.ensures.made;
+      derives = c.star_from-star.ensures.derived;
+      lists = c.push.ensures.items;
+      goes = c.star_from-star.ensures.way;
     })
 
 pub returns-clause-inputs : goal.returns-clause-inputs
