@@ -4,7 +4,7 @@ ghost use Rattle.key_model.specs.Term.{Term};
 ghost use Rattle.key_model.specs.Chain.{ncc_of};
 ghost use Rattle.key_model.specs.Value.{value_of};
 ghost use Rattle.key_model.specs.Reading.{octet_reading};
-ghost use Rattle.key_model.specs.HandoverTable.{key_at_phone};
+ghost use Rattle.key_model.specs.HandoverTable.{initial_key, key_at_phone};
 ghost use Rattle.key_model.specs.HandoverLines.{phone_line, steps_to};
 ghost use Rattle.key_model.specs.Derivation.{star_made};
 ghost use Rattle.nh_chain.specs.Chain.{begun};
@@ -37,7 +37,10 @@ impl Model for PhoneChain {
 impl PhoneChain {
     /// The chain of a new connection with this KeNB.
     pub fn begin(root: &Kasme, kenb: &Kenb) -> PhoneChain
-        ensures { result ≡ begun octet_reading root.now kenb.now }
+        ensures chain { result ≡ begun octet_reading root.now kenb.now }
+        // Of a KASME that is known as a term, and its KeNB, it is that KASME's chain, at number 0.
+        ensures terms { (r : Term) (n : ℕ) → root.now ≡ value_of r → kenb.now ≡ value_of (initial_key r n).key →
+            result ≡ chain_in_octets (chain_at r n 0) }
     {
         PhoneChain {
             chain: Chain::new(root, kenb),
