@@ -9,17 +9,17 @@ use std::marker::Model;
 /// bearer is in it, so nothing is sent from it.
 #[derive(Debug, Default, Drop)]
 pub struct Prep {
-    /// The number of the phone's connection.
+    /// The number of the phone's connection, at least 1.
     pub conn: u32,
-    /// The source station.
+    /// The source station, 0 to 7.
     pub source: u8,
-    /// The number of the source's attempt.
+    /// The number of the source's attempt, at least 1.
     pub attempt: u32,
     /// How the preparation came.
     pub by: By,
     /// The target cell.
     pub cell: Cell,
-    /// The air address that was drawn for the phone.
+    /// The air address that was drawn for the phone, at least 1.
     pub air: u32,
     /// The key of the context to come.
     pub key: StationKey,

@@ -7,7 +7,8 @@ use nh_chain::Spent;
 use std::marker::Model;
 
 /// An attempt that the target has not answered. A pair that was used for it lies in it, and goes back
-/// where the attempt is cancelled.
+/// where the attempt is cancelled. An attempt within the station is acknowledged at once (TS 33.401
+/// 7.2.8.4.1).
 #[derive(Debug, Drop)]
 pub struct X2Open {
     number: u32,

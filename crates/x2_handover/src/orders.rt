@@ -12,6 +12,6 @@ pub struct Order {
     pub algs: Algs,
     /// The target station, 0 to 7.
     pub station: u8,
-    /// The air address that the target drew for the phone.
+    /// The air address that the target drew for the phone, at least 1.
     pub air: u32,
 }
