@@ -30,19 +30,19 @@ in_32_bits-below count below =
 pub expected-is_least : (w next count : ℕ) → 0 < w → next ≤ count → count - next < w → least next (count % w) w ≡ count
 expected-is_least w next count some above few = (least_in_window next count w some above).1 few
 
--- a COUNT that has 32 bits is itself
-in_32_bits-Ok : (count n : ℕ) → in_32_bits count ≡ Ok n → n ≡ count
+-- a COUNT that has 32 bits is itself, and below 2^32
+pub in_32_bits-Ok : (count n : ℕ) → in_32_bits count ≡ Ok n → (n ≡ count) × (n < LIMIT)
 unfolding in_32_bits
-in_32_bits-Ok count n found = by_test (nat_lt count LIMIT) found
+in_32_bits-Ok count n found = by_test (nat_lt count LIMIT) refl found
   where
-    by_test : (b : Bool) → (let spent : Result ℕ PdcpFault = Err CountSpent in if b then Ok count else spent) ≡ Ok n → n ≡ count
-    by_test true e = cc
-    by_test false e = absurd (cc)
+    by_test : (b : Bool) → nat_lt count LIMIT ≡ b → (let spent : Result ℕ PdcpFault = Err CountSpent in if b then Ok count else spent) ≡ Ok n → (n ≡ count) × (n < LIMIT)
+    by_test true test e = let is : n ≡ count = cc in (is, grind (arith, nat_tests))
+    by_test false test e = absurd (cc)
 
 -- the sending after one takes a greater COUNT
 pub send_counts-rise : (b : BearerState) (first second : ℕ) → send_count b ≡ Ok first
     → send_count (after_send b (send_count b)) ≡ Ok second → first < second
 send_counts-rise b first second taken again =
     let next : in_32_bits (first + 1) ≡ Ok second = ap (λ r. send_count (after_send b r)) (sym taken) ∙ again in
-    let is : second ≡ first + 1 = in_32_bits-Ok (first + 1) second next in
+    let is : second ≡ first + 1 = (in_32_bits-Ok (first + 1) second next).0 in
     omega arith

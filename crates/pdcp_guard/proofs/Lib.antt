@@ -1,4 +1,5 @@
 pub mod KeyFacts
 pub mod CountFacts
+pub mod SentFacts
 pub mod SrbFacts
 pub mod DrbFacts

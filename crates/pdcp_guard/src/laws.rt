@@ -1,5 +1,5 @@
 // Laws of the PDUs of radio bearers.
-ghost use Rattle.std.specs.Prelude.{◌≡◌, ℕ, ◌+◌, ◌-◌, ◌%◌, ◌<◌, ◌≤◌, Bool, List, length, map};
+ghost use Rattle.std.specs.Prelude.{◌≡◌, ℕ, ◌+◌, ◌-◌, ◌%◌, ◌<◌, ◌≤◌, All, AllPairs, Bool, List, length, map};
 ghost use Rattle.key_model.specs.Least.{least};
 ghost use Rattle.rec_base.specs.declared.bearers.Bearer.{Bearer};
 ghost use Rattle.rec_base.specs.declared.uses.Dir.{Dir};
@@ -9,6 +9,7 @@ ghost use Rattle.key_model.specs.Derivation.{map_derivation};
 ghost use Rattle.key_model.specs.Reading.{Carries, Reading};
 ghost use Rattle.pdcp_guard.specs.AsKeys.{AsKeys, as_derivations, as_keys_of, map_as_keys};
 ghost use Rattle.pdcp_guard.specs.Counts.{BearerState, after_send, expects_next, send_count, skipped};
+ghost use Rattle.pdcp_guard.specs.CountActs.{BearerAct, counts_sent};
 ghost use Rattle.pdcp_guard.specs.Srb.{srb_opened, srb_opened_at, srb_sealed};
 ghost use Rattle.pdcp_guard.specs.Drb.{drb_opened, drb_opened_at, drb_sealed};
 
@@ -44,13 +45,21 @@ pub fn drb_sealed_opens()
         → length (drb_sealed keys bearer count dir text) ≡ length text + 2 }
 {}
 
-/// No COUNT is sent twice: the sending after one takes a greater COUNT, to leave COUNTs out takes none
+/// The COUNTs of sendings rise: the sending after one takes a greater COUNT, to leave COUNTs out takes none
 /// back, and what is received changes none.
 pub fn sending_counts_rise()
     ensures send { (b : BearerState) (first second : ℕ) → send_count b ≡ Ok first
         → send_count (after_send b (send_count b)) ≡ Ok second → first < second }
     ensures skip { (b : BearerState) (n : ℕ) → b.counts.send ≤ LIMIT → b.counts.send ≤ skipped b.counts.send n }
     ensures receive { (b : BearerState) (count : ℕ) → (expects_next b count).counts.send ≡ b.counts.send }
+{}
+
+/// No COUNT is sent twice, whatever is done on a bearer between: over any acts on any bearer, each COUNT
+/// sent is below all later ones, at or above the bearer's next COUNT at first, and below 2^32.
+pub fn no_count_is_sent_twice()
+    ensures rise { (b : BearerState) (acts : List BearerAct) → AllPairs (λ earlier later. earlier < later) (counts_sent b acts) }
+    ensures from_next { (b : BearerState) (acts : List BearerAct)
+        → All (λ count. (b.counts.send ≤ count) × (count < LIMIT)) (counts_sent b acts) }
 {}
 
 /// The keys of a KeNB and their derivations are carried from one reading of keys to another.

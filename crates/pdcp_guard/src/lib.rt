@@ -14,6 +14,9 @@ mod tests;
 pub use counting::LIMIT;
 pub use drbs::Drb;
 pub use keys::AsKeys;
-pub use laws::{as_keys_are_carried, drb_sealed_opens, sending_counts_rise, srb_sealed_opens};
+pub use laws::{
+    as_keys_are_carried, drb_sealed_opens, no_count_is_sent_twice, sending_counts_rise,
+    srb_sealed_opens,
+};
 pub use pdus::{PdcpFault, PdcpOpened, PdcpSent};
 pub use srbs::Srb;
