@@ -256,6 +256,13 @@ fn srb_out_of_the_window_is_refused(rt: HostRuntime) -> Result<(), Fail> {
         receiver.open(&keys, Dir::Up, true, beyond.pdu.as_slice()),
         Err(fault)
     );
+    // The same COUNT, 0, is still expected.
+    let again = receiver.open(&keys, Dir::Up, true, last.pdu.as_slice())?;
+    assert_eq!(rt; again, opened);
+    let first = Srb::new(Bearer::Srb2).send(&keys, Dir::Up, true, b"hi")?;
+    let expected = receiver.open(&keys, Dir::Up, true, first.pdu.as_slice())?;
+    assert_eq!(rt; expected.count, 0);
+    assert_eq!(rt; expected.text.as_slice(), b"hi".as_slice());
     Ok(())
 }
 
