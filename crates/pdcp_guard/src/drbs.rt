@@ -72,6 +72,9 @@ impl Drb {
     /// Opens a PDU under the least COUNT at or above the next expected one with its sequence number, and
     /// takes that COUNT (TS 36.323 5.1.2.1.3).
     ///
+    /// Nothing is verified on a DRB: any PDU of two octets or more with a good header and a COUNT below 2^32
+    /// opens to some text and moves the expected COUNT, whoever made it (TS 36.323 5.1.2.1).
+    ///
     /// The PDU has at most 1,536 octets. Where causes of refusal stand together, the first of `Short`,
     /// `BadHeader` and `CountSpent` is the answer, and the bearer stays as it is.
     pub fn receive(&mut self, keys: &AsKeys, dir: Dir, pdu: &[u8]) -> Result<PdcpOpened, PdcpFault>

@@ -106,7 +106,10 @@ impl Srb {
         opened_at(keys, cipher, self.bearer, count, dir, pdu)
     }
 
-    /// Takes the COUNT of a PDU that opened as the last received one.
+    /// Takes the COUNT of a PDU that opened as the last received one: the next COUNT is then expected.
+    ///
+    /// The COUNT is at or above the next expected one, as `open` ensures of each PDU that it opens
+    /// (`at_or_above`). So the expected COUNT never falls, and no COUNT is taken twice.
     pub fn accept(&mut self, count: u32)
         requires { self.old.counts.receive ≤ count }
         ensures { self.new ≡ expects_next self.old (count + 1) }
