@@ -1,6 +1,5 @@
--- The key before each obeyed command is the one that the phone took last.
+-- The key before each obeyed command is the one that the phone took last, and a connection's the one that it took last.
 use Rattle.std.proofs.Common.{◌≡◌, refl, ap, ◌∙◌, ℕ, zero, suc, Bool, List, [], ◌∷◌, ◌++◌, Option, Some, None}
-use Rattle.std.specs.Prelude.{⊤}
 use Rattle.std.specs.List.{position_from}
 use Rattle.alg_choice.specs.declared.algs.Algs.{Algs}
 use Rattle.alg_choice.specs.declared.caps.Caps.{Caps}
@@ -17,7 +16,7 @@ use Rattle.lte_machine.specs.Bearers.{Srb, Drb, Which}
 use Rattle.lte_machine.specs.Wire.{KeyUse, Outgoing, address_of}
 use Rattle.lte_machine.specs.Opening.{Opening, Outcome}
 use Rattle.lte_machine.specs.Reply.{Took}
-use Rattle.lte_machine.specs.PhoneState.{Partial, NasContext, Radio, Idle, Connecting, Connected, Phone, PhoneInput, PhoneActs, PhoneNasPdu, PhoneAirPdu}
+use Rattle.lte_machine.specs.PhoneState.{Partial, NasContext, Link, Radio, Idle, Connecting, Connected, Phone, PhoneInput, PhoneActs, PhoneNasPdu, PhoneAirPdu}
 use Rattle.lte_machine.specs.PhoneRows.{AuthRow, Authenticated, NasRow, NasRefused, RejectedPlain, RejectedUnder, ContextTaken, ContextTakenConnected, NasOpened, AirRow, AirRefused, LinkSecured, HandedOver, RrcOpened, PacketOpened, ActRow, ActRefused, ServiceRequested, CompleteResent, WentIdle, PacketSent, RrcSent, NasSent, NasLeftOut, BearerLeftOut, PhoneRow, OfAuth, OfNas, OfAir, OfAct}
 use Rattle.lte_machine.specs.PhoneChoice.{phone_row}
 use Rattle.lte_machine.specs.PhoneKeys.{PhoneDone, auth_does, rejected_under, context_taken, context_taken_connected, nas_opened, nas_does, link_secured, handed_over, rrc_opened, packet_opened, air_does, service_requested, complete_resent, packet_sent, rrc_sent, nas_sent, nas_left_out, bearer_left_out, act_does, phone_does}
@@ -27,17 +26,12 @@ use Rattle.lte_machine.specs.CoreState.{CoreInput, CoreActs, CoreNasPdu, CoreRec
 use Rattle.lte_machine.specs.World.{Machine, World, with_one, phone_turn, core_turn, station_of_id, turn_of, auth_unless, known_root, next_root, content_in, arrives, chosen, delivered, class_of, is_sent, injected, happens}
 use Rattle.lte_machine.specs.Run.{first_world}
 use Rattle.lte_properties.specs.ChainHolds.{machine_by, run}
-use Rattle.lte_properties.specs.Agreement.{Joins, Follow, TermsFollow}
+use Rattle.lte_properties.specs.Agreement.{Joins, Follow, TookLast}
 
 -- the key that was taken last, if one was
 abbrev last_of : Option (NumberedKey Term ℕ) → List (Took Term ℕ) → Option (NumberedKey Term ℕ)
 last_of o [] = o
 last_of o (x ∷ xs) = last_of (Some (record { key = x.key; number = x.number })) xs
-
--- a connected phone has the one that it took last
-abbrev IsLast : List (Took Term ℕ) → Radio Term ℕ → Type 0
-IsLast took (Connected l) = last_of None took ≡ Some (record { key = l.kenb; number = l.chain.number })
-IsLast took other = ⊤
 
 follow_more : (o : Option (NumberedKey Term ℕ)) (xs : List (Took Term ℕ)) (x : Took Term ℕ) → Follow o xs → Joins x.before (last_of o xs) → Follow o (xs ++ x ∷ [])
 follow_more o [] x h j = (j, tt)
@@ -47,24 +41,26 @@ last_more : (o : Option (NumberedKey Term ℕ)) (xs : List (Took Term ℕ)) (x :
 last_more o [] x = refl
 last_more o (y ∷ ys) x = last_more (Some (record { key = y.key; number = y.number })) ys x
 
+-- the key of a connection is the one that was taken last
+last_is : (took : List (Took Term ℕ)) (l : Link Term ℕ) → TookLast took (Connected l) → last_of None took ≡ Some (record { key = l.kenb; number = l.chain.number })
+last_is took l k =
+    ap (last_of None) k.2 ∙ last_more None k.0 k.1 ∙ (λ j. Some (record { key = k.3.2 j; number = k.3.3 j }))
+
 -- after a step of the phone
 abbrev Follows : List (Took Term ℕ) → PhoneDone Term ℕ → Type 0
-Follows took d = Follow None (with_one d.1.took took) × IsLast (with_one d.1.took took) d.0.radio
-
-abbrev numbered : Term → ℕ → NumberedKey Term ℕ
-numbered key number = record { key = key; number = number }
+Follows took d = Follow None (with_one d.1.took took) × TookLast (with_one d.1.took took) d.0.radio
 
 module _ (same : Term → Term → Bool) (took : List (Took Term ℕ)) (h : Follow None took) where
-  secured : (station air : ℕ) (algs : Algs) (count : ℕ) (s : Phone Term ℕ) (radio : Radio Term ℕ) → IsLast took s.radio
+  secured : (station air : ℕ) (algs : Algs) (count : ℕ) (s : Phone Term ℕ) (radio : Radio Term ℕ) → TookLast took s.radio
       → Follows took (link_secured (term_reading_by same) station air algs count s radio)
-  secured station air algs count s (Connecting w) k = (follow_more None took _ h tt, last_more None took _)
+  secured station air algs count s (Connecting w) k = (follow_more None took _ h tt, (took, _, refl, (refl, refl, refl, refl, refl)))
   secured station air algs count s Idle k = (h, k)
   secured station air algs count s (Connected l) k = (h, k)
 
-  handed : (cell : Place) (steps : ℕ) (algs : Algs) (station air : ℕ) (s : Phone Term ℕ) (radio : Radio Term ℕ) → IsLast took s.radio → IsLast took radio
+  handed : (cell : Place) (steps : ℕ) (algs : Algs) (station air : ℕ) (s : Phone Term ℕ) (radio : Radio Term ℕ) → TookLast took s.radio → TookLast took radio
       → Follows took (handed_over (term_reading_by same) cell steps algs station air s radio)
   handed cell steps algs station air s (Connected l) k last =
-      (follow_more None took _ h last, last_more None took _ ∙ ap (λ n. Some (numbered (reached_after (term_reading_by same) l.chain l.kenb steps cell).star.key n)) (number_is steps))
+      (follow_more None took _ h (last_is took l last), (took, _, refl, (refl, refl, refl, number_is steps, refl)))
     where
       number_is : (n : ℕ) → (reached_after (term_reading_by same) l.chain l.kenb n cell).star.number ≡ (reached_after (term_reading_by same) l.chain l.kenb n cell).chain.number
       number_is zero = refl
@@ -72,40 +68,40 @@ module _ (same : Term → Term → Bool) (took : List (Took Term ℕ)) (h : Foll
   handed cell steps algs station air s Idle k last = (h, k)
   handed cell steps algs station air s (Connecting w) k last = (h, k)
 
-  opened_rrc : (srb : Srb) (count : ℕ) (text : List ℕ) (s : Phone Term ℕ) (radio : Radio Term ℕ) → IsLast took s.radio → IsLast took radio → Follows took (rrc_opened srb count text s radio)
+  opened_rrc : (srb : Srb) (count : ℕ) (text : List ℕ) (s : Phone Term ℕ) (radio : Radio Term ℕ) → TookLast took s.radio → TookLast took radio → Follows took (rrc_opened srb count text s radio)
   opened_rrc srb count text s (Connected l) k last = (h, last)
   opened_rrc srb count text s Idle k last = (h, k)
   opened_rrc srb count text s (Connecting w) k last = (h, k)
 
-  opened_packet : (drb : Drb) (count : ℕ) (text : List ℕ) (s : Phone Term ℕ) (radio : Radio Term ℕ) → IsLast took s.radio → IsLast took radio → Follows took (packet_opened drb count text s radio)
+  opened_packet : (drb : Drb) (count : ℕ) (text : List ℕ) (s : Phone Term ℕ) (radio : Radio Term ℕ) → TookLast took s.radio → TookLast took radio → Follows took (packet_opened drb count text s radio)
   opened_packet drb count text s (Connected l) k last = (h, last)
   opened_packet drb count text s Idle k last = (h, k)
   opened_packet drb count text s (Connecting w) k last = (h, k)
 
-  air_follows : (row : AirRow) (s : Phone Term ℕ) → IsLast took s.radio → Follows took (air_does (term_reading_by same) row s)
+  air_follows : (row : AirRow) (s : Phone Term ℕ) → TookLast took s.radio → Follows took (air_does (term_reading_by same) row s)
   air_follows (AirRefused answer) s k = (h, k)
   air_follows (LinkSecured station air algs count) s k = secured station air algs count s s.radio k
   air_follows (HandedOver cell steps algs station air) s k = handed cell steps algs station air s s.radio k k
   air_follows (RrcOpened srb count text) s k = opened_rrc srb count text s s.radio k k
   air_follows (PacketOpened drb count text) s k = opened_packet drb count text s s.radio k k
 
-  rejected : (answer : Answer) (cause : ℕ) (s : Phone Term ℕ) (o : Option (NasContext Term)) → IsLast took s.radio → Follows took (rejected_under answer cause s o)
+  rejected : (answer : Answer) (cause : ℕ) (s : Phone Term ℕ) (o : Option (NasContext Term)) → TookLast took s.radio → Follows took (rejected_under answer cause s o)
   rejected answer cause s None k = (h, k)
   rejected answer cause s (Some c) k = (h, k)
 
-  taken : (algs : Algs) (count : ℕ) (s : Phone Term ℕ) (o : Option (Partial Term)) → IsLast took s.radio → Follows took (context_taken (term_reading_by same) algs count s o)
+  taken : (algs : Algs) (count : ℕ) (s : Phone Term ℕ) (o : Option (Partial Term)) → TookLast took s.radio → Follows took (context_taken (term_reading_by same) algs count s o)
   taken algs count s None k = (h, k)
   taken algs count s (Some p) k = (h, tt)
 
-  taken_connected : (algs : Algs) (count : ℕ) (s : Phone Term ℕ) (o : Option (Partial Term)) → IsLast took s.radio → Follows took (context_taken_connected (term_reading_by same) algs count s o)
+  taken_connected : (algs : Algs) (count : ℕ) (s : Phone Term ℕ) (o : Option (Partial Term)) → TookLast took s.radio → Follows took (context_taken_connected (term_reading_by same) algs count s o)
   taken_connected algs count s None k = (h, k)
   taken_connected algs count s (Some p) k = (h, k)
 
-  opened_nas : (count : ℕ) (text : List ℕ) (s : Phone Term ℕ) (o : Option (NasContext Term)) → IsLast took s.radio → Follows took (nas_opened count text s o)
+  opened_nas : (count : ℕ) (text : List ℕ) (s : Phone Term ℕ) (o : Option (NasContext Term)) → TookLast took s.radio → Follows took (nas_opened count text s o)
   opened_nas count text s None k = (h, k)
   opened_nas count text s (Some c) k = (h, k)
 
-  nas_follows : (row : NasRow) (s : Phone Term ℕ) → IsLast took s.radio → Follows took (nas_does (term_reading_by same) row s)
+  nas_follows : (row : NasRow) (s : Phone Term ℕ) → TookLast took s.radio → Follows took (nas_does (term_reading_by same) row s)
   nas_follows (NasRefused answer) s k = (h, k)
   nas_follows (RejectedPlain answer cause) s k = (h, k)
   nas_follows (RejectedUnder answer cause) s k = rejected answer cause s s.context k
@@ -113,39 +109,39 @@ module _ (same : Term → Term → Bool) (took : List (Took Term ℕ)) (h : Foll
   nas_follows (ContextTakenConnected algs count) s k = taken_connected algs count s s.partial k
   nas_follows (NasOpened count text) s k = opened_nas count text s s.context k
 
-  requested : (s : Phone Term ℕ) (o : Option (NasContext Term)) → IsLast took s.radio → Follows took (service_requested (term_reading_by same) s o)
+  requested : (s : Phone Term ℕ) (o : Option (NasContext Term)) → TookLast took s.radio → Follows took (service_requested (term_reading_by same) s o)
   requested s None k = (h, k)
   requested s (Some c) k = (h, tt)
 
-  resent : (s : Phone Term ℕ) (radio : Radio Term ℕ) → IsLast took s.radio → IsLast took radio → Follows took (complete_resent s radio)
+  resent : (s : Phone Term ℕ) (radio : Radio Term ℕ) → TookLast took s.radio → TookLast took radio → Follows took (complete_resent s radio)
   resent s (Connected l) k last = (h, last)
   resent s Idle k last = (h, k)
   resent s (Connecting w) k last = (h, k)
 
-  sent_packet : (drb : Drb) (text : List ℕ) (s : Phone Term ℕ) (radio : Radio Term ℕ) → IsLast took s.radio → IsLast took radio → Follows took (packet_sent drb text s radio)
+  sent_packet : (drb : Drb) (text : List ℕ) (s : Phone Term ℕ) (radio : Radio Term ℕ) → TookLast took s.radio → TookLast took radio → Follows took (packet_sent drb text s radio)
   sent_packet drb text s (Connected l) k last = (h, last)
   sent_packet drb text s Idle k last = (h, k)
   sent_packet drb text s (Connecting w) k last = (h, k)
 
-  sent_rrc : (srb : Srb) (text : List ℕ) (s : Phone Term ℕ) (radio : Radio Term ℕ) → IsLast took s.radio → IsLast took radio → Follows took (rrc_sent srb text s radio)
+  sent_rrc : (srb : Srb) (text : List ℕ) (s : Phone Term ℕ) (radio : Radio Term ℕ) → TookLast took s.radio → TookLast took radio → Follows took (rrc_sent srb text s radio)
   sent_rrc srb text s (Connected l) k last = (h, last)
   sent_rrc srb text s Idle k last = (h, k)
   sent_rrc srb text s (Connecting w) k last = (h, k)
 
-  sent_nas : (text : List ℕ) (s : Phone Term ℕ) (o : Option (NasContext Term)) → IsLast took s.radio → Follows took (nas_sent text s o)
+  sent_nas : (text : List ℕ) (s : Phone Term ℕ) (o : Option (NasContext Term)) → TookLast took s.radio → Follows took (nas_sent text s o)
   sent_nas text s None k = (h, k)
   sent_nas text s (Some c) k = (h, k)
 
-  left_nas : (n : ℕ) (s : Phone Term ℕ) (o : Option (NasContext Term)) → IsLast took s.radio → Follows took (nas_left_out n s o)
+  left_nas : (n : ℕ) (s : Phone Term ℕ) (o : Option (NasContext Term)) → TookLast took s.radio → Follows took (nas_left_out n s o)
   left_nas n s None k = (h, k)
   left_nas n s (Some c) k = (h, k)
 
-  left_bearer : (on : Which) (n : ℕ) (s : Phone Term ℕ) (radio : Radio Term ℕ) → IsLast took s.radio → IsLast took radio → Follows took (bearer_left_out on n s radio)
+  left_bearer : (on : Which) (n : ℕ) (s : Phone Term ℕ) (radio : Radio Term ℕ) → TookLast took s.radio → TookLast took radio → Follows took (bearer_left_out on n s radio)
   left_bearer on n s (Connected l) k last = (h, last)
   left_bearer on n s Idle k last = (h, k)
   left_bearer on n s (Connecting w) k last = (h, k)
 
-  act_follows : (row : ActRow) (s : Phone Term ℕ) → IsLast took s.radio → Follows took (act_does (term_reading_by same) row s)
+  act_follows : (row : ActRow) (s : Phone Term ℕ) → TookLast took s.radio → Follows took (act_does (term_reading_by same) row s)
   act_follows (ActRefused answer) s k = (h, k)
   act_follows ServiceRequested s k = requested s s.context k
   act_follows CompleteResent s k = resent s s.radio k k
@@ -156,11 +152,11 @@ module _ (same : Term → Term → Bool) (took : List (Took Term ℕ)) (h : Foll
   act_follows (NasLeftOut n) s k = left_nas n s s.context k
   act_follows (BearerLeftOut on n) s k = left_bearer on n s s.radio k k
 
-  auth_follows : (row : AuthRow) (root : Option Term) (s : Phone Term ℕ) → IsLast took s.radio → Follows took (auth_does row root s)
+  auth_follows : (row : AuthRow) (root : Option Term) (s : Phone Term ℕ) → TookLast took s.radio → Follows took (auth_does row root s)
   auth_follows (Authenticated ksi) None s k = (h, k)
   auth_follows (Authenticated ksi) (Some root) s k = (h, k)
 
-  phone_follows : (row : PhoneRow) (root : Option Term) (s : Phone Term ℕ) → IsLast took s.radio → Follows took (phone_does (term_reading_by same) row root s)
+  phone_follows : (row : PhoneRow) (root : Option Term) (s : Phone Term ℕ) → TookLast took s.radio → Follows took (phone_does (term_reading_by same) row root s)
   phone_follows (OfAuth row) root s k = auth_follows row root s k
   phone_follows (OfNas row) root s k = nas_follows row s k
   phone_follows (OfAir row) root s k = air_follows row s k
@@ -168,7 +164,7 @@ module _ (same : Term → Term → Bool) (took : List (Took Term ℕ)) (h : Foll
 
 -- in a world
 abbrev pub InTurn : World Term ℕ (Outgoing Term ℕ) → Type 0
-InTurn w = Follow None w.took × IsLast w.took w.phone.radio
+InTurn w = Follow None w.took × TookLast w.took w.phone.radio
 
 module _ (same : Term → Term → Bool) (root : ℕ → List ℕ → Term) (octets : Outgoing Term ℕ → List ℕ) (sender : Option (Outgoing Term ℕ) → Option (KeyUse Term)) (opener : Opening Term → List ℕ → Option (Outgoing Term ℕ) → Outcome) where
   abbrev m : Machine Term ℕ (Outgoing Term ℕ)
@@ -222,5 +218,5 @@ module _ (same : Term → Term → Bool) (root : ℕ → List ℕ → Term) (oct
   run_in_turn w (e ∷ es) h = run_in_turn (happens m w e).0 es (happens_in_turn w h e)
 
   -- in every run
-  pub terms_follow : (setup : Setup) (es : List Event) → TermsFollow (run m (first_world setup) es)
-  terms_follow setup es = (run_in_turn (first_world setup) es (tt, tt)).0
+  pub in_turn : (setup : Setup) (es : List Event) → InTurn (run m (first_world setup) es)
+  in_turn setup es = run_in_turn (first_world setup) es (tt, tt)

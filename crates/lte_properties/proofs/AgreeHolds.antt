@@ -13,9 +13,10 @@ use Rattle.lte_machine.specs.PhoneState.{Radio, Idle, Connecting, Connected, Lin
 use Rattle.lte_machine.specs.StationState.{Station, Context}
 use Rattle.lte_machine.specs.Run.{stations_of, first_world}
 use Rattle.lte_properties.specs.ChainBelow.{AllOf}
-use Rattle.lte_properties.specs.Agreement.{IsIn, made_at, ahead, Obeys, Grows, TermsFollow, OneTerm, ContextAt, AtStation, Agree, JoinedBy, IsFar, NoneThere, ComesMade, Agrees}
+use Rattle.lte_properties.specs.Agreement.{IsIn, made_at, ahead, Obeys, Grows, OneTerm, ContextAt, AtStation, Agree, JoinedBy, IsFar, NoneThere, ComesMade, Agrees}
 use Rattle.lte_properties.proofs.ChainLists.{all_map}
 use Rattle.lte_properties.proofs.AgreeGhost.{MadeOk, Ghost, tried_at, keys_of, taken, FromIs, HereIs, CtxOk, StationOk, LinkIs, RadioOk, TookOk}
+use Rattle.lte_properties.proofs.AgreeFollows.{InTurn}
 use Rattle.lte_properties.proofs.AgreeLater.{Later, same_found, here_later}
 use Rattle.lte_properties.proofs.AgreeTold.{SiteOk, term_number}
 use Rattle.lte_properties.proofs.AgreeWorld.{TheWorld, Conns, ghost, WorldOk}
@@ -112,9 +113,10 @@ module _ (cells : List Site) (c : Conns) (w : TheWorld) (h : WorldOk cells c w) 
   comes id None ok = tt
   comes id (Some x) ok = (ok.3.0, ok.3.1, ok.3.2.0, ok.3.2.1, ok.3.2.2, ok.3.4)
 
-  pub agrees : TermsFollow w → Agrees w
-  agrees follow = record {
-    follow = follow;
+  pub agrees : InTurn w → Agrees w
+  agrees turn = record {
+    follow = turn.0;
+    last = turn.1;
     made_once = all_map (MadeOk (ghost c w)) (λ m. made_at w.made m.station m.air ≡ Some m) (λ m k. k.4) w.made h.made;
     obeyed = all_map (TookOk (ghost c w)) (λ x. Obeys w.made x x.before) (λ x k. k.1) w.took h.took;
     grow = all_map (TookOk (ghost c w)) (λ x. Grows x x.before) (λ x k. k.2) w.took h.took;

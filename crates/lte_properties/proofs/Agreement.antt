@@ -28,7 +28,7 @@ use Rattle.lte_properties.proofs.AgreeTold.{SiteOk}
 use Rattle.lte_properties.proofs.AgreeWorld.{TheWorld, Conns, ghost, WorldOk, PlainReads}
 use Rattle.lte_properties.proofs.AgreeEvents.{happens_goes, run_goes}
 use Rattle.lte_properties.proofs.AgreeHolds.{cells_of, no_conns, first_ok, agrees, none_before, of_each}
-use Rattle.lte_properties.proofs.AgreeFollows.{terms_follow}
+use Rattle.lte_properties.proofs.AgreeFollows.{in_turn}
 use Rattle.lte_properties.proofs.AgreeLines.{line_told}
 use Rattle.lte_properties.proofs.AgreeNoted.{keys_told}
 use Rattle.lte_properties.proofs.AgreeCalm.{NewKenb, calm_at}
@@ -89,7 +89,7 @@ agreement_by same root octets sender opener reads setup is events are honest cal
     let first = first_ok setup is in
     let g = run_goes same root octets sender opener reads setup.cells cells_ok (λ conn. 0) (no_conns setup) (first_world setup) events (first_holds setup) first each honest calm in (
       agrees setup.cells g.0 (run (machine_by same root octets sender opener) (first_world setup) events) g.2
-          (terms_follow same root octets sender opener setup events),
+          (in_turn same root octets sender opener setup events),
       none_ever same root octets sender opener reads setup.cells cells_ok (λ conn. 0) (no_conns setup) (first_world setup) events (first_holds setup) first each honest calm,
       lines_along same root octets sender opener reads setup.cells cells_ok (λ conn. 0) (no_conns setup) (first_world setup) events (first_holds setup) first each honest calm,
       keys_told same root octets sender opener (first_world setup) events,

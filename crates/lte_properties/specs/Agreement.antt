@@ -80,6 +80,16 @@ Follow last (x ∷ xs) = Joins x.before last × Follow (Some (record { key = x.k
 abbrev pub TermsFollow : {S : Type 0} → World Term ℕ S → Type 0
 TermsFollow w = Follow None w.took
 
+-- the phone's connection has the key, number and algorithms that it took last, at the station and air address where it
+-- took them
+abbrev pub IsLast : Took Term ℕ → Link Term ℕ → Type 0
+IsLast x l =
+    (x.station ≡ l.station) × (x.air ≡ l.air) × (x.key ≡ l.kenb) × (x.number ≡ l.chain.number) × (x.algs ≡ l.keys.algs)
+
+abbrev pub TookLast : List (Took Term ℕ) → Radio Term ℕ → Type 0
+TookLast took (Connected l) = (xs : List (Took Term ℕ)) × (x : Took Term ℕ) × (took ≡ xs ++ x ∷ []) × IsLast x l
+TookLast took other = ⊤
+
 -- for each air address of a station the phone takes at most one key
 abbrev pub OneTerm : {S : Type 0} → World Term ℕ S → Type 0
 OneTerm w = AllOf (λ x. AllOf (λ y. x.station ≡ y.station → x.air ≡ y.air → x.key ≡ y.key) w.took) w.took
@@ -106,18 +116,18 @@ JoinedBy w (Connected l) = AtStation w l.station (λ s. ContextAt l.air s.contex
 abbrev pub JoinedAgree : {S : Type 0} → World Term ℕ S → Type 0
 JoinedAgree w = JoinedBy w w.phone.radio
 
--- no context of the station has the air address of an obeyed command where the key differs: where it was eight or more
--- steps ahead
+-- the key made there was eight or more steps ahead of the phone's key before
 abbrev pub IsFar : List (Made Term ℕ) → Took Term ℕ → Option (NumberedKey Term ℕ) → Type 0
 IsFar made x None = ⊥
 IsFar made x (Some before) = (m : Made Term ℕ) × (made_at made x.station x.air ≡ Some m) × (8 ≤ ahead m before)
 
--- in world v, of what the phone took in world w
+-- no context of the station has the air address of an obeyed command where the key differs: where it was eight or more
+-- steps ahead; in world v, of what the phone took in world w
 abbrev pub NoneThere : {S : Type 0} → World Term ℕ S → World Term ℕ S → Type 0
 NoneThere v w =
     AllOf (λ x. IsFar w.made x x.before → AtStation v x.station (λ s. ContextAt x.air s.context (λ c. ⊥))) w.took
 
--- in every world of a run, of what the phone took in it
+-- in no world on the way of the run has a context the air address of a far command, whenever in the run that command came
 abbrev pub NoneEver : Machine Term ℕ (Outgoing Term ℕ) → World Term ℕ (Outgoing Term ℕ) → List Event → Type 0
 NoneEver m w es = (n : ℕ) → NoneThere (run m w (take n es)) (run m w es)
 
@@ -126,7 +136,7 @@ abbrev pub HadTaken : List (Took Term ℕ) → ℕ → ℕ → Term → Type 0
 HadTaken took station air key =
     (x : Took Term ℕ) × IsIn x took × (x.station ≡ station) × (x.air ≡ air) × (x.key ≡ key)
 
--- of what was made by an attempt of a handover: the phone had
+-- where what was made came of a handover attempt, the phone had taken its key there
 abbrev pub TakenIfTried : List (Took Term ℕ) → ℕ → ℕ → Term → Option Origin → Type 0
 TakenIfTried took station air key None = ⊤
 TakenIfTried took station air key (Some origin) = HadTaken took station air key
@@ -191,11 +201,13 @@ pub record Agrees {S : Type 0} (w : World Term ℕ S) : Type 0 where
   pub obeyed : ObeysAgreement w
   pub grow : TermsGrow w
   pub follow : TermsFollow w
+  pub last : TookLast w.took w.phone.radio
   pub one_term : OneTerm w
   pub joined : JoinedAgree w
   pub completed : CompletedTaken w
 
--- in the world after these events, of far keys in each world on the way, and in each line
+-- the four statements of a run: in the world after these events, of far commands in each world on the way, of the lines of
+-- completed handovers, and of what each line tells
 abbrev pub AgreementHolds : Machine Term ℕ (Outgoing Term ℕ) → Setup → List Event → Type 0
 AgreementHolds m setup events =
     Agrees (run m (first_world setup) events) × NoneEver m (first_world setup) events

@@ -19,6 +19,8 @@ ghost use Rattle.lte_properties.specs.Agreement.{Agrees, NoneEver};
 ///   eight steps ahead the phone takes the key, number and algorithms that the target made, and at
 ///   eight or more another key and another number;
 /// - within a connection the phone's keys grow, and for each air address it takes at most one;
+/// - a connection of the phone has the key, number and algorithms that the phone took last, and is at
+///   the station and air address where it took them;
 /// - wherever the phone is connected at a station and air address, and the station's context has that
 ///   air address, both have one key, one chain number and the same algorithms;
 /// - a context that came by a handover has a key that the phone had taken at its air address
