@@ -119,7 +119,7 @@ module _ (g h : Ghost) (l : Later g h) where
   tried_later cells e x = (term_later e.conn e.number e.key x.0, x.1, given_later e e.given x.2)
 
   obeys_later : (x : Took Term ℕ) (o : Option (NumberedKey Term ℕ)) → Obeys g.made x o → Obeys h.made x o
-  obeys_later x None y = tt
+  obeys_later x None y = (y.0, l.made x.station x.air y.0 y.1, y.2, y.3)
   obeys_later x (Some before) y = (y.0, l.made x.station x.air y.0 y.1, y.2)
 
   pub took_later : (x : Took Term ℕ) → TookOk g x → TookOk h x

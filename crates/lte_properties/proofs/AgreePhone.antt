@@ -158,22 +158,23 @@ heard_left (OnDrb User4) n b h = h
 
 -- THE ROWS ON A PDU
 
-link_secured_goes : (same : Term → Term → Bool) (g : Ghost) (station air : ℕ) (algs : Algs) (count : ℕ) (s : Phone Term ℕ) (radio : Radio Term ℕ)
+link_secured_goes : (same : Term → Term → Bool) (g : Ghost) → AllOf (MadeOk g) g.made → (station air : ℕ) (algs : Algs) (count : ℕ) (s : Phone Term ℕ) (radio : Radio Term ℕ)
     → RadioOk g s.radio → RadioOk g radio → StartNeeds g station air algs radio
     → PhoneGoes g (link_secured (term_reading_by same) station air algs count s radio)
-link_secured_goes same g station air algs count s (Connecting w) old h needs =
+link_secured_goes same g made station air algs count s (Connecting w) old h needs =
     let m = needs.0 in
     let x : Took Term ℕ = record { station = station; air = air; key = w.kenb; number = 0; algs = algs; before = None } in
     let k = with_took g (Some x) in
     let from : FromIs k m w.kenb m.from_attempt = subst (FromIs k m w.kenb) (sym needs.2) needs.3 in
     let heard : 1 ≤ count + 1 = omega arith in
     let had : HadTaken (g.took ++ x ∷ []) station air w.kenb = (x, in_last x g.took, refl, refl, refl) in
-    let here : HereIs k station air w.kenb = (m, needs.1, from) in (
+    let here : HereIs k station air w.kenb = (m, needs.1, from) in
+    let number : m.number ≡ 0 = subst (FromOk g m) needs.2 (all_found (MadeOk g) _ g.made m made needs.1).3 in (
       ((sym (ap root_of h.1), h.1 ∙ sym (ap base h.1), sym (ap chain_number h.1)), refl, m, needs.1, needs.4, from, had, (λ none. heard)),
-      (here, tt, tt),
+      (here, (m, needs.1, (needs.3, sym number, needs.4), needs.2), tt),
       (w.kenb, refl, here, had),
     )
-link_secured_goes same g station air algs count s other old h needs = (old, tt, tt)
+link_secured_goes same g made station air algs count s other old h needs = (old, tt, tt)
 
 no_origin : {o : Option Origin} {from : Origin} → o ≡ Some from → o ≡ None → ⊥
 no_origin e f = cc
@@ -241,7 +242,7 @@ packet_opened_goes g drb count text s other old h = (old, tt, tt)
 air_goes : (same : Term → Term → Bool) (g : Ghost) → AllOf (MadeOk g) g.made → (row : AirRow) (s : Phone Term ℕ)
     → RadioOk g s.radio → AirNeeds g s.radio row → PhoneGoes g (air_does (term_reading_by same) row s)
 air_goes same g made (AirRefused answer) s h needs = (h, tt, tt)
-air_goes same g made (LinkSecured station air algs count) s h needs = link_secured_goes same g station air algs count s s.radio h h needs
+air_goes same g made (LinkSecured station air algs count) s h needs = link_secured_goes same g made station air algs count s s.radio h h needs
 air_goes same g made (HandedOver cell steps algs station air) s h needs =
     handed_over_goes same g made cell steps algs station air s s.radio h h needs
 air_goes same g made (RrcOpened srb count text) s h needs = rrc_opened_goes same g srb count text s s.radio h h

@@ -49,11 +49,14 @@ ObeysMade x before m =
     (before.number ≤ m.number) × (ahead m before < 8 → TookMade x m)
     × (8 ≤ ahead m before → (x.key ≢ m.key) × (x.number ≢ m.number))
 
+-- what a phone takes when the security of its connection starts is what the station made for the context at that air
+-- address, by no attempt (7.2.4.5 and 7.2.8.1.1)
 abbrev pub Obeys : List (Made Term ℕ) → Took Term ℕ → Option (NumberedKey Term ℕ) → Type 0
-Obeys made x None = ⊤
+Obeys made x None =
+    (m : Made Term ℕ) × (made_at made x.station x.air ≡ Some m) × TookMade x m × (m.from_attempt ≡ None)
 Obeys made x (Some before) = (m : Made Term ℕ) × (made_at made x.station x.air ≡ Some m) × ObeysMade x before m
 
--- at each obeyed command of a run
+-- at each start of a connection's security and each obeyed command of a run
 abbrev pub ObeysAgreement : {S : Type 0} → World Term ℕ S → Type 0
 ObeysAgreement w = AllOf (λ x. Obeys w.made x x.before) w.took
 

@@ -15,6 +15,8 @@ ghost use Rattle.lte_properties.specs.Agreement.{Agrees, NoneEver};
 /// In every run of the written machine with the algorithms of TS 33.401 Annex B that has met no
 /// coincidence, for every setup and every order of deliveries, losses, repeats and injected octets:
 ///
+/// - when the security of a connection starts, the phone takes the key, number and algorithms that the
+///   station made for the context at that air address, by no handover;
 /// - at each obeyed handover command the target's chain number is not below the phone's; fewer than
 ///   eight steps ahead the phone takes the key, number and algorithms that the target made, and at
 ///   eight or more another key and another number;
