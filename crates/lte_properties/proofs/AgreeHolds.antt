@@ -6,6 +6,7 @@ use Rattle.lte_events.specs.Site.{Site}
 use Rattle.key_model.specs.Term.{Term, Root}
 use Rattle.key_model.specs.Number.{chain_number}
 use Rattle.key_model.specs.HandoverTable.{NumberedKey}
+use Rattle.ho_prep.specs.Prep.{Prep}
 use Rattle.lte_machine.specs.Ranges.{IsSetup, IsStation, IsSiteOf, IsEvent}
 use Rattle.lte_machine.specs.Ranges as ranges
 use Rattle.lte_machine.specs.Reply.{Origin, Made, Took}
@@ -13,9 +14,9 @@ use Rattle.lte_machine.specs.PhoneState.{Radio, Idle, Connecting, Connected, Lin
 use Rattle.lte_machine.specs.StationState.{Station, Context}
 use Rattle.lte_machine.specs.Run.{stations_of, first_world}
 use Rattle.lte_properties.specs.ChainBelow.{AllOf}
-use Rattle.lte_properties.specs.Agreement.{IsIn, made_at, ahead, Obeys, Grows, OneTerm, ContextAt, AtStation, Agree, JoinedBy, IsFar, NoneThere, ComesMade, Agrees}
+use Rattle.lte_properties.specs.Agreement.{IsIn, made_at, ahead, Obeys, Grows, OneTerm, ContextAt, AtStation, Agree, JoinedBy, IsFar, NoneThere, ComesMade, PrepMade, Agrees}
 use Rattle.lte_properties.proofs.ChainLists.{all_map}
-use Rattle.lte_properties.proofs.AgreeGhost.{MadeOk, Ghost, tried_at, keys_of, taken, FromIs, HereIs, CtxOk, StationOk, LinkIs, RadioOk, TookOk}
+use Rattle.lte_properties.proofs.AgreeGhost.{MadeOk, Ghost, tried_at, keys_of, taken, FromIs, HereIs, CtxOk, PrepOk, StationOk, LinkIs, RadioOk, TookOk}
 use Rattle.lte_properties.proofs.AgreeFollows.{InTurn}
 use Rattle.lte_properties.proofs.AgreeLater.{Later, same_found, here_later}
 use Rattle.lte_properties.proofs.AgreeTold.{SiteOk, term_number}
@@ -113,6 +114,10 @@ module _ (cells : List Site) (c : Conns) (w : TheWorld) (h : WorldOk cells c w) 
   comes id None ok = tt
   comes id (Some x) ok = (ok.3.0, ok.3.1, ok.3.2.0, ok.3.2.1, ok.3.2.2, ok.3.4)
 
+  preps_made : (id : ℕ) (ps : List (Prep Term ℕ)) → AllOf (PrepOk (ghost c w) id) ps → AllOf (PrepMade w id) ps
+  preps_made id ps ok =
+      all_map (PrepOk (ghost c w) id) (PrepMade w id) (λ p k. (k.3, k.4, k.5.0, k.5.1, k.5.2)) ps ok
+
   pub agrees : InTurn w → Agrees w
   agrees turn = record {
     follow = turn.0;
@@ -123,6 +128,7 @@ module _ (cells : List Site) (c : Conns) (w : TheWorld) (h : WorldOk cells c w) 
     one_term = one_term;
     joined = joined w.phone.radio h.radio;
     completed = all_map (StationOk cells (ghost c w)) (λ s. ComesMade w s.id s.context) (λ s ok. comes s.id s.context ok.0) w.stations h.stations;
+    preps = all_map (StationOk cells (ghost c w)) (λ s. AllOf (PrepMade w s.id) s.preps) (λ s ok. preps_made s.id s.preps ok.1) w.stations h.stations;
   }
 
 -- where the phone took a key that is not the one made, no context has that air address, in any world before or after

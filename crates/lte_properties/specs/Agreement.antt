@@ -3,6 +3,7 @@
 use Rattle.std.specs.Prelude.{◌≡◌, ◌≢◌, ℕ, ◌-◌, ◌≤◌, ◌<◌, ◌==◌, ◌&&◌, Bool, ◌⊎◌, List, [], ◌∷◌, ◌++◌, find, take, Option, Some, None, ⊤}
 use Rattle.key_model.specs.Term.{Term, Star}
 use Rattle.key_model.specs.HandoverTable.{NumberedKey}
+use Rattle.ho_prep.specs.Prep.{Prep}
 use Rattle.lte_machine.specs.Reply.{Note, Origin, Made, Took}
 use Rattle.lte_machine.specs.PhoneState.{Link, Radio, Idle, Connecting, Connected}
 use Rattle.lte_machine.specs.StationState.{Station, Context}
@@ -155,6 +156,15 @@ ComesMade w station (Some c) =
 abbrev pub CompletedTaken : {S : Type 0} → World Term ℕ S → Type 0
 CompletedTaken w = AllOf (λ s. ComesMade w s.id s.context) w.stations
 
+-- a preparation is what its station made for its air address
+abbrev pub PrepMade : {S : Type 0} → World Term ℕ S → ℕ → Prep Term ℕ → Type 0
+PrepMade w station p =
+    (m : Made Term ℕ) × (made_at w.made station p.air ≡ Some m)
+    × (p.key.kenb ≡ m.key) × (p.key.number ≡ m.number) × (p.algs ≡ m.algs)
+
+abbrev pub PrepsMade : {S : Type 0} → World Term ℕ S → Type 0
+PrepsMade w = AllOf (λ s. AllOf (PrepMade w s.id) s.preps) w.stations
+
 -- the context of a station
 abbrev pub HasContext : Option (Context Term ℕ) → (Context Term ℕ → Type 0) → Type 0
 HasContext None P = ⊥
@@ -208,6 +218,7 @@ pub record Agrees {S : Type 0} (w : World Term ℕ S) : Type 0 where
   pub one_term : OneTerm w
   pub joined : JoinedAgree w
   pub completed : CompletedTaken w
+  pub preps : PrepsMade w
 
 -- the four statements of a run: in the world after these events, of far commands in each world on the way, of the lines of
 -- completed handovers, and of what each line tells

@@ -25,6 +25,8 @@ ghost use Rattle.lte_properties.specs.Agreement.{Agrees, NoneEver};
 ///   the station and air address where it took them;
 /// - wherever the phone is connected at a station and air address, and the station's context has that
 ///   air address, both have one key, one chain number and the same algorithms;
+/// - a preparation of a station has the key, number and algorithms that the station made for its air
+///   address;
 /// - a context that came by a handover has a key that the phone had taken at its air address
 ///   (`agree`);
 /// - where the key differs, eight or more steps ahead, no context of any world of the run has that air
