@@ -1,4 +1,4 @@
--- The written machine, which is a run over key terms, and the machine of the program, which is a run over octets.
+-- The written machine, over key terms, and the machine in octets, with which the program is to be compared.
 use Rattle.std.specs.Prelude.{ℕ, Bool, List, Option, Some, None, option_map, Result, Ok, Err}
 use Rattle.rec_base.specs.declared.faults.RecFault.{RecFault}
 use Rattle.lte_events.specs.declared.addresses.Address.{Address}

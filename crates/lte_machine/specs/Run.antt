@@ -30,7 +30,7 @@ abbrev pub replay : {K C S : Type 0} → (Opening K → List ℕ → Outcome) �
 replay by_octets m r [] = r
 replay by_octets m r (e ∷ es) = replay by_octets m (turn by_octets m r e) es
 
--- the world after these events, where no coincidence ends the run
+-- the world after these events; unlike in `replay`, a coincidence does not end it
 abbrev pub run : {K C S : Type 0} → Machine K C S → World K C S → List Event → World K C S
 run m w [] = w
 run m w (e ∷ es) = run m (happens m w e).0 es

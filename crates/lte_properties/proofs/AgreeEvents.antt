@@ -25,7 +25,7 @@ use Rattle.lte_machine.specs.Step.{Attempted, phone_attempts, station_attempts, 
 use Rattle.lte_properties.specs.ChainBelow.{AllOf}
 use Rattle.lte_properties.specs.ChainAbove.{StationAbove, InFlight}
 use Rattle.lte_properties.specs.ChainHolds.{machine_by}
-use Rattle.lte_properties.specs.AgreePremises.{IsHonest, IsCalm, outcome_of, Honest, Calm}
+use Rattle.lte_properties.specs.AgreeOpenings.{IsHonest, IsCalm, outcome_of, Honest, Calm}
 use Rattle.lte_properties.proofs.ChainLists.{OfSome, all_map, all_chosen}
 use Rattle.lte_properties.proofs.AgreeGhost.{SentOk, BetweenOk}
 use Rattle.lte_properties.proofs.AgreeLater.{later_itself, later_after}
@@ -34,7 +34,7 @@ use Rattle.lte_properties.proofs.AgreeTold.{SiteOk}
 use Rattle.lte_properties.proofs.AgreeStationOpens.{CameUp}
 use Rattle.lte_properties.proofs.AgreeCore.{core_record_walks, core_act_walks}
 use Rattle.lte_properties.specs.ChainHolds.{run, noted, Holds}
-use Rattle.lte_properties.specs.AgreePremises.{Along}
+use Rattle.lte_properties.specs.AgreeOpenings.{Along}
 use Rattle.lte_properties.proofs.ChainWorld.{happens_holds}
 use Rattle.lte_properties.proofs.AgreeWorld.{TheWorld, Conns, ghost, WorldOk, Goes, PlainReads, by_world_goes, phone_turn_goes, phone_air_goes, core_turn_goes, found_of, station_acts_goes, station_air_goes, station_s1_goes, station_x2_goes}
 

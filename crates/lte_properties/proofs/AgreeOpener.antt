@@ -18,7 +18,7 @@ use Rattle.lte_machine.specs.Opening.{Opening, OpensNothing, OpensNas, OpensSrb,
 use Rattle.lte_machine.specs.World.{World}
 use Rattle.lte_machine.specs.Step.{attempted}
 use Rattle.lte_properties.specs.ChainHolds.{machine_by}
-use Rattle.lte_properties.specs.AgreePremises.{IsHonest, Honest, OpensByTerms}
+use Rattle.lte_properties.specs.AgreeOpenings.{IsHonest, Honest, OpensByTerms}
 use Rattle.lte_properties.proofs.AgreeWorld.{PlainReads}
 
 one_dir : (a b : Dir) → same_dir a b ≡ true → a ≡ b

@@ -26,7 +26,7 @@ use Rattle.lte_machine.specs.PhoneState.{Waiting, Link, Radio, Idle, Connecting,
 use Rattle.lte_machine.specs.PhoneChoice.{unciphered_text, start_read, start_at, waiting_front, signalling_at, packet_at, linked_front, air_front, AirFront, AtStart, command_taken, signalling_read, air_row}
 use Rattle.lte_machine.specs.PhoneKeys.{air_expects, start_expects, signalling_expects, srb_ciphering_down}
 use Rattle.lte_properties.specs.Agreement.{made_at}
-use Rattle.lte_properties.specs.AgreePremises.{WasSealed, IsHonest, CipheredAs, IsCalm, is_ciphered}
+use Rattle.lte_properties.specs.AgreeOpenings.{WasSealed, IsHonest, CipheredAs, IsCalm, is_ciphered}
 use Rattle.lte_properties.proofs.AgreeGhost.{Ghost, keys_of, TextOk, CipheredSo, DownOk, LinkIs, RadioOk, OrderIs}
 use Rattle.lte_properties.proofs.AgreeLater.{same_found}
 use Rattle.lte_properties.proofs.AgreePhone.{StartNeeds, CommandNeeds, AirNeeds}

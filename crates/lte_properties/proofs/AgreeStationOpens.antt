@@ -32,7 +32,7 @@ use Rattle.lte_machine.specs.StationChoice.{PlainStation, PlainContext, PlainAtt
 use Rattle.lte_machine.specs.StationKeys.{air_expects, starting_expects, prepared_expects}
 use Rattle.lte_machine.specs.StationStep.{plain_station}
 use Rattle.lte_properties.specs.Agreement.{HadTaken}
-use Rattle.lte_properties.specs.AgreePremises.{WasSealed, IsHonest}
+use Rattle.lte_properties.specs.AgreeOpenings.{WasSealed, IsHonest}
 use Rattle.lte_properties.proofs.AgreeGhost.{Ghost, HereIs, IsOrder, X2Ok, S1Ok, AttemptOk, StartedOk, CtxOk, PrepOk, StationOk, UpOk}
 use Rattle.lte_properties.proofs.AgreeLater.{same_found}
 use Rattle.lte_properties.proofs.AgreePhone.{all_found}

@@ -37,7 +37,7 @@ use Rattle.lte_properties.specs.ChainBelow.{AllOf}
 use Rattle.lte_properties.specs.ChainAbove.{ContextAbove, StationAbove, InFlight}
 use Rattle.lte_properties.specs.ChainHolds.{machine_by}
 use Rattle.lte_properties.specs.Agreement.{made_at}
-use Rattle.lte_properties.specs.AgreePremises.{IsHonest, IsCalm, outcome_of}
+use Rattle.lte_properties.specs.AgreeOpenings.{IsHonest, IsCalm, outcome_of}
 use Rattle.lte_properties.proofs.ChainLists.{OfSome, all_one, all_find, all_map, all_both, all_put}
 use Rattle.lte_properties.proofs.AgreeGhost.{Ghost, tried_at, CoreOk, RadioOk, StationOk, SentOk, MadeOk, TriedOk, TookOk, OutOk, BetweenOk}
 use Rattle.lte_properties.proofs.AgreeLater.{Later, later_itself, ctx_later, preps_later, radio_later, sent_later, made_later, tried_later, took_later}

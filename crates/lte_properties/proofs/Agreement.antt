@@ -19,7 +19,7 @@ use Rattle.lte_machine.specs.Run.{first_world}
 use Rattle.lte_properties.specs.ChainBelow.{AllOf}
 use Rattle.lte_properties.specs.ChainHolds.{machine_by, run, noted, Holds}
 use Rattle.lte_properties.specs.Agreement.{NoneEver, CompletedLines, AgreementHolds}
-use Rattle.lte_properties.specs.AgreePremises.{Honest, Calm, Along, OpensByTerms}
+use Rattle.lte_properties.specs.AgreeOpenings.{Honest, Calm, Along, OpensByTerms}
 use Rattle.lte_properties.proofs.ChainWorld.{happens_holds, first_holds}
 use Rattle.lte_properties.specs.FreshPhone.{RadioInOrder, PhoneFresh}
 use Rattle.lte_properties.proofs.FreshPhoneRun.{in_order, happens_order, first_order}

@@ -50,7 +50,7 @@ use Rattle.lte_machine.specs.Machines.{sender_of}
 use Rattle.lte_machine.specs.Ladder.{RowOrigin, Of}
 use Rattle.lte_machine.specs.Distinct.{Member, keys_of}
 use Rattle.key_model.specs.Derivation.{Derivation}
-use Rattle.lte_properties.specs.PacketPremises.{SealedUnder, SenderIs}
+use Rattle.lte_properties.specs.PacketOpenings.{SealedUnder, SenderIs}
 use Rattle.lte_properties.proofs.ChainChoice.{by_test, above_of}
 use Rattle.lte_properties.proofs.PacketCounts.{nas_parts, header_down, header_other}
 use Rattle.lte_properties.proofs.PacketNas.{Choices, RootHas, SealedSo, SealedOk}

@@ -28,8 +28,8 @@ use Rattle.lte_machine.proofs.KnownWorld.{Grounds, happens_grounds}
 use Rattle.lte_machine.proofs.LadderRun.{one_use}
 use Rattle.lte_machine.proofs.MixedRun.{happens_same}
 use Rattle.lte_machine.proofs.StillRun.{goes_on}
-use Rattle.lte_properties.specs.AgreePremises.{Along}
-use Rattle.lte_properties.specs.PacketPremises.{SenderIs, SameRoot}
+use Rattle.lte_properties.specs.AgreeOpenings.{Along}
+use Rattle.lte_properties.specs.PacketOpenings.{SenderIs, SameRoot}
 
 -- WHAT IS REPORTED STAYS SO
 

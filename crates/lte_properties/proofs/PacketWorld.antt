@@ -42,7 +42,7 @@ use Rattle.lte_machine.specs.Machines.{sender_of}
 use Rattle.lte_machine.specs.Distinct.{keys_of}
 use Rattle.lte_properties.specs.ChainBelow.{AllOf}
 use Rattle.lte_properties.specs.ChainHolds.{machine_by}
-use Rattle.lte_properties.specs.PacketPremises.{SenderIs}
+use Rattle.lte_properties.specs.PacketOpenings.{SenderIs}
 use Rattle.lte_properties.proofs.ChainLists.{OfSome, all_one, all_find, all_map}
 use Rattle.lte_properties.proofs.AgreeGhost.{Ghost, StationOk}
 use Rattle.lte_properties.proofs.AgreeLater.{Later}

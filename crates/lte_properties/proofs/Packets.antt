@@ -30,9 +30,9 @@ use Rattle.lte_machine.specs.Machines.{machine_over, sender_of}
 use Rattle.lte_machine.specs.Distinct.{keys_of}
 use Rattle.lte_properties.specs.ChainBelow.{AllOf}
 use Rattle.lte_properties.specs.ChainHolds.{machine_by, run, noted, Holds}
-use Rattle.lte_properties.specs.AgreePremises.{Honest, Calm, Along, OpensByTerms}
+use Rattle.lte_properties.specs.AgreeOpenings.{Honest, Calm, Along, OpensByTerms}
 use Rattle.lte_properties.specs.Packets.{OpensToSent}
-use Rattle.lte_properties.specs.PacketPremises.{SenderIs, SameRoot}
+use Rattle.lte_properties.specs.PacketOpenings.{SenderIs, SameRoot}
 use Rattle.lte_properties.proofs.ChainLists.{OfSome, all_chosen}
 use Rattle.lte_properties.proofs.ChainWorld.{happens_holds, first_holds}
 use Rattle.lte_properties.proofs.AgreeGhost.{Ghost}

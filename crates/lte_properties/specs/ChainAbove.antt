@@ -1,4 +1,5 @@
--- Pairs are above the term of their context, and an answer that can still be accepted is above all of it (TS 33.401 7.2.8.4.2).
+-- The number of a stored or moved pair is above that of its context's KeNB, and an answer that can still be accepted is
+-- above all numbers of its context (TS 33.401 7.2.8.4.2).
 use Rattle.std.specs.Prelude.{◌≡◌, ℕ, ◌<◌, Option, Some, None, ⊤}
 use Rattle.key_model.specs.Term.{Term}
 use Rattle.lte_events.specs.declared.addresses.Address.{Address}
@@ -10,7 +11,7 @@ use Rattle.lte_machine.specs.StationState.{Station, Context}
 use Rattle.lte_machine.specs.StationKeys.{spent_in}
 use Rattle.lte_properties.specs.ChainBelow.{AllOf, OfPair, EachNumber, IsUnder, IsAbove}
 
--- a stored pair, and one that moved into the attempt, is above the term of the context
+-- the number of a stored pair, and of one that moved into the attempt, is above that of the context's KeNB
 abbrev pub ContextAbove : Option (Context Term ℕ) → Type 0
 ContextAbove None = ⊤
 ContextAbove (Some c) = OfPair (IsAbove c.key.number) c.key.pair × OfPair (IsAbove c.key.number) (spent_in c.attempt)

@@ -11,7 +11,7 @@ use Rattle.lte_machine.specs.StationKeys.{spent_in}
 use Rattle.lte_machine.specs.CoreState.{Core, CoreLink}
 pub use Rattle.lte_machine.specs.Ranges.{AllOf}
 
--- a number is so where there is a pair of it
+-- P holds of a pair's number, if there is a pair
 abbrev pub OfPair : (ℕ → Type 0) → Option (NumberedKey Term ℕ) → Type 0
 OfPair P None = ⊤
 OfPair P (Some pair) = P pair.number
@@ -49,7 +49,7 @@ ContextBelow top (Some c) = EachNumber (AtMost (top c.conn)) c
 abbrev pub PrepBelow : (ℕ → ℕ) → Prep Term ℕ → Type 0
 PrepBelow top p = p.key.number ≤ top p.conn
 
--- a station's context and preparations are
+-- and so are those of a station's context and preparations
 abbrev pub StationBelow : (ℕ → ℕ) → Station Term ℕ → Type 0
 StationBelow top s = ContextBelow top s.context × AllOf (PrepBelow top) s.preps
 

@@ -15,7 +15,7 @@ use Rattle.lte_properties.specs.ChainAbove.{StationAbove, InFlight}
 pub use Rattle.lte_machine.specs.Run.{run}
 pub use Rattle.lte_machine.specs.Machines.{machine_by}
 
--- the core's number for each connection, where these were the ones so far
+-- `top`, brought up to date with the number of the core's present connection
 abbrev pub noted : Option (CoreLink Term ℕ) → (ℕ → ℕ) → ℕ → ℕ
 noted None top conn = top conn
 noted (Some link) top conn = if conn == link.conn then link.chain.number else top conn
@@ -26,7 +26,7 @@ core_numbers m w top [] = top
 core_numbers m w top (e ∷ es) = let u = (happens m w e).0 in core_numbers m u (noted u.core.link top) es
 
 -- the core's number for a connection, or its last, is at or above each number of it at core, stations and in flight; stored
--- and moved pairs are above the term of their context; requests and answers in flight fit the station that asked
+-- and moved pairs are above the KeNB of their context; requests and answers in flight fit the station that asked
 pub record Holds (top : ℕ → ℕ) (w : World Term ℕ (Outgoing Term ℕ)) : Type 0 where
   pub core : CoreTop top w.core
   pub below : AllOf (StationBelow top) w.stations

@@ -1,5 +1,5 @@
--- A key stream and a MAC are as good as new each time: no key is used twice with one COUNT, BEARER and DIRECTION
--- (TS 33.401 B.1.1 and B.2.1; TS 33.401 7.2.8.4 and TS 36.323 5.2 where COUNTs start again).
+-- No key is used twice with one COUNT, BEARER and DIRECTION (TS 33.401 B.1.1 and B.2.1), also where COUNTs start again
+-- (TS 33.401 7.2.8.4, TS 36.323 5.2).
 use Rattle.std.specs.Prelude.{◌≡◌, ℕ, List, [], ◌∷◌, slice_get, Option, Some, None, ⊤}
 use Rattle.rec_base.specs.declared.uses.Dir.TheVariants.{Up}
 use Rattle.lte_events.specs.declared.events.Event.{Event}

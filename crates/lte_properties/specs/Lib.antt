@@ -3,7 +3,7 @@ pub mod ChainAbove
 pub mod ChainHolds
 pub mod ChainRows
 pub mod Agreement
-pub mod AgreePremises
+pub mod AgreeOpenings
 pub mod Freshness
 pub mod FreshOrder
 pub mod FreshUses
@@ -12,4 +12,4 @@ pub mod FreshPhone
 pub mod Separation
 pub mod SharedKeys
 pub mod Packets
-pub mod PacketPremises
+pub mod PacketOpenings

@@ -26,7 +26,7 @@ OutsideCannot w key source target given =
 
 -- by the attempt from which the target's key came: the core gave the key of the chain to the source where the source made
 -- KeNB*, over X2 or within the station (7.2.8.4.1 and 7.2.8.4.2), and to the target over S1 (7.2.8.4.3); and no station but
--- these can derive KeNB*
+-- these can derive KeNB*. The key of a handover comes of an attempt
 abbrev pub SharedBy : World Term ℕ (Outgoing Term ℕ) → Term → Term → ℕ → Option Origin → Type 0
 SharedBy w chain_key key target None = ⊥
 SharedBy w chain_key key target (Some o) =

@@ -15,6 +15,10 @@ ghost use Rattle.lte_properties.specs.ChainHolds.{ChainNumbersHold};
 /// stations and in flight; a pair of NH and NCC that a context has stored, or has moved into its
 /// attempt, is above the number of its KeNB; and the answer to a path switch request that can still
 /// be accepted is of the context's connection and above each of its numbers (TS 33.401 7.2.8.4).
+///
+/// It holds for any ciphers and any writing of S1 and X2, whichever test says that two keys are one:
+/// where records open by their senders' uses, as in the written machine (`by_uses`), and where octets
+/// open by themselves (`by_octets`); also behind a coincidence.
 pub fn chain_numbers_hold_in_every_run()
     ensures by_uses { (same : Term → Term → Bool) (c : Ciphers Term)
         (between : Fields → Option (NumberedKey Term ℕ) → List ℕ) (setup : Setup) (events : List Event)

@@ -1,4 +1,4 @@
--- What is taken for granted of the openings of a run, step by step.
+-- What is so of each opening of a run that has met no coincidence, step by step: proved in `AgreeOpener` and `AgreeCalm`.
 use Rattle.std.specs.Prelude.{◌≡◌, ℕ, Bool, true, false, List, [], ◌∷◌, Option, Some, None, ⊤}
 use Rattle.rec_base.specs.declared.uses.Dir.{Dir}
 use Rattle.rec_base.specs.declared.uses.Dir.TheVariants.{Down}
