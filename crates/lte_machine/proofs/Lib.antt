@@ -20,7 +20,7 @@ mod CoreExamples
 pub mod InOctets
 pub mod Scenario
 pub mod Ordinary
-mod LateAnswers
+pub mod LateAnswers
 mod Turns
 mod Edges
 pub mod Rows

@@ -1,6 +1,7 @@
 pub mod AgreeCalm
 pub mod AgreeCore
 pub mod AgreeEvents
+mod AgreeExamples
 pub mod AgreeFollows
 pub mod AgreeGhost
 pub mod AgreeHolds
