@@ -10,7 +10,7 @@ use Rattle.lte_events.specs.declared.classes.Class.{Class}
 use Rattle.lte_events.specs.declared.events.Event.{Event}
 use Rattle.lte_events.specs.declared.setups.Setup.{Setup}
 use Rattle.lte_machine.specs.Opening.{open_octets}
-use Rattle.lte_machine.specs.Run.{Still, first_world, tale}
+use Rattle.lte_machine.specs.Run.{Running, first_world, report}
 use Rattle.lte_machine.proofs.Scenario.{auth, briefs, cancel, computing, done, from_step, machine, newest, number, opening, refuses, setup, smc, told, toy, x2}
 
 -- capabilities that are not the phone's: it refuses the command with a plain reject, which closes the procedure
@@ -57,7 +57,7 @@ last_number = record setup {
   stations = record { id = 0; priority = Eea2 ∷ Eea0 ∷ []; first = 4294967295 } ∷ record { id = 1; priority = Eea2 ∷ Eea0 ∷ []; first = 1 } ∷ [];
 }
 
-number_spent : drop 8 (briefs (tale (open_octets toy) machine (Still (first_world last_number)) (opening ++ x2 0 1 ∷ []))) ≡ (
+number_spent : drop 8 (briefs (report (open_octets toy) machine (Running (first_world last_number)) (opening ++ x2 0 1 ∷ []))) ≡ (
     Some (NumberSpent, None, None, None) ∷ [])
 unfolding computing
 number_spent = refl

@@ -10,14 +10,14 @@ use Rattle.key_model.proofs.ReadingFacts.{values_carry}
 use Rattle.lte_machine.specs.Wire.{KeyUse, Ciphering, map_ciphering, Outgoing, SealedNas, PlainNas, SealedRrc, UserPacket, Between, map_outgoing}
 use Rattle.lte_machine.specs.Ciphers.{Ciphers, AreCiphers, under_keys, ciphered_by, nas_octets, srb_octets, drb_octets}
 use Rattle.lte_machine.specs.Opening.{Opening, OpensNothing, OpensNas, OpensSrb, OpensDrb, map_opening, open_octets}
-use Rattle.lte_machine.specs.Carried.{run_value, told_value}
+use Rattle.lte_machine.specs.Carried.{run_value, report_value}
 use Rattle.lte_machine.specs.Machines.{Kept, machine_in_octets, opening_by_octets, written_machine, written_in_values, kept_in_values}
 use Rattle.lte_machine.specs.Ranges.{AllOf, IsEvent}
-use Rattle.lte_machine.specs.Run.{Ran, replay, tale}
+use Rattle.lte_machine.specs.Run.{RunState, replay, report}
 use Rattle.lte_machine.specs.World.{Machine, World}
 use Rattle.lte_machine.proofs.AnnexB.{under_keys_ciphers, values_respect}
 use Rattle.lte_machine.proofs.NextSame.{replay_same, tale_same}
-use Rattle.lte_machine.proofs.ReplayMap.{Keeps, Holds, replay-map, tale-map}
+use Rattle.lte_machine.proofs.ReplayMap.{Keeps, Holds, replay-map, report-map}
 use Rattle.lte_machine.proofs.WorldMap.{Agree}
 
 module _ {K L : Type 0} (f : K → L) (c : Ciphers L) where
@@ -97,19 +97,19 @@ module _ (c : Ciphers (List ℕ)) where
   KeepsBack I = Keeps m q value_of ncc_of (kept_in_values c) agree (open_octets (under_keys value_of c)) (open_octets c) (open_octets-map value_of c) I
 
   module _ (good : AreCiphers c) (I : World Term ℕ (Outgoing Term ℕ) → Type 0) (k : KeepsBack I) where
-    abbrev Is : Ran Term ℕ (Outgoing Term ℕ) → Type 0
+    abbrev Is : RunState Term ℕ (Outgoing Term ℕ) → Type 0
     Is r = Holds m q value_of ncc_of (kept_in_values c) agree (open_octets (under_keys value_of c)) (open_octets c) (open_octets-map value_of c) I k r
 
     -- the run in octets is the value of the run of the written machine
-    pub run_in_octets : (r : Ran Term ℕ (Outgoing Term ℕ)) (es : List Event) → AllOf IsEvent es → Is r
+    pub run_in_octets : (r : RunState Term ℕ (Outgoing Term ℕ)) (es : List Event) → AllOf IsEvent es → Is r
         → replay (open_octets c) (machine_in_octets c) (run_value c r) es ≡ run_value c (replay (open_octets (under_keys value_of c)) (written_machine c) r es)
     run_in_octets r es are i =
         sym (replay-map m q value_of ncc_of (kept_in_values c) agree (open_octets (under_keys value_of c)) (open_octets c) (open_octets-map value_of c) I k r es are i)
         ∙ ap (run_value c) (sym (replay_same same_value (under_keys value_of c) (under_keys_ciphers value_of c good) (values_respect c) written_in_values r es))
 
     -- and what is told of its events is the value of what is told of the written machine's
-    pub tale_in_octets : (r : Ran Term ℕ (Outgoing Term ℕ)) (es : List Event) → AllOf IsEvent es → Is r
-        → tale (open_octets c) (machine_in_octets c) (run_value c r) es ≡ map told_value (tale (open_octets (under_keys value_of c)) (written_machine c) r es)
+    pub tale_in_octets : (r : RunState Term ℕ (Outgoing Term ℕ)) (es : List Event) → AllOf IsEvent es → Is r
+        → report (open_octets c) (machine_in_octets c) (run_value c r) es ≡ map report_value (report (open_octets (under_keys value_of c)) (written_machine c) r es)
     tale_in_octets r es are i =
-        sym (tale-map m q value_of ncc_of (kept_in_values c) agree (open_octets (under_keys value_of c)) (open_octets c) (open_octets-map value_of c) I k r es are i)
-        ∙ ap (map told_value) (sym (tale_same same_value (under_keys value_of c) (under_keys_ciphers value_of c good) (values_respect c) written_in_values r es))
+        sym (report-map m q value_of ncc_of (kept_in_values c) agree (open_octets (under_keys value_of c)) (open_octets c) (open_octets-map value_of c) I k r es are i)
+        ∙ ap (map report_value) (sym (tale_same same_value (under_keys value_of c) (under_keys_ciphers value_of c good) (values_respect c) written_in_values r es))

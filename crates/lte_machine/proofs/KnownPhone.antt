@@ -13,8 +13,8 @@ use Rattle.pdcp_guard.specs.AsKeys.{as_derivations}
 use Rattle.lte_machine.specs.Bearers.{Srb, Drb, Which}
 use Rattle.lte_machine.specs.Reply.{Reply}
 use Rattle.lte_machine.specs.PhoneState.{Partial, NasContext, Link, Radio, Idle, Connecting, Connected, Phone, nas_derivations}
-use Rattle.lte_machine.specs.PhoneRows.{Authenticated, NasRow, NasRefused, RejectedPlain, RejectedUnder, ContextTaken, ContextTakenConnected, NasOpened, AirRow, AirRefused, LinkSecured, HandedOver, RrcOpened, PacketOpened, ActRow, ActRefused, ServiceRequested, CompleteResent, WentIdle, PacketSent, RrcSent, NasSent, NasLeftOut, BearerLeftOut, PhoneRow, OfAuth, OfNas, OfAir, OfAct}
-use Rattle.lte_machine.specs.PhoneKeys.{authenticated, rejected_under, context_taken, context_taken_connected, nas_opened, nas_does, link_secured, handed_over, rrc_opened, packet_opened, air_does, service_requested, complete_resent, packet_sent, rrc_sent, nas_sent, nas_left_out, bearer_left_out, act_does, phone_does}
+use Rattle.lte_machine.specs.PhoneRows.{Authenticated, NasRow, NasRefused, RejectedPlain, RejectedUnder, ContextTaken, ContextTakenConnected, NasOpened, AirRow, AirRefused, LinkSecured, HandedOver, RrcOpened, PacketOpened, ActRow, ActRefused, ServiceRequested, CompleteResent, WentIdle, PacketSent, RrcSent, NasSent, NasSkipped, BearerSkipped, PhoneRow, OfAuth, OfNas, OfAir, OfAct}
+use Rattle.lte_machine.specs.PhoneKeys.{authenticated, rejected_under, context_taken, context_taken_connected, nas_opened, nas_does, link_secured, handed_over, rrc_opened, packet_opened, air_does, service_requested, complete_resent, packet_sent, rrc_sent, nas_sent, nas_skipped, bearer_skipped, act_does, phone_does}
 use Rattle.lte_machine.specs.Known.{PartialKnown, NasContextKnown, RadioKnown, PhoneKnown, SentKnown}
 use Rattle.lte_machine.proofs.KnownLists.{OfSome, Chain, AllOut, PlusAll, still_known, last_known, chain_append, outs_left, outs_right, as_chain, phone_more}
 
@@ -177,11 +177,11 @@ module _ (same : Term → Term → Bool) (P Q : Term → Type 0) (s : Phone Term
   nas_sent_keeps text None h = (tt, λ o. (q, tt))
   nas_sent_keeps text (Some c) h = (tt, λ o. ((q.0, h, q.2), (h.1.1, h.1.0)))
 
-  nas_left_out_keeps : (n : ℕ) (o : Option (NasContext Term)) → NasContextKnown Q o → PhoneKeeps P Q (nas_left_out n s o)
+  nas_left_out_keeps : (n : ℕ) (o : Option (NasContext Term)) → NasContextKnown Q o → PhoneKeeps P Q (nas_skipped n s o)
   nas_left_out_keeps n None h = (tt, λ o. (q, tt))
   nas_left_out_keeps n (Some c) h = (tt, λ o. ((q.0, h, q.2), tt))
 
-  bearer_left_out_keeps : (bearer : Which) (n : ℕ) (radio : Radio Term ℕ) → RadioKnown Q radio → PhoneKeeps P Q (bearer_left_out bearer n s radio)
+  bearer_left_out_keeps : (bearer : Which) (n : ℕ) (radio : Radio Term ℕ) → RadioKnown Q radio → PhoneKeeps P Q (bearer_skipped bearer n s radio)
   bearer_left_out_keeps bearer n Idle h = (tt, λ o. (q, tt))
   bearer_left_out_keeps bearer n (Connecting w) h = (tt, λ o. (q, tt))
   bearer_left_out_keeps bearer n (Connected l) h = (tt, λ o. ((q.0, q.1, h), tt))
@@ -194,8 +194,8 @@ module _ (same : Term → Term → Bool) (P Q : Term → Type 0) (s : Phone Term
   act_does_keeps (PacketSent drb text) p = packet_sent_keeps drb text s.radio q.2
   act_does_keeps (RrcSent srb text) p = rrc_sent_keeps srb text s.radio q.2
   act_does_keeps (NasSent text) p = nas_sent_keeps text s.context q.1
-  act_does_keeps (NasLeftOut n) p = nas_left_out_keeps n s.context q.1
-  act_does_keeps (BearerLeftOut bearer n) p = bearer_left_out_keeps bearer n s.radio q.2
+  act_does_keeps (NasSkipped n) p = nas_left_out_keeps n s.context q.1
+  act_does_keeps (BearerSkipped bearer n) p = bearer_left_out_keeps bearer n s.radio q.2
 
 -- each row of the phone
 pub phone_does_keeps : (same : Term → Term → Bool) (P Q : Term → Type 0) → ((t : Term) → P t → Q t) → (row : PhoneRow) (root : Option Term) (s : Phone Term ℕ) →

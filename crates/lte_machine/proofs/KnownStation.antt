@@ -13,8 +13,8 @@ use Rattle.x2_handover.specs.declared.orders.Order.{Order}
 use Rattle.lte_machine.specs.Bearers.{Srb, Drb}
 use Rattle.lte_machine.specs.Reply.{Origin, Reply}
 use Rattle.lte_machine.specs.StationState.{Station, Context, Attempt, OverX2, OverS1, Within, X2State, X2Open, X2Ready, X2Commanded, S1Open, S1Ready, S1Commanded}
-use Rattle.lte_machine.specs.StationRows.{Wanted, RecordRow, RecordRefused, ContextGiven, ContextReleased, PairTaken, PreparedByS1, PreparedByX2, AckedByS1, AckedByX2, PreparationCancelled, SourceReleased, AirRow, AirRefused, SecurityStarted, RrcTaken, PacketTaken, CompletedByS1, CompletedWithin, CompletedByX2, ActRow, ActRefused, StartedByX2, StartedByS1, StartedWithin, Commands, CancelledByX2, CancelledByS1, CancelledWithin, AsksAgain, SendsPacket, SendsRrc, LeavesOut, StationRow, OfRecord, OfAir, OfAct}
-use Rattle.lte_machine.specs.StationKeys.{x2_spent, spent_in, s1_acked, x2_acked, x2_commanded, commanded, given_up, with_pair, with_s1_ack, with_x2_ack, with_security, with_rrc_taken, with_packet_taken, with_left_out, source_release, context_given, pair_taken, prepared_by_s1, prepared_by_x2, completed_by_s1, completed_within, completed_by_x2, started_by_x2, started_by_s1, started_within, commands, asks_again, sends_packet, sends_rrc, record_does, air_does, act_does, station_does}
+use Rattle.lte_machine.specs.StationRows.{Wanted, RecordRow, RecordRefused, ContextGiven, ContextReleased, PairTaken, PreparedByS1, PreparedByX2, AckedByS1, AckedByX2, PreparationCancelled, SourceReleased, AirRow, AirRefused, SecurityStarted, RrcOpened, PacketOpened, CompletedByS1, CompletedWithin, CompletedByX2, ActRow, ActRefused, StartedByX2, StartedByS1, StartedWithin, HandoverCommanded, CancelledByX2, CancelledByS1, CancelledWithin, PathSwitchAsked, PacketSent, RrcSent, BearerSkipped, StationRow, OfRecord, OfAir, OfAct}
+use Rattle.lte_machine.specs.StationKeys.{x2_spent, spent_in, s1_acked, x2_acked, x2_commanded, commanded, given_up, with_pair, with_s1_ack, with_x2_ack, with_security, with_rrc_taken, with_packet_taken, with_skipped, source_release, context_given, pair_taken, prepared_by_s1, prepared_by_x2, completed_by_s1, completed_within, completed_by_x2, started_by_x2, started_by_s1, started_within, commands, asks_again, sends_packet, sends_rrc, record_does, air_does, act_does, station_does}
 use Rattle.lte_machine.specs.Ranges.{AllOf}
 use Rattle.lte_machine.specs.Known.{PairKnown, StationKeyKnown, X2Known, AttemptKnown, ContextKnown, PrepKnown, StationKnown, SentKnown}
 use Rattle.lte_machine.proofs.KnownLists.{OfSome, all_append, all_filter, all_find, Chain, AllOut, as_chain, star_chain, pair_more, station_more}
@@ -155,8 +155,8 @@ module _ (same : Term → Term → Bool) (P Q : Term → Type 0) (s : Station Te
   air_keeps : (row : AirRow) → StationKeeps P Q (air_does (term_reading_by same) row s)
   air_keeps (AirRefused answer) = (tt, λ o. (q, tt))
   air_keeps (SecurityStarted count) = (tt, λ o. ((mapped_known Q (with_security count) (λ c h. h) s.context q.0, q.1), tt))
-  air_keeps (RrcTaken srb count text) = (tt, λ o. ((mapped_known Q (with_rrc_taken srb count) (λ c h. h) s.context q.0, q.1), tt))
-  air_keeps (PacketTaken drb count text) = (tt, λ o. ((mapped_known Q (with_packet_taken drb count) (λ c h. h) s.context q.0, q.1), tt))
+  air_keeps (RrcOpened srb count text) = (tt, λ o. ((mapped_known Q (with_rrc_taken srb count) (λ c h. h) s.context q.0, q.1), tt))
+  air_keeps (PacketOpened drb count text) = (tt, λ o. ((mapped_known Q (with_packet_taken drb count) (λ c h. h) s.context q.0, q.1), tt))
   air_keeps (CompletedByS1 air count) = completed_by_s1_keeps count (at_air air s.preps) (all_find (PrepKnown Q) (is_at air) s.preps q.1)
   air_keeps (CompletedWithin air count origin) = completed_within_keeps count origin (at_air air s.preps) (all_find (PrepKnown Q) (is_at air) s.preps q.1)
   air_keeps (CompletedByX2 air count number) = completed_by_x2_keeps count number (at_air air s.preps) (all_find (PrepKnown Q) (is_at air) s.preps q.1)
@@ -203,15 +203,15 @@ module _ (same : Term → Term → Bool) (P Q : Term → Type 0) (s : Station Te
   act_keeps (StartedByX2 number target cell) p = started_by_x2_keeps number target cell s.context p.0 q.0
   act_keeps (StartedByS1 number target cell) p = started_by_s1_keeps number target cell s.context q.0
   act_keeps (StartedWithin number air cell) p = started_within_keeps number air cell s.context p.0 q.0
-  act_keeps (Commands order count) p = commands_keeps order count s.context q.0
+  act_keeps (HandoverCommanded order count) p = commands_keeps order count s.context q.0
   act_keeps (CancelledByX2 conn number target) p = (tt, λ o. ((mapped_known Q given_up (given_up_known Q) s.context q.0, q.1), tt))
   act_keeps (CancelledByS1 conn number cell) p = (tt, λ o. ((mapped_known Q given_up (given_up_known Q) s.context q.0, q.1), tt))
   act_keeps (CancelledWithin number) p =
       (tt, λ o. ((mapped_known Q given_up (given_up_known Q) s.context q.0, all_filter (PrepKnown Q) (λ x. not (is_of s.id number x)) s.preps q.1), tt))
-  act_keeps (AsksAgain number) p = asks_again_keeps number s.context q.0
-  act_keeps (SendsPacket drb count text) p = sends_packet_keeps drb count text s.context q.0
-  act_keeps (SendsRrc srb count text) p = sends_rrc_keeps srb count text s.context q.0
-  act_keeps (LeavesOut on n) p = (tt, λ o. ((mapped_known Q (with_left_out on n) (λ c h. h) s.context q.0, q.1), tt))
+  act_keeps (PathSwitchAsked number) p = asks_again_keeps number s.context q.0
+  act_keeps (PacketSent drb count text) p = sends_packet_keeps drb count text s.context q.0
+  act_keeps (RrcSent srb count text) p = sends_rrc_keeps srb count text s.context q.0
+  act_keeps (BearerSkipped on n) p = (tt, λ o. ((mapped_known Q (with_skipped on n) (λ c h. h) s.context q.0, q.1), tt))
 
 -- each row of a station, where the key of the record that was read is known
 pub station_does_keeps : (same : Term → Term → Bool) (P Q : Term → Type 0) → ((t : Term) → P t → Q t) → (row : StationRow) (key : Option (NumberedKey Term ℕ)) (s : Station Term ℕ) →

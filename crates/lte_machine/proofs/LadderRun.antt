@@ -32,7 +32,7 @@ use Rattle.lte_machine.specs.CoreChoice.{CoreFront, NasSettled as CoreNasSettled
 use Rattle.lte_machine.specs.CoreKeys.{opens_by_procedure, opens_by_context, core_expects}
 use Rattle.lte_machine.specs.World.{World}
 use Rattle.lte_machine.specs.Machines.{sender_of}
-use Rattle.lte_machine.specs.Run.{Still, replay, first_world}
+use Rattle.lte_machine.specs.Run.{Running, replay, first_world}
 use Rattle.lte_machine.specs.Distinct.{keys_of, Member, OneValueOneTerm}
 use Rattle.lte_machine.specs.Mixed.{run, written_with}
 use Rattle.lte_machine.specs.Standing.{RowsStandForTerms, OctetRowsStand}
@@ -74,7 +74,7 @@ module _ (c : Ciphers Term) (between : Fields → Option (NumberedKey Term ℕ) 
   always_grounds setup es = run_grounds Root (octets_of c between) sender_of opener (first_world setup) es (first_grounds setup)
 
   module _ (by_octets : Opening Term → List ℕ → Outcome) (setup : Setup) (es : List Event) (u : World Term ℕ (Outgoing Term ℕ))
-      (is : replay by_octets (written_with c between opener) (Still (first_world setup)) es ≡ Still u) where
+      (is : replay by_octets (written_with c between opener) (Running (first_world setup)) es ≡ Running u) where
     -- every world that a replay without a coincidence comes to
     pub still_grounds : Grounds u
     still_grounds = subst Grounds (sym (still_is_run by_octets (written_with c between opener) (first_world setup) es u is)) (always_grounds setup es)

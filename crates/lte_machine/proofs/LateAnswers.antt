@@ -8,7 +8,7 @@ use Rattle.key_model.specs.HandoverTable.{NumberedKey}
 use Rattle.key_model.specs.Term.{Term, same_term}
 use Rattle.lte_machine.specs.Opening.{open_octets}
 use Rattle.lte_machine.specs.Reply.{Made, Took}
-use Rattle.lte_machine.specs.Run.{Ran, Still, Over, replay}
+use Rattle.lte_machine.specs.Run.{RunState, Running, Stopped, replay}
 use Rattle.lte_machine.specs.Wire.{Outgoing}
 use Rattle.lte_machine.proofs.Scenario.{ask, computing, done, from_step, machine, newest, notes, number, refuses, start, toy, x2_to}
 use Rattle.lte_machine.proofs.Ordinary.{ordinary}
@@ -75,9 +75,9 @@ abbrev last_of : List (Took Term ℕ) → List (Made Term ℕ) → Option (ℕ �
 last_of [] made = None
 last_of (t ∷ took) made = compared t t.before (made_for t made)
 
-abbrev at_end : Ran Term ℕ (Outgoing Term ℕ) → Option (ℕ × Bool)
-at_end (Still w) = last_of (reverse w.took) w.made
-at_end (Over chance) = None
+abbrev at_end : RunState Term ℕ (Outgoing Term ℕ) → Option (ℕ × Bool)
+at_end (Running w) = last_of (reverse w.took) w.made
+at_end (Stopped chance) = None
 
 -- how far ahead the key was that the phone was ordered last, and whether the phone took it
 abbrev pub last_order : List Event → Option (ℕ × Bool)

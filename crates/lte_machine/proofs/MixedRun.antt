@@ -34,7 +34,7 @@ use Rattle.lte_machine.specs.CoreState.{CoreInput, CoreActs, CoreNasPdu, CoreRec
 use Rattle.lte_machine.specs.CoreStep.{core_front_of, core_opens, core_pdu_in, core_step}
 use Rattle.lte_machine.specs.World.{Machine, World, phone_after, core_after, station_after, phone_turn, core_turn, station_of_id, turn_of, station_turn, auth_unless, known_root, next_root, content_in, arrives, chosen, delivered, class_of, is_sent, injected, happens}
 use Rattle.lte_machine.specs.Machines.{sender_of, machine_over}
-use Rattle.lte_machine.specs.Run.{Still, replay, first_world}
+use Rattle.lte_machine.specs.Run.{Running, replay, first_world}
 use Rattle.lte_machine.specs.Distinct.{keys_of, Member, OneValueOneTerm}
 use Rattle.lte_machine.specs.Mixed.{run, by_terms, mixed}
 use Rattle.lte_machine.specs.Known.{RadioKnown, StationKnown, CipheringKnown, SentKnown, OpeningKnown, IsReported}
@@ -368,7 +368,7 @@ module _ (c : Ciphers Term) (between : Fields → Option (NumberedKey Term ℕ) 
 
   -- from any world whose keys were all reported
   pub goes_by_terms : (by_octets : Opening Term → List ℕ → Outcome) (w : TheWorld) (es : List Event) (u : TheWorld) → Grounds w → Calm w →
-      replay by_octets m (Still w) es ≡ Still u → u ≡ run (mixed c between) w es
+      replay by_octets m (Running w) es ≡ Running u → u ≡ run (mixed c between) w es
   goes_by_terms by_octets w [] u g calm is = sym (still_one is)
   goes_by_terms by_octets w (e ∷ es) u g calm is =
       let on = goes_on by_octets m w e es u is in
@@ -377,5 +377,5 @@ module _ (c : Ciphers Term) (between : Fields → Option (NumberedKey Term ℕ) 
 
   -- the written machine's run that has met no coincidence
   pub run_by_terms : (by_octets : Opening Term → List ℕ → Outcome) (setup : Setup) (es : List Event) (u : TheWorld) →
-      replay by_octets m (Still (first_world setup)) es ≡ Still u → u ≡ run (mixed c between) (first_world setup) es
+      replay by_octets m (Running (first_world setup)) es ≡ Running u → u ≡ run (mixed c between) (first_world setup) es
   run_by_terms by_octets setup es u is = goes_by_terms by_octets (first_world setup) es u (first_grounds setup) refl is

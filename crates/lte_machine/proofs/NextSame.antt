@@ -19,7 +19,7 @@ use Rattle.lte_machine.specs.CoreState.{CoreInput, CoreActs, CoreNasPdu}
 use Rattle.lte_machine.specs.CoreStep.{core_step, core_opens, core_pdu_in}
 use Rattle.lte_machine.specs.World.{Machine, World, phone_after, core_after, station_after, phone_turn, core_turn, turn_of, station_of_id, content_in, arrives, chosen, delivered, injected, is_sent, class_of, happens}
 use Rattle.lte_machine.specs.Step.{attempted, arrival_attempts, attempts_at, delivery_attempts, injection_attempts, opening_chance, by_chance, next}
-use Rattle.lte_machine.specs.Run.{Ran, Still, Over, turn, replay, says, tale, after, said}
+use Rattle.lte_machine.specs.Run.{RunState, Running, Stopped, turn, replay, event_report, report, after, reported}
 use Rattle.lte_machine.specs.Machines.{machine_over, opening_by_octets}
 use Rattle.lte_machine.proofs.Opens.{Respects, unsent_alike, sent_alike}
 
@@ -112,19 +112,19 @@ module _ (same : Term → Term → Bool) (c : Ciphers Term) (good : AreCiphers c
       by_value (Some chance) is = (λ j. by_chance same (is j) (happens m w e)) ∙ sym (λ j. by_chance same (is j) (happens q w e))
       by_value None is = ap (by_chance same (opening_chance (open_octets c) m (attempted m w e))) (happens_same w e is)
 
-  pub turn_same : (r : Ran Term ℕ (Outgoing Term ℕ)) (e : Event) → turn (open_octets c) m r e ≡ turn (open_octets c) q r e
-  turn_same (Over chance) e = refl
-  turn_same (Still w) e = ap after (next_same w e)
+  pub turn_same : (r : RunState Term ℕ (Outgoing Term ℕ)) (e : Event) → turn (open_octets c) m r e ≡ turn (open_octets c) q r e
+  turn_same (Stopped chance) e = refl
+  turn_same (Running w) e = ap after (next_same w e)
 
   -- and so has a run
-  pub replay_same : (r : Ran Term ℕ (Outgoing Term ℕ)) (es : List Event) → replay (open_octets c) m r es ≡ replay (open_octets c) q r es
+  pub replay_same : (r : RunState Term ℕ (Outgoing Term ℕ)) (es : List Event) → replay (open_octets c) m r es ≡ replay (open_octets c) q r es
   replay_same r [] = refl
   replay_same r (e ∷ es) = replay_same (turn (open_octets c) m r e) es ∙ ap (λ x. replay (open_octets c) q x es) (turn_same r e)
 
-  says_same : (r : Ran Term ℕ (Outgoing Term ℕ)) (e : Event) → says (open_octets c) m r e ≡ says (open_octets c) q r e
-  says_same (Over chance) e = refl
-  says_same (Still w) e = ap said (next_same w e)
+  says_same : (r : RunState Term ℕ (Outgoing Term ℕ)) (e : Event) → event_report (open_octets c) m r e ≡ event_report (open_octets c) q r e
+  says_same (Stopped chance) e = refl
+  says_same (Running w) e = ap reported (next_same w e)
 
-  pub tale_same : (r : Ran Term ℕ (Outgoing Term ℕ)) (es : List Event) → tale (open_octets c) m r es ≡ tale (open_octets c) q r es
+  pub tale_same : (r : RunState Term ℕ (Outgoing Term ℕ)) (es : List Event) → report (open_octets c) m r es ≡ report (open_octets c) q r es
   tale_same r [] = refl
-  tale_same r (e ∷ es) = λ j. says_same r e j ∷ (tale_same (turn (open_octets c) m r e) es ∙ ap (λ x. tale (open_octets c) q x es) (turn_same r e)) j
+  tale_same r (e ∷ es) = λ j. says_same r e j ∷ (tale_same (turn (open_octets c) m r e) es ∙ ap (λ x. report (open_octets c) q x es) (turn_same r e)) j

@@ -16,9 +16,9 @@ use Rattle.lte_machine.specs.Wire.{Ciphering, map_ciphering, ciphering_if}
 use Rattle.lte_machine.specs.Opening.{Opening, OpensNothing, OpensNas, OpensSrb, OpensDrb, map_opening, Outcome, Opened, Differs, accepted_of}
 use Rattle.lte_machine.specs.Reply.{finished, unseen}
 use Rattle.lte_machine.specs.PhoneState.{Partial, map_partial, NasContext, map_context, Link, map_link, Radio, Idle, Connecting, Connected, map_radio, Phone, map_phone, PhoneInput, PhoneAuth, PhoneActs, PhoneNasPdu, PhoneAirPdu, map_phone_input}
-use Rattle.lte_machine.specs.PhoneRows.{Authenticated, NasRow, NasRefused, RejectedPlain, RejectedUnder, ContextTaken, ContextTakenConnected, NasOpened, AirRow, AirRefused, LinkSecured, HandedOver, RrcOpened, PacketOpened, ActRow, ActRefused, ServiceRequested, CompleteResent, WentIdle, PacketSent, RrcSent, NasSent, NasLeftOut, BearerLeftOut, PhoneRow, OfAuth, OfNas, OfAir, OfAct}
+use Rattle.lte_machine.specs.PhoneRows.{Authenticated, NasRow, NasRefused, RejectedPlain, RejectedUnder, ContextTaken, ContextTakenConnected, NasOpened, AirRow, AirRefused, LinkSecured, HandedOver, RrcOpened, PacketOpened, ActRow, ActRefused, ServiceRequested, CompleteResent, WentIdle, PacketSent, RrcSent, NasSent, NasSkipped, BearerSkipped, PhoneRow, OfAuth, OfNas, OfAir, OfAct}
 use Rattle.lte_machine.specs.PhoneChoice.{NasFront, NasSettled, AtCommand, AtMessage, AirFront, AirSettled, AtStart, AtSignalling, AtPacket, PhoneFront, Settled, FromNas, FromAir, phone_front, phone_row}
-use Rattle.lte_machine.specs.PhoneKeys.{command_expects, message_expects, nas_expects, start_expects, signalling_expects, packet_expects, air_expects, phone_expects, authenticated, rejected_under, context_taken, context_taken_connected, nas_opened, nas_does, link_secured, arrived, handed_over, rrc_opened, packet_opened, air_does, service_requested, complete_resent, packet_sent, rrc_sent, nas_sent, nas_left_out, bearer_left_out, act_does, phone_does}
+use Rattle.lte_machine.specs.PhoneKeys.{command_expects, message_expects, nas_expects, start_expects, signalling_expects, packet_expects, air_expects, phone_expects, authenticated, rejected_under, context_taken, context_taken_connected, nas_opened, nas_does, link_secured, arrived, handed_over, rrc_opened, packet_opened, air_does, service_requested, complete_resent, packet_sent, rrc_sent, nas_sent, nas_skipped, bearer_skipped, act_does, phone_does}
 use Rattle.lte_machine.specs.PhoneStep.{phone_root, plain_phone, plain_input, front_of, phone_opens, phone_step, map_phone_step}
 use Rattle.lte_machine.proofs.ReachMap.{map_reached, reached_after-map}
 
@@ -212,14 +212,14 @@ module _ {K C L D : Type 0} (r : Reading K C) (q : Reading L D) (f : K → L) (g
   nas_sent-map text s None = refl
   nas_sent-map text s (Some n) = refl
 
-  nas_left_out-map : (n : ℕ) (s : Phone K C) (o : Option (NasContext K)) → map_phone_step f g (nas_left_out n s o) ≡ nas_left_out n (map_phone f g s) (option_map (map_context f) o)
-  nas_left_out-map n s None = refl
-  nas_left_out-map n s (Some m) = refl
+  nas_skipped-map : (n : ℕ) (s : Phone K C) (o : Option (NasContext K)) → map_phone_step f g (nas_skipped n s o) ≡ nas_skipped n (map_phone f g s) (option_map (map_context f) o)
+  nas_skipped-map n s None = refl
+  nas_skipped-map n s (Some m) = refl
 
-  bearer_left_out-map : (bearer : Which) (n : ℕ) (s : Phone K C) (radio : Radio K C) → map_phone_step f g (bearer_left_out bearer n s radio) ≡ bearer_left_out bearer n (map_phone f g s) (map_radio f g radio)
-  bearer_left_out-map bearer n s Idle = refl
-  bearer_left_out-map bearer n s (Connecting w) = refl
-  bearer_left_out-map bearer n s (Connected l) = refl
+  bearer_skipped-map : (bearer : Which) (n : ℕ) (s : Phone K C) (radio : Radio K C) → map_phone_step f g (bearer_skipped bearer n s radio) ≡ bearer_skipped bearer n (map_phone f g s) (map_radio f g radio)
+  bearer_skipped-map bearer n s Idle = refl
+  bearer_skipped-map bearer n s (Connecting w) = refl
+  bearer_skipped-map bearer n s (Connected l) = refl
 
   act_does-map : (row : ActRow) (s : Phone K C) → map_phone_step f g (act_does r row s) ≡ act_does q row (map_phone f g s)
   act_does-map (ActRefused answer) s = refl
@@ -229,8 +229,8 @@ module _ {K C L D : Type 0} (r : Reading K C) (q : Reading L D) (f : K → L) (g
   act_does-map (PacketSent drb text) s = packet_sent-map drb text s s.radio
   act_does-map (RrcSent srb text) s = rrc_sent-map srb text s s.radio
   act_does-map (NasSent text) s = nas_sent-map text s s.context
-  act_does-map (NasLeftOut n) s = nas_left_out-map n s s.context
-  act_does-map (BearerLeftOut bearer n) s = bearer_left_out-map bearer n s s.radio
+  act_does-map (NasSkipped n) s = nas_skipped-map n s s.context
+  act_does-map (BearerSkipped bearer n) s = bearer_skipped-map bearer n s s.radio
 
   phone_does-map : (row : PhoneRow) (root : Option K) (s : Phone K C) → map_phone_step f g (phone_does r row root s) ≡ phone_does q row (option_map f root) (map_phone f g s)
   phone_does-map (OfAuth (Authenticated ksi)) root s = authenticated-map ksi s root

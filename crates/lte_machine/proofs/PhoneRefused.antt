@@ -10,9 +10,9 @@ use Rattle.lte_machine.specs.Bearers.{Srb, Drb, Which}
 use Rattle.lte_machine.specs.Opening.{Outcome, accepted_of}
 use Rattle.lte_machine.specs.Reply.{finished}
 use Rattle.lte_machine.specs.PhoneState.{Partial, NasContext, Radio, Idle, Connecting, Connected, Phone, PhoneInput}
-use Rattle.lte_machine.specs.PhoneRows.{Authenticated, NasRow, NasRefused, RejectedPlain, RejectedUnder, ContextTaken, ContextTakenConnected, NasOpened, AirRow, AirRefused, LinkSecured, HandedOver, RrcOpened, PacketOpened, ActRow, ActRefused, ServiceRequested, CompleteResent, WentIdle, PacketSent, RrcSent, NasSent, NasLeftOut, BearerLeftOut, PhoneRow, OfAuth, OfNas, OfAir, OfAct}
+use Rattle.lte_machine.specs.PhoneRows.{Authenticated, NasRow, NasRefused, RejectedPlain, RejectedUnder, ContextTaken, ContextTakenConnected, NasOpened, AirRow, AirRefused, LinkSecured, HandedOver, RrcOpened, PacketOpened, ActRow, ActRefused, ServiceRequested, CompleteResent, WentIdle, PacketSent, RrcSent, NasSent, NasSkipped, BearerSkipped, PhoneRow, OfAuth, OfNas, OfAir, OfAct}
 use Rattle.lte_machine.specs.PhoneChoice.{phone_row}
-use Rattle.lte_machine.specs.PhoneKeys.{authenticated, rejected_under, context_taken, context_taken_connected, nas_opened, nas_does, link_secured, handed_over, rrc_opened, packet_opened, air_does, service_requested, complete_resent, packet_sent, rrc_sent, nas_sent, nas_left_out, bearer_left_out, act_does, phone_does, one_nas_sent}
+use Rattle.lte_machine.specs.PhoneKeys.{authenticated, rejected_under, context_taken, context_taken_connected, nas_opened, nas_does, link_secured, handed_over, rrc_opened, packet_opened, air_does, service_requested, complete_resent, packet_sent, rrc_sent, nas_sent, nas_skipped, bearer_skipped, act_does, phone_does, one_nas_sent}
 use Rattle.lte_machine.specs.PhoneStep.{phone_root, plain_phone, front_of, phone_opens, phone_step, after_refusal, refusal_of, IsReject, Refused}
 
 module _ {K C : Type 0} (r : Reading K C) where
@@ -82,14 +82,14 @@ module _ {K C : Type 0} (r : Reading K C) where
   nas_sent-refused text s None refused = absurd (refused refl)
   nas_sent-refused text s (Some x) refused = absurd (refused refl)
 
-  nas_left_out-refused : (n : ℕ) (s : Phone K C) (o : Option (NasContext K)) → Refused s (nas_left_out n s o)
-  nas_left_out-refused n s None refused = absurd (refused refl)
-  nas_left_out-refused n s (Some x) refused = absurd (refused refl)
+  nas_skipped-refused : (n : ℕ) (s : Phone K C) (o : Option (NasContext K)) → Refused s (nas_skipped n s o)
+  nas_skipped-refused n s None refused = absurd (refused refl)
+  nas_skipped-refused n s (Some x) refused = absurd (refused refl)
 
-  bearer_left_out-refused : (bearer : Which) (n : ℕ) (s : Phone K C) (radio : Radio K C) → Refused s (bearer_left_out bearer n s radio)
-  bearer_left_out-refused bearer n s Idle refused = absurd (refused refl)
-  bearer_left_out-refused bearer n s (Connecting x) refused = absurd (refused refl)
-  bearer_left_out-refused bearer n s (Connected l) refused = absurd (refused refl)
+  bearer_skipped-refused : (bearer : Which) (n : ℕ) (s : Phone K C) (radio : Radio K C) → Refused s (bearer_skipped bearer n s radio)
+  bearer_skipped-refused bearer n s Idle refused = absurd (refused refl)
+  bearer_skipped-refused bearer n s (Connecting x) refused = absurd (refused refl)
+  bearer_skipped-refused bearer n s (Connected l) refused = absurd (refused refl)
 
   nas_does-refused : (row : NasRow) (s : Phone K C) → Refused s (nas_does r row s)
   nas_does-refused (NasRefused answer) s = λ refused. (refl, refl, tt)
@@ -114,8 +114,8 @@ module _ {K C : Type 0} (r : Reading K C) where
   act_does-refused (PacketSent drb text) s = packet_sent-refused drb text s s.radio
   act_does-refused (RrcSent srb text) s = rrc_sent-refused srb text s s.radio
   act_does-refused (NasSent text) s = nas_sent-refused text s s.context
-  act_does-refused (NasLeftOut n) s = nas_left_out-refused n s s.context
-  act_does-refused (BearerLeftOut bearer n) s = bearer_left_out-refused bearer n s s.radio
+  act_does-refused (NasSkipped n) s = nas_skipped-refused n s s.context
+  act_does-refused (BearerSkipped bearer n) s = bearer_skipped-refused bearer n s s.radio
 
   phone_does-refused : (row : PhoneRow) (root : Option K) (s : Phone K C) → Refused s (phone_does r row root s)
   phone_does-refused (OfAuth (Authenticated ksi)) root s = authenticated-refused ksi s root

@@ -26,7 +26,7 @@ use Rattle.lte_machine.specs.Opening.{Outcome, Opened, Differs}
 use Rattle.lte_machine.specs.Ranges.{AllOf, IsStationAct}
 use Rattle.lte_machine.specs.Reply.{Origin}
 use Rattle.lte_machine.specs.StationState.{OverX2, OverS1, Within, X2State, X2Open, X2Ready, X2Commanded, S1State, S1Open, S1Ready, S1Commanded, Interface, OnS1, OnX2, StationInput, StationActs, AirPdu, StationRecord}
-use Rattle.lte_machine.specs.StationRows.{Wanted, RecordRow, ContextGiven, PairTaken, PreparedByS1, PreparedByX2, AckedByS1, AckedByX2, AirRow, CompletedByX2, CompletedWithin, ActRow, StartedByX2, StartedByS1, StartedWithin, CancelledByX2, CancelledByS1, AsksAgain, StationRow, OfRecord, OfAir, OfAct}
+use Rattle.lte_machine.specs.StationRows.{Wanted, RecordRow, ContextGiven, PairTaken, PreparedByS1, PreparedByX2, AckedByS1, AckedByX2, AirRow, CompletedByX2, CompletedWithin, ActRow, StartedByX2, StartedByS1, StartedWithin, CancelledByX2, CancelledByS1, PathSwitchAsked, StationRow, OfRecord, OfAir, OfAct}
 use Rattle.lte_machine.specs.StationChoice.{PlainStation, PlainContext, PlainAttempt, runs_out, station_of, is_own, is_full, is_misplaced, greatest, initial_chosen, initial_row, release_row, answer_row_by, answer_row, wanted_chosen, wanted_row, acked_open, s1_acked_row, s1_ack_row, x2_acked_row, x2_ack_row, cancel_row, x2_released_row, x2_release_row, s1_row, x2_row, record_row, AirFront, AirSettled, OnStarting, OnSignalling, OnUser, OnPrepared, counted, starting_front, active_front, context_front, prepared_front, air_front_by, air_front, starting_row, rrc_row, completed_row, prepared_row, air_row, active_row, unless_spent, begun_row, alone_row, target_row, start_row, x2_command_row, s1_command_row, attempt_command_row, command_row, x2_cancel_row, s1_cancel_row, within_cancel_row, attempt_cancel_row, give_up_row, came_row, ask_row, packet_row, send_rrc_row, skip_row, act_row, station_front, station_row}
 use Rattle.lte_machine.proofs.RangeHolds.{OriginRanged, ByRanged, X2Ranged, S1Ranged, AttemptRanged, ContextRanged, PrepRanged, PrepIs, StationRanged, ReadRanged, StationInputRanged}
 
@@ -52,7 +52,7 @@ ActRowRanged (StartedByS1 number target cell) = IsNumber number × IsCell cell
 ActRowRanged (StartedWithin number air cell) = IsNumber number × IsCell cell
 ActRowRanged (CancelledByX2 conn number target) = IsNumber conn × IsNumber number
 ActRowRanged (CancelledByS1 conn number cell) = IsNumber conn × IsNumber number × IsCell cell
-ActRowRanged (AsksAgain number) = IsNumber number
+ActRowRanged (PathSwitchAsked number) = IsNumber number
 ActRowRanged other = Unit {0}
 
 abbrev pub RowRanged : StationRow → Type 0

@@ -7,8 +7,8 @@ use Rattle.key_model.specs.Reading.{term_reading_by}
 use Rattle.key_model.specs.Term.{Term}
 use Rattle.lte_machine.specs.Bearers.{Srb, Drb, Which}
 use Rattle.lte_machine.specs.PhoneState.{Partial, NasContext, Radio, Idle, Connecting, Connected, Phone}
-use Rattle.lte_machine.specs.PhoneRows.{Authenticated, NasRow, NasRefused, RejectedPlain, RejectedUnder, ContextTaken, ContextTakenConnected, NasOpened, AirRow, AirRefused, LinkSecured, HandedOver, RrcOpened, PacketOpened, ActRow, ActRefused, ServiceRequested, CompleteResent, WentIdle, PacketSent, RrcSent, NasSent, NasLeftOut, BearerLeftOut, PhoneRow, OfAuth, OfNas, OfAir, OfAct}
-use Rattle.lte_machine.specs.PhoneKeys.{authenticated, rejected_under, context_taken, context_taken_connected, nas_opened, link_secured, handed_over, rrc_opened, packet_opened, service_requested, complete_resent, packet_sent, rrc_sent, nas_sent, nas_left_out, bearer_left_out, nas_does, air_does, act_does, phone_does}
+use Rattle.lte_machine.specs.PhoneRows.{Authenticated, NasRow, NasRefused, RejectedPlain, RejectedUnder, ContextTaken, ContextTakenConnected, NasOpened, AirRow, AirRefused, LinkSecured, HandedOver, RrcOpened, PacketOpened, ActRow, ActRefused, ServiceRequested, CompleteResent, WentIdle, PacketSent, RrcSent, NasSent, NasSkipped, BearerSkipped, PhoneRow, OfAuth, OfNas, OfAir, OfAct}
+use Rattle.lte_machine.specs.PhoneKeys.{authenticated, rejected_under, context_taken, context_taken_connected, nas_opened, link_secured, handed_over, rrc_opened, packet_opened, service_requested, complete_resent, packet_sent, rrc_sent, nas_sent, nas_skipped, bearer_skipped, nas_does, air_does, act_does, phone_does}
 use Rattle.lte_machine.proofs.RangeHolds.{SentRanged}
 
 -- each row, by the context or the radio that it looks into: NAS messages, RRC texts and user packets alone
@@ -76,11 +76,11 @@ nas_sent_sends : (text : List ℕ) (s : Phone Term ℕ) (o : Option (NasContext 
 nas_sent_sends text s None = tt
 nas_sent_sends text s (Some x) = tt
 
-nas_left_out_sends : (n : ℕ) (s : Phone Term ℕ) (o : Option (NasContext Term)) → SentRanged (nas_left_out n s o).1.sent
+nas_left_out_sends : (n : ℕ) (s : Phone Term ℕ) (o : Option (NasContext Term)) → SentRanged (nas_skipped n s o).1.sent
 nas_left_out_sends n s None = tt
 nas_left_out_sends n s (Some x) = tt
 
-bearer_left_out_sends : (bearer : Which) (n : ℕ) (s : Phone Term ℕ) (radio : Radio Term ℕ) → SentRanged (bearer_left_out bearer n s radio).1.sent
+bearer_left_out_sends : (bearer : Which) (n : ℕ) (s : Phone Term ℕ) (radio : Radio Term ℕ) → SentRanged (bearer_skipped bearer n s radio).1.sent
 bearer_left_out_sends bearer n s Idle = tt
 bearer_left_out_sends bearer n s (Connecting x) = tt
 bearer_left_out_sends bearer n s (Connected l) = tt
@@ -110,8 +110,8 @@ act_does_sends same WentIdle s = tt
 act_does_sends same (PacketSent drb text) s = packet_sent_sends drb text s s.radio
 act_does_sends same (RrcSent srb text) s = rrc_sent_sends srb text s s.radio
 act_does_sends same (NasSent text) s = nas_sent_sends text s s.context
-act_does_sends same (NasLeftOut n) s = nas_left_out_sends n s s.context
-act_does_sends same (BearerLeftOut bearer n) s = bearer_left_out_sends bearer n s s.radio
+act_does_sends same (NasSkipped n) s = nas_left_out_sends n s s.context
+act_does_sends same (BearerSkipped bearer n) s = bearer_left_out_sends bearer n s s.radio
 
 -- a row of the phone sends no record of S1 or X2
 pub phone_does_sends : (same : Term → Term → Bool) (row : PhoneRow) (root : Option Term) (s : Phone Term ℕ) → SentRanged (phone_does (term_reading_by same) row root s).1.sent

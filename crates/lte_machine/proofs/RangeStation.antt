@@ -16,8 +16,8 @@ use Rattle.lte_machine.specs.Opening.{Outcome}
 use Rattle.lte_machine.specs.Ranges.{AllOf}
 use Rattle.lte_machine.specs.Reply.{Origin, Reply, unseen}
 use Rattle.lte_machine.specs.StationState.{Station, Context, Attempt, OverX2, OverS1, Within, X2Open, X2Ready, X2Commanded, S1Open, S1Ready, S1Commanded, StationInput, StationActs, AirPdu, StationRecord, map_context, map_attempt, map_preps, map_station_input}
-use Rattle.lte_machine.specs.StationRows.{Wanted, RecordRow, RecordRefused, ContextGiven, ContextReleased, PairTaken, PreparedByS1, PreparedByX2, AckedByS1, AckedByX2, PreparationCancelled, SourceReleased, AirRow, AirRefused, SecurityStarted, RrcTaken, PacketTaken, CompletedByS1, CompletedWithin, CompletedByX2, ActRow, ActRefused, StartedByX2, StartedByS1, StartedWithin, Commands, CancelledByX2, CancelledByS1, CancelledWithin, AsksAgain, SendsPacket, SendsRrc, LeavesOut, StationRow, OfRecord, OfAir, OfAct}
-use Rattle.lte_machine.specs.StationKeys.{s1_acked, x2_acked, commanded, given_up, with_pair, with_s1_ack, with_x2_ack, with_security, with_rrc_taken, with_packet_taken, with_left_out, source_release, context_given, pair_taken, prepared_by_s1, prepared_by_x2, completed_by_s1, completed_within, completed_by_x2, started_by_x2, started_by_s1, started_within, commands, asks_again, sends_packet, sends_rrc, record_does, air_does, act_does, station_does}
+use Rattle.lte_machine.specs.StationRows.{Wanted, RecordRow, RecordRefused, ContextGiven, ContextReleased, PairTaken, PreparedByS1, PreparedByX2, AckedByS1, AckedByX2, PreparationCancelled, SourceReleased, AirRow, AirRefused, SecurityStarted, RrcOpened, PacketOpened, CompletedByS1, CompletedWithin, CompletedByX2, ActRow, ActRefused, StartedByX2, StartedByS1, StartedWithin, HandoverCommanded, CancelledByX2, CancelledByS1, CancelledWithin, PathSwitchAsked, PacketSent, RrcSent, BearerSkipped, StationRow, OfRecord, OfAir, OfAct}
+use Rattle.lte_machine.specs.StationKeys.{s1_acked, x2_acked, commanded, given_up, with_pair, with_s1_ack, with_x2_ack, with_security, with_rrc_taken, with_packet_taken, with_skipped, source_release, context_given, pair_taken, prepared_by_s1, prepared_by_x2, completed_by_s1, completed_within, completed_by_x2, started_by_x2, started_by_s1, started_within, commands, asks_again, sends_packet, sends_rrc, record_does, air_does, act_does, station_does}
 use Rattle.lte_machine.specs.StationStep.{plain_station, station_row_of, station_key, station_step}
 use Rattle.lte_machine.proofs.RangeHolds.{SentRanged, OriginRanged, AttemptRanged, ContextRanged, PrepRanged, PrepIs, StationRanged, StationInputRanged}
 use Rattle.lte_machine.proofs.RangeChoice.{WantedRanged, RecordRowRanged, AirRowRanged, ActRowRanged, RowRanged, found_ranged, row_ranged}
@@ -197,8 +197,8 @@ module _ (same : Term → Term → Bool) where
   air_does_ranged : (row : AirRow) (s : Station Term ℕ) → AirRowRanged row → StationRanged s → StationDone (air_does r row s)
   air_does_ranged (AirRefused answer) s f h = (h, tt)
   air_does_ranged (SecurityStarted count) s f h = ((h.0, h.1, with_ranged (with_security count) (λ c k. k) s.context h.2, h.3), tt)
-  air_does_ranged (RrcTaken srb count text) s f h = ((h.0, h.1, with_ranged (with_rrc_taken srb count) (λ c k. k) s.context h.2, h.3), tt)
-  air_does_ranged (PacketTaken drb count text) s f h = ((h.0, h.1, with_ranged (with_packet_taken drb count) (λ c k. k) s.context h.2, h.3), tt)
+  air_does_ranged (RrcOpened srb count text) s f h = ((h.0, h.1, with_ranged (with_rrc_taken srb count) (λ c k. k) s.context h.2, h.3), tt)
+  air_does_ranged (PacketOpened drb count text) s f h = ((h.0, h.1, with_ranged (with_packet_taken drb count) (λ c k. k) s.context h.2, h.3), tt)
   air_does_ranged (CompletedByS1 air count) s f h = completed_by_s1_ranged count (at_air air s.preps) s (found_ranged air s.preps h.3) h
   air_does_ranged (CompletedWithin air count origin) s f h = completed_within_ranged count origin (at_air air s.preps) s f (found_ranged air s.preps h.3) h
   air_does_ranged (CompletedByX2 air count number) s f h = completed_by_x2_ranged count number (at_air air s.preps) s f (found_ranged air s.preps h.3) h
@@ -254,15 +254,15 @@ module _ (same : Term → Term → Bool) where
   act_does_ranged (StartedByX2 number target cell) s f h = started_by_x2_ranged number target cell s.context s f h.2 h
   act_does_ranged (StartedByS1 number target cell) s f h = started_by_s1_ranged number target cell s.context s f h.2 h
   act_does_ranged (StartedWithin number air cell) s f h = started_within_ranged number air cell s.context s f h.2 h
-  act_does_ranged (Commands order count) s f h = commands_ranged order count s.context s h.2 h
+  act_does_ranged (HandoverCommanded order count) s f h = commands_ranged order count s.context s h.2 h
   act_does_ranged (CancelledByX2 conn number target) s f h = ((h.0, h.1, given_up_ranged s.context h.2, h.3), ((f.0, h.0, f.1), tt))
   act_does_ranged (CancelledByS1 conn number cell) s f h = ((h.0, h.1, given_up_ranged s.context h.2, h.3), ((f.0, h.0, f.1, f.2), tt))
   act_does_ranged (CancelledWithin number) s f h =
       ((h.0, h.1, given_up_ranged s.context h.2, all_filter PrepRanged (λ p. not (is_of s.id number p)) s.preps h.3), tt)
-  act_does_ranged (AsksAgain number) s f h = asks_again_ranged number s.context s f h.2 h
-  act_does_ranged (SendsPacket drb count text) s f h = sends_packet_ranged drb count text s.context s h.2 h
-  act_does_ranged (SendsRrc srb count text) s f h = sends_rrc_ranged srb count text s.context s h.2 h
-  act_does_ranged (LeavesOut on n) s f h = ((h.0, h.1, with_ranged (with_left_out on n) (λ c k. k) s.context h.2, h.3), tt)
+  act_does_ranged (PathSwitchAsked number) s f h = asks_again_ranged number s.context s f h.2 h
+  act_does_ranged (PacketSent drb count text) s f h = sends_packet_ranged drb count text s.context s h.2 h
+  act_does_ranged (RrcSent srb count text) s f h = sends_rrc_ranged srb count text s.context s h.2 h
+  act_does_ranged (BearerSkipped on n) s f h = ((h.0, h.1, with_ranged (with_skipped on n) (λ c k. k) s.context h.2, h.3), tt)
 
   station_does_ranged : (row : StationRow) (key : Option (NumberedKey Term ℕ)) (s : Station Term ℕ) → RowRanged row → StationRanged s → StationDone (station_does r row key s)
   station_does_ranged (OfRecord row) key s f h = record_does_ranged row key s f h

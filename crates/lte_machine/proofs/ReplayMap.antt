@@ -16,10 +16,10 @@ use Rattle.lte_machine.specs.StationStep.{station_pdu_in}
 use Rattle.lte_machine.specs.CoreState.{CoreInput, CoreActs, CoreNasPdu, CoreRecord, map_core_input}
 use Rattle.lte_machine.specs.CoreStep.{core_pdu_in}
 use Rattle.lte_machine.specs.World.{Machine, World, Line, station_of_id, content_in, chosen, is_sent, class_of, happens}
-use Rattle.lte_machine.specs.Step.{Attempted, attempted, phone_attempts, core_attempts, attempts_at, station_attempts, arrival_attempts, delivery_attempts, injection_attempts, opening_chance, Next, Goes, Ends, by_ladder, by_chance, next}
-use Rattle.lte_machine.specs.Run.{Ran, Still, Over, after, turn, replay, said, says, tale}
+use Rattle.lte_machine.specs.Step.{Attempted, attempted, phone_attempts, core_attempts, attempts_at, station_attempts, arrival_attempts, delivery_attempts, injection_attempts, opening_chance, StepResult, Continues, Stops, by_ladder, by_chance, next}
+use Rattle.lte_machine.specs.Run.{RunState, Running, Stopped, after, turn, replay, reported, event_report, report}
 use Rattle.lte_machine.specs.Ranges.{AllOf, IsEvent}
-use Rattle.lte_machine.specs.Carried.{map_world, map_line, map_clash, map_chance, map_ran, map_said}
+use Rattle.lte_machine.specs.Carried.{map_world, map_line, map_clash, map_chance, map_run_state, map_report}
 use Rattle.lte_machine.proofs.PhoneMap.{phone_opens_map}
 use Rattle.lte_machine.proofs.CoreMap.{core_opens_map}
 use Rattle.lte_machine.proofs.StationMap.{station_opens_map}
@@ -29,9 +29,9 @@ use Rattle.lte_machine.proofs.WorldMap.{Agree, map_told, station_of_id-map, chos
 abbrev map_attempted : {K S L T : Type 0} → (K → L) → (S → T) → Attempted K S → Attempted L T
 map_attempted f z a = record { opening = map_opening f a.opening; octets = a.octets; came = option_map z a.came }
 
-abbrev map_next : {K C S L D T : Type 0} → (K → L) → (C → D) → (S → T) → Next K C S → Next L D T
-map_next f g z (Goes w line) = Goes (map_world f g z w) (map_line f line)
-map_next f g z (Ends chance) = Ends (map_chance f chance)
+abbrev map_next : {K C S L D T : Type 0} → (K → L) → (C → D) → (S → T) → StepResult K C S → StepResult L D T
+map_next f g z (Continues w line) = Continues (map_world f g z w) (map_line f line)
+map_next f g z (Stops chance) = Stops (map_chance f chance)
 
 module _ {K C S L D T : Type 0} (m : Machine K C S) (q : Machine L D T) (f : K → L) (g : C → D) (z : S → T) (a : Agree m q f g z)
     (by_octets : Opening K → List ℕ → Outcome) (by_octets' : Opening L → List ℕ → Outcome) (opens : (p : Opening K) (pdu : List ℕ) → by_octets' (map_opening f p) pdu ≡ by_octets p pdu) where
@@ -155,13 +155,13 @@ module _ {K C S L D T : Type 0} (m : Machine K C S) (q : Machine L D T) (f : K �
       ((chance-map (attempted m w e) ∙ ap (opening_chance by_octets' q) (attempted-map w e back)) j)
       (happens-map m q f g z a w e back j))
 
-  after-map : (n : Next K C S) → map_ran f g z (after n) ≡ after (map_next f g z n)
-  after-map (Goes w line) = refl
-  after-map (Ends chance) = refl
+  after-map : (n : StepResult K C S) → map_run_state f g z (after n) ≡ after (map_next f g z n)
+  after-map (Continues w line) = refl
+  after-map (Stops chance) = refl
 
-  said-map : (n : Next K C S) → map_said f (said n) ≡ said (map_next f g z n)
-  said-map (Goes w line) = refl
-  said-map (Ends chance) = refl
+  reported-map : (n : StepResult K C S) → map_report f (reported n) ≡ reported (map_next f g z n)
+  reported-map (Continues w line) = refl
+  reported-map (Stops chance) = refl
 
   -- a property of worlds that every event keeps, and by which what was sent reads back
   pub record Keeps (I : World K C S → Type 0) : Type 0 where
@@ -169,9 +169,9 @@ module _ {K C S L D T : Type 0} (m : Machine K C S) (q : Machine L D T) (f : K �
     pub back : (w : World K C S) (e : Event) → IsEvent e → I w → BackOf m q f g z a w e
 
   module _ (I : World K C S → Type 0) (k : Keeps I) where
-    abbrev pub Holds : Ran K C S → Type 0
-    Holds (Still w) = I w
-    Holds (Over chance) = Unit {0}
+    abbrev pub Holds : RunState K C S → Type 0
+    Holds (Running w) = I w
+    Holds (Stopped chance) = Unit {0}
 
     next_holds : (h : World K C S × Line K) (o : Option (Clash K)) → I h.0 → Holds (after (by_ladder o h))
     next_holds h None i = i
@@ -181,26 +181,26 @@ module _ {K C S L D T : Type 0} (m : Machine K C S) (q : Machine L D T) (f : K �
     chance_holds None h i = next_holds h (ladder_of m.reading.same h.0.history).clash i
     chance_holds (Some chance) h i = tt
 
-    pub turn_holds : (r : Ran K C S) (e : Event) → IsEvent e → Holds r → Holds (turn by_octets m r e)
-    turn_holds (Over chance) e is i = tt
-    turn_holds (Still w) e is i = chance_holds (opening_chance by_octets m (attempted m w e)) (happens m w e) (k.keeps w e is i)
+    pub turn_holds : (r : RunState K C S) (e : Event) → IsEvent e → Holds r → Holds (turn by_octets m r e)
+    turn_holds (Stopped chance) e is i = tt
+    turn_holds (Running w) e is i = chance_holds (opening_chance by_octets m (attempted m w e)) (happens m w e) (k.keeps w e is i)
 
-    turn-map : (r : Ran K C S) (e : Event) → IsEvent e → Holds r → map_ran f g z (turn by_octets m r e) ≡ turn by_octets' q (map_ran f g z r) e
-    turn-map (Over chance) e is i = refl
-    turn-map (Still w) e is i = after-map (next by_octets m w e) ∙ ap after (next-map w e (k.back w e is i))
+    turn-map : (r : RunState K C S) (e : Event) → IsEvent e → Holds r → map_run_state f g z (turn by_octets m r e) ≡ turn by_octets' q (map_run_state f g z r) e
+    turn-map (Stopped chance) e is i = refl
+    turn-map (Running w) e is i = after-map (next by_octets m w e) ∙ ap after (next-map w e (k.back w e is i))
 
-    pub replay-map : (r : Ran K C S) (es : List Event) → AllOf IsEvent es → Holds r → map_ran f g z (replay by_octets m r es) ≡ replay by_octets' q (map_ran f g z r) es
+    pub replay-map : (r : RunState K C S) (es : List Event) → AllOf IsEvent es → Holds r → map_run_state f g z (replay by_octets m r es) ≡ replay by_octets' q (map_run_state f g z r) es
     replay-map r [] are i = refl
     replay-map r (e ∷ es) are i =
         replay-map (turn by_octets m r e) es are.1 (turn_holds r e are.0 i)
         ∙ ap (λ x. replay by_octets' q x es) (turn-map r e are.0 i)
 
-    says-map : (r : Ran K C S) (e : Event) → IsEvent e → Holds r → map_said f (says by_octets m r e) ≡ says by_octets' q (map_ran f g z r) e
-    says-map (Over chance) e is i = refl
-    says-map (Still w) e is i = said-map (next by_octets m w e) ∙ ap said (next-map w e (k.back w e is i))
+    event_report-map : (r : RunState K C S) (e : Event) → IsEvent e → Holds r → map_report f (event_report by_octets m r e) ≡ event_report by_octets' q (map_run_state f g z r) e
+    event_report-map (Stopped chance) e is i = refl
+    event_report-map (Running w) e is i = reported-map (next by_octets m w e) ∙ ap reported (next-map w e (k.back w e is i))
 
-    pub tale-map : (r : Ran K C S) (es : List Event) → AllOf IsEvent es → Holds r → map (map_said f) (tale by_octets m r es) ≡ tale by_octets' q (map_ran f g z r) es
-    tale-map r [] are i = refl
-    tale-map r (e ∷ es) are i = λ j.
-        says-map r e are.0 i j
-        ∷ (tale-map (turn by_octets m r e) es are.1 (turn_holds r e are.0 i) ∙ ap (λ x. tale by_octets' q x es) (turn-map r e are.0 i)) j
+    pub report-map : (r : RunState K C S) (es : List Event) → AllOf IsEvent es → Holds r → map (map_report f) (report by_octets m r es) ≡ report by_octets' q (map_run_state f g z r) es
+    report-map r [] are i = refl
+    report-map r (e ∷ es) are i = λ j.
+        event_report-map r e are.0 i j
+        ∷ (report-map (turn by_octets m r e) es are.1 (turn_holds r e are.0 i) ∙ ap (λ x. report by_octets' q x es) (turn-map r e are.0 i)) j

@@ -35,7 +35,7 @@ use Rattle.lte_machine.specs.CoreChoice.{core_header}
 use Rattle.lte_machine.specs.PhoneChoice.{header_for_phone}
 use Rattle.lte_machine.specs.Machines.{machine_over}
 use Rattle.lte_machine.specs.World.{Machine, Line}
-use Rattle.lte_machine.specs.Run.{Ran, Still, Said, Tells, Meets, tale, first_world}
+use Rattle.lte_machine.specs.Run.{RunState, Running, EventReport, Reported, Coincided, report, first_world}
 
 -- a number by which the keys of a scenario differ
 abbrev pub weight : Term → ℕ
@@ -79,8 +79,8 @@ setup = record {
   cells = record { station = 0; cell = place 0 } ∷ record { station = 1; cell = place 1 } ∷ [];
 }
 
-abbrev pub start : Ran Term ℕ (Outgoing Term ℕ)
-start = Still (first_world setup)
+abbrev pub start : RunState Term ℕ (Outgoing Term ℕ)
+start = Running (first_world setup)
 
 -- events
 abbrev pub auth : ℕ → ℕ → Event
@@ -138,13 +138,13 @@ abbrev pub brief : Line Term → Brief
 brief l = (without_macs l.answer, l.sent, option_map (λ n. (n.ncc, n.way)) l.note, l.opened)
 
 -- what is told, or that a coincidence ended the run
-abbrev pub briefs : List (Said Term) → List (Option Brief)
+abbrev pub briefs : List (EventReport Term) → List (Option Brief)
 briefs [] = []
-briefs (Tells l ∷ said) = Some (brief l) ∷ briefs said
-briefs (Meets chance ∷ said) = None ∷ briefs said
+briefs (Reported l ∷ reported) = Some (brief l) ∷ briefs reported
+briefs (Coincided chance ∷ reported) = None ∷ briefs reported
 
 abbrev pub told : List Event → List (Option Brief)
-told events = briefs (tale (open_octets toy) machine start events)
+told events = briefs (report (open_octets toy) machine start events)
 
 -- what a run computes with
 unfoldable pub computing : Unit {0}

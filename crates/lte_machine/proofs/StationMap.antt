@@ -21,7 +21,7 @@ use Rattle.lte_machine.specs.Opening.{Opening, OpensNothing, OpensNas, OpensSrb,
 use Rattle.key_model.specs.Use.{map_use}
 use Rattle.lte_machine.specs.Reply.{Origin, finished}
 use Rattle.lte_machine.specs.StationState.{Station, Context, Attempt, OverX2, OverS1, Within, X2State, X2Open, X2Ready, X2Commanded, S1Open, S1Ready, S1Commanded, StationInput, StationActs, AirPdu, StationRecord, map_x2_state, map_attempt, map_context, map_station, map_read, map_station_input}
-use Rattle.lte_machine.specs.StationRows.{Wanted, RecordRow, RecordRefused, ContextGiven, ContextReleased, PairTaken, PreparedByS1, PreparedByX2, AckedByS1, AckedByX2, PreparationCancelled, SourceReleased, AirRow, AirRefused, SecurityStarted, RrcTaken, PacketTaken, CompletedByS1, CompletedWithin, CompletedByX2, ActRow, ActRefused, StartedByX2, StartedByS1, StartedWithin, Commands, CancelledByX2, CancelledByS1, CancelledWithin, AsksAgain, SendsPacket, SendsRrc, LeavesOut, StationRow, OfRecord, OfAir, OfAct}
+use Rattle.lte_machine.specs.StationRows.{Wanted, RecordRow, RecordRefused, ContextGiven, ContextReleased, PairTaken, PreparedByS1, PreparedByX2, AckedByS1, AckedByX2, PreparationCancelled, SourceReleased, AirRow, AirRefused, SecurityStarted, RrcOpened, PacketOpened, CompletedByS1, CompletedWithin, CompletedByX2, ActRow, ActRefused, StartedByX2, StartedByS1, StartedWithin, HandoverCommanded, CancelledByX2, CancelledByS1, CancelledWithin, PathSwitchAsked, PacketSent, RrcSent, BearerSkipped, StationRow, OfRecord, OfAir, OfAct}
 use Rattle.lte_machine.specs.StationChoice.{AirFront, AirSettled, OnStarting, OnSignalling, OnUser, OnPrepared, StationFront, Settled, FromAir, station_front, station_row}
 use Rattle.lte_machine.specs.StationKeys as keys
 use Rattle.lte_machine.specs.StationStep.{key_read, station_key, station_front_of, station_opens, station_row_of, station_step, map_station_done}
@@ -242,8 +242,8 @@ module _ {K C L D : Type 0} {r : Reading K C} {q : Reading L D} {f : K → L} {g
       map_station_done f g (keys.air_does r row s) ≡ keys.air_does q row (map_station f g s)
   air_does_map (AirRefused answer) s = refl
   air_does_map (SecurityStarted count) s = rw (with_security_map count s.context) refl
-  air_does_map (RrcTaken srb count text) s = rw (with_rrc_taken_map srb count s.context) refl
-  air_does_map (PacketTaken drb count text) s = rw (with_packet_taken_map drb count s.context) refl
+  air_does_map (RrcOpened srb count text) s = rw (with_rrc_taken_map srb count s.context) refl
+  air_does_map (PacketOpened drb count text) s = rw (with_packet_taken_map drb count s.context) refl
   air_does_map (CompletedByS1 air count) s = rw (at_air_map f g air s.preps) (completed_by_s1_map count (at_air air s.preps) s)
   air_does_map (CompletedWithin air count origin) s =
       rw (at_air_map f g air s.preps) (completed_within_map count origin (at_air air s.preps) s)
@@ -365,8 +365,8 @@ module _ {K C L D : Type 0} {r : Reading K C} {q : Reading L D} {f : K → L} {g
   sends_rrc_map srb count text (Some x) s = refl
 
   with_left_out_map : (on : Which) (n : ℕ) (o : Option (Context K C)) →
-      option_map (map_context f g) (option_map (keys.with_left_out on n) o)
-      ≡ option_map (keys.with_left_out on n) (option_map (map_context f g) o)
+      option_map (map_context f g) (option_map (keys.with_skipped on n) o)
+      ≡ option_map (keys.with_skipped on n) (option_map (map_context f g) o)
   with_left_out_map on n None = refl
   with_left_out_map on n (Some x) = refl
 
@@ -376,15 +376,15 @@ module _ {K C L D : Type 0} {r : Reading K C} {q : Reading L D} {f : K → L} {g
   act_does_map (StartedByX2 number target cell) s = started_by_x2_map number target cell s.context s
   act_does_map (StartedByS1 number target cell) s = started_by_s1_map number target cell s.context s
   act_does_map (StartedWithin number air cell) s = started_within_map number air cell s.context s
-  act_does_map (Commands order count) s = commands_map order count s.context s
+  act_does_map (HandoverCommanded order count) s = commands_map order count s.context s
   act_does_map (CancelledByX2 conn number target) s = rw (given_up_map s.context) refl
   act_does_map (CancelledByS1 conn number cell) s = rw (given_up_map s.context) refl
   act_does_map (CancelledWithin number) s =
       rw (given_up_map s.context, ← without_map f g s.id number s.preps) refl
-  act_does_map (AsksAgain number) s = asks_again_map number s.context s
-  act_does_map (SendsPacket drb count text) s = sends_packet_map drb count text s.context s
-  act_does_map (SendsRrc srb count text) s = sends_rrc_map srb count text s.context s
-  act_does_map (LeavesOut on n) s = rw (with_left_out_map on n s.context) refl
+  act_does_map (PathSwitchAsked number) s = asks_again_map number s.context s
+  act_does_map (PacketSent drb count text) s = sends_packet_map drb count text s.context s
+  act_does_map (RrcSent srb count text) s = sends_rrc_map srb count text s.context s
+  act_does_map (BearerSkipped on n) s = rw (with_left_out_map on n s.context) refl
 
   -- THE STEP
 

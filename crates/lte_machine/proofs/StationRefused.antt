@@ -11,7 +11,7 @@ use Rattle.lte_machine.specs.Bearers.{Srb, Drb}
 use Rattle.lte_machine.specs.Opening.{Outcome}
 use Rattle.lte_machine.specs.Reply.{Origin, Reply, only, finished}
 use Rattle.lte_machine.specs.StationState.{Station, Context, StationInput}
-use Rattle.lte_machine.specs.StationRows.{RecordRow, RecordRefused, ContextGiven, ContextReleased, PairTaken, PreparedByS1, PreparedByX2, AckedByS1, AckedByX2, PreparationCancelled, SourceReleased, AirRow, AirRefused, SecurityStarted, RrcTaken, PacketTaken, CompletedByS1, CompletedWithin, CompletedByX2, ActRow, ActRefused, StartedByX2, StartedByS1, StartedWithin, Commands, CancelledByX2, CancelledByS1, CancelledWithin, AsksAgain, SendsPacket, SendsRrc, LeavesOut, StationRow, OfRecord, OfAir, OfAct}
+use Rattle.lte_machine.specs.StationRows.{RecordRow, RecordRefused, ContextGiven, ContextReleased, PairTaken, PreparedByS1, PreparedByX2, AckedByS1, AckedByX2, PreparationCancelled, SourceReleased, AirRow, AirRefused, SecurityStarted, RrcOpened, PacketOpened, CompletedByS1, CompletedWithin, CompletedByX2, ActRow, ActRefused, StartedByX2, StartedByS1, StartedWithin, HandoverCommanded, CancelledByX2, CancelledByS1, CancelledWithin, PathSwitchAsked, PacketSent, RrcSent, BearerSkipped, StationRow, OfRecord, OfAir, OfAct}
 use Rattle.lte_machine.specs.StationKeys as keys
 use Rattle.lte_machine.specs.StationStep.{station_key, station_row_of, station_step}
 
@@ -59,8 +59,8 @@ module _ {K C : Type 0} (r : Reading K C) where
   air_unchanged : (row : AirRow) (s : Station K C) → Unchanged s (keys.air_does r row s)
   air_unchanged (AirRefused answer) s = λ h. refl
   air_unchanged (SecurityStarted count) s = done s _
-  air_unchanged (RrcTaken srb count text) s = done s _
-  air_unchanged (PacketTaken drb count text) s = done s _
+  air_unchanged (RrcOpened srb count text) s = done s _
+  air_unchanged (PacketOpened drb count text) s = done s _
   air_unchanged (CompletedByS1 air count) s = completed_by_s1_unchanged count (at_air air s.preps) s
   air_unchanged (CompletedWithin air count origin) s = completed_within_unchanged count origin (at_air air s.preps) s
   air_unchanged (CompletedByX2 air count number) s = completed_by_x2_unchanged count number (at_air air s.preps) s
@@ -105,14 +105,14 @@ module _ {K C : Type 0} (r : Reading K C) where
   act_unchanged (StartedByX2 number target cell) s = started_by_x2_unchanged number target cell s.context s
   act_unchanged (StartedByS1 number target cell) s = started_by_s1_unchanged number target cell s.context s
   act_unchanged (StartedWithin number air cell) s = started_within_unchanged number air cell s.context s
-  act_unchanged (Commands order count) s = commands_unchanged order count s.context s
+  act_unchanged (HandoverCommanded order count) s = commands_unchanged order count s.context s
   act_unchanged (CancelledByX2 conn number target) s = done s _
   act_unchanged (CancelledByS1 conn number cell) s = done s _
   act_unchanged (CancelledWithin number) s = done s _
-  act_unchanged (AsksAgain number) s = asks_again_unchanged number s.context s
-  act_unchanged (SendsPacket drb count text) s = sends_packet_unchanged drb count text s.context s
-  act_unchanged (SendsRrc srb count text) s = sends_rrc_unchanged srb count text s.context s
-  act_unchanged (LeavesOut on n) s = done s _
+  act_unchanged (PathSwitchAsked number) s = asks_again_unchanged number s.context s
+  act_unchanged (PacketSent drb count text) s = sends_packet_unchanged drb count text s.context s
+  act_unchanged (RrcSent srb count text) s = sends_rrc_unchanged srb count text s.context s
+  act_unchanged (BearerSkipped on n) s = done s _
 
   does_unchanged : (row : StationRow) (key : Option (NumberedKey K C)) (s : Station K C) →
       Unchanged s (keys.station_does r row key s)

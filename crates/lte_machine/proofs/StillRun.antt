@@ -6,20 +6,20 @@ use Rattle.lte_machine.specs.Ladder.{Clash, ladder_of}
 use Rattle.lte_machine.specs.Tuples.{Chance, Rows}
 use Rattle.lte_machine.specs.World.{Machine, World, Line, happens}
 use Rattle.lte_machine.specs.Step.{by_ladder, by_chance, opening_chance, attempted}
-use Rattle.lte_machine.specs.Run.{Still, Over, after, turn, replay}
+use Rattle.lte_machine.specs.Run.{Running, Stopped, after, turn, replay}
 use Rattle.lte_machine.specs.Mixed.{run}
 
-pub still_one : {K C S : Type 0} {u v : World K C S} → Still u ≡ Still v → u ≡ v
+pub still_one : {K C S : Type 0} {u v : World K C S} → Running u ≡ Running v → u ≡ v
 still_one e = cc
 
 module _ {K C S : Type 0} (by_octets : Opening K → List ℕ → Outcome) (m : Machine K C S) where
   -- a run that is over stays so
-  over_stays : (chance : Chance K) (es : List Event) → replay by_octets m (Over chance) es ≡ Over chance
+  over_stays : (chance : Chance K) (es : List Event) → replay by_octets m (Stopped chance) es ≡ Stopped chance
   over_stays chance [] = refl
   over_stays chance (e ∷ es) = over_stays chance es
 
-  over_or_still : (chance : Chance K) (es : List Event) (u : World K C S) → replay by_octets m (Over chance) es ≡ Still u → ⊥
-  over_or_still chance es u e = let bad : Over chance ≡ Still u = sym (over_stays chance es) ∙ e in cc
+  over_or_still : (chance : Chance K) (es : List Event) (u : World K C S) → replay by_octets m (Stopped chance) es ≡ Running u → ⊥
+  over_or_still chance es u e = let bad : Stopped chance ≡ Running u = sym (over_stays chance es) ∙ e in cc
 
   -- the ladder of a world has no clash
   abbrev pub Calm : World K C S → Type 0
@@ -27,41 +27,41 @@ module _ {K C S : Type 0} (by_octets : Opening K → List ℕ → Outcome) (m : 
 
   -- a step that the run goes on after, with no clash
   abbrev GoesOn : World K C S × Line K → List Event → World K C S → Type 0
-  GoesOn h es u = Calm h.0 × (replay by_octets m (Still h.0) es ≡ Still u)
+  GoesOn h es u = Calm h.0 × (replay by_octets m (Running h.0) es ≡ Running u)
 
   by_clash : (h : World K C S × Line K) (o : Option (Clash K)) → (ladder_of m.reading.same h.0.history).clash ≡ o → (es : List Event) (u : World K C S)
-      → replay by_octets m (after (by_ladder o h)) es ≡ Still u → GoesOn h es u
+      → replay by_octets m (after (by_ladder o h)) es ≡ Running u → GoesOn h es u
   by_clash h None is es u e = (is, e)
   by_clash h (Some clash) is es u e = absurd (over_or_still (Rows clash) es u e)
 
   by_tuples : (h : World K C S × Line K) (o : Option (Chance K)) (es : List Event) (u : World K C S)
-      → replay by_octets m (after (by_chance m.reading.same o h)) es ≡ Still u → GoesOn h es u
+      → replay by_octets m (after (by_chance m.reading.same o h)) es ≡ Running u → GoesOn h es u
   by_tuples h None es u e = by_clash h (ladder_of m.reading.same h.0.history).clash refl es u e
   by_tuples h (Some chance) es u e = absurd (over_or_still chance es u e)
 
   -- the first event of a run that meets no coincidence
-  pub goes_on : (w : World K C S) (e : Event) (es : List Event) (u : World K C S) → replay by_octets m (Still w) (e ∷ es) ≡ Still u → GoesOn (happens m w e) es u
+  pub goes_on : (w : World K C S) (e : Event) (es : List Event) (u : World K C S) → replay by_octets m (Running w) (e ∷ es) ≡ Running u → GoesOn (happens m w e) es u
   goes_on w e es u is = by_tuples (happens m w e) (opening_chance by_octets m (attempted m w e)) es u is
 
   -- and the world after that event
-  after_clash : (h : World K C S × Line K) (o : Option (Clash K)) (es : List Event) (u : World K C S) → replay by_octets m (after (by_ladder o h)) es ≡ Still u → after (by_ladder o h) ≡ Still h.0
+  after_clash : (h : World K C S × Line K) (o : Option (Clash K)) (es : List Event) (u : World K C S) → replay by_octets m (after (by_ladder o h)) es ≡ Running u → after (by_ladder o h) ≡ Running h.0
   after_clash h None es u e = refl
   after_clash h (Some clash) es u e = absurd (over_or_still (Rows clash) es u e)
 
-  after_chance : (h : World K C S × Line K) (o : Option (Chance K)) (es : List Event) (u : World K C S) → replay by_octets m (after (by_chance m.reading.same o h)) es ≡ Still u
-      → after (by_chance m.reading.same o h) ≡ Still h.0
+  after_chance : (h : World K C S × Line K) (o : Option (Chance K)) (es : List Event) (u : World K C S) → replay by_octets m (after (by_chance m.reading.same o h)) es ≡ Running u
+      → after (by_chance m.reading.same o h) ≡ Running h.0
   after_chance h None es u e = after_clash h (ladder_of m.reading.same h.0.history).clash es u e
   after_chance h (Some chance) es u e = absurd (over_or_still chance es u e)
 
-  pub turns_to : (w : World K C S) (e : Event) (es : List Event) (u : World K C S) → replay by_octets m (Still w) (e ∷ es) ≡ Still u → turn by_octets m (Still w) e ≡ Still (happens m w e).0
+  pub turns_to : (w : World K C S) (e : Event) (es : List Event) (u : World K C S) → replay by_octets m (Running w) (e ∷ es) ≡ Running u → turn by_octets m (Running w) e ≡ Running (happens m w e).0
   turns_to w e es u is = after_chance (happens m w e) (opening_chance by_octets m (attempted m w e)) es u is
 
   -- such a run is the plain one
-  pub still_is_run : (w : World K C S) (es : List Event) (u : World K C S) → replay by_octets m (Still w) es ≡ Still u → u ≡ run m w es
+  pub still_is_run : (w : World K C S) (es : List Event) (u : World K C S) → replay by_octets m (Running w) es ≡ Running u → u ≡ run m w es
   still_is_run w [] u is = sym (still_one is)
   still_is_run w (e ∷ es) u is = still_is_run (happens m w e).0 es u (goes_on w e es u is).1
 
   -- and its ladder has no clash
-  pub still_calm : (w : World K C S) (es : List Event) (u : World K C S) → Calm w → replay by_octets m (Still w) es ≡ Still u → Calm u
+  pub still_calm : (w : World K C S) (es : List Event) (u : World K C S) → Calm w → replay by_octets m (Running w) es ≡ Running u → Calm u
   still_calm w [] u calm is = ap (λ x. (ladder_of m.reading.same x.history).clash) (sym (still_one is)) ∙ calm
   still_calm w (e ∷ es) u calm is = let g = goes_on w e es u is in still_calm (happens m w e).0 es u g.0 g.1

@@ -9,7 +9,7 @@ use Rattle.key_model.specs.Term.{Term, same_term}
 use Rattle.lte_machine.specs.Wire.{KeyUse, Outgoing}
 use Rattle.lte_machine.specs.Opening.{open_octets, same_uses}
 use Rattle.lte_machine.specs.Reply.{Made}
-use Rattle.lte_machine.specs.Run.{Ran, Still, Over, replay}
+use Rattle.lte_machine.specs.Run.{RunState, Running, Stopped, replay}
 use Rattle.lte_machine.specs.World.{World}
 use Rattle.lte_machine.proofs.Scenario.{ask, cancel, command, computing, done, from_step, intra, machine, newest, notes, opening, refuses, s1, start, toy, x2, x2_to}
 
@@ -29,12 +29,12 @@ s1_cancelled = refl
 abbrev World_ : Type 0
 World_ = World Term ℕ (Outgoing Term ℕ)
 
-abbrev ends : List Event → Ran Term ℕ (Outgoing Term ℕ)
+abbrev ends : List Event → RunState Term ℕ (Outgoing Term ℕ)
 ends events = replay (open_octets toy) machine start events
 
-abbrev in_end : {A : Type 0} → A → (World_ → A) → Ran Term ℕ (Outgoing Term ℕ) → A
-in_end none f (Still w) = f w
-in_end none f (Over chance) = none
+abbrev in_end : {A : Type 0} → A → (World_ → A) → RunState Term ℕ (Outgoing Term ℕ) → A
+in_end none f (Running w) = f w
+in_end none f (Stopped chance) = none
 
 -- two preparations under one key: a request is cancelled at the source, and made again
 abbrev prepared_twice : List Event

@@ -13,10 +13,10 @@ use Rattle.lte_machine.specs.Wire.{Outgoing, SealedNas, PlainNas, SealedRrc, Use
 use Rattle.lte_machine.specs.Ciphers.{Ciphers, AreCiphers, under_keys, octets_of}
 use Rattle.lte_machine.specs.Opening.{open_octets}
 use Rattle.lte_machine.specs.StationState.{first_station}
-use Rattle.lte_machine.specs.Carried.{map_stations, run_value, told_value}
+use Rattle.lte_machine.specs.Carried.{map_stations, run_value, report_value}
 use Rattle.lte_machine.specs.Machines.{Kept, machine_in_octets, sender_of, opening_by_octets, written_machine, written_in_values, kept_in_values}
 use Rattle.lte_machine.specs.Ranges.{AllOf, IsEvent, IsSetup}
-use Rattle.lte_machine.specs.Run.{Still, replay, tale, stations_of, first_world}
+use Rattle.lte_machine.specs.Run.{Running, replay, report, stations_of, first_world}
 use Rattle.lte_machine.specs.World.{Machine, World, chosen}
 use Rattle.lte_machine.proofs.InOctets.{agree, KeepsBack, run_in_octets, tale_in_octets}
 use Rattle.lte_machine.proofs.RangeHolds.{RecordRanged, SentRanged, Ranged}
@@ -31,8 +31,8 @@ stations-value sites (s ∷ ss) = ap (λ xs. first_station s.id sites s.priority
 
 module _ (c : Ciphers (List ℕ)) where
   -- the first world holds no key
-  pub first_value : (setup : Setup) → run_value c (Still (first_world setup)) ≡ Still (first_world setup)
-  first_value setup = λ j. Still (record (first_world setup) { stations = stations-value setup.cells setup.stations j })
+  pub first_value : (setup : Setup) → run_value c (Running (first_world setup)) ≡ Running (first_world setup)
+  first_value setup = λ j. Running (record (first_world setup) { stations = stations-value setup.cells setup.stations j })
 
   -- WHAT WAS SENT READS BACK
 
@@ -82,15 +82,15 @@ module _ (c : Ciphers (List ℕ)) where
 
   module _ (good : AreCiphers c) (setup : Setup) (is : IsSetup setup) (events : List Event) (are : AllOf IsEvent events) where
     -- the run in octets is the value of the run in terms
-    pub run_is_value : replay (open_octets c) (machine_in_octets c) (Still (first_world setup)) events
-        ≡ run_value c (replay (open_octets (under_keys value_of c)) (written_machine c) (Still (first_world setup)) events)
+    pub run_is_value : replay (open_octets c) (machine_in_octets c) (Running (first_world setup)) events
+        ≡ run_value c (replay (open_octets (under_keys value_of c)) (written_machine c) (Running (first_world setup)) events)
     run_is_value =
         ap (λ r. replay (open_octets c) (machine_in_octets c) r events) (sym (first_value setup))
-        ∙ run_in_octets c good Ranged ranged_keeps_back (Still (first_world setup)) events are (first_ranged setup is)
+        ∙ run_in_octets c good Ranged ranged_keeps_back (Running (first_world setup)) events are (first_ranged setup is)
 
     -- and what is told of its events is the value of what is told of that run's
-    pub tale_is_value : tale (open_octets c) (machine_in_octets c) (Still (first_world setup)) events
-        ≡ map told_value (tale (open_octets (under_keys value_of c)) (written_machine c) (Still (first_world setup)) events)
+    pub tale_is_value : report (open_octets c) (machine_in_octets c) (Running (first_world setup)) events
+        ≡ map report_value (report (open_octets (under_keys value_of c)) (written_machine c) (Running (first_world setup)) events)
     tale_is_value =
-        ap (λ r. tale (open_octets c) (machine_in_octets c) r events) (sym (first_value setup))
-        ∙ tale_in_octets c good Ranged ranged_keeps_back (Still (first_world setup)) events are (first_ranged setup is)
+        ap (λ r. report (open_octets c) (machine_in_octets c) r events) (sym (first_value setup))
+        ∙ tale_in_octets c good Ranged ranged_keeps_back (Running (first_world setup)) events are (first_ranged setup is)

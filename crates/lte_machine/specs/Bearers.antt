@@ -85,8 +85,8 @@ one_taken count c = record { send = c.send; receive = count + 1 }
 abbrev pub skipped : ℕ → ℕ → ℕ → ℕ
 skipped n count end = count + min n (end - count)
 
-abbrev pub some_left_out : ℕ → Counts → Counts
-some_left_out n c = record { send = skipped n c.send LIMIT; receive = c.receive }
+abbrev pub some_skipped : ℕ → Counts → Counts
+some_skipped n c = record { send = skipped n c.send LIMIT; receive = c.receive }
 
 abbrev pub srb_sent : Srb → Bearers → Bearers
 srb_sent srb b = with_srb srb (one_sent (srb_counts srb b)) b
@@ -100,9 +100,9 @@ srb_taken srb count b = with_srb srb (one_taken count (srb_counts srb b)) b
 abbrev pub drb_taken : Drb → ℕ → Bearers → Bearers
 drb_taken drb count b = with_drb drb (one_taken count (drb_counts drb b)) b
 
-abbrev pub left_out_on : Which → ℕ → Bearers → Bearers
-left_out_on (OnSrb srb) n b = with_srb srb (some_left_out n (srb_counts srb b)) b
-left_out_on (OnDrb drb) n b = with_drb drb (some_left_out n (drb_counts drb b)) b
+abbrev pub skipped_on : Which → ℕ → Bearers → Bearers
+skipped_on (OnSrb srb) n b = with_srb srb (some_skipped n (srb_counts srb b)) b
+skipped_on (OnDrb drb) n b = with_drb drb (some_skipped n (drb_counts drb b)) b
 
 -- no COUNT is left to send with
 abbrev pub is_spent : Counts → Bool

@@ -13,7 +13,7 @@ use Rattle.lte_machine.specs.PhoneState.{map_phone}
 use Rattle.lte_machine.specs.StationState.{Station, map_station}
 use Rattle.lte_machine.specs.CoreState.{map_core}
 use Rattle.lte_machine.specs.World.{World, Line, Holding}
-use Rattle.lte_machine.specs.Run.{Ran, Still, Over, Said, Tells, Meets}
+use Rattle.lte_machine.specs.Run.{RunState, Running, Stopped, EventReport, Reported, Coincided}
 use Rattle.lte_machine.specs.Machines.{Kept, kept_in_values}
 
 abbrev pub map_holding : {K L : Type 0} → (K → L) → Holding K → Holding L
@@ -57,17 +57,17 @@ abbrev pub map_chance : {K L : Type 0} → (K → L) → Chance K → Chance L
 map_chance f (Tuples sender receiver) = Tuples (option_map (map_use f) sender) (map_use f receiver)
 map_chance f (Rows clash) = Rows (map_clash f clash)
 
-abbrev pub map_ran : {K C S L D T : Type 0} → (K → L) → (C → D) → (S → T) → Ran K C S → Ran L D T
-map_ran f g z (Still w) = Still (map_world f g z w)
-map_ran f g z (Over chance) = Over (map_chance f chance)
+abbrev pub map_run_state : {K C S L D T : Type 0} → (K → L) → (C → D) → (S → T) → RunState K C S → RunState L D T
+map_run_state f g z (Running w) = Running (map_world f g z w)
+map_run_state f g z (Stopped chance) = Stopped (map_chance f chance)
 
-abbrev pub map_said : {K L : Type 0} → (K → L) → Said K → Said L
-map_said f (Tells line) = Tells (map_line f line)
-map_said f (Meets chance) = Meets (map_chance f chance)
+abbrev pub map_report : {K L : Type 0} → (K → L) → EventReport K → EventReport L
+map_report f (Reported line) = Reported (map_line f line)
+map_report f (Coincided chance) = Coincided (map_chance f chance)
 
 -- the value of a run over terms: keys by their octets, chain numbers by their NCCs, records by their octets, COUNTs kept
-abbrev pub run_value : Ciphers (List ℕ) → Ran Term ℕ (Outgoing Term ℕ) → Ran (List ℕ) ℕ Kept
-run_value c r = map_ran value_of ncc_of (kept_in_values c) r
+abbrev pub run_value : Ciphers (List ℕ) → RunState Term ℕ (Outgoing Term ℕ) → RunState (List ℕ) ℕ Kept
+run_value c r = map_run_state value_of ncc_of (kept_in_values c) r
 
-abbrev pub told_value : Said Term → Said (List ℕ)
-told_value s = map_said value_of s
+abbrev pub report_value : EventReport Term → EventReport (List ℕ)
+report_value s = map_report value_of s

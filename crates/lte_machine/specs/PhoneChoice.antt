@@ -29,7 +29,7 @@ use Rattle.lte_machine.specs.Opening.{Outcome, Opened, Differs}
 use Rattle.lte_machine.specs.Kinds.{nas_kind, rrc_kind}
 use Rattle.lte_machine.specs.Refusals.{of_pdcp}
 use Rattle.lte_machine.specs.PhoneState.{Partial, NasContext, Link, Radio, Idle, Connecting, Connected, Phone, PhoneInput, PhoneAuth, PhoneActs, PhoneNasPdu, PhoneAirPdu}
-use Rattle.lte_machine.specs.PhoneRows.{Authenticated, NasRow, NasRefused, RejectedPlain, RejectedUnder, ContextTaken, ContextTakenConnected, NasOpened, AirRow, AirRefused, LinkSecured, HandedOver, RrcOpened, PacketOpened, ActRow, ActRefused, ServiceRequested, CompleteResent, WentIdle, PacketSent, RrcSent, NasSent, NasLeftOut, BearerLeftOut, PhoneRow, OfAuth, OfNas, OfAir, OfAct}
+use Rattle.lte_machine.specs.PhoneRows.{Authenticated, NasRow, NasRefused, RejectedPlain, RejectedUnder, ContextTaken, ContextTakenConnected, NasOpened, AirRow, AirRefused, LinkSecured, HandedOver, RrcOpened, PacketOpened, ActRow, ActRefused, ServiceRequested, CompleteResent, WentIdle, PacketSent, RrcSent, NasSent, NasSkipped, BearerSkipped, PhoneRow, OfAuth, OfNas, OfAir, OfAct}
 
 -- the phone without keys, and an input without its key
 abbrev pub PlainPhone : Type 0
@@ -279,13 +279,13 @@ rrc_sent_row text (OnDrb drb) radio = ActRefused Done
 rrc_sent_row text (OnSrb srb) (Connected l) = unless_spent (is_spent (srb_counts srb l.bearers)) (RrcSent srb text)
 rrc_sent_row text (OnSrb srb) other = ActRefused NotConnected
 
-abbrev pub nas_left_out_row : ℕ → Option (NasContext (Unit {0})) → ActRow
-nas_left_out_row n None = ActRefused NoContext
-nas_left_out_row n (Some c) = NasLeftOut n
+abbrev pub nas_skipped_row : ℕ → Option (NasContext (Unit {0})) → ActRow
+nas_skipped_row n None = ActRefused NoContext
+nas_skipped_row n (Some c) = NasSkipped n
 
-abbrev pub bearer_left_out_row : Which → ℕ → Radio (Unit {0}) ℕ → ActRow
-bearer_left_out_row bearer n (Connected l) = BearerLeftOut bearer n
-bearer_left_out_row bearer n other = ActRefused NotConnected
+abbrev pub bearer_skipped_row : Which → ℕ → Radio (Unit {0}) ℕ → ActRow
+bearer_skipped_row bearer n (Connected l) = BearerSkipped bearer n
+bearer_skipped_row bearer n other = ActRefused NotConnected
 
 abbrev pub act_row : PlainPhone → PhoneAct → ActRow
 act_row s acts.TheVariants.ServiceRequest = service_row s.context s.radio
@@ -294,8 +294,8 @@ act_row s acts.TheVariants.GoIdle = idle_row s.radio
 act_row s (acts.TheVariants.SendUser bearer text) = packet_sent_row text (which bearer) s.radio
 act_row s (acts.TheVariants.SendRrc bearer text) = rrc_sent_row text (which bearer) s.radio
 act_row s (acts.TheVariants.SendNas text) = under_context s.context (NasSent text)
-act_row s (acts.TheVariants.Skip None n) = nas_left_out_row n s.context
-act_row s (acts.TheVariants.Skip (Some bearer) n) = bearer_left_out_row (which bearer) n s.radio
+act_row s (acts.TheVariants.Skip None n) = nas_skipped_row n s.context
+act_row s (acts.TheVariants.Skip (Some bearer) n) = bearer_skipped_row (which bearer) n s.radio
 
 -- all refusals before an opening, in their order
 abbrev pub phone_front : PlainPhone → PlainInput → PhoneFront

@@ -21,12 +21,12 @@ use Rattle.rrc_rec.specs.Spelling.{spelling_of as rrc_spelling}
 use Rattle.nh_chain.specs.Chain.{begun}
 use Rattle.nh_chain.specs.Reach.{Reached, reached_after}
 use Rattle.pdcp_guard.specs.AsKeys.{AsKeys, as_keys_of, as_derivations}
-use Rattle.lte_machine.specs.Bearers.{Srb, Signalling1, Drb, Which, Bearers, new_bearers, srb_counts, drb_counts, srb_sent, drb_sent, srb_taken, drb_taken, left_out_on, skipped}
+use Rattle.lte_machine.specs.Bearers.{Srb, Signalling1, Drb, Which, Bearers, new_bearers, srb_counts, drb_counts, srb_sent, drb_sent, srb_taken, drb_taken, skipped_on, skipped}
 use Rattle.lte_machine.specs.Wire.{Ciphering, ciphering_by, nas_use, srb_use, drb_use, Outgoing, SealedNas, PlainNas, SealedRrc, UserPacket, ciphering_if}
 use Rattle.lte_machine.specs.Opening.{Opening, OpensNothing, OpensNas, OpensSrb, OpensDrb}
 use Rattle.lte_machine.specs.Reply.{Reply, only}
 use Rattle.lte_machine.specs.PhoneState.{nas_keys_of, Partial, NasContext, Link, Radio, Idle, Connecting, Connected, Phone, nas_derivations}
-use Rattle.lte_machine.specs.PhoneRows.{AuthRow, Authenticated, NasRow, NasRefused, RejectedPlain, RejectedUnder, ContextTaken, ContextTakenConnected, NasOpened, AirRow, AirRefused, LinkSecured, HandedOver, RrcOpened, PacketOpened, ActRow, ActRefused, ServiceRequested, CompleteResent, WentIdle, PacketSent, RrcSent, NasSent, NasLeftOut, BearerLeftOut, PhoneRow, OfAuth, OfNas, OfAir, OfAct}
+use Rattle.lte_machine.specs.PhoneRows.{AuthRow, Authenticated, NasRow, NasRefused, RejectedPlain, RejectedUnder, ContextTaken, ContextTakenConnected, NasOpened, AirRow, AirRefused, LinkSecured, HandedOver, RrcOpened, PacketOpened, ActRow, ActRefused, ServiceRequested, CompleteResent, WentIdle, PacketSent, RrcSent, NasSent, NasSkipped, BearerSkipped, PhoneRow, OfAuth, OfNas, OfAir, OfAct}
 use Rattle.lte_machine.specs.PhoneChoice.{NasFront, NasSettled, AtCommand, AtMessage, AirFront, AirSettled, AtStart, AtSignalling, AtPacket, PhoneFront, Settled, FromNas, FromAir}
 
 -- the phone after a step, and what it gives out
@@ -318,13 +318,13 @@ nas_sent text s (Some c) =
     (record s { context = Some (one_nas_sent c) }, sends (nas_sealed c.keys 2 c.send (nas.TheVariants.NasData text)))
 
 -- COUNTs left out, as if so many records were lost on the way
-abbrev pub nas_left_out : {K C : Type 0} → ℕ → Phone K C → Option (NasContext K) → PhoneDone K C
-nas_left_out n s None = (s, only Done)
-nas_left_out n s (Some c) = (record s { context = Some (record c { send = skipped n c.send NAS_LIMIT }) }, only Done)
+abbrev pub nas_skipped : {K C : Type 0} → ℕ → Phone K C → Option (NasContext K) → PhoneDone K C
+nas_skipped n s None = (s, only Done)
+nas_skipped n s (Some c) = (record s { context = Some (record c { send = skipped n c.send NAS_LIMIT }) }, only Done)
 
-abbrev pub bearer_left_out : {K C : Type 0} → Which → ℕ → Phone K C → Radio K C → PhoneDone K C
-bearer_left_out bearer n s (Connected l) = (record s { radio = with_bearers l (left_out_on bearer n l.bearers) }, only Done)
-bearer_left_out bearer n s other = (s, only Done)
+abbrev pub bearer_skipped : {K C : Type 0} → Which → ℕ → Phone K C → Radio K C → PhoneDone K C
+bearer_skipped bearer n s (Connected l) = (record s { radio = with_bearers l (skipped_on bearer n l.bearers) }, only Done)
+bearer_skipped bearer n s other = (s, only Done)
 
 -- an idle phone keeps no key of its connection (TS 33.401 7.2.6.3)
 abbrev pub act_does : {K C : Type 0} → Reading K C → ActRow → Phone K C → PhoneDone K C
@@ -335,8 +335,8 @@ act_does r WentIdle s = (record s { radio = Idle }, only Done)
 act_does r (PacketSent drb text) s = packet_sent drb text s s.radio
 act_does r (RrcSent srb text) s = rrc_sent srb text s s.radio
 act_does r (NasSent text) s = nas_sent text s s.context
-act_does r (NasLeftOut n) s = nas_left_out n s s.context
-act_does r (BearerLeftOut bearer n) s = bearer_left_out bearer n s s.radio
+act_does r (NasSkipped n) s = nas_skipped n s s.context
+act_does r (BearerSkipped bearer n) s = bearer_skipped bearer n s s.radio
 
 -- a row, with the KASME of an authentication
 abbrev pub phone_does : {K C : Type 0} → Reading K C → PhoneRow → Option K → Phone K C → PhoneDone K C

@@ -50,8 +50,8 @@ pub data ActRow : Type 0 where
   RrcSent : Srb → List ℕ → ActRow
   NasSent : List ℕ → ActRow
   -- so many COUNTs are left out, at NAS or on a bearer
-  NasLeftOut : ℕ → ActRow
-  BearerLeftOut : Which → ℕ → ActRow
+  NasSkipped : ℕ → ActRow
+  BearerSkipped : Which → ℕ → ActRow
 
 pub data PhoneRow : Type 0 where
   OfAuth : AuthRow → PhoneRow

@@ -10,23 +10,23 @@ use Rattle.lte_machine.specs.StationState.{Station, first_station}
 use Rattle.lte_machine.specs.CoreState.{first_core}
 use Rattle.lte_machine.specs.World.{Machine, World, Line, happens}
 use Rattle.lte_machine.specs.Tuples.{Chance}
-use Rattle.lte_machine.specs.Step.{Next, Goes, Ends, next}
+use Rattle.lte_machine.specs.Step.{StepResult, Continues, Stops, next}
 
 -- a run goes on in a world, or is over for good
-pub data Ran (K C S : Type 0) : Type 0 where
-  Still : World K C S → Ran K C S
-  Over : Chance K → Ran K C S
+pub data RunState (K C S : Type 0) : Type 0 where
+  Running : World K C S → RunState K C S
+  Stopped : Chance K → RunState K C S
 
-abbrev pub after : {K C S : Type 0} → Next K C S → Ran K C S
-after (Goes w line) = Still w
-after (Ends chance) = Over chance
+abbrev pub after : {K C S : Type 0} → StepResult K C S → RunState K C S
+after (Continues w line) = Running w
+after (Stops chance) = Stopped chance
 
-abbrev pub turn : {K C S : Type 0} → (Opening K → List ℕ → Outcome) → Machine K C S → Ran K C S → Event → Ran K C S
-turn by_octets m (Over chance) e = Over chance
-turn by_octets m (Still w) e = after (next by_octets m w e)
+abbrev pub turn : {K C S : Type 0} → (Opening K → List ℕ → Outcome) → Machine K C S → RunState K C S → Event → RunState K C S
+turn by_octets m (Stopped chance) e = Stopped chance
+turn by_octets m (Running w) e = after (next by_octets m w e)
 
 -- one event after the other
-abbrev pub replay : {K C S : Type 0} → (Opening K → List ℕ → Outcome) → Machine K C S → Ran K C S → List Event → Ran K C S
+abbrev pub replay : {K C S : Type 0} → (Opening K → List ℕ → Outcome) → Machine K C S → RunState K C S → List Event → RunState K C S
 replay by_octets m r [] = r
 replay by_octets m r (e ∷ es) = replay by_octets m (turn by_octets m r e) es
 
@@ -36,22 +36,22 @@ run m w [] = w
 run m w (e ∷ es) = run m (happens m w e).0 es
 
 -- what is told of an event: its line, or the coincidence
-pub data Said (K : Type 0) : Type 0 where
-  Tells : Line K → Said K
-  Meets : Chance K → Said K
+pub data EventReport (K : Type 0) : Type 0 where
+  Reported : Line K → EventReport K
+  Coincided : Chance K → EventReport K
 
-abbrev pub said : {K C S : Type 0} → Next K C S → Said K
-said (Goes w line) = Tells line
-said (Ends chance) = Meets chance
+abbrev pub reported : {K C S : Type 0} → StepResult K C S → EventReport K
+reported (Continues w line) = Reported line
+reported (Stops chance) = Coincided chance
 
-abbrev pub says : {K C S : Type 0} → (Opening K → List ℕ → Outcome) → Machine K C S → Ran K C S → Event → Said K
-says by_octets m (Over chance) e = Meets chance
-says by_octets m (Still w) e = said (next by_octets m w e)
+abbrev pub event_report : {K C S : Type 0} → (Opening K → List ℕ → Outcome) → Machine K C S → RunState K C S → Event → EventReport K
+event_report by_octets m (Stopped chance) e = Coincided chance
+event_report by_octets m (Running w) e = reported (next by_octets m w e)
 
 -- what is told of each event in turn
-abbrev pub tale : {K C S : Type 0} → (Opening K → List ℕ → Outcome) → Machine K C S → Ran K C S → List Event → List (Said K)
-tale by_octets m r [] = []
-tale by_octets m r (e ∷ es) = says by_octets m r e ∷ tale by_octets m (turn by_octets m r e) es
+abbrev pub report : {K C S : Type 0} → (Opening K → List ℕ → Outcome) → Machine K C S → RunState K C S → List Event → List (EventReport K)
+report by_octets m r [] = []
+report by_octets m r (e ∷ es) = event_report by_octets m r e ∷ report by_octets m (turn by_octets m r e) es
 
 -- the stations of a setup, none of which has served anybody
 abbrev pub stations_of : {K C : Type 0} → List Site → List StationSetup → List (Station K C)

@@ -12,7 +12,7 @@ use Rattle.lte_machine.specs.Ladder.{RowOrigin, map_row, row_key, ladder_of}
 use Rattle.lte_machine.specs.Distinct.{keys_of, Member, distinct_terms, OneValueOneTerm}
 use Rattle.lte_machine.specs.World.{World}
 use Rattle.lte_machine.specs.Machines.{written_machine}
-use Rattle.lte_machine.specs.Run.{Still, replay, first_world}
+use Rattle.lte_machine.specs.Run.{Running, replay, first_world}
 
 -- the keys of the rows of a history's ladder
 abbrev pub row_keys : List (RowOrigin Term) → List Term
@@ -36,4 +36,4 @@ OctetRowsStand history =
 -- the run of these events in terms has met no coincidence, and is in this world
 abbrev pub RunsTo : Ciphers (List ℕ) → Setup → List Event → World Term ℕ (Outgoing Term ℕ) → Type 0
 RunsTo c setup events w =
-    replay (open_octets (under_keys value_of c)) (written_machine c) (Still (first_world setup)) events ≡ Still w
+    replay (open_octets (under_keys value_of c)) (written_machine c) (Running (first_world setup)) events ≡ Running w

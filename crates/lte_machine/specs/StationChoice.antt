@@ -32,7 +32,7 @@ use Rattle.lte_machine.specs.Refusals.{of_pdcp}
 use Rattle.lte_machine.specs.Kinds.{rrc_kind}
 use Rattle.lte_machine.specs.Reply.{Origin}
 use Rattle.lte_machine.specs.StationState.{Station, Context, Attempt, OverX2, OverS1, Within, X2State, X2Open, X2Ready, X2Commanded, S1State, S1Open, S1Ready, S1Commanded, Interface, OnS1, OnX2, StationInput, StationActs, AirPdu, StationRecord}
-use Rattle.lte_machine.specs.StationRows.{Wanted, RecordRow, RecordRefused, ContextGiven, ContextReleased, PairTaken, PreparedByS1, PreparedByX2, AckedByS1, AckedByX2, PreparationCancelled, SourceReleased, AirRow, AirRefused, SecurityStarted, RrcTaken, PacketTaken, CompletedByS1, CompletedWithin, CompletedByX2, ActRow, ActRefused, StartedByX2, StartedByS1, StartedWithin, Commands, CancelledByX2, CancelledByS1, CancelledWithin, AsksAgain, SendsPacket, SendsRrc, LeavesOut, StationRow, OfRecord, OfAir, OfAct}
+use Rattle.lte_machine.specs.StationRows.{Wanted, RecordRow, RecordRefused, ContextGiven, ContextReleased, PairTaken, PreparedByS1, PreparedByX2, AckedByS1, AckedByX2, PreparationCancelled, SourceReleased, AirRow, AirRefused, SecurityStarted, RrcOpened, PacketOpened, CompletedByS1, CompletedWithin, CompletedByX2, ActRow, ActRefused, StartedByX2, StartedByS1, StartedWithin, HandoverCommanded, CancelledByX2, CancelledByS1, CancelledWithin, PathSwitchAsked, PacketSent, RrcSent, BearerSkipped, StationRow, OfRecord, OfAir, OfAct}
 
 -- a station without its keys
 abbrev pub PlainStation : Type 0
@@ -257,8 +257,8 @@ starting_row count (Ok other) = AirRefused (WrongKind (rrc_kind other))
 -- data, or a Reconfiguration Complete that the phone sent again
 abbrev pub rrc_row : Srb → ℕ → Result RrcRecord RecFault → AirRow
 rrc_row srb count (Err fault) = AirRefused (BadRecord fault)
-rrc_row srb count (Ok (RrcData text)) = RrcTaken srb count (Some text)
-rrc_row srb count (Ok ReconfigurationComplete) = RrcTaken srb count None
+rrc_row srb count (Ok (RrcData text)) = RrcOpened srb count (Some text)
+rrc_row srb count (Ok ReconfigurationComplete) = RrcOpened srb count None
 rrc_row srb count (Ok other) = AirRefused (WrongKind (rrc_kind other))
 
 -- Reconfiguration Complete (TS 36.331 5.3.5.4): with it the target has the phone. After X2 a Path Switch Request is due,
@@ -287,7 +287,7 @@ air_row s (OnStarting count) (Opened text) = starting_row count (read_rrc text)
 air_row s (OnSignalling srb count) (Differs wanted got) = AirRefused (MacFails count wanted got)
 air_row s (OnSignalling srb count) (Opened text) = rrc_row srb count (read_rrc text)
 air_row s (OnUser drb count) (Differs wanted got) = AirRefused (MacFails count wanted got)
-air_row s (OnUser drb count) (Opened text) = PacketTaken drb count (user_text text)
+air_row s (OnUser drb count) (Opened text) = PacketOpened drb count (user_text text)
 air_row s (OnPrepared air by count) (Differs wanted got) = AirRefused (MacFails count wanted got)
 air_row s (OnPrepared air by count) (Opened text) = prepared_row s.next air count by (read_rrc text)
 
@@ -335,7 +335,7 @@ start_row s kind cell (Some c) =
 
 -- the command (TS 36.331 5.3.5.4). This project's own rule: it may be sent again
 abbrev pub ordered_row : Order → Counts → ActRow
-ordered_row order counts = unless_spent counts (Commands order counts.send)
+ordered_row order counts = unless_spent counts (HandoverCommanded order counts.send)
 
 abbrev pub x2_command_row : X2State (Unit {0}) ℕ → Counts → ActRow
 x2_command_row (X2Open start) counts = ActRefused NotReady
@@ -386,7 +386,7 @@ give_up_row (Some c) = attempt_cancel_row c.conn c.attempt
 -- Path Switch Request again (TS 36.413 8.4.4). This project's own rule: only for a context that came by X2
 abbrev pub came_row : ℕ → Option Origin → ActRow
 came_row next None = ActRefused NoPathSwitch
-came_row next (Some origin) = if runs_out 1 next then ActRefused NumberSpent else AsksAgain next
+came_row next (Some origin) = if runs_out 1 next then ActRefused NumberSpent else PathSwitchAsked next
 
 abbrev pub ask_row : ℕ → Option PlainContext → ActRow
 ask_row next None = ActRefused NoUe
@@ -398,7 +398,7 @@ packet_row (OnSrb srb) text context = ActRefused Done
 packet_row (OnDrb drb) text None = ActRefused NoUe
 packet_row (OnDrb drb) text (Some c) =
     let counts = drb_counts drb c.bearers in
-    active_row c.starting (unless_spent counts (SendsPacket drb counts.send text))
+    active_row c.starting (unless_spent counts (PacketSent drb counts.send text))
 
 -- an RRC text on an SRB; that it names a DRB no caller asks for, and nothing is done
 abbrev pub send_rrc_row : Which → List ℕ → Option PlainContext → ActRow
@@ -406,12 +406,12 @@ send_rrc_row (OnDrb drb) text context = ActRefused Done
 send_rrc_row (OnSrb srb) text None = ActRefused NoUe
 send_rrc_row (OnSrb srb) text (Some c) =
     let counts = srb_counts srb c.bearers in
-    active_row c.starting (unless_spent counts (SendsRrc srb counts.send text))
+    active_row c.starting (unless_spent counts (RrcSent srb counts.send text))
 
 -- leaving COUNTs of a bearer out
 abbrev pub skip_row : Which → ℕ → Option PlainContext → ActRow
 skip_row on n None = ActRefused NoUe
-skip_row on n (Some c) = active_row c.starting (LeavesOut on n)
+skip_row on n (Some c) = active_row c.starting (BearerSkipped on n)
 
 abbrev pub act_row : PlainStation → StationAct → ActRow
 act_row s (Start kind cell) = start_row s kind cell s.context

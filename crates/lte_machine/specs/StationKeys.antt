@@ -22,12 +22,12 @@ use Rattle.ho_prep.specs.declared.origins.By.{By}
 use Rattle.ho_prep.specs.Prep.{Prep, at_air, without, drop_below}
 use Rattle.x2_handover.specs.declared.orders.Order.{Order}
 use Rattle.x2_handover.specs.Attempt.{X2Start}
-use Rattle.lte_machine.specs.Bearers.{Srb, Signalling1, Drb, Which, new_bearers, srb_sent, drb_sent, srb_taken, drb_taken, left_out_on}
+use Rattle.lte_machine.specs.Bearers.{Srb, Signalling1, Drb, Which, new_bearers, srb_sent, drb_sent, srb_taken, drb_taken, skipped_on}
 use Rattle.lte_machine.specs.Wire.{Outgoing, SealedRrc, UserPacket, Between, srb_use, drb_use, ciphering_by}
 use Rattle.lte_machine.specs.Opening.{Opening, OpensNothing, OpensSrb, OpensDrb}
 use Rattle.lte_machine.specs.Reply.{Note, Origin, Made, Reply, only}
 use Rattle.lte_machine.specs.StationState.{Station, Context, Attempt, OverX2, OverS1, Within, X2State, X2Open, X2Ready, X2Commanded, S1State, S1Open, S1Ready, S1Commanded}
-use Rattle.lte_machine.specs.StationRows.{Wanted, RecordRow, RecordRefused, ContextGiven, ContextReleased, PairTaken, PreparedByS1, PreparedByX2, AckedByS1, AckedByX2, PreparationCancelled, SourceReleased, AirRow, AirRefused, SecurityStarted, RrcTaken, PacketTaken, CompletedByS1, CompletedWithin, CompletedByX2, ActRow, ActRefused, StartedByX2, StartedByS1, StartedWithin, Commands, CancelledByX2, CancelledByS1, CancelledWithin, AsksAgain, SendsPacket, SendsRrc, LeavesOut, StationRow, OfRecord, OfAir, OfAct}
+use Rattle.lte_machine.specs.StationRows.{Wanted, RecordRow, RecordRefused, ContextGiven, ContextReleased, PairTaken, PreparedByS1, PreparedByX2, AckedByS1, AckedByX2, PreparationCancelled, SourceReleased, AirRow, AirRefused, SecurityStarted, RrcOpened, PacketOpened, CompletedByS1, CompletedWithin, CompletedByX2, ActRow, ActRefused, StartedByX2, StartedByS1, StartedWithin, HandoverCommanded, CancelledByX2, CancelledByS1, CancelledWithin, PathSwitchAsked, PacketSent, RrcSent, BearerSkipped, StationRow, OfRecord, OfAir, OfAct}
 use Rattle.lte_machine.specs.StationChoice.{AirFront, AirSettled, OnStarting, OnSignalling, OnUser, OnPrepared, StationFront, Settled, FromAir}
 
 -- OPENING: WHICH USES A STATION EXPECTS (TS 36.323 5.6 and 5.7)
@@ -324,9 +324,9 @@ completed_by_x2 r count number (Some p) s = (
 abbrev pub air_does : {K C : Type 0} → Reading K C → AirRow → Station K C → Station K C × Reply K C
 air_does r (AirRefused answer) s = (s, only answer)
 air_does r (SecurityStarted count) s = (record s { context = option_map (with_security count) s.context }, only Done)
-air_does r (RrcTaken srb count text) s =
+air_does r (RrcOpened srb count text) s =
     (record s { context = option_map (with_rrc_taken srb count) s.context }, record (only Done) { opened = text })
-air_does r (PacketTaken drb count text) s =
+air_does r (PacketOpened drb count text) s =
     (record s { context = option_map (with_packet_taken drb count) s.context }, record (only Done) { opened = Some text })
 air_does r (CompletedByS1 air count) s = completed_by_s1 r count (at_air air s.preps) s
 air_does r (CompletedWithin air count origin) s = completed_within r count origin (at_air air s.preps) s
@@ -529,15 +529,15 @@ sends_rrc srb count text (Some c) s = (
   record (only Done) { sent = Some (signalling_sent s.id c.air c.keys srb count (spelling_of (RrcData text))) },
 )
 
-abbrev pub with_left_out : {K C : Type 0} → Which → ℕ → Context K C → Context K C
-with_left_out on n c = record c { bearers = left_out_on on n c.bearers }
+abbrev pub with_skipped : {K C : Type 0} → Which → ℕ → Context K C → Context K C
+with_skipped on n c = record c { bearers = skipped_on on n c.bearers }
 
 abbrev pub act_does : {K C : Type 0} → Reading K C → ActRow → Station K C → Station K C × Reply K C
 act_does r (ActRefused answer) s = (s, only answer)
 act_does r (StartedByX2 number target cell) s = started_by_x2 r number target cell s.context s
 act_does r (StartedByS1 number target cell) s = started_by_s1 number target cell s.context s
 act_does r (StartedWithin number air cell) s = started_within r number air cell s.context s
-act_does r (Commands order count) s = commands order count s.context s
+act_does r (HandoverCommanded order count) s = commands order count s.context s
 act_does r (CancelledByX2 conn number target) s = (
   record s { context = option_map given_up s.context },
   record (only Done) { sent = Some (to_station target (X2Cancel conn s.id number)) },
@@ -548,10 +548,10 @@ act_does r (CancelledByS1 conn number cell) s = (
 )
 act_does r (CancelledWithin number) s =
     (record s { context = option_map given_up s.context; preps = without s.id number s.preps }, only Done)
-act_does r (AsksAgain number) s = asks_again number s.context s
-act_does r (SendsPacket drb count text) s = sends_packet drb count text s.context s
-act_does r (SendsRrc srb count text) s = sends_rrc srb count text s.context s
-act_does r (LeavesOut on n) s = (record s { context = option_map (with_left_out on n) s.context }, only Done)
+act_does r (PathSwitchAsked number) s = asks_again number s.context s
+act_does r (PacketSent drb count text) s = sends_packet drb count text s.context s
+act_does r (RrcSent srb count text) s = sends_rrc srb count text s.context s
+act_does r (BearerSkipped on n) s = (record s { context = option_map (with_skipped on n) s.context }, only Done)
 
 -- the row, where the key of the record that was read is this
 abbrev pub station_does : {K C : Type 0} →

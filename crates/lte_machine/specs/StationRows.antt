@@ -47,9 +47,9 @@ pub data AirRow : Type 0 where
   -- Security Mode Complete (TS 36.331 5.3.4.3): its COUNT on SRB1
   SecurityStarted : ℕ → AirRow
   -- an RRC text: bearer and COUNT; the data in it, or none of a Reconfiguration Complete that came again
-  RrcTaken : Srb → ℕ → Option (List ℕ) → AirRow
+  RrcOpened : Srb → ℕ → Option (List ℕ) → AirRow
   -- a user packet (TS 36.323 5.1.2.1.3): bearer, COUNT, text
-  PacketTaken : Drb → ℕ → List ℕ → AirRow
+  PacketOpened : Drb → ℕ → List ℕ → AirRow
   -- Reconfiguration Complete at the air address of a preparation (TS 36.331 5.3.5.4): the address, its COUNT on SRB1
   CompletedByS1 : ℕ → ℕ → AirRow
   -- and the X2 handover by which the phone had come to the station
@@ -66,20 +66,20 @@ pub data ActRow : Type 0 where
   -- within the station: the attempt drawn, the air address drawn, target cell
   StartedWithin : ℕ → ℕ → Place → ActRow
   -- Reconfiguration on SRB1 (TS 36.331 5.3.5.4): what it orders, its COUNT
-  Commands : Order → ℕ → ActRow
+  HandoverCommanded : Order → ℕ → ActRow
   -- an attempt is given up (TS 36.423 8.2.4, TS 36.413 8.4.5): connection, attempt, and the target station on X2 or the
   -- target cell on S1
   CancelledByX2 : ℕ → ℕ → ℕ → ActRow
   CancelledByS1 : ℕ → ℕ → Place → ActRow
   CancelledWithin : ℕ → ActRow
   -- Path Switch Request again (TS 36.413 8.4.4): the number drawn
-  AsksAgain : ℕ → ActRow
+  PathSwitchAsked : ℕ → ActRow
   -- a user packet (TS 36.323 5.1.1): bearer, COUNT, text
-  SendsPacket : Drb → ℕ → List ℕ → ActRow
+  PacketSent : Drb → ℕ → List ℕ → ActRow
   -- an RRC text: bearer, COUNT, data
-  SendsRrc : Srb → ℕ → List ℕ → ActRow
+  RrcSent : Srb → ℕ → List ℕ → ActRow
   -- so many sending COUNTs of a bearer are left out
-  LeavesOut : Which → ℕ → ActRow
+  BearerSkipped : Which → ℕ → ActRow
 
 pub data StationRow : Type 0 where
   OfRecord : RecordRow → StationRow

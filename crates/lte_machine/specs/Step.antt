@@ -71,19 +71,19 @@ opening_chance by_octets m a =
     tuple_chance m.reading.same (m.sender a.came) (accepted_of a.opening (by_octets a.opening a.octets))
 
 -- what comes of an event: the world goes on with a line, or the run ends
-pub data Next (K C S : Type 0) : Type 0 where
-  Goes : World K C S → Line K → Next K C S
-  Ends : Chance K → Next K C S
+pub data StepResult (K C S : Type 0) : Type 0 where
+  Continues : World K C S → Line K → StepResult K C S
+  Stops : Chance K → StepResult K C S
 
-abbrev pub by_ladder : {K C S : Type 0} → Option (Clash K) → World K C S × Line K → Next K C S
-by_ladder None h = Goes h.0 h.1
-by_ladder (Some clash) h = Ends (Rows clash)
+abbrev pub by_ladder : {K C S : Type 0} → Option (Clash K) → World K C S × Line K → StepResult K C S
+by_ladder None h = Continues h.0 h.1
+by_ladder (Some clash) h = Stops (Rows clash)
 
-abbrev pub by_chance : {K C S : Type 0} → (K → K → Bool) → Option (Chance K) → World K C S × Line K → Next K C S
-by_chance same (Some chance) h = Ends chance
+abbrev pub by_chance : {K C S : Type 0} → (K → K → Bool) → Option (Chance K) → World K C S × Line K → StepResult K C S
+by_chance same (Some chance) h = Stops chance
 by_chance same None h = by_ladder (ladder_of same h.0.history).clash h
 
 -- one event, where a coincidence of the record accepted comes before one of the derivations
-abbrev pub next : {K C S : Type 0} → (Opening K → List ℕ → Outcome) → Machine K C S → World K C S → Event → Next K C S
+abbrev pub next : {K C S : Type 0} → (Opening K → List ℕ → Outcome) → Machine K C S → World K C S → Event → StepResult K C S
 next by_octets m w e =
     by_chance m.reading.same (opening_chance by_octets m (attempted m w e)) (happens m w e)

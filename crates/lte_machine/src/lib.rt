@@ -10,4 +10,4 @@ mod runs;
 
 pub use ladder_rows::{every_key_was_reported, rows_stand_for_the_distinct_terms};
 pub use refusals::{refused_core_step, refused_phone_step, refused_station_step};
-pub use runs::{run_in_octets_is_the_value, tale_in_octets_is_the_value};
+pub use runs::{run_in_octets_is_the_value, report_in_octets_is_the_value};

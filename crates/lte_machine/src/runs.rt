@@ -2,8 +2,8 @@
 ghost use Rattle.std.specs.Prelude.{◌≡◌, List, map};
 ghost use Rattle.lte_events.specs.declared.events.Event.{Event};
 ghost use Rattle.lte_events.specs.declared.setups.Setup.{Setup};
-ghost use Rattle.lte_machine.specs.BothRuns.{written_run, written_tale, octet_run, octet_tale};
-ghost use Rattle.lte_machine.specs.Carried.{run_value, told_value};
+ghost use Rattle.lte_machine.specs.BothRuns.{written_run, written_report, octet_run, octet_report};
+ghost use Rattle.lte_machine.specs.Carried.{run_value, report_value};
 ghost use Rattle.lte_machine.specs.Ciphers.{annex_b};
 ghost use Rattle.lte_machine.specs.Ranges.{AllOf, IsEvent, IsSetup};
 
@@ -16,7 +16,7 @@ pub fn run_in_octets_is_the_value()
 {}
 
 /// And what is told of each event in octets is the value of what the written machine tells.
-pub fn tale_in_octets_is_the_value()
+pub fn report_in_octets_is_the_value()
     ensures { (setup : Setup) (events : List Event) → IsSetup setup → AllOf IsEvent events →
-        octet_tale setup events ≡ map told_value (written_tale setup events) }
+        octet_report setup events ≡ map report_value (written_report setup events) }
 {}

@@ -6,7 +6,7 @@ use Rattle.key_model.specs.HandoverTable.{NumberedKey}
 use Rattle.key_model.specs.Term.{Term, same_term}
 use Rattle.lte_machine.specs.Opening.{open_octets}
 use Rattle.lte_machine.specs.Reply.{Made, Took}
-use Rattle.lte_machine.specs.Run.{Ran, Still, Over, replay}
+use Rattle.lte_machine.specs.Run.{RunState, Running, Stopped, replay}
 use Rattle.lte_machine.specs.Wire.{Outgoing}
 use Rattle.lte_machine.proofs.LateAnswers.{seven_ahead, eight_ahead}
 use Rattle.lte_machine.proofs.Scenario.{computing, machine, start, toy}
@@ -25,9 +25,9 @@ abbrev OfNewest : Compares → List (Made Term ℕ) → List (Took Term ℕ) →
 OfNewest P made [] = ⊥
 OfNewest P made (x ∷ took) = AtCommand P made x x.before
 
-abbrev AtEnd : Compares → Ran Term ℕ (Outgoing Term ℕ) → Type 0
-AtEnd P (Still w) = OfNewest P w.made (reverse w.took)
-AtEnd P (Over chance) = ⊥
+abbrev AtEnd : Compares → RunState Term ℕ (Outgoing Term ℕ) → Type 0
+AtEnd P (Running w) = OfNewest P w.made (reverse w.took)
+AtEnd P (Stopped chance) = ⊥
 
 abbrev Takes : Compares
 Takes x before m = (ahead m before ≡ 7) × TookMade x m

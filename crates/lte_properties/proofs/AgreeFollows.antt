@@ -17,9 +17,9 @@ use Rattle.lte_machine.specs.Wire.{KeyUse, Outgoing, address_of}
 use Rattle.lte_machine.specs.Opening.{Opening, Outcome}
 use Rattle.lte_machine.specs.Reply.{Took}
 use Rattle.lte_machine.specs.PhoneState.{Partial, NasContext, Link, Radio, Idle, Connecting, Connected, Phone, PhoneInput, PhoneActs, PhoneNasPdu, PhoneAirPdu}
-use Rattle.lte_machine.specs.PhoneRows.{AuthRow, Authenticated, NasRow, NasRefused, RejectedPlain, RejectedUnder, ContextTaken, ContextTakenConnected, NasOpened, AirRow, AirRefused, LinkSecured, HandedOver, RrcOpened, PacketOpened, ActRow, ActRefused, ServiceRequested, CompleteResent, WentIdle, PacketSent, RrcSent, NasSent, NasLeftOut, BearerLeftOut, PhoneRow, OfAuth, OfNas, OfAir, OfAct}
+use Rattle.lte_machine.specs.PhoneRows.{AuthRow, Authenticated, NasRow, NasRefused, RejectedPlain, RejectedUnder, ContextTaken, ContextTakenConnected, NasOpened, AirRow, AirRefused, LinkSecured, HandedOver, RrcOpened, PacketOpened, ActRow, ActRefused, ServiceRequested, CompleteResent, WentIdle, PacketSent, RrcSent, NasSent, NasSkipped, BearerSkipped, PhoneRow, OfAuth, OfNas, OfAir, OfAct}
 use Rattle.lte_machine.specs.PhoneChoice.{phone_row}
-use Rattle.lte_machine.specs.PhoneKeys.{PhoneDone, auth_does, rejected_under, context_taken, context_taken_connected, nas_opened, nas_does, link_secured, handed_over, rrc_opened, packet_opened, air_does, service_requested, complete_resent, packet_sent, rrc_sent, nas_sent, nas_left_out, bearer_left_out, act_does, phone_does}
+use Rattle.lte_machine.specs.PhoneKeys.{PhoneDone, auth_does, rejected_under, context_taken, context_taken_connected, nas_opened, nas_does, link_secured, handed_over, rrc_opened, packet_opened, air_does, service_requested, complete_resent, packet_sent, rrc_sent, nas_sent, nas_skipped, bearer_skipped, act_does, phone_does}
 use Rattle.lte_machine.specs.PhoneStep.{plain_phone, front_of, phone_root, phone_opens, phone_pdu_in}
 use Rattle.lte_machine.specs.StationState.{Station, StationInput, StationActs, AirPdu, StationRecord, OnS1, OnX2}
 use Rattle.lte_machine.specs.CoreState.{CoreInput, CoreActs, CoreNasPdu, CoreRecord}
@@ -132,11 +132,11 @@ module _ (same : Term → Term → Bool) (took : List (Took Term ℕ)) (h : Foll
   sent_nas text s None k = (h, k)
   sent_nas text s (Some c) k = (h, k)
 
-  left_nas : (n : ℕ) (s : Phone Term ℕ) (o : Option (NasContext Term)) → TookLast took s.radio → Follows took (nas_left_out n s o)
+  left_nas : (n : ℕ) (s : Phone Term ℕ) (o : Option (NasContext Term)) → TookLast took s.radio → Follows took (nas_skipped n s o)
   left_nas n s None k = (h, k)
   left_nas n s (Some c) k = (h, k)
 
-  left_bearer : (on : Which) (n : ℕ) (s : Phone Term ℕ) (radio : Radio Term ℕ) → TookLast took s.radio → TookLast took radio → Follows took (bearer_left_out on n s radio)
+  left_bearer : (on : Which) (n : ℕ) (s : Phone Term ℕ) (radio : Radio Term ℕ) → TookLast took s.radio → TookLast took radio → Follows took (bearer_skipped on n s radio)
   left_bearer on n s (Connected l) k last = (h, last)
   left_bearer on n s Idle k last = (h, k)
   left_bearer on n s (Connecting w) k last = (h, k)
@@ -149,8 +149,8 @@ module _ (same : Term → Term → Bool) (took : List (Took Term ℕ)) (h : Foll
   act_follows (PacketSent drb text) s k = sent_packet drb text s s.radio k k
   act_follows (RrcSent srb text) s k = sent_rrc srb text s s.radio k k
   act_follows (NasSent text) s k = sent_nas text s s.context k
-  act_follows (NasLeftOut n) s k = left_nas n s s.context k
-  act_follows (BearerLeftOut on n) s k = left_bearer on n s s.radio k k
+  act_follows (NasSkipped n) s k = left_nas n s s.context k
+  act_follows (BearerSkipped on n) s k = left_bearer on n s s.radio k k
 
   auth_follows : (row : AuthRow) (root : Option Term) (s : Phone Term ℕ) → TookLast took s.radio → Follows took (auth_does row root s)
   auth_follows (Authenticated ksi) None s k = (h, k)

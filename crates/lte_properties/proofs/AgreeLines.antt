@@ -21,7 +21,7 @@ use Rattle.lte_machine.specs.Opening.{Opening, Outcome}
 use Rattle.lte_machine.specs.Reply.{Note, Origin, Reply}
 use Rattle.lte_machine.specs.StationState.{Station, Context, StationInput, StationActs, AirPdu, StationRecord, OnS1, OnX2}
 use Rattle.x2_handover.specs.declared.orders.Order.{Order}
-use Rattle.lte_machine.specs.StationRows.{Wanted, RecordRow, RecordRefused, ContextGiven, ContextReleased, PairTaken, PreparedByS1, PreparedByX2, AckedByS1, AckedByX2, PreparationCancelled, SourceReleased, AirRow, AirRefused, SecurityStarted, RrcTaken, PacketTaken, CompletedByS1, CompletedWithin, CompletedByX2, ActRow, ActRefused, StartedByX2, StartedByS1, StartedWithin, Commands, CancelledByX2, CancelledByS1, CancelledWithin, AsksAgain, SendsPacket, SendsRrc, LeavesOut, StationRow, OfRecord, OfAir, OfAct}
+use Rattle.lte_machine.specs.StationRows.{Wanted, RecordRow, RecordRefused, ContextGiven, ContextReleased, PairTaken, PreparedByS1, PreparedByX2, AckedByS1, AckedByX2, PreparationCancelled, SourceReleased, AirRow, AirRefused, SecurityStarted, RrcOpened, PacketOpened, CompletedByS1, CompletedWithin, CompletedByX2, ActRow, ActRefused, StartedByX2, StartedByS1, StartedWithin, HandoverCommanded, CancelledByX2, CancelledByS1, CancelledWithin, PathSwitchAsked, PacketSent, RrcSent, BearerSkipped, StationRow, OfRecord, OfAir, OfAct}
 use Rattle.lte_machine.specs.StationKeys.{context_given, pair_taken, prepared_by_s1, prepared_by_x2, record_does, completed_by_s1, completed_within, completed_by_x2, air_does, started_by_x2, started_by_s1, started_within, commands, asks_again, sends_packet, sends_rrc, act_does, station_does}
 use Rattle.lte_machine.specs.StationStep.{station_opens, station_pdu_in, station_row_of, station_key, station_step}
 use Rattle.lte_machine.specs.World.{Machine, put_station, station_after, station_of_id, turn_of, auth_unless, known_root, next_root, content_in, arrives, chosen, delivered, class_of, is_sent, injected, happens}
@@ -96,8 +96,8 @@ module _ (same : Term → Term → Bool) where
   air_tells : (row : AirRow) (s : Station Term ℕ) → RowTells (air_does (term_reading_by same) row s)
   air_tells (AirRefused answer) s = tt
   air_tells (SecurityStarted count) s = tt
-  air_tells (RrcTaken srb count text) s = tt
-  air_tells (PacketTaken drb count text) s = tt
+  air_tells (RrcOpened srb count text) s = tt
+  air_tells (PacketOpened drb count text) s = tt
   air_tells (CompletedByS1 air count) s = done_by_s1 count (at_air air s.preps) s
   air_tells (CompletedWithin air count origin) s = done_within count origin (at_air air s.preps) s
   air_tells (CompletedByX2 air count number) s = done_by_x2 count number (at_air air s.preps) s
@@ -137,14 +137,14 @@ module _ (same : Term → Term → Bool) where
   act_tells (StartedByX2 number target cell) s = x2_start number target cell s.context s
   act_tells (StartedByS1 number target cell) s = s1_start number target cell s.context s
   act_tells (StartedWithin number air cell) s = within_start number air cell s.context s
-  act_tells (Commands order count) s = command order count s.context s
+  act_tells (HandoverCommanded order count) s = command order count s.context s
   act_tells (CancelledByX2 conn number target) s = tt
   act_tells (CancelledByS1 conn number cell) s = tt
   act_tells (CancelledWithin number) s = tt
-  act_tells (AsksAgain number) s = ask number s.context s
-  act_tells (SendsPacket drb count text) s = packet drb count text s.context s
-  act_tells (SendsRrc srb count text) s = rrc srb count text s.context s
-  act_tells (LeavesOut on n) s = tt
+  act_tells (PathSwitchAsked number) s = ask number s.context s
+  act_tells (PacketSent drb count text) s = packet drb count text s.context s
+  act_tells (RrcSent srb count text) s = rrc srb count text s.context s
+  act_tells (BearerSkipped on n) s = tt
 
   station_tells : (row : StationRow) (key : Option (NumberedKey Term ℕ)) (s : Station Term ℕ) → RowTells (station_does (term_reading_by same) row key s)
   station_tells (OfRecord row) key s = record_tells row key s

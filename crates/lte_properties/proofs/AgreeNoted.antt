@@ -23,7 +23,7 @@ use Rattle.lte_machine.specs.CoreState.{CoreInput, CoreActs, CoreNasPdu, CoreRec
 use Rattle.lte_machine.specs.World.{Machine, phone_turn, core_turn, station_of_id, turn_of, auth_unless, known_root, next_root, content_in, arrives, chosen, delivered, class_of, is_sent, injected, happens, with_one}
 use Rattle.lte_machine.specs.PhoneChoice.{phone_row}
 use Rattle.lte_machine.specs.PhoneStep.{plain_phone, front_of, phone_root, phone_opens, phone_pdu_in}
-use Rattle.lte_machine.specs.StationRows.{Wanted, RecordRow, RecordRefused, ContextGiven, ContextReleased, PairTaken, PreparedByS1, PreparedByX2, AckedByS1, AckedByX2, PreparationCancelled, SourceReleased, AirRow, AirRefused, SecurityStarted, RrcTaken, PacketTaken, CompletedByS1, CompletedWithin, CompletedByX2, ActRow, ActRefused, StartedByX2, StartedByS1, StartedWithin, Commands, CancelledByX2, CancelledByS1, CancelledWithin, AsksAgain, SendsPacket, SendsRrc, LeavesOut, StationRow, OfRecord, OfAir, OfAct}
+use Rattle.lte_machine.specs.StationRows.{Wanted, RecordRow, RecordRefused, ContextGiven, ContextReleased, PairTaken, PreparedByS1, PreparedByX2, AckedByS1, AckedByX2, PreparationCancelled, SourceReleased, AirRow, AirRefused, SecurityStarted, RrcOpened, PacketOpened, CompletedByS1, CompletedWithin, CompletedByX2, ActRow, ActRefused, StartedByX2, StartedByS1, StartedWithin, HandoverCommanded, CancelledByX2, CancelledByS1, CancelledWithin, PathSwitchAsked, PacketSent, RrcSent, BearerSkipped, StationRow, OfRecord, OfAir, OfAct}
 use Rattle.lte_machine.specs.StationKeys.{context_given, pair_taken, prepared_by_s1, prepared_by_x2, record_does, completed_by_s1, completed_within, completed_by_x2, air_does, started_by_x2, started_by_s1, started_within, commands, asks_again, sends_packet, sends_rrc, act_does, station_does}
 use Rattle.std.specs.Prelude.{◌⊎◌}
 use Rattle.std.proofs.Common.{inl, inr}
@@ -33,7 +33,7 @@ use Rattle.lte_properties.proofs.AgreeTold.{found_holds}
 use Rattle.lte_machine.specs.Reply.{Made, Took}
 use Rattle.lte_machine.specs.World.{Line}
 use Rattle.lte_properties.specs.ChainHolds.{machine_by}
-use Rattle.lte_properties.specs.Agreement.{Tells, MadeIsTold, TookIsTold, KeysTold}
+use Rattle.lte_properties.specs.Agreement.{Reported, MadeIsTold, TookIsTold, KeysTold}
 use Rattle.lte_properties.proofs.AgreeNotedPhone.{NotedAs, TookNoted, phone_notes}
 use Rattle.lte_properties.proofs.AgreeWorld.{TheWorld}
 
@@ -90,8 +90,8 @@ module _ (same : Term → Term → Bool) where
   air_notes : (row : AirRow) (s : Station Term ℕ) → Notes s.id (air_does (term_reading_by same) row s)
   air_notes (AirRefused answer) s = tt
   air_notes (SecurityStarted count) s = tt
-  air_notes (RrcTaken srb count text) s = tt
-  air_notes (PacketTaken drb count text) s = tt
+  air_notes (RrcOpened srb count text) s = tt
+  air_notes (PacketOpened drb count text) s = tt
   air_notes (CompletedByS1 air count) s = done_by_s1 count (at_air air s.preps) s
   air_notes (CompletedWithin air count origin) s = done_within count origin (at_air air s.preps) s
   air_notes (CompletedByX2 air count number) s = done_by_x2 count number (at_air air s.preps) s
@@ -129,14 +129,14 @@ module _ (same : Term → Term → Bool) where
   act_notes (StartedByX2 number target cell) s = x2_start number target cell s.context s
   act_notes (StartedByS1 number target cell) s = s1_start number target cell s.context s
   act_notes (StartedWithin number air cell) s = within_start number air cell s.context s
-  act_notes (Commands order count) s = command order count s.context s
+  act_notes (HandoverCommanded order count) s = command order count s.context s
   act_notes (CancelledByX2 conn number target) s = tt
   act_notes (CancelledByS1 conn number cell) s = tt
   act_notes (CancelledWithin number) s = tt
-  act_notes (AsksAgain number) s = ask number s.context s
-  act_notes (SendsPacket drb count text) s = packet drb count text s.context s
-  act_notes (SendsRrc srb count text) s = rrc srb count text s.context s
-  act_notes (LeavesOut on n) s = tt
+  act_notes (PathSwitchAsked number) s = ask number s.context s
+  act_notes (PacketSent drb count text) s = packet drb count text s.context s
+  act_notes (RrcSent srb count text) s = rrc srb count text s.context s
+  act_notes (BearerSkipped on n) s = tt
 
   station_notes : (row : StationRow) (key : Option (NumberedKey Term ℕ)) (s : Station Term ℕ) → Notes s.id (station_does (term_reading_by same) row key s)
   station_notes (OfRecord row) key s = record_notes row key s
@@ -146,18 +146,18 @@ module _ (same : Term → Term → Bool) where
 -- THE WORLD
 
 -- a note that has a key tells it
-noted_tells : (l : Line Term) (who : Who) (key : Term) (number : ℕ) → l.who ≡ who → (o : Option (Note Term)) → l.note ≡ o → NotedAs o key number → Tells l who key number
+noted_tells : (l : Line Term) (who : Who) (key : Term) (number : ℕ) → l.who ≡ who → (o : Option (Note Term)) → l.note ≡ o → NotedAs o key number → Reported l who key number
 noted_tells l who key number is None e h = absurd h
 noted_tells l who key number is (Some note) e h = (note, is, e, h.0, h.1)
 
 made_told : (made : List (Made Term ℕ)) (o : Option (Made Term ℕ)) (id : ℕ) (l : Line Term) → l.who ≡ Who.Station id → MadeNoted id l.note o
-    → (with_one o made ≡ made) ⊎ ((m : Made Term ℕ) × (with_one o made ≡ made ++ m ∷ []) × Tells l (Who.Station m.station) m.key m.number)
+    → (with_one o made ≡ made) ⊎ ((m : Made Term ℕ) × (with_one o made ≡ made ++ m ∷ []) × Reported l (Who.Station m.station) m.key m.number)
 made_told made None id l is h = inl refl
 made_told made (Some m) id l is h =
     inr (m, refl, noted_tells l (Who.Station m.station) m.key m.number (is ∙ ap Who.Station (sym h.0)) l.note refl h.1)
 
 took_told : (took : List (Took Term ℕ)) (o : Option (Took Term ℕ)) (l : Line Term) → l.who ≡ Who.Phone → TookNoted l.note o
-    → (with_one o took ≡ took) ⊎ ((x : Took Term ℕ) × (with_one o took ≡ took ++ x ∷ []) × Tells l Who.Phone x.key x.number)
+    → (with_one o took ≡ took) ⊎ ((x : Took Term ℕ) × (with_one o took ≡ took ++ x ∷ []) × Reported l Who.Phone x.key x.number)
 took_told took None l is h = inl refl
 took_told took (Some x) l is h = inr (x, refl, noted_tells l Who.Phone x.key x.number is l.note refl h)
 

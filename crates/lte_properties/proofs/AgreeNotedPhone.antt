@@ -9,8 +9,8 @@ use Rattle.key_model.specs.Reading.{term_reading_by}
 use Rattle.lte_machine.specs.Bearers.{Srb, Drb, Which}
 use Rattle.lte_machine.specs.Reply.{Took}
 use Rattle.lte_machine.specs.PhoneState.{Partial, NasContext, Radio, Idle, Connecting, Connected, Phone}
-use Rattle.lte_machine.specs.PhoneRows.{AuthRow, Authenticated, NasRow, NasRefused, RejectedPlain, RejectedUnder, ContextTaken, ContextTakenConnected, NasOpened, AirRow, AirRefused, LinkSecured, HandedOver, RrcOpened, PacketOpened, ActRow, ActRefused, ServiceRequested, CompleteResent, WentIdle, PacketSent, RrcSent, NasSent, NasLeftOut, BearerLeftOut, PhoneRow, OfAuth, OfNas, OfAir, OfAct}
-use Rattle.lte_machine.specs.PhoneKeys.{PhoneDone, auth_does, rejected_under, context_taken, context_taken_connected, nas_opened, nas_does, link_secured, handed_over, rrc_opened, packet_opened, air_does, service_requested, complete_resent, packet_sent, rrc_sent, nas_sent, nas_left_out, bearer_left_out, act_does, phone_does}
+use Rattle.lte_machine.specs.PhoneRows.{AuthRow, Authenticated, NasRow, NasRefused, RejectedPlain, RejectedUnder, ContextTaken, ContextTakenConnected, NasOpened, AirRow, AirRefused, LinkSecured, HandedOver, RrcOpened, PacketOpened, ActRow, ActRefused, ServiceRequested, CompleteResent, WentIdle, PacketSent, RrcSent, NasSent, NasSkipped, BearerSkipped, PhoneRow, OfAuth, OfNas, OfAir, OfAct}
+use Rattle.lte_machine.specs.PhoneKeys.{PhoneDone, auth_does, rejected_under, context_taken, context_taken_connected, nas_opened, nas_does, link_secured, handed_over, rrc_opened, packet_opened, air_does, service_requested, complete_resent, packet_sent, rrc_sent, nas_sent, nas_skipped, bearer_skipped, act_does, phone_does}
 use Rattle.key_model.specs.Chain.{ncc_of}
 use Rattle.lte_machine.specs.Reply.{Note}
 
@@ -103,11 +103,11 @@ module _ (same : Term → Term → Bool) where
   sent_nas text s None = tt
   sent_nas text s (Some c) = tt
 
-  left_nas : (n : ℕ) (s : Phone Term ℕ) (o : Option (NasContext Term)) → Noted (nas_left_out n s o)
+  left_nas : (n : ℕ) (s : Phone Term ℕ) (o : Option (NasContext Term)) → Noted (nas_skipped n s o)
   left_nas n s None = tt
   left_nas n s (Some c) = tt
 
-  left_bearer : (on : Which) (n : ℕ) (s : Phone Term ℕ) (radio : Radio Term ℕ) → Noted (bearer_left_out on n s radio)
+  left_bearer : (on : Which) (n : ℕ) (s : Phone Term ℕ) (radio : Radio Term ℕ) → Noted (bearer_skipped on n s radio)
   left_bearer on n s (Connected l) = tt
   left_bearer on n s Idle = tt
   left_bearer on n s (Connecting w) = tt
@@ -120,8 +120,8 @@ module _ (same : Term → Term → Bool) where
   act_notes (PacketSent drb text) s = sent_packet drb text s s.radio
   act_notes (RrcSent srb text) s = sent_rrc srb text s s.radio
   act_notes (NasSent text) s = sent_nas text s s.context
-  act_notes (NasLeftOut n) s = left_nas n s s.context
-  act_notes (BearerLeftOut on n) s = left_bearer on n s s.radio
+  act_notes (NasSkipped n) s = left_nas n s s.context
+  act_notes (BearerSkipped on n) s = left_bearer on n s s.radio
 
   auth_notes : (row : AuthRow) (root : Option Term) (s : Phone Term ℕ) → Noted (auth_does row root s)
   auth_notes (Authenticated ksi) None s = tt

@@ -12,12 +12,12 @@ use Rattle.key_model.specs.Reading.{term_reading_by}
 use Rattle.key_model.specs.HandoverTable.{NumberedKey}
 use Rattle.key_model.specs.HandoverLines.{steps_to}
 use Rattle.nh_chain.specs.Reach.{reached_after}
-use Rattle.lte_machine.specs.Bearers.{Srb, Signalling1, Signalling2, Drb, User1, User2, User3, User4, Which, OnSrb, OnDrb, Bearers, srb_taken, drb_taken, srb_sent, drb_sent, left_out_on}
+use Rattle.lte_machine.specs.Bearers.{Srb, Signalling1, Signalling2, Drb, User1, User2, User3, User4, Which, OnSrb, OnDrb, Bearers, srb_taken, drb_taken, srb_sent, drb_sent, skipped_on}
 use Rattle.lte_machine.specs.Reply.{Origin, Made, Tried, Took}
 use Rattle.lte_machine.specs.World.{with_one}
 use Rattle.lte_machine.specs.PhoneState.{Partial, NasContext, Link, Radio, Connecting, Connected, Phone}
-use Rattle.lte_machine.specs.PhoneRows.{AuthRow, Authenticated, NasRow, NasRefused, RejectedPlain, RejectedUnder, ContextTaken, ContextTakenConnected, NasOpened, AirRow, AirRefused, LinkSecured, HandedOver, RrcOpened, PacketOpened, ActRow, ActRefused, ServiceRequested, CompleteResent, WentIdle, PacketSent, RrcSent, NasSent, NasLeftOut, BearerLeftOut, PhoneRow, OfAuth, OfNas, OfAir, OfAct}
-use Rattle.lte_machine.specs.PhoneKeys.{PhoneDone, auth_does, rejected_under, context_taken, context_taken_connected, nas_opened, nas_does, link_secured, handed_over, rrc_opened, packet_opened, air_does, service_requested, complete_resent, packet_sent, rrc_sent, nas_sent, nas_left_out, bearer_left_out, act_does, phone_does}
+use Rattle.lte_machine.specs.PhoneRows.{AuthRow, Authenticated, NasRow, NasRefused, RejectedPlain, RejectedUnder, ContextTaken, ContextTakenConnected, NasOpened, AirRow, AirRefused, LinkSecured, HandedOver, RrcOpened, PacketOpened, ActRow, ActRefused, ServiceRequested, CompleteResent, WentIdle, PacketSent, RrcSent, NasSent, NasSkipped, BearerSkipped, PhoneRow, OfAuth, OfNas, OfAir, OfAct}
+use Rattle.lte_machine.specs.PhoneKeys.{PhoneDone, auth_does, rejected_under, context_taken, context_taken_connected, nas_opened, nas_does, link_secured, handed_over, rrc_opened, packet_opened, air_does, service_requested, complete_resent, packet_sent, rrc_sent, nas_sent, nas_skipped, bearer_skipped, act_does, phone_does}
 use Rattle.lte_properties.specs.ChainBelow.{AllOf}
 use Rattle.lte_properties.specs.Agreement.{made_at, ahead, TookMade, ObeysMade, Obeys, Grows, HadTaken}
 use Rattle.lte_properties.proofs.AgreeTerms.{base, root_of, lands, ChainOf, reached_key, reached_number, reached_chain, steps_near, lands_near, steps_far, lands_far}
@@ -148,7 +148,7 @@ heard_packet_sent User2 b h = h
 heard_packet_sent User3 b h = h
 heard_packet_sent User4 b h = h
 
-heard_left : (on : Which) (n : ℕ) (b : Bearers) → 1 ≤ b.srb1.receive → 1 ≤ (left_out_on on n b).srb1.receive
+heard_left : (on : Which) (n : ℕ) (b : Bearers) → 1 ≤ b.srb1.receive → 1 ≤ (skipped_on on n b).srb1.receive
 heard_left (OnSrb Signalling1) n b h = h
 heard_left (OnSrb Signalling2) n b h = h
 heard_left (OnDrb User1) n b h = h
@@ -310,13 +310,13 @@ nas_sent_goes : (g : Ghost) (text : List ℕ) (s : Phone Term ℕ) (o : Option (
 nas_sent_goes g text s None h = (h, tt, tt)
 nas_sent_goes g text s (Some c) h = (h, tt, tt)
 
-nas_left_goes : (g : Ghost) (n : ℕ) (s : Phone Term ℕ) (o : Option (NasContext Term)) → RadioOk g s.radio → PhoneGoes g (nas_left_out n s o)
+nas_left_goes : (g : Ghost) (n : ℕ) (s : Phone Term ℕ) (o : Option (NasContext Term)) → RadioOk g s.radio → PhoneGoes g (nas_skipped n s o)
 nas_left_goes g n s None h = (h, tt, tt)
 nas_left_goes g n s (Some c) h = (h, tt, tt)
 
 bearer_left_goes : (g : Ghost) (on : Which) (n : ℕ) (s : Phone Term ℕ) (radio : Radio Term ℕ) → RadioOk g s.radio → RadioOk g radio
-    → PhoneGoes g (bearer_left_out on n s radio)
-bearer_left_goes g on n s (Connected l) old h = (heard_after g l (left_out_on on n l.bearers) h (heard_left on n l.bearers), tt, tt)
+    → PhoneGoes g (bearer_skipped on n s radio)
+bearer_left_goes g on n s (Connected l) old h = (heard_after g l (skipped_on on n l.bearers) h (heard_left on n l.bearers), tt, tt)
 bearer_left_goes g on n s other old h = (old, tt, tt)
 
 act_goes : (same : Term → Term → Bool) (g : Ghost) (row : ActRow) (s : Phone Term ℕ) → RadioOk g s.radio
@@ -328,8 +328,8 @@ act_goes same g WentIdle s h = (tt, tt, tt)
 act_goes same g (PacketSent drb text) s h = packet_sent_goes g drb text s s.radio h h
 act_goes same g (RrcSent srb text) s h = rrc_sent_goes g srb text s s.radio h h
 act_goes same g (NasSent text) s h = nas_sent_goes g text s s.context h
-act_goes same g (NasLeftOut n) s h = nas_left_goes g n s s.context h
-act_goes same g (BearerLeftOut on n) s h = bearer_left_goes g on n s s.radio h h
+act_goes same g (NasSkipped n) s h = nas_left_goes g n s s.context h
+act_goes same g (BearerSkipped on n) s h = bearer_left_goes g on n s s.radio h h
 
 auth_goes : (g : Ghost) (row : AuthRow) (root : Option Term) (s : Phone Term ℕ) → RadioOk g s.radio → PhoneGoes g (auth_does row root s)
 auth_goes g (Authenticated ksi) None s h = (h, tt, tt)

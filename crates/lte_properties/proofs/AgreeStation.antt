@@ -14,7 +14,7 @@ use Rattle.ho_prep.specs.declared.origins.By.{By}
 use Rattle.ho_prep.specs.Prep.{Prep, is_at, at_air}
 use Rattle.lte_machine.specs.Reply.{Origin, Made, Tried, Reply}
 use Rattle.lte_machine.specs.StationState.{Station, Context, Attempt, OverX2, OverS1, Within, X2Open, X2Ready, X2Commanded, S1Open, S1Ready, S1Commanded}
-use Rattle.lte_machine.specs.StationRows.{Wanted, RecordRow, RecordRefused, ContextGiven, ContextReleased, PairTaken, PreparedByS1, PreparedByX2, AckedByS1, AckedByX2, PreparationCancelled, SourceReleased, AirRow, AirRefused, SecurityStarted, RrcTaken, PacketTaken, CompletedByS1, CompletedWithin, CompletedByX2}
+use Rattle.lte_machine.specs.StationRows.{Wanted, RecordRow, RecordRefused, ContextGiven, ContextReleased, PairTaken, PreparedByS1, PreparedByX2, AckedByS1, AckedByX2, PreparationCancelled, SourceReleased, AirRow, AirRefused, SecurityStarted, RrcOpened, PacketOpened, CompletedByS1, CompletedWithin, CompletedByX2}
 use Rattle.lte_machine.specs.StationKeys.{context_given, with_pair, source_release, pair_taken, wanted_prep, prepared_by_s1, prepared_by_x2, s1_acked, x2_acked, with_s1_ack, with_x2_ack, record_does, with_security, with_rrc_taken, with_packet_taken, completed_by_s1, completed_within, completed_by_x2, air_does}
 use Rattle.lte_properties.specs.ChainBelow.{AllOf}
 use Rattle.lte_properties.specs.Agreement.{made_at, HadTaken}
@@ -387,9 +387,9 @@ module _ (same : Term → Term → Bool) (cells : List Site) (g : Ghost) (made_o
   air_goes (AirRefused answer) s h needs = (h, tt, tt, tt, refl, tt, tt)
   air_goes (SecurityStarted count) s h needs =
       ((security_ctx s.id count s.context h.0 needs, h.1, h.2, h.3, h.4, h.5), tt, tt, tt, refl, tt, tt)
-  air_goes (RrcTaken srb count text) s h needs =
+  air_goes (RrcOpened srb count text) s h needs =
       ((map_ctx g s.id (with_rrc_taken srb count) (λ c k. k) s.context h.0, h.1, h.2, h.3, h.4, h.5), tt, tt, tt, refl, tt, tt)
-  air_goes (PacketTaken drb count text) s h needs =
+  air_goes (PacketOpened drb count text) s h needs =
       ((map_ctx g s.id (with_packet_taken drb count) (λ c k. k) s.context h.0, h.1, h.2, h.3, h.4, h.5), tt, tt, tt, refl, tt, tt)
   air_goes (CompletedByS1 air count) s h needs = by_s1_goes count air (at_air air s.preps) s refl h needs
   air_goes (CompletedWithin air count origin) s h needs = within_goes count air origin (at_air air s.preps) s refl h needs

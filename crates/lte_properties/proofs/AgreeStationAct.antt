@@ -12,7 +12,7 @@ use Rattle.x2_handover.specs.declared.orders.Order.{Order}
 use Rattle.lte_machine.specs.Bearers.{Srb, Drb}
 use Rattle.lte_machine.specs.Reply.{Made, Tried}
 use Rattle.lte_machine.specs.StationState.{Station, Context, Attempt, OverX2, OverS1, Within, X2State, X2Open, X2Ready, X2Commanded, S1State, S1Open, S1Ready, S1Commanded}
-use Rattle.lte_machine.specs.StationRows.{ActRow, ActRefused, StartedByX2, StartedByS1, StartedWithin, Commands, CancelledByX2, CancelledByS1, CancelledWithin, AsksAgain, SendsPacket, SendsRrc, LeavesOut}
+use Rattle.lte_machine.specs.StationRows.{ActRow, ActRefused, StartedByX2, StartedByS1, StartedWithin, HandoverCommanded, CancelledByX2, CancelledByS1, CancelledWithin, PathSwitchAsked, PacketSent, RrcSent, BearerSkipped}
 use Rattle.lte_properties.specs.ChainBelow.{AllOf}
 use Rattle.lte_properties.specs.Agreement.{made_at, HadTaken}
 use Rattle.lte_properties.proofs.AgreeTerms.{lands}
@@ -23,7 +23,7 @@ use Rattle.nh_chain.specs.Station.{restored_if, pair_after, opened, base_of}
 use Rattle.key_model.specs.HandoverLines.{star_line}
 use Rattle.lte_machine.specs.Bearers.{Signalling1}
 use Rattle.lte_machine.specs.Wire.{srb_use, ciphering_by}
-use Rattle.lte_machine.specs.StationKeys.{signalling_sent, order_text, started_by_x2_with, started_by_x2, started_by_s1, started_within_with, started_within, x2_commanded, s1_commanded, commanded, commands, spent_in, given_up, asks_again, sends_packet, sends_rrc, with_left_out, act_does}
+use Rattle.lte_machine.specs.StationKeys.{signalling_sent, order_text, started_by_x2_with, started_by_x2, started_by_s1, started_within_with, started_within, x2_commanded, s1_commanded, commanded, commands, spent_in, given_up, asks_again, sends_packet, sends_rrc, with_skipped, act_does}
 use Rattle.lte_machine.specs.StationChoice.{station_of}
 use Rattle.rrc_rec.specs.Spelling.{spelling_of}
 use Rattle.s1x2_rec.specs.Spelling.{IsCell}
@@ -50,9 +50,9 @@ ActNeeds cells g s (StartedByS1 number target cell) = (number ≡ s.next) × (st
 ActNeeds cells g s (StartedWithin number air cell) =
     (number ≡ s.next) × (air ≡ s.next + 1) × (air < 4294967296) × (station_of cell cells ≡ Some s.id)
     × IsActive s.context
-ActNeeds cells g s (Commands order count) = OrderNeeds g s.id order s.context
-ActNeeds cells g s (AsksAgain number) = number ≡ s.next
-ActNeeds cells g s (SendsRrc srb count text) = (length text ≤ 200) × IsActive s.context
+ActNeeds cells g s (HandoverCommanded order count) = OrderNeeds g s.id order s.context
+ActNeeds cells g s (PathSwitchAsked number) = number ≡ s.next
+ActNeeds cells g s (RrcSent srb count text) = (length text ≤ 200) × IsActive s.context
 ActNeeds cells g s other = ⊤
 
 -- an active context's key was taken, so that it may have any attempt
@@ -366,15 +366,15 @@ module _ (same : Term → Term → Bool) (cells : List Site) (cells_ok : AllOf S
   act_goes (StartedByS1 number target cell) s h above needs = by_s1_goes number target cell s.context s h h.0 needs.0 needs.1 needs.2
   act_goes (StartedWithin number air cell) s h above needs =
       within_goes number air cell s.context s h h.0 above needs.0 needs.1 needs.2 needs.3 needs.4
-  act_goes (Commands order count) s h above needs = commands_goes order count s.context s h h.0 needs
+  act_goes (HandoverCommanded order count) s h above needs = commands_goes order count s.context s h h.0 needs
   act_goes (CancelledByX2 conn number target) s h above needs =
       ((map_ctx g s.id given_up (given_up_ok s.id) s.context h.0, h.1, h.2, h.3, h.4, h.5), tt, tt, tt, refl, tt, tt)
   act_goes (CancelledByS1 conn number cell) s h above needs =
       ((map_ctx g s.id given_up (given_up_ok s.id) s.context h.0, h.1, h.2, h.3, h.4, h.5), tt, tt, tt, refl, tt, tt)
   act_goes (CancelledWithin number) s h above needs =
       ((map_ctx g s.id given_up (given_up_ok s.id) s.context h.0, all_filter _ _ s.preps h.1, h.2, h.3, h.4, h.5), tt, tt, tt, refl, tt, tt)
-  act_goes (AsksAgain number) s h above needs = asks_goes number s.context s h h.0 needs
-  act_goes (SendsPacket drb count text) s h above needs = packet_goes drb count text s.context s h h.0
-  act_goes (SendsRrc srb count text) s h above needs = rrc_goes srb count text s.context s h h.0 needs.0 needs.1
-  act_goes (LeavesOut on n) s h above needs =
-      ((map_ctx g s.id (with_left_out on n) (λ c k. k) s.context h.0, h.1, h.2, h.3, h.4, h.5), tt, tt, tt, refl, tt, tt)
+  act_goes (PathSwitchAsked number) s h above needs = asks_goes number s.context s h h.0 needs
+  act_goes (PacketSent drb count text) s h above needs = packet_goes drb count text s.context s h h.0
+  act_goes (RrcSent srb count text) s h above needs = rrc_goes srb count text s.context s h h.0 needs.0 needs.1
+  act_goes (BearerSkipped on n) s h above needs =
+      ((map_ctx g s.id (with_skipped on n) (λ c k. k) s.context h.0, h.1, h.2, h.3, h.4, h.5), tt, tt, tt, refl, tt, tt)

@@ -27,7 +27,7 @@ use Rattle.lte_machine.specs.Opening.{Outcome, Opened, Differs}
 use Rattle.lte_machine.specs.Reply.{Origin, unseen}
 use Rattle.lte_machine.specs.Ranges.{IsStationAct}
 use Rattle.lte_machine.specs.StationState.{Station, Context, Attempt, OverX2, OverS1, Within, X2State, X2Open, X2Ready, X2Commanded, S1State, S1Open, S1Ready, S1Commanded, map_context, map_attempt, map_x2_state}
-use Rattle.lte_machine.specs.StationRows.{ActRow, Commands}
+use Rattle.lte_machine.specs.StationRows.{ActRow, HandoverCommanded}
 use Rattle.lte_machine.specs.StationChoice.{PlainStation, PlainContext, PlainAttempt, runs_out, station_of, is_full, AirFront, OnStarting, OnSignalling, OnUser, OnPrepared, counted, starting_front, active_front, context_front, prepared_front, air_front_by, starting_row, rrc_row, completed_row, prepared_row, air_row, active_row, unless_spent, is_misplaced, begun_row, alone_row, target_row, start_row, ordered_row, x2_command_row, s1_command_row, attempt_command_row, command_row, attempt_cancel_row, give_up_row, came_row, ask_row, packet_row, send_rrc_row, skip_row, act_row}
 use Rattle.lte_machine.specs.StationKeys.{air_expects, starting_expects, prepared_expects}
 use Rattle.lte_machine.specs.StationStep.{plain_station}
@@ -40,7 +40,7 @@ use Rattle.lte_properties.proofs.AgreePhoneWalk.{by_test, one_key}
 use Rattle.lte_properties.proofs.AgreeTold.{found_holds}
 use Rattle.lte_properties.proofs.AgreeStation.{TakenThere, StartingNeeds, AirNeeds}
 use Rattle.lte_properties.proofs.AgreeStationAct.{OrderNeeds, IsActive, ActNeeds}
-use Rattle.lte_machine.specs.StationRows.{SendsPacket, SendsRrc}
+use Rattle.lte_machine.specs.StationRows.{PacketSent, RrcSent}
 use Rattle.x2_handover.specs.declared.orders.Order.{Order}
 use Rattle.lte_properties.proofs.AgreeStationWalk.{in_range_next, own_target}
 
@@ -251,7 +251,7 @@ module _ (same : Term → Term → Bool) (cells : List Site) (g : Ghost) (s : St
       active_or c is c.starting refl _ (target_walks (option_map (map_attempt unseen ncc_of) c.attempt) cell kind (station_of cell s.cells) refl)
 
   ordered_walks : (c : Context Term ℕ) → s.context ≡ Some c → (order : Order) (counts : Counts) → IsOrder g c.key.kenb order → HadTaken g.took s.id c.air c.key.kenb → ActNeeds cells g s (ordered_row order counts)
-  ordered_walks c is order counts h had = unless_walks counts (Commands order counts.send) (subst (OrderNeeds g s.id order) (sym is) (h, had))
+  ordered_walks c is order counts h had = unless_walks counts (HandoverCommanded order counts.send) (subst (OrderNeeds g s.id order) (sym is) (h, had))
 
   x2_command_walks : (c : Context Term ℕ) → s.context ≡ Some c → (conn : ℕ) (state : X2State Term ℕ) (counts : Counts) → HadTaken g.took s.id c.air c.key.kenb → X2Ok g s.id conn c.key.kenb state
       → ActNeeds cells g s (x2_command_row (map_x2_state unseen ncc_of state) counts)
@@ -308,13 +308,13 @@ module _ (same : Term → Term → Bool) (cells : List Site) (g : Ghost) (s : St
   packet_walks : (on : Which) (text : List ℕ) (o : Option PlainContext) → ActNeeds cells g s (packet_row on text o)
   packet_walks (OnSrb srb) text o = tt
   packet_walks (OnDrb drb) text None = tt
-  packet_walks (OnDrb drb) text (Some c) = active_walks c.starting _ (unless_walks (drb_counts drb c.bearers) (SendsPacket drb (drb_counts drb c.bearers).send text) tt)
+  packet_walks (OnDrb drb) text (Some c) = active_walks c.starting _ (unless_walks (drb_counts drb c.bearers) (PacketSent drb (drb_counts drb c.bearers).send text) tt)
 
   send_rrc_walks : (on : Which) (text : List ℕ) (o : Option (Context Term ℕ)) → s.context ≡ o → length text ≤ 200 → ActNeeds cells g s (send_rrc_row on text (option_map (map_context unseen ncc_of) o))
   send_rrc_walks (OnDrb drb) text o is fits = tt
   send_rrc_walks (OnSrb srb) text None is fits = tt
   send_rrc_walks (OnSrb srb) text (Some c) is fits =
-      active_or c is c.starting refl _ (λ active. unless_walks (srb_counts srb c.bearers) (SendsRrc srb (srb_counts srb c.bearers).send text) (fits, active))
+      active_or c is c.starting refl _ (λ active. unless_walks (srb_counts srb c.bearers) (RrcSent srb (srb_counts srb c.bearers).send text) (fits, active))
 
   skip_walks : (on : Which) (n : ℕ) (o : Option PlainContext) → ActNeeds cells g s (skip_row on n o)
   skip_walks on n None = tt

@@ -19,8 +19,8 @@ use Rattle.lte_machine.specs.Opening.{Outcome}
 use Rattle.lte_machine.specs.Reply.{Origin, Reply, unseen}
 use Rattle.lte_machine.specs.Wire.{Outgoing, SealedNas, PlainNas, SealedRrc, UserPacket, Between, address_of}
 use Rattle.lte_machine.specs.PhoneState.{Phone, Partial, NasContext, Radio, Idle, Connecting, Connected}
-use Rattle.lte_machine.specs.PhoneRows.{Authenticated, NasRow, NasRefused, RejectedPlain, RejectedUnder, ContextTaken, ContextTakenConnected, NasOpened, AirRow, AirRefused, LinkSecured, HandedOver, RrcOpened, PacketOpened, ActRow, ActRefused, ServiceRequested, CompleteResent, WentIdle, PacketSent, RrcSent, NasSent, NasLeftOut, BearerLeftOut, PhoneRow, OfAuth, OfNas, OfAir, OfAct}
-use Rattle.lte_machine.specs.PhoneKeys.{authenticated, rejected_under, context_taken, context_taken_connected, nas_opened, nas_does, link_secured, handed_over, rrc_opened, packet_opened, air_does, service_requested, complete_resent, packet_sent, rrc_sent, nas_sent, nas_left_out, bearer_left_out, act_does, phone_does}
+use Rattle.lte_machine.specs.PhoneRows.{Authenticated, NasRow, NasRefused, RejectedPlain, RejectedUnder, ContextTaken, ContextTakenConnected, NasOpened, AirRow, AirRefused, LinkSecured, HandedOver, RrcOpened, PacketOpened, ActRow, ActRefused, ServiceRequested, CompleteResent, WentIdle, PacketSent, RrcSent, NasSent, NasSkipped, BearerSkipped, PhoneRow, OfAuth, OfNas, OfAir, OfAct}
+use Rattle.lte_machine.specs.PhoneKeys.{authenticated, rejected_under, context_taken, context_taken_connected, nas_opened, nas_does, link_secured, handed_over, rrc_opened, packet_opened, air_does, service_requested, complete_resent, packet_sent, rrc_sent, nas_sent, nas_skipped, bearer_skipped, act_does, phone_does}
 use Rattle.lte_machine.specs.StationState.{Station, Context, StationActs, AirPdu, StationRecord, Interface, OnS1, OnX2, map_read}
 use Rattle.lte_machine.specs.StationRows.{RecordRow, RecordRefused, ContextGiven, ContextReleased, PairTaken, PreparedByS1, PreparedByX2, AckedByS1, AckedByX2, PreparationCancelled, SourceReleased, OfRecord}
 use Rattle.lte_machine.specs.StationChoice.{x2_row, record_row}
@@ -224,11 +224,11 @@ nas_sent_plain : (text : List ℕ) (s : Phone Term ℕ) (o : Option (NasContext 
 nas_sent_plain text s None = ((λ top. tt), (λ u. tt))
 nas_sent_plain text s (Some x) = ((λ top. tt), (λ u. tt))
 
-nas_left_out_plain : (n : ℕ) (s : Phone Term ℕ) (o : Option (NasContext Term)) → Plainly (nas_left_out n s o).1.sent
+nas_left_out_plain : (n : ℕ) (s : Phone Term ℕ) (o : Option (NasContext Term)) → Plainly (nas_skipped n s o).1.sent
 nas_left_out_plain n s None = ((λ top. tt), (λ u. tt))
 nas_left_out_plain n s (Some x) = ((λ top. tt), (λ u. tt))
 
-bearer_left_out_plain : (bearer : Which) (n : ℕ) (s : Phone Term ℕ) (radio : Radio Term ℕ) → Plainly (bearer_left_out bearer n s radio).1.sent
+bearer_left_out_plain : (bearer : Which) (n : ℕ) (s : Phone Term ℕ) (radio : Radio Term ℕ) → Plainly (bearer_skipped bearer n s radio).1.sent
 bearer_left_out_plain bearer n s Idle = ((λ top. tt), (λ u. tt))
 bearer_left_out_plain bearer n s (Connecting x) = ((λ top. tt), (λ u. tt))
 bearer_left_out_plain bearer n s (Connected l) = ((λ top. tt), (λ u. tt))
@@ -256,8 +256,8 @@ act_does_plain same WentIdle s = ((λ top. tt), (λ u. tt))
 act_does_plain same (PacketSent drb text) s = packet_sent_plain drb text s s.radio
 act_does_plain same (RrcSent srb text) s = rrc_sent_plain srb text s s.radio
 act_does_plain same (NasSent text) s = nas_sent_plain text s s.context
-act_does_plain same (NasLeftOut n) s = nas_left_out_plain n s s.context
-act_does_plain same (BearerLeftOut bearer n) s = bearer_left_out_plain bearer n s s.radio
+act_does_plain same (NasSkipped n) s = nas_left_out_plain n s s.context
+act_does_plain same (BearerSkipped bearer n) s = bearer_left_out_plain bearer n s s.radio
 
 pub phone_does_plain : (same : Term → Term → Bool) (row : PhoneRow) (root : Option Term) (s : Phone Term ℕ) → Plainly (phone_does (term_reading_by same) row root s).1.sent
 phone_does_plain same (OfAuth (Authenticated ksi)) root s = authenticated_plain ksi s root

@@ -15,8 +15,8 @@ use Rattle.lte_machine.specs.Bearers.{Srb, Drb}
 use Rattle.lte_machine.specs.Wire.{Outgoing, Between}
 use Rattle.lte_machine.specs.Reply.{Origin, Reply}
 use Rattle.lte_machine.specs.StationState.{Station, Context, Attempt, OverX2, OverS1, Within, X2Open, X2Ready, X2Commanded, S1Open, S1Ready, S1Commanded}
-use Rattle.lte_machine.specs.StationRows.{Wanted, RecordRow, RecordRefused, ContextGiven, ContextReleased, PairTaken, PreparedByS1, PreparedByX2, AckedByS1, AckedByX2, PreparationCancelled, SourceReleased, AirRow, AirRefused, SecurityStarted, RrcTaken, PacketTaken, CompletedByS1, CompletedWithin, CompletedByX2, ActRow, ActRefused, StartedByX2, StartedByS1, StartedWithin, Commands, CancelledByX2, CancelledByS1, CancelledWithin, AsksAgain, SendsPacket, SendsRrc, LeavesOut, StationRow, OfRecord, OfAir, OfAct}
-use Rattle.lte_machine.specs.StationKeys.{spent_in, s1_acked, x2_acked, commanded, given_up, with_pair, with_s1_ack, with_x2_ack, with_security, with_rrc_taken, with_packet_taken, with_left_out, with_wanted, source_release, context_given, pair_taken, prepared_by_s1, prepared_by_x2, completed_by_s1, completed_within, completed_by_x2, arrived, started_by_x2, started_by_s1, started_within, commands, asks_again, sends_packet, sends_rrc, record_does, air_does, act_does, station_does}
+use Rattle.lte_machine.specs.StationRows.{Wanted, RecordRow, RecordRefused, ContextGiven, ContextReleased, PairTaken, PreparedByS1, PreparedByX2, AckedByS1, AckedByX2, PreparationCancelled, SourceReleased, AirRow, AirRefused, SecurityStarted, RrcOpened, PacketOpened, CompletedByS1, CompletedWithin, CompletedByX2, ActRow, ActRefused, StartedByX2, StartedByS1, StartedWithin, HandoverCommanded, CancelledByX2, CancelledByS1, CancelledWithin, PathSwitchAsked, PacketSent, RrcSent, BearerSkipped, StationRow, OfRecord, OfAir, OfAct}
+use Rattle.lte_machine.specs.StationKeys.{spent_in, s1_acked, x2_acked, commanded, given_up, with_pair, with_s1_ack, with_x2_ack, with_security, with_rrc_taken, with_packet_taken, with_skipped, with_wanted, source_release, context_given, pair_taken, prepared_by_s1, prepared_by_x2, completed_by_s1, completed_within, completed_by_x2, arrived, started_by_x2, started_by_s1, started_within, commands, asks_again, sends_packet, sends_rrc, record_does, air_does, act_does, station_does}
 use Rattle.lte_properties.specs.ChainBelow.{AllOf, OfPair, star_in, EachNumber, AtMost, IsUnder, IsAbove, ContextBelow, PrepBelow, StationBelow, RecordBelow}
 use Rattle.lte_properties.specs.ChainAbove.{ContextAbove, HasNoPair, StationAbove, InFlight}
 use Rattle.lte_properties.specs.ChainHolds.{PairNeeds, RowNeeds}
@@ -343,9 +343,9 @@ module _ (top : ℕ → ℕ) (same : Term → Term → Bool) (s : Station Term �
   air_kept (AirRefused answer) d h a = unchanged h a
   air_kept (SecurityStarted count) d h a =
       mapped top s (with_security count) s.preps None (λ c. refl) (λ c. refl) (λ c P k. k) (λ c k. k) pb pa s.context tt h a
-  air_kept (RrcTaken srb count text) d h a =
+  air_kept (RrcOpened srb count text) d h a =
       mapped top s (with_rrc_taken srb count) s.preps None (λ c. refl) (λ c. refl) (λ c P k. k) (λ c k. k) pb pa s.context tt h a
-  air_kept (PacketTaken drb count text) d h a =
+  air_kept (PacketOpened drb count text) d h a =
       mapped top s (with_packet_taken drb count) s.preps None (λ c. refl) (λ c. refl) (λ c P k. k) (λ c k. k) pb pa s.context tt h a
   air_kept (CompletedByS1 air count) d h a = completed_by_s1_kept count (at_air air s.preps) (found air) h a
   air_kept (CompletedWithin air count origin) d h a = completed_within_kept count origin (at_air air s.preps) (found air) h a
@@ -439,18 +439,18 @@ module _ (top : ℕ → ℕ) (same : Term → Term → Bool) (s : Station Term �
   act_kept (StartedByX2 number target cell) d h a = started_by_x2_kept number target cell s.context d refl h a
   act_kept (StartedByS1 number target cell) d h a = started_by_s1_kept number target cell s.context d refl h a
   act_kept (StartedWithin number air cell) d h a = started_within_kept number air cell s.context d refl h a
-  act_kept (Commands order count) d h a = commands_kept order count s.context refl h a
+  act_kept (HandoverCommanded order count) d h a = commands_kept order count s.context refl h a
   act_kept (CancelledByX2 conn number target) d h a = given_up_kept s.preps _ pb pa (tt, tt, tt) h a
   act_kept (CancelledByS1 conn number cell) d h a = given_up_kept s.preps _ pb pa (tt, tt, tt) h a
   act_kept (CancelledWithin number) d h a =
       given_up_kept (without s.id number s.preps) None
       (all_filter (PrepBelow top) (λ p. not (is_of s.id number p)) s.preps pb)
       (all_filter HasNoPair (λ p. not (is_of s.id number p)) s.preps pa) tt h a
-  act_kept (AsksAgain number) d h a = asks_again_kept number s.context d refl h a
-  act_kept (SendsPacket drb count text) d h a = sends_packet_kept drb count text s.context refl h a
-  act_kept (SendsRrc srb count text) d h a = sends_rrc_kept srb count text s.context refl h a
-  act_kept (LeavesOut on n) d h a =
-      mapped top s (with_left_out on n) s.preps None (λ c. refl) (λ c. refl) (λ c P k. k) (λ c k. k) pb pa s.context tt h a
+  act_kept (PathSwitchAsked number) d h a = asks_again_kept number s.context d refl h a
+  act_kept (PacketSent drb count text) d h a = sends_packet_kept drb count text s.context refl h a
+  act_kept (RrcSent srb count text) d h a = sends_rrc_kept srb count text s.context refl h a
+  act_kept (BearerSkipped on n) d h a =
+      mapped top s (with_skipped on n) s.preps None (λ c. refl) (λ c. refl) (λ c P k. k) (λ c k. k) pb pa s.context tt h a
 
 -- each row of a station
 pub station_does_kept : (top : ℕ → ℕ) (same : Term → Term → Bool) (s : Station Term ℕ) (row : StationRow) (key : Option (NumberedKey Term ℕ)) →

@@ -12,7 +12,7 @@ use Rattle.lte_machine.specs.Opening.{Opening, Outcome, open_octets, open_by_use
 use Rattle.key_model.proofs.TermFacts.{same_value-Decides}
 use Rattle.lte_machine.specs.World.{Machine, World, happens}
 use Rattle.lte_machine.specs.Machines.{sender_of, written_machine, written_in_values}
-use Rattle.lte_machine.specs.Run.{Still, replay, run, first_world}
+use Rattle.lte_machine.specs.Run.{Running, replay, run, first_world}
 use Rattle.lte_machine.specs.Mixed.{by_terms, mixed}
 use Rattle.lte_machine.specs.Ranges.{AllOf, IsEvent, IsSetup}
 use Rattle.lte_machine.specs.Standing.{RunsTo}
@@ -34,7 +34,7 @@ use Rattle.lte_properties.proofs.HeldEver.{sharing_holds_by}
 
 -- each world on the way of a run that meets no coincidence is one of such a run
 on_the_way : {K C S : Type 0} (by_octets : Opening K → List ℕ → Outcome) (m : Machine K C S) (w : World K C S) (es : List Event) (u : World K C S)
-    → replay by_octets m (Still w) es ≡ Still u → (n : ℕ) → replay by_octets m (Still w) (take n es) ≡ Still (run m w (take n es))
+    → replay by_octets m (Running w) es ≡ Running u → (n : ℕ) → replay by_octets m (Running w) (take n es) ≡ Running (run m w (take n es))
 on_the_way by_octets m w [] u is zero = refl
 on_the_way by_octets m w [] u is (suc n) = refl
 on_the_way by_octets m w (e ∷ es) u is zero = refl

@@ -1,7 +1,7 @@
 -- COUNTs of bearers only rise, each sending takes the next one.
 use Rattle.std.proofs.Common.{ℕ, ◌<◌, ◌≤◌, ◌==◌, Bool, true, false, if◌then◌else◌, arith}
 use Rattle.rec_base.specs.Bearer.{bearer5_of}
-use Rattle.lte_machine.specs.Bearers.{Srb, Signalling1, Signalling2, Drb, User1, User2, User3, User4, Which, OnSrb, OnDrb, Bearers, of_srb, of_drb, srb_counts, drb_counts, srb_sent, drb_sent, srb_taken, drb_taken, left_out_on}
+use Rattle.lte_machine.specs.Bearers.{Srb, Signalling1, Signalling2, Drb, User1, User2, User3, User4, Which, OnSrb, OnDrb, Bearers, of_srb, of_drb, srb_counts, drb_counts, srb_sent, drb_sent, srb_taken, drb_taken, skipped_on}
 use Rattle.lte_properties.specs.FreshUses.{send_on, next_on}
 
 -- no COUNT to send with falls
@@ -54,7 +54,7 @@ drb_sent_rises User3 a = (omega arith, omega arith, omega arith, omega arith, om
 drb_sent_rises User4 a = (omega arith, omega arith, omega arith, omega arith, omega arith, omega arith)
 
 -- some were left out
-pub left_out_rises : (on : Which) (n : ℕ) (a : Bearers) → Rise a (left_out_on on n a)
+pub left_out_rises : (on : Which) (n : ℕ) (a : Bearers) → Rise a (skipped_on on n a)
 left_out_rises (OnSrb Signalling1) n a = (omega arith, omega arith, omega arith, omega arith, omega arith, omega arith)
 left_out_rises (OnSrb Signalling2) n a = (omega arith, omega arith, omega arith, omega arith, omega arith, omega arith)
 left_out_rises (OnDrb User1) n a = (omega arith, omega arith, omega arith, omega arith, omega arith, omega arith)

@@ -19,8 +19,8 @@ use Rattle.lte_machine.specs.Bearers.{Srb, Signalling1, Drb, Which, Bearers, of_
 use Rattle.lte_machine.specs.Wire.{KeyUse, Outgoing, SealedNas, PlainNas, UserPacket, uses_of, nas_use, drb_use}
 use Rattle.lte_machine.specs.Reply.{Took}
 use Rattle.lte_machine.specs.PhoneState.{nas_keys_of, Partial, NasContext, Link, Radio, Idle, Connecting, Connected, Phone}
-use Rattle.lte_machine.specs.PhoneRows.{NasRow, NasRefused, RejectedPlain, RejectedUnder, ContextTaken, ContextTakenConnected, NasOpened, AirRow, AirRefused, LinkSecured, HandedOver, RrcOpened, PacketOpened, ActRow, ActRefused, ServiceRequested, CompleteResent, WentIdle, PacketSent, RrcSent, NasSent, NasLeftOut, BearerLeftOut}
-use Rattle.lte_machine.specs.PhoneKeys.{nas_ciphering_up, drb_ciphering_up, rrc_sealed, one_nas_sent, with_bearers, context_of, rejected_under, context_taken, context_taken_connected, nas_opened, nas_does, link_secured, arrived, handed_over, rrc_opened, packet_opened, air_does, service_requested, complete_resent, packet_sent, rrc_sent, nas_sent, nas_left_out, bearer_left_out, act_does}
+use Rattle.lte_machine.specs.PhoneRows.{NasRow, NasRefused, RejectedPlain, RejectedUnder, ContextTaken, ContextTakenConnected, NasOpened, AirRow, AirRefused, LinkSecured, HandedOver, RrcOpened, PacketOpened, ActRow, ActRefused, ServiceRequested, CompleteResent, WentIdle, PacketSent, RrcSent, NasSent, NasSkipped, BearerSkipped}
+use Rattle.lte_machine.specs.PhoneKeys.{nas_ciphering_up, drb_ciphering_up, rrc_sealed, one_nas_sent, with_bearers, context_of, rejected_under, context_taken, context_taken_connected, nas_opened, nas_does, link_secured, arrived, handed_over, rrc_opened, packet_opened, air_does, service_requested, complete_resent, packet_sent, rrc_sent, nas_sent, nas_skipped, bearer_skipped, act_does}
 use Rattle.lte_machine.specs.World.{uses_in}
 use Rattle.lte_properties.specs.ChainBelow.{AllOf}
 use Rattle.lte_properties.specs.FreshOrder.{authentication_of, IsBefore, IsNotAfter, IsLevel}
@@ -527,7 +527,7 @@ module _ (roots : ℕ) (taken : Homes) where
 
     -- COUNTs of a bearer are left out
     left_out_on_keeps : (on : Which) (n : ℕ) (o : Radio Term ℕ) → PhoneStands roots taken (record s { radio = o }) →
-        let d = bearer_left_out on n (record s { radio = o }) o in PhoneKeeps roots taken (record s { radio = o }) d.0 d.1.sent d.1.took
+        let d = bearer_skipped on n (record s { radio = o }) o in PhoneKeeps roots taken (record s { radio = o }) d.0 d.1.sent d.1.took
     left_out_on_keeps on n Idle h = still (record s { radio = Idle }) h
     left_out_on_keeps on n (Connecting w) h = still (record s { radio = Connecting w }) h
     left_out_on_keeps on n (Connected l) h = bearers_keep s l _ None (left_out_rises on n l.bearers) h tt tt (λ given. tt)
@@ -546,7 +546,7 @@ module _ (roots : ℕ) (taken : Homes) where
 
     -- uplink NAS COUNTs are left out
     nas_left_out_keeps : (n : ℕ) (o : Option (NasContext Term)) → PhoneStands roots taken (record s { context = o }) →
-        let d = nas_left_out n (record s { context = o }) o in PhoneKeeps roots taken (record s { context = o }) d.0 d.1.sent d.1.took
+        let d = nas_skipped n (record s { context = o }) o in PhoneKeeps roots taken (record s { context = o }) d.0 d.1.sent d.1.took
     nas_left_out_keeps n None h = still (record s { context = None }) h
     nas_left_out_keeps n (Some c) h = left_out s c (skipped n c.send NAS_LIMIT) (omega arith) h
 
@@ -584,5 +584,5 @@ module _ (roots : ℕ) (taken : Homes) where
   act_keeps same (PacketSent drb text) s h = packet_sent_keeps s drb text s.radio h
   act_keeps same (RrcSent srb text) s h = rrc_sent_keeps s srb text s.radio h
   act_keeps same (NasSent text) s h = nas_sent_keeps s text s.context h
-  act_keeps same (NasLeftOut n) s h = nas_left_out_keeps s n s.context h
-  act_keeps same (BearerLeftOut on n) s h = left_out_on_keeps s on n s.radio h
+  act_keeps same (NasSkipped n) s h = nas_left_out_keeps s n s.context h
+  act_keeps same (BearerSkipped on n) s h = left_out_on_keeps s on n s.radio h

@@ -23,8 +23,8 @@ use Rattle.lte_machine.specs.Bearers.{Srb, Signalling1, Drb, Bearers, of_srb, of
 use Rattle.lte_machine.specs.Wire.{KeyUse, Outgoing, uses_of, drb_use}
 use Rattle.lte_machine.specs.Reply.{Origin}
 use Rattle.lte_machine.specs.StationState.{Station, Context, Attempt}
-use Rattle.lte_machine.specs.StationRows.{Wanted, RecordRow, RecordRefused, ContextGiven, ContextReleased, PairTaken, PreparedByS1, PreparedByX2, AckedByS1, AckedByX2, PreparationCancelled, SourceReleased, AirRow, AirRefused, SecurityStarted, RrcTaken, PacketTaken, CompletedByS1, CompletedWithin, CompletedByX2, ActRow, ActRefused, StartedByX2, StartedByS1, StartedWithin, Commands, CancelledByX2, CancelledByS1, CancelledWithin, AsksAgain, SendsPacket, SendsRrc, LeavesOut}
-use Rattle.lte_machine.specs.StationKeys.{signalling_sent, packet_sent, initial_context, context_given, with_pair, pair_taken, wanted_prep, prepared_by_s1, prepared_by_x2, with_wanted, with_s1_ack, with_x2_ack, record_does, with_security, with_rrc_taken, with_packet_taken, arrived, completed_by_s1, completed_within, completed_by_x2, air_does, started_by_x2, started_by_s1, started_within, own_prep, commands, commanded, order_text, given_up, spent_in, asks_again, sends_packet, sends_rrc, with_left_out, act_does}
+use Rattle.lte_machine.specs.StationRows.{Wanted, RecordRow, RecordRefused, ContextGiven, ContextReleased, PairTaken, PreparedByS1, PreparedByX2, AckedByS1, AckedByX2, PreparationCancelled, SourceReleased, AirRow, AirRefused, SecurityStarted, RrcOpened, PacketOpened, CompletedByS1, CompletedWithin, CompletedByX2, ActRow, ActRefused, StartedByX2, StartedByS1, StartedWithin, HandoverCommanded, CancelledByX2, CancelledByS1, CancelledWithin, PathSwitchAsked, PacketSent, RrcSent, BearerSkipped}
+use Rattle.lte_machine.specs.StationKeys.{signalling_sent, packet_sent, initial_context, context_given, with_pair, pair_taken, wanted_prep, prepared_by_s1, prepared_by_x2, with_wanted, with_s1_ack, with_x2_ack, record_does, with_security, with_rrc_taken, with_packet_taken, arrived, completed_by_s1, completed_within, completed_by_x2, air_does, started_by_x2, started_by_s1, started_within, own_prep, commands, commanded, order_text, given_up, spent_in, asks_again, sends_packet, sends_rrc, with_skipped, act_does}
 use Rattle.lte_machine.specs.World.{uses_in}
 use Rattle.lte_properties.specs.ChainBelow.{AllOf}
 use Rattle.lte_properties.specs.ChainRows.{AirDraws, ActDraws}
@@ -115,9 +115,9 @@ AirNeeds taken s other = ⊤
 
 -- a COUNT sent with is the next one
 abbrev pub ActCounts : Option (Context Term ℕ) → ActRow → Type 0
-ActCounts o (Commands order count) = IfSome o (λ c. count ≡ c.bearers.srb1.send)
-ActCounts o (SendsPacket drb count text) = IfSome o (λ c. count ≡ (drb_counts drb c.bearers).send)
-ActCounts o (SendsRrc srb count text) = IfSome o (λ c. count ≡ (srb_counts srb c.bearers).send)
+ActCounts o (HandoverCommanded order count) = IfSome o (λ c. count ≡ c.bearers.srb1.send)
+ActCounts o (PacketSent drb count text) = IfSome o (λ c. count ≡ (drb_counts drb c.bearers).send)
+ActCounts o (RrcSent srb count text) = IfSome o (λ c. count ≡ (srb_counts srb c.bearers).send)
 ActCounts o other = ⊤
 
 module _ (taken given : Homes) where
@@ -414,8 +414,8 @@ module _ (taken given : Homes) where
       let d = air_does (term_reading_by same) row s in StationKeeps taken given s d.0 d.1.sent
   air_keeps same (AirRefused answer) s d n h = still s h
   air_keeps same (SecurityStarted count) s d n h = mapped s (with_security count) (λ c. (refl, refl, srb_taken_rises Signalling1 count c.bearers)) h
-  air_keeps same (RrcTaken srb count text) s d n h = mapped s (with_rrc_taken srb count) (λ c. (refl, refl, srb_taken_rises srb count c.bearers)) h
-  air_keeps same (PacketTaken drb count text) s d n h = mapped s (with_packet_taken drb count) (λ c. (refl, refl, drb_taken_rises drb count c.bearers)) h
+  air_keeps same (RrcOpened srb count text) s d n h = mapped s (with_rrc_taken srb count) (λ c. (refl, refl, srb_taken_rises srb count c.bearers)) h
+  air_keeps same (PacketOpened drb count text) s d n h = mapped s (with_packet_taken drb count) (λ c. (refl, refl, drb_taken_rises drb count c.bearers)) h
   air_keeps same (CompletedByS1 air count) s d n h = s1_keeps same s air count (at_air air s.preps) (waits_at s air h) n h
   air_keeps same (CompletedWithin air count origin) s d n h = within_keeps same s air count origin (at_air air s.preps) (waits_at s air h) n h
   air_keeps same (CompletedByX2 air count number) s d n h = x2_keeps same s air count number (at_air air s.preps) d (waits_at s air h) n h
@@ -494,13 +494,13 @@ module _ (taken given : Homes) where
   act_keeps same (StartedByX2 number target cell) s d n h = by_x2_start_keeps same s number target cell s.context d h
   act_keeps same (StartedByS1 number target cell) s d n h = by_s1_start_keeps same s number target cell s.context d h
   act_keeps same (StartedWithin number air cell) s d n h = within_start_keeps same s number air cell s.context d h
-  act_keeps same (Commands order count) s d n h = commands_keeps same s order count s.context n h
+  act_keeps same (HandoverCommanded order count) s d n h = commands_keeps same s order count s.context n h
   act_keeps same (CancelledByX2 conn number target) s d n h =
       changes s s.next (option_map given_up s.context) _ (omega arith) (stays_map given_up gives_up s.context) h tt tt tt
   act_keeps same (CancelledByS1 conn number cell) s d n h =
       changes s s.next (option_map given_up s.context) _ (omega arith) (stays_map given_up gives_up s.context) h tt tt tt
   act_keeps same (CancelledWithin number) s d n h = filtered s (option_map given_up s.context) s.id number (stays_map given_up gives_up s.context) h
-  act_keeps same (AsksAgain number) s d n h = asks_keeps same s number s.context d h
-  act_keeps same (SendsPacket drb count text) s d n h = packets_keeps same s drb count text s.context n h
-  act_keeps same (SendsRrc srb count text) s d n h = texts_keeps same s srb count text s.context n h
-  act_keeps same (LeavesOut on m) s d n h = mapped s (with_left_out on m) (λ c. (refl, refl, left_out_rises on m c.bearers)) h
+  act_keeps same (PathSwitchAsked number) s d n h = asks_keeps same s number s.context d h
+  act_keeps same (PacketSent drb count text) s d n h = packets_keeps same s drb count text s.context n h
+  act_keeps same (RrcSent srb count text) s d n h = texts_keeps same s srb count text s.context n h
+  act_keeps same (BearerSkipped on m) s d n h = mapped s (with_skipped on m) (λ c. (refl, refl, left_out_rises on m c.bearers)) h

@@ -22,7 +22,7 @@ use Rattle.lte_machine.specs.Wire.{KeyUse, Outgoing, SealedNas, PlainNas, Sealed
 use Rattle.lte_machine.specs.Opening.{Opening, Outcome}
 use Rattle.lte_machine.specs.Reply.{Origin, Tried, Reply, unseen}
 use Rattle.lte_machine.specs.StationState.{Station, Context, StationInput, StationActs, AirPdu, StationRecord, Interface, OnS1, OnX2, map_read}
-use Rattle.lte_machine.specs.StationRows.{Wanted, RecordRow, RecordRefused, ContextGiven, ContextReleased, PairTaken, PreparedByS1, PreparedByX2, AckedByS1, AckedByX2, PreparationCancelled, SourceReleased, AirRow, AirRefused, SecurityStarted, RrcTaken, PacketTaken, CompletedByS1, CompletedWithin, CompletedByX2, ActRow, ActRefused, StartedByX2, StartedByS1, StartedWithin, Commands, CancelledByX2, CancelledByS1, CancelledWithin, AsksAgain, SendsPacket, SendsRrc, LeavesOut, StationRow, OfRecord, OfAir, OfAct}
+use Rattle.lte_machine.specs.StationRows.{Wanted, RecordRow, RecordRefused, ContextGiven, ContextReleased, PairTaken, PreparedByS1, PreparedByX2, AckedByS1, AckedByX2, PreparationCancelled, SourceReleased, AirRow, AirRefused, SecurityStarted, RrcOpened, PacketOpened, CompletedByS1, CompletedWithin, CompletedByX2, ActRow, ActRefused, StartedByX2, StartedByS1, StartedWithin, HandoverCommanded, CancelledByX2, CancelledByS1, CancelledWithin, PathSwitchAsked, PacketSent, RrcSent, BearerSkipped, StationRow, OfRecord, OfAir, OfAct}
 use Rattle.lte_machine.specs.StationChoice.{record_row}
 use Rattle.lte_machine.specs.StationKeys.{context_given, pair_taken, prepared_by_s1, prepared_by_x2, completed_by_s1, completed_within, completed_by_x2, started_by_x2, started_by_s1, started_within, commands, asks_again, sends_packet, sends_rrc, record_does, air_does, act_does, station_does}
 use Rattle.lte_machine.specs.StationStep.{plain_station, station_opens, station_pdu_in, station_row_of, station_key, station_step}
@@ -101,8 +101,8 @@ module _ (same : Term → Term → Bool) (s : Station Term ℕ) where
   air_numbered : (row : AirRow) → AirDraws s.next row → Numbered s (air_does (term_reading_by same) row s)
   air_numbered (AirRefused answer) e = quiet _ _ refl refl refl
   air_numbered (SecurityStarted count) e = quiet _ _ refl refl refl
-  air_numbered (RrcTaken srb count text) e = quiet _ _ refl refl refl
-  air_numbered (PacketTaken drb count text) e = quiet _ _ refl refl refl
+  air_numbered (RrcOpened srb count text) e = quiet _ _ refl refl refl
+  air_numbered (PacketOpened drb count text) e = quiet _ _ refl refl refl
   air_numbered (CompletedByS1 air count) e = completed_s1_numbered count (at_air air s.preps)
   air_numbered (CompletedWithin air count origin) e = completed_within_numbered count origin (at_air air s.preps)
   air_numbered (CompletedByX2 air count number) e = completed_x2_numbered count number (at_air air s.preps) e
@@ -141,14 +141,14 @@ module _ (same : Term → Term → Bool) (s : Station Term ℕ) where
   act_numbered (StartedByX2 number target cell) e = started_x2_numbered number target cell s.context e
   act_numbered (StartedByS1 number target cell) e = started_s1_numbered number target cell s.context e
   act_numbered (StartedWithin number air cell) e = started_within_numbered number air cell s.context e
-  act_numbered (Commands order count) e = commands_numbered order count s.context
+  act_numbered (HandoverCommanded order count) e = commands_numbered order count s.context
   act_numbered (CancelledByX2 conn number target) e = quiet _ _ refl refl refl
   act_numbered (CancelledByS1 conn number cell) e = quiet _ _ refl refl refl
   act_numbered (CancelledWithin number) e = quiet _ _ refl refl refl
-  act_numbered (AsksAgain number) e = asks_numbered number s.context e
-  act_numbered (SendsPacket drb count text) e = packet_numbered drb count text s.context
-  act_numbered (SendsRrc srb count text) e = rrc_numbered srb count text s.context
-  act_numbered (LeavesOut on n) e = quiet _ _ refl refl refl
+  act_numbered (PathSwitchAsked number) e = asks_numbered number s.context e
+  act_numbered (PacketSent drb count text) e = packet_numbered drb count text s.context
+  act_numbered (RrcSent srb count text) e = rrc_numbered srb count text s.context
+  act_numbered (BearerSkipped on n) e = quiet _ _ refl refl refl
 
   row_numbered : (row : StationRow) (key : Option (NumberedKey Term ℕ)) → RowDraws s.next row → Numbered s (station_does (term_reading_by same) row key s)
   row_numbered (OfRecord row) key e = record_numbered row key e

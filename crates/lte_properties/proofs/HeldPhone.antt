@@ -15,8 +15,8 @@ use Rattle.lte_machine.specs.Wire.{Outgoing, SealedNas, PlainNas, SealedRrc, Use
 use Rattle.lte_machine.specs.Reply.{Reply, Tried}
 use Rattle.lte_events.specs.Site.{Site}
 use Rattle.lte_machine.specs.PhoneState.{Partial, NasContext, Radio, Idle, Connecting, Connected, Phone}
-use Rattle.lte_machine.specs.PhoneRows.{AuthRow, Authenticated, NasRow, NasRefused, RejectedPlain, RejectedUnder, ContextTaken, ContextTakenConnected, NasOpened, AirRow, AirRefused, LinkSecured, HandedOver, RrcOpened, PacketOpened, ActRow, ActRefused, ServiceRequested, CompleteResent, WentIdle, PacketSent, RrcSent, NasSent, NasLeftOut, BearerLeftOut, PhoneRow, OfAuth, OfNas, OfAir, OfAct}
-use Rattle.lte_machine.specs.PhoneKeys.{authenticated, auth_does, rejected_under, context_taken, context_taken_connected, nas_opened, nas_does, link_secured, handed_over, rrc_opened, packet_opened, air_does, service_requested, complete_resent, packet_sent, rrc_sent, nas_sent, nas_left_out, bearer_left_out, act_does, phone_does}
+use Rattle.lte_machine.specs.PhoneRows.{AuthRow, Authenticated, NasRow, NasRefused, RejectedPlain, RejectedUnder, ContextTaken, ContextTakenConnected, NasOpened, AirRow, AirRefused, LinkSecured, HandedOver, RrcOpened, PacketOpened, ActRow, ActRefused, ServiceRequested, CompleteResent, WentIdle, PacketSent, RrcSent, NasSent, NasSkipped, BearerSkipped, PhoneRow, OfAuth, OfNas, OfAir, OfAct}
+use Rattle.lte_machine.specs.PhoneKeys.{authenticated, auth_does, rejected_under, context_taken, context_taken_connected, nas_opened, nas_does, link_secured, handed_over, rrc_opened, packet_opened, air_does, service_requested, complete_resent, packet_sent, rrc_sent, nas_sent, nas_skipped, bearer_skipped, act_does, phone_does}
 use Rattle.lte_properties.proofs.ChainLists.{OfSome, all_append}
 use Rattle.lte_properties.proofs.HeldKeys.{Gifts, FlyOk, OutsAre}
 
@@ -189,11 +189,11 @@ module _ (same : Term → Term → Bool) (s : Phone Term ℕ) where
   nas_sent_kept text None n h = record { ok = h; outs = tt; keyless = tt }
   nas_sent_kept text (Some c) n h = record { ok = record { partial = h.partial; context = n; radio = h.radio }; outs = tt; keyless = tt }
 
-  nas_left_kept : (n : ℕ) (o : Option (NasContext Term)) → HasContext o → PhoneOk s → PhoneKept (nas_left_out n s o)
+  nas_left_kept : (n : ℕ) (o : Option (NasContext Term)) → HasContext o → PhoneOk s → PhoneKept (nas_skipped n s o)
   nas_left_kept n None k h = record { ok = h; outs = tt; keyless = tt }
   nas_left_kept n (Some c) k h = record { ok = record { partial = h.partial; context = k; radio = h.radio }; outs = tt; keyless = tt }
 
-  bearer_left_kept : (bearer : Which) (n : ℕ) (o : Radio Term ℕ) → RadioOk o → PhoneOk s → PhoneKept (bearer_left_out bearer n s o)
+  bearer_left_kept : (bearer : Which) (n : ℕ) (o : Radio Term ℕ) → RadioOk o → PhoneOk s → PhoneKept (bearer_skipped bearer n s o)
   bearer_left_kept bearer n Idle k h = record { ok = h; outs = tt; keyless = tt }
   bearer_left_kept bearer n (Connecting w) k h = record { ok = h; outs = tt; keyless = tt }
   bearer_left_kept bearer n (Connected l) k h = record { ok = record { partial = h.partial; context = h.context; radio = k }; outs = tt; keyless = tt }
@@ -206,8 +206,8 @@ module _ (same : Term → Term → Bool) (s : Phone Term ℕ) where
   act_kept (PacketSent drb text) h = packet_sent_kept drb text s.radio h.radio h
   act_kept (RrcSent srb text) h = rrc_sent_kept srb text s.radio h.radio h
   act_kept (NasSent text) h = nas_sent_kept text s.context h.context h
-  act_kept (NasLeftOut n) h = nas_left_kept n s.context h.context h
-  act_kept (BearerLeftOut bearer n) h = bearer_left_kept bearer n s.radio h.radio h
+  act_kept (NasSkipped n) h = nas_left_kept n s.context h.context h
+  act_kept (BearerSkipped bearer n) h = bearer_left_kept bearer n s.radio h.radio h
 
   -- each row
   pub phone_kept : (row : PhoneRow) (o : Option Term) → OfSome IsRoot o → PhoneOk s → PhoneKept (phone_does (term_reading_by same) row o s)

@@ -16,9 +16,9 @@ use Rattle.lte_machine.specs.Bearers.{Srb, Drb}
 use Rattle.lte_machine.specs.Wire.{Outgoing}
 use Rattle.lte_machine.specs.Reply.{Origin, Made, Tried, Reply}
 use Rattle.lte_machine.specs.StationState.{Station, Context, Attempt, OverX2, OverS1, Within, X2Open, X2Ready, X2Commanded, S1Open, S1Ready, S1Commanded}
-use Rattle.lte_machine.specs.StationRows.{Wanted, RecordRow, RecordRefused, ContextGiven, ContextReleased, PairTaken, PreparedByS1, PreparedByX2, AckedByS1, AckedByX2, PreparationCancelled, SourceReleased, AirRow, AirRefused, SecurityStarted, RrcTaken, PacketTaken, CompletedByS1, CompletedWithin, CompletedByX2, ActRow, ActRefused, StartedByX2, StartedByS1, StartedWithin, Commands, CancelledByX2, CancelledByS1, CancelledWithin, AsksAgain, SendsPacket, SendsRrc, LeavesOut, StationRow, OfRecord, OfAir, OfAct}
+use Rattle.lte_machine.specs.StationRows.{Wanted, RecordRow, RecordRefused, ContextGiven, ContextReleased, PairTaken, PreparedByS1, PreparedByX2, AckedByS1, AckedByX2, PreparationCancelled, SourceReleased, AirRow, AirRefused, SecurityStarted, RrcOpened, PacketOpened, CompletedByS1, CompletedWithin, CompletedByX2, ActRow, ActRefused, StartedByX2, StartedByS1, StartedWithin, HandoverCommanded, CancelledByX2, CancelledByS1, CancelledWithin, PathSwitchAsked, PacketSent, RrcSent, BearerSkipped, StationRow, OfRecord, OfAir, OfAct}
 use Rattle.lte_machine.specs.StationChoice.{station_of}
-use Rattle.lte_machine.specs.StationKeys.{spent_in, s1_acked, x2_acked, commanded, given_up, with_pair, with_s1_ack, with_x2_ack, with_security, with_rrc_taken, with_packet_taken, with_left_out, source_release, wanted_made, context_given, pair_taken, prepared_by_s1, prepared_by_x2, completed_by_s1, completed_within, completed_by_x2, started_by_x2, started_by_s1, started_within, commands, asks_again, sends_packet, sends_rrc, record_does, air_does, act_does, station_does}
+use Rattle.lte_machine.specs.StationKeys.{spent_in, s1_acked, x2_acked, commanded, given_up, with_pair, with_s1_ack, with_x2_ack, with_security, with_rrc_taken, with_packet_taken, with_skipped, source_release, wanted_made, context_given, pair_taken, prepared_by_s1, prepared_by_x2, completed_by_s1, completed_within, completed_by_x2, started_by_x2, started_by_s1, started_within, commands, asks_again, sends_packet, sends_rrc, record_does, air_does, act_does, station_does}
 use Rattle.lte_machine.specs.World.{with_one}
 use Rattle.lte_properties.proofs.ChainLists.{OfSome, all_append, all_filter, all_find}
 use Rattle.lte_properties.proofs.HeldKeys.{any_map, any_new, GivesIn, Gifts, May, MayHold, may_star, may_go, OfPairKey, ContextHas, PrepHas, StationHas, BaseGiven, TriedOk, HasTried, IsKenb, OwnCell, FlyOk, MadeBy, MadeOk, OutsAre}
@@ -270,8 +270,8 @@ module _ (G : Gifts) (sites : List Site) (tried : List (Tried Term ℕ)) (same :
   air_kept : (row : AirRow) → StationHas P s → After (air_does (term_reading_by same) row s)
   air_kept (AirRefused answer) h = quiet s refl refl h
   air_kept (SecurityStarted count) h = mapped (with_security count) (λ c k. k) h
-  air_kept (RrcTaken srb count text) h = mapped (with_rrc_taken srb count) (λ c k. k) h
-  air_kept (PacketTaken drb count text) h = mapped (with_packet_taken drb count) (λ c k. k) h
+  air_kept (RrcOpened srb count text) h = mapped (with_rrc_taken srb count) (λ c k. k) h
+  air_kept (PacketOpened drb count text) h = mapped (with_packet_taken drb count) (λ c k. k) h
   air_kept (CompletedByS1 air count) h = completed_s1_kept count (at_air air s.preps) (found air h) h
   air_kept (CompletedWithin air count origin) h = completed_within_kept count origin (at_air air s.preps) (found air h) h
   air_kept (CompletedByX2 air count number) h = completed_x2_kept count number (at_air air s.preps) (found air h) h
@@ -351,7 +351,7 @@ module _ (G : Gifts) (sites : List Site) (tried : List (Tried Term ℕ)) (same :
   act_kept (StartedByX2 number target cell) n h = started_x2_kept number target cell s.context n h.context h
   act_kept (StartedByS1 number target cell) n h = started_s1_kept number target cell s.context h.context h
   act_kept (StartedWithin number air cell) n h = started_within_kept number air cell s.context n h.context h
-  act_kept (Commands order count) n h = commands_kept order count s.context h.context h
+  act_kept (HandoverCommanded order count) n h = commands_kept order count s.context h.context h
   act_kept (CancelledByX2 conn number target) n h =
       calm _ _ refl refl (tt, tt) (λ u a g. g) (record { context = context_map_has P given_up (given_up_has P) s.context h.context; preps = h.preps })
   act_kept (CancelledByS1 conn number cell) n h =
@@ -361,10 +361,10 @@ module _ (G : Gifts) (sites : List Site) (tried : List (Tried Term ℕ)) (same :
         context = context_map_has P given_up (given_up_has P) s.context h.context;
         preps = all_filter (PrepHas P) (λ p. not (is_of s.id number p)) s.preps h.preps;
       })
-  act_kept (AsksAgain number) n h = asks_kept number s.context h.context h
-  act_kept (SendsPacket drb count text) n h = packet_kept drb count text s.context h.context h
-  act_kept (SendsRrc srb count text) n h = rrc_kept srb count text s.context h.context h
-  act_kept (LeavesOut on n) m h = mapped (with_left_out on n) (λ c k. k) h
+  act_kept (PathSwitchAsked number) n h = asks_kept number s.context h.context h
+  act_kept (PacketSent drb count text) n h = packet_kept drb count text s.context h.context h
+  act_kept (RrcSent srb count text) n h = rrc_kept srb count text s.context h.context h
+  act_kept (BearerSkipped on n) m h = mapped (with_skipped on n) (λ c k. k) h
 
   -- each row
   pub station_kept : (row : StationRow) (key : Option (NumberedKey Term ℕ)) → RowNeeds G sites tried s.id row key → StationHas P s →

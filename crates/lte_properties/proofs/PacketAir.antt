@@ -127,8 +127,8 @@ FromStation g (Some x) = AirOk g x
 
 -- what a row needs: a COUNT that is left, and data in their range
 abbrev pub SendNeeds : station.ActRow → Type 0
-SendNeeds (station.SendsPacket drb count text) = (count < LIMIT) × (length text ≤ 1500)
-SendNeeds (station.SendsRrc srb count text) = (count < LIMIT) × (length text ≤ 200)
+SendNeeds (station.PacketSent drb count text) = (count < LIMIT) × (length text ≤ 1500)
+SendNeeds (station.RrcSent srb count text) = (count < LIMIT) × (length text ≤ 200)
 SendNeeds other = ⊤
 
 abbrev pub StationNeeds : StationRow → Type 0
@@ -188,8 +188,8 @@ module _ (same : Term → Term → Bool) (g : Ghost) where
   air_sends : (row : station.AirRow) (s : Station Term ℕ) → FromStation g (station_keys.air_does r row s).1.sent
   air_sends (station.AirRefused answer) s = tt
   air_sends (station.SecurityStarted count) s = tt
-  air_sends (station.RrcTaken srb count text) s = tt
-  air_sends (station.PacketTaken drb count text) s = tt
+  air_sends (station.RrcOpened srb count text) s = tt
+  air_sends (station.PacketOpened drb count text) s = tt
   air_sends (station.CompletedByS1 air count) s = by_s1_sends count (at_air air s.preps) s
   air_sends (station.CompletedWithin air count origin) s = within_sends count origin (at_air air s.preps) s
   air_sends (station.CompletedByX2 air count number) s = by_x2_sends count number (at_air air s.preps) s
@@ -230,14 +230,14 @@ module _ (same : Term → Term → Bool) (g : Ghost) where
   act_sends (station.StartedByX2 number target cell) s keys needs = started_x2_sends number target cell s.context s
   act_sends (station.StartedByS1 number target cell) s keys needs = started_s1_sends number target cell s.context s
   act_sends (station.StartedWithin number air cell) s keys needs = started_within_sends number air cell s.context s
-  act_sends (station.Commands order count) s keys needs = commands_sends order count s.context s
+  act_sends (station.HandoverCommanded order count) s keys needs = commands_sends order count s.context s
   act_sends (station.CancelledByX2 conn number target) s keys needs = tt
   act_sends (station.CancelledByS1 conn number cell) s keys needs = tt
   act_sends (station.CancelledWithin number) s keys needs = tt
-  act_sends (station.AsksAgain number) s keys needs = asks_sends number s.context s
-  act_sends (station.SendsPacket drb count text) s keys needs = packet_sends drb count text s.context s keys needs
-  act_sends (station.SendsRrc srb count text) s keys needs = rrc_sends srb count text s.context s keys needs
-  act_sends (station.LeavesOut on n) s keys needs = tt
+  act_sends (station.PathSwitchAsked number) s keys needs = asks_sends number s.context s
+  act_sends (station.PacketSent drb count text) s keys needs = packet_sends drb count text s.context s keys needs
+  act_sends (station.RrcSent srb count text) s keys needs = rrc_sends srb count text s.context s keys needs
+  act_sends (station.BearerSkipped on n) s keys needs = tt
 
   -- any row of a station
   pub station_sends : (row : StationRow) (key : Option (NumberedKey Term ℕ)) (s : Station Term ℕ) → ContextKeys g s.id s.context → StationNeeds row
@@ -350,11 +350,11 @@ module _ (same : Term → Term → Bool) (g : Ghost) where
   sent_from text s None = tt
   sent_from text s (Some c) = tt
 
-  left_from : (n : ℕ) (s : Phone Term ℕ) (o : Option (NasContext Term)) → FromPhone (phone_keys.nas_left_out n s o).1.sent
+  left_from : (n : ℕ) (s : Phone Term ℕ) (o : Option (NasContext Term)) → FromPhone (phone_keys.nas_skipped n s o).1.sent
   left_from n s None = tt
   left_from n s (Some c) = tt
 
-  bearer_from : (on : Which) (n : ℕ) (s : Phone Term ℕ) (radio : Radio Term ℕ) → FromPhone (phone_keys.bearer_left_out on n s radio).1.sent
+  bearer_from : (on : Which) (n : ℕ) (s : Phone Term ℕ) (radio : Radio Term ℕ) → FromPhone (phone_keys.bearer_skipped on n s radio).1.sent
   bearer_from on n s Idle = tt
   bearer_from on n s (Connecting w) = tt
   bearer_from on n s (Connected l) = tt
@@ -367,8 +367,8 @@ module _ (same : Term → Term → Bool) (g : Ghost) where
   act_from (phone.PacketSent drb text) s keys needs = packet_from drb text s s.radio keys needs
   act_from (phone.RrcSent srb text) s keys needs = rrc_from srb text s s.radio keys needs
   act_from (phone.NasSent text) s keys needs = sent_from text s s.context
-  act_from (phone.NasLeftOut n) s keys needs = left_from n s s.context
-  act_from (phone.BearerLeftOut on n) s keys needs = bearer_from on n s s.radio
+  act_from (phone.NasSkipped n) s keys needs = left_from n s s.context
+  act_from (phone.BearerSkipped on n) s keys needs = bearer_from on n s s.radio
 
   -- any row of the phone
   pub phone_sends : (row : PhoneRow) (root : Option Term) (s : Phone Term ℕ) → RadioKeys g s.radio → PhoneNeeds s.radio row → FromPhone (phone_does r row root s).1.sent

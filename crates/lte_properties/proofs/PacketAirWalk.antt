@@ -57,7 +57,7 @@ start_needs s kind cell None = tt
 start_needs s kind cell (Some c) = active_needs c.starting _ (target_needs s c.attempt cell kind (choice.station_of cell s.cells))
 
 ordered_needs : (order : Order) (counts : Counts) → SendNeeds (choice.ordered_row order counts)
-ordered_needs order counts = unless_needs counts (station.Commands order counts.send) (λ e. tt)
+ordered_needs order counts = unless_needs counts (station.HandoverCommanded order counts.send) (λ e. tt)
 
 x2_command_needs : (state : X2State (Unit {0}) ℕ) (counts : Counts) → SendNeeds (choice.x2_command_row state counts)
 x2_command_needs (X2Open start) counts = tt
@@ -117,14 +117,14 @@ packet_needs (OnSrb srb) text short o = tt
 packet_needs (OnDrb drb) text short None = tt
 packet_needs (OnDrb drb) text short (Some c) =
     let counts = drb_counts drb c.bearers in
-    active_needs c.starting _ (unless_needs counts (station.SendsPacket drb counts.send text) (λ low. (low, short)))
+    active_needs c.starting _ (unless_needs counts (station.PacketSent drb counts.send text) (λ low. (low, short)))
 
 rrc_needs : (on : Which) (text : List ℕ) → length text ≤ 200 → (o : Option PlainContext) → SendNeeds (choice.send_rrc_row on text o)
 rrc_needs (OnDrb drb) text short o = tt
 rrc_needs (OnSrb srb) text short None = tt
 rrc_needs (OnSrb srb) text short (Some c) =
     let counts = srb_counts srb c.bearers in
-    active_needs c.starting _ (unless_needs counts (station.SendsRrc srb counts.send text) (λ low. (low, short)))
+    active_needs c.starting _ (unless_needs counts (station.RrcSent srb counts.send text) (λ low. (low, short)))
 
 skip_needs : (on : Which) (n : ℕ) (o : Option PlainContext) → SendNeeds (choice.skip_row on n o)
 skip_needs on n None = tt
@@ -189,11 +189,11 @@ module _ (same : Term → Term → Bool) (g : Ghost) where
       let counts = srb_counts srb l.bearers in
       left_unless (Connected l) (is_spent counts) (phone.RrcSent srb text) (λ e. (above_of LIMIT counts.send e, short))
 
-  nas_left_needs : (radio : Radio Term ℕ) (n : ℕ) (o : Option (NasContext (Unit {0}))) → Acts radio (phone_choice.nas_left_out_row n o)
+  nas_left_needs : (radio : Radio Term ℕ) (n : ℕ) (o : Option (NasContext (Unit {0}))) → Acts radio (phone_choice.nas_skipped_row n o)
   nas_left_needs radio n None = tt
   nas_left_needs radio n (Some c) = tt
 
-  bearer_left_needs : (radio : Radio Term ℕ) (on : Which) (n : ℕ) (plain : Radio (Unit {0}) ℕ) → Acts radio (phone_choice.bearer_left_out_row on n plain)
+  bearer_left_needs : (radio : Radio Term ℕ) (on : Which) (n : ℕ) (plain : Radio (Unit {0}) ℕ) → Acts radio (phone_choice.bearer_skipped_row on n plain)
   bearer_left_needs radio on n Idle = tt
   bearer_left_needs radio on n (Connecting w) = tt
   bearer_left_needs radio on n (Connected l) = tt

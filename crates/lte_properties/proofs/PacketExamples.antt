@@ -6,7 +6,7 @@ use Rattle.lte_events.specs.declared.events.Event.{Event}
 use Rattle.key_model.specs.Term.{Term}
 use Rattle.lte_machine.specs.Wire.{Outgoing}
 use Rattle.lte_machine.specs.Opening.{open_octets}
-use Rattle.lte_machine.specs.Run.{Ran, Still, Over, replay}
+use Rattle.lte_machine.specs.Run.{RunState, Running, Stopped, replay}
 use Rattle.lte_machine.specs.World.{World, chosen}
 use Rattle.lte_machine.proofs.Scenario.{computing, machine, opening, start, toy}
 use Rattle.lte_properties.specs.Packets.{IsReady, InWindow, next_for, count_of, window_of}
@@ -16,9 +16,9 @@ abbrev Comes : World Term ℕ (Outgoing Term ℕ) → Outgoing Term ℕ → Type
 Comes w x = IsReady w x × InWindow (next_for w x) (count_of x) (window_of x)
 
 -- the newest record after these events comes so
-abbrev NewestComes : Ran Term ℕ (Outgoing Term ℕ) → Type 0
-NewestComes (Still w) = OfSome (Comes w) (chosen (negsuc 0) w.sent)
-NewestComes (Over chance) = ⊥
+abbrev NewestComes : RunState Term ℕ (Outgoing Term ℕ) → Type 0
+NewestComes (Running w) = OfSome (Comes w) (chosen (negsuc 0) w.sent)
+NewestComes (Stopped chance) = ⊥
 
 abbrev Ready : List Event → Type 0
 Ready events = NewestComes (replay (open_octets toy) machine start (opening ++ events))

@@ -296,11 +296,11 @@ module _ (same : Term → Term → Bool) (g : Choices) (next : ℕ) where
   sent_goes text s (Some c) h k needs =
       ((h.0, k), sealed_by c k Up 2 c.send _ (NasData text) (refl, ciphered_by_own c k Up c.send, needs.0, needs.1))
 
-  left_goes : (n : ℕ) (s : Phone Term ℕ) (o : Option (NasContext Term)) → PhoneOk g next s → PhoneContextOk g next o → PhoneGoes (phone_keys.nas_left_out n s o)
+  left_goes : (n : ℕ) (s : Phone Term ℕ) (o : Option (NasContext Term)) → PhoneOk g next s → PhoneContextOk g next o → PhoneGoes (phone_keys.nas_skipped n s o)
   left_goes n s None h k = (h, tt)
   left_goes n s (Some c) h k = ((h.0, k), tt)
 
-  bearer_goes : (on : Which) (n : ℕ) (s : Phone Term ℕ) (radio : Radio Term ℕ) → PhoneOk g next s → PhoneGoes (phone_keys.bearer_left_out on n s radio)
+  bearer_goes : (on : Which) (n : ℕ) (s : Phone Term ℕ) (radio : Radio Term ℕ) → PhoneOk g next s → PhoneGoes (phone_keys.bearer_skipped on n s radio)
   bearer_goes on n s Idle h = (h, tt)
   bearer_goes on n s (Connecting w) h = (h, tt)
   bearer_goes on n s (Connected l) h = (h, tt)
@@ -313,8 +313,8 @@ module _ (same : Term → Term → Bool) (g : Choices) (next : ℕ) where
   act_goes (phone.PacketSent drb text) s h needs = packet_sent_goes drb text s s.radio h
   act_goes (phone.RrcSent srb text) s h needs = rrc_sent_goes srb text s s.radio h
   act_goes (phone.NasSent text) s h needs = sent_goes text s s.context h h.1 needs
-  act_goes (phone.NasLeftOut n) s h needs = left_goes n s s.context h h.1
-  act_goes (phone.BearerLeftOut on n) s h needs = bearer_goes on n s s.radio h
+  act_goes (phone.NasSkipped n) s h needs = left_goes n s s.context h h.1
+  act_goes (phone.BearerSkipped on n) s h needs = bearer_goes on n s s.radio h
 
   -- any row of the phone
   pub phone_goes : (row : PhoneRow) (root : Option Term) (s : Phone Term ℕ) → PhoneOk g next s → RowNeeds s root row → PhoneGoes (phone_does r row root s)

@@ -150,11 +150,11 @@ module _ (same : Term → Term → Bool) (g : Choices) (next : ℕ) where
   rrc_needs context text (OnSrb srb) (Connecting w) = tt
   rrc_needs context text (OnSrb srb) (Connected l) = unless_needs context (is_spent (srb_counts srb l.bearers)) (phone.RrcSent srb text) (λ e. tt)
 
-  left_needs : (n : ℕ) (context : Option (NasContext Term)) (o : Option (NasContext (Unit {0}))) → Acts context (choice.nas_left_out_row n o)
+  left_needs : (n : ℕ) (context : Option (NasContext Term)) (o : Option (NasContext (Unit {0}))) → Acts context (choice.nas_skipped_row n o)
   left_needs n context None = tt
   left_needs n context (Some c) = tt
 
-  bearer_needs : (context : Option (NasContext Term)) (on : Which) (n : ℕ) (radio : Radio (Unit {0}) ℕ) → Acts context (choice.bearer_left_out_row on n radio)
+  bearer_needs : (context : Option (NasContext Term)) (on : Which) (n : ℕ) (radio : Radio (Unit {0}) ℕ) → Acts context (choice.bearer_skipped_row on n radio)
   bearer_needs context on n Idle = tt
   bearer_needs context on n (Connecting w) = tt
   bearer_needs context on n (Connected l) = tt

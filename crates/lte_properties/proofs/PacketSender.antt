@@ -17,7 +17,7 @@ use Rattle.lte_machine.specs.StationState.{Station, StationInput, StationActs, A
 use Rattle.lte_machine.specs.World.{Machine, World, Line, station_of_id, turn_of, auth_unless, known_root, next_root, content_in, arrives, chosen, delivered, class_of, is_sent, injected, happens}
 use Rattle.lte_machine.specs.Step.{attempted, attempts_at, arrival_attempts, delivery_attempts, injection_attempts}
 use Rattle.lte_machine.specs.Machines.{machine_over, sender_of}
-use Rattle.lte_machine.specs.Run.{Still, replay}
+use Rattle.lte_machine.specs.Run.{Running, replay}
 use Rattle.lte_machine.specs.Distinct.{keys_of, Member, OneValueOneTerm}
 use Rattle.lte_machine.specs.Mixed.{by_terms, mixed}
 use Rattle.lte_machine.specs.Known.{SentKnown, IsReported}
@@ -168,7 +168,7 @@ module _ (c : Ciphers Term) (between : Fields → Option (NumberedKey Term ℕ) 
       (came_more (IsReported w) (IsReported u) (happens_grows (mixed c between) w e) a.came (event_came (mixed c between) w g e))
 
   pub roots_along : (by_octets : Opening Term → List ℕ → Outcome) (w : TheWorld) (es : List Event) (u : TheWorld) → Grounds w → no_clash w
-      → replay by_octets written (Still w) es ≡ Still u → Along (SameRoot (mixed c between)) (mixed c between) w es
+      → replay by_octets written (Running w) es ≡ Running u → Along (SameRoot (mixed c between)) (mixed c between) w es
   roots_along by_octets w [] u g calm is = tt
   roots_along by_octets w (e ∷ es) u g calm is =
       let on = goes_on by_octets written w e es u is in

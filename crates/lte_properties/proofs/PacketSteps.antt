@@ -28,7 +28,7 @@ use Rattle.lte_machine.specs.PhoneKeys.{nas_ciphering_down, srb_ciphering_down, 
 use Rattle.lte_machine.specs.PhoneStep.{plain_phone, phone_step, phone_opens}
 use Rattle.lte_machine.specs.StationState as station_state
 use Rattle.lte_machine.specs.StationState.{Station, Context, AirPdu}
-use Rattle.lte_machine.specs.StationRows.{RrcTaken, PacketTaken}
+use Rattle.lte_machine.specs.StationRows.{RrcOpened, PacketOpened}
 use Rattle.lte_machine.specs.StationChoice as at_station
 use Rattle.lte_machine.specs.StationKeys as by_station
 use Rattle.lte_machine.specs.StationKeys.{signalling_opening, user_opening}
@@ -174,7 +174,7 @@ module _ (same : Term → Term → Bool) (opener : Opener) (pdu : List ℕ) (cam
       ap (λ f. by_station.air_expects f s) front ∙ ap (by_station.signalling_expects srb count) context in
       let outcome = opener (by_station.air_expects at s) pdu came in
       let out : outcome ≡ Opened text = ap (λ p. opener p pdu came) expects ∙ opens in
-      let row : at_station.air_row plain at outcome ≡ RrcTaken srb count (Some sent) =
+      let row : at_station.air_row plain at outcome ≡ RrcOpened srb count (Some sent) =
       (λ j. at_station.air_row plain (front j) (out j)) ∙ ap (at_station.rrc_row srb count) reads in
       (ap (λ y. (by_station.air_does r y s).1.answer) row, ap (λ y. (by_station.air_does r y s).1.opened) row)
 
@@ -193,8 +193,8 @@ module _ (same : Term → Term → Bool) (opener : Opener) (pdu : List ℕ) (cam
       ap (λ f. by_station.air_expects f s) front ∙ ap (by_station.user_expects drb count) context in
       let outcome = opener (by_station.air_expects at s) pdu came in
       let out : outcome ≡ Opened text = ap (λ p. opener p pdu came) expects ∙ opens in
-      let row : at_station.air_row plain at outcome ≡ PacketTaken drb count sent =
-      (λ j. at_station.air_row plain (front j) (out j)) ∙ ap (PacketTaken drb count) (take_all 1500 text short ∙ is) in
+      let row : at_station.air_row plain at outcome ≡ PacketOpened drb count sent =
+      (λ j. at_station.air_row plain (front j) (out j)) ∙ ap (PacketOpened drb count) (take_all 1500 text short ∙ is) in
       (ap (λ y. (by_station.air_does r y s).1.answer) row, ap (λ y. (by_station.air_does r y s).1.opened) row)
 
   -- the core on a NAS message

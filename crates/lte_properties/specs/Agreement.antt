@@ -188,19 +188,19 @@ CompletedLines m w (e ∷ es) =
     let h = happens m w e in TellsNote h.0 h.1.who h.1.note × CompletedLines m h.0 es
 
 -- a line tells this key, with the NCC of its number
-abbrev pub Tells : Line Term → Who → Term → ℕ → Type 0
-Tells l who key number =
+abbrev pub Reported : Line Term → Who → Term → ℕ → Type 0
+Reported l who key number =
     (note : Note Term) × (l.who ≡ who) × (l.note ≡ Some note) × (note.key ≡ key) × (note.ncc ≡ ncc_of number)
 
 -- what a station makes, and what the phone takes, is told in the line of its event
 abbrev pub MadeIsTold : {S : Type 0} → World Term ℕ S → World Term ℕ S → Line Term → Type 0
 MadeIsTold w u l =
     (u.made ≡ w.made)
-    ⊎ ((m : Made Term ℕ) × (u.made ≡ w.made ++ m ∷ []) × Tells l (Who.Station m.station) m.key m.number)
+    ⊎ ((m : Made Term ℕ) × (u.made ≡ w.made ++ m ∷ []) × Reported l (Who.Station m.station) m.key m.number)
 
 abbrev pub TookIsTold : {S : Type 0} → World Term ℕ S → World Term ℕ S → Line Term → Type 0
 TookIsTold w u l =
-    (u.took ≡ w.took) ⊎ ((x : Took Term ℕ) × (u.took ≡ w.took ++ x ∷ []) × Tells l Who.Phone x.key x.number)
+    (u.took ≡ w.took) ⊎ ((x : Took Term ℕ) × (u.took ≡ w.took ++ x ∷ []) × Reported l Who.Phone x.key x.number)
 
 -- at each event of a run
 abbrev pub KeysTold : Machine Term ℕ (Outgoing Term ℕ) → World Term ℕ (Outgoing Term ℕ) → List Event → Type 0

@@ -5,7 +5,7 @@ use Rattle.annex_a_keys.specs.Cell.{Place}
 use Rattle.s1x2_rec.specs.Fields.{Fields, InitialContext, PathSwitchRequest, PathSwitchAnswer, HandoverRequired, HandoverRequest, X2Request}
 use Rattle.lte_machine.specs.Reply.{Origin}
 use Rattle.lte_machine.specs.StationState.{Station, Context}
-use Rattle.lte_machine.specs.StationRows.{Wanted, RecordRow, ContextGiven, PairTaken, PreparedByS1, PreparedByX2, AirRow, CompletedByX2, ActRow, StartedByX2, StartedByS1, StartedWithin, AsksAgain, StationRow, OfRecord, OfAir, OfAct}
+use Rattle.lte_machine.specs.StationRows.{Wanted, RecordRow, ContextGiven, PairTaken, PreparedByS1, PreparedByX2, AirRow, CompletedByX2, ActRow, StartedByX2, StartedByS1, StartedWithin, PathSwitchAsked, StationRow, OfRecord, OfAir, OfAct}
 use Rattle.lte_machine.specs.CoreState.{CoreLink}
 use Rattle.lte_machine.specs.CoreRows.{CoreRecordRow, PathSwitched, HandoverAsked, CoreActRow, ContextSetUp}
 
@@ -36,7 +36,7 @@ abbrev pub ActDraws : ℕ → ActRow → Type 0
 ActDraws next (StartedByX2 number target cell) = number ≡ next
 ActDraws next (StartedByS1 number target cell) = number ≡ next
 ActDraws next (StartedWithin number air cell) = (number ≡ next) × (air ≡ next + 1)
-ActDraws next (AsksAgain number) = number ≡ next
+ActDraws next (PathSwitchAsked number) = number ≡ next
 ActDraws next other = ⊤
 
 abbrev pub RecordDraws : ℕ → RecordRow → Type 0

@@ -1,7 +1,7 @@
 use Rattle.lte_machine.specs.Ciphers.{annex_b}
 use Rattle.lte_machine.proofs.AnnexB.{annex_b_ciphers}
 use Rattle.lte_machine.proofs.WholeRun.{tale_is_value}
-use Rattle.lte_machine.proofs.runs.tale_in_octets_is_the_value.Goals as goal
+use Rattle.lte_machine.proofs.runs.report_in_octets_is_the_value.Goals as goal
 
 pub returns : goal.returns
 returns c setup events is are = tale_is_value annex_b annex_b_ciphers setup is events are
