@@ -15,11 +15,11 @@ use Rattle.lte_machine.specs.Ranges.{AllOf, IsEvent, IsSetup}
 use Rattle.lte_machine.specs.Standing.{RunsTo}
 use Rattle.lte_machine.proofs.AnnexB.{under_keys_ciphers}
 use Rattle.lte_properties.specs.Agreement.{CompletedLines, KeysTold}
-use Rattle.lte_properties.proofs.Agreement.{always_ok}
-use Rattle.lte_properties.proofs.AgreeLines.{lines_of}
-use Rattle.lte_properties.proofs.AgreeNoted.{keys_told}
+use Rattle.lte_properties.proofs.Agreement.Whole.{always_ok}
+use Rattle.lte_properties.proofs.Agreement.Lines.{lines_of}
+use Rattle.lte_properties.proofs.Agreement.Noted.{keys_told}
 use Rattle.lte_properties.proofs.EveryRun.{way_is}
-use Rattle.lte_properties.proofs.AgreeWorld.{Conns, WorldOk}
+use Rattle.lte_properties.proofs.Agreement.World.{Conns, WorldOk}
 
 -- the first events are events
 each_of_first : (n : ℕ) (es : List Event) → AllOf IsEvent es → AllOf IsEvent (take n es)

@@ -25,12 +25,12 @@ use Rattle.lte_properties.specs.Freshness.{NoUseTwice, ValuesApart}
 use Rattle.lte_properties.specs.SharedKeys.{SharedApart}
 use Rattle.lte_machine.proofs.KnownWorld.{first_grounds}
 use Rattle.lte_properties.specs.Packets.{OpensToSent}
-use Rattle.lte_properties.proofs.PacketOpens.{by_uses_open}
-use Rattle.lte_properties.proofs.PacketSender.{roots_along}
-use Rattle.lte_properties.proofs.Packets.{packets_open}
-use Rattle.lte_properties.proofs.Agreement.{agreement_over}
-use Rattle.lte_properties.proofs.Freshness.{no_use_twice_by_terms, no_value_twice_by_terms}
-use Rattle.lte_properties.proofs.HeldEver.{sharing_holds_by}
+use Rattle.lte_properties.proofs.Opening.Opens.{by_uses_open}
+use Rattle.lte_properties.proofs.Opening.Sender.{roots_along}
+use Rattle.lte_properties.proofs.Opening.Whole.{packets_open}
+use Rattle.lte_properties.proofs.Agreement.Whole.{agreement_over}
+use Rattle.lte_properties.proofs.Freshness.Whole.{no_use_twice_by_terms, no_value_twice_by_terms}
+use Rattle.lte_properties.proofs.KeySeparation.Ever.{sharing_holds_by}
 
 -- each world on the way of a run that meets no coincidence is one of such a run
 on_the_way : {K C S : Type 0} (by_octets : Opening K → List ℕ → Outcome) (m : Machine K C S) (w : World K C S) (es : List Event) (u : World K C S)

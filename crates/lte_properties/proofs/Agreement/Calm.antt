@@ -1,0 +1,357 @@
+-- Openings are calm: a phone that waits for the security of its connection opens no ciphered record, since it never took
+-- its KeNB before; and a connected one no unciphered record, since it took the one of its air address before.
+use Rattle.std.proofs.Common.{◌≡◌, refl, sym, ap, ◌∙◌, subst, ℕ, ◌-◌, ◌≤◌, ◌==◌, nat_lt, Bool, true, false, ℤ, pos, negsuc, List, length, Option, Some, None, Result, Ok, Err, arith}
+use Rattle.std.specs.Prelude.{⊤}
+use Rattle.std.specs.List.{position_from}
+use Rattle.alg_choice.specs.declared.caps.Caps.{Caps}
+use Rattle.rec_base.specs.declared.faults.RecFault.{RecFault}
+use Rattle.rec_base.specs.declared.bearers.Bearer.{Bearer}
+use Rattle.rec_base.specs.declared.uses.Dir.TheVariants.{Up, Down}
+use Rattle.lte_events.specs.declared.addresses.Address.{Address}
+use Rattle.lte_events.specs.declared.events.Event.{Event}
+use Rattle.lte_events.specs.Site.{Site}
+use Rattle.key_model.specs.Term.{Term}
+use Rattle.key_model.specs.Reading.{term_reading_by}
+use Rattle.lte_machine.specs.Bearers.{Srb, Signalling1, Signalling2, Drb, Which, OnSrb, which, of_srb, of_drb}
+use Rattle.lte_machine.specs.Wire.{KeyUse, Ciphering, Outgoing, SealedNas, PlainNas, SealedRrc, UserPacket, Between}
+use Rattle.lte_machine.specs.Opening.{Opening, Outcome, Opened}
+use Rattle.lte_machine.specs.Reply.{Took, unseen}
+use Rattle.lte_machine.specs.PhoneState.{Phone, PhoneNasPdu, PhoneAirPdu}
+use Rattle.lte_machine.specs.PhoneChoice.{unciphered_text}
+use Rattle.lte_machine.specs.PhoneStep.{plain_phone}
+use Rattle.lte_machine.specs.StationState.{Station, Context, StationInput, StationActs, AirPdu, StationRecord, OnS1, OnX2}
+use Rattle.lte_machine.specs.StationKeys.{station_does}
+use Rattle.lte_machine.specs.CoreState.{Core, CoreInput, CoreActs, CoreNasPdu, CoreRecord}
+use Rattle.lte_machine.specs.CoreStep.{core_front_of}
+use Rattle.lte_machine.specs.World.{Machine, station_of_id, content_in, newest_if, chosen, class_of, is_sent}
+use Rattle.lte_machine.specs.Step.{Attempted, phone_attempts, core_attempts, attempts_at, station_attempts, arrival_attempts, delivery_attempts, injection_attempts}
+use Rattle.ho_prep.specs.Prep.{at_air}
+use Rattle.lte_properties.specs.ChainHolds.{machine_by}
+use Rattle.lte_properties.specs.Agreement.{made_at}
+use Rattle.lte_properties.specs.AgreeOpenings.{IsHonest, IsCalm, outcome_of, Honest, Calm}
+use Rattle.lte_properties.proofs.ChainNumbers.Lists.{OfSome, all_get}
+use Rattle.lte_properties.proofs.Agreement.Ghost.{Ghost, RadioOk, SentOk}
+use Rattle.lte_properties.proofs.Agreement.PhoneWalk.{CameDown}
+use Rattle.std.specs.Prelude.{◌&&◌, if◌then◌else◌}
+use Rattle.key_model.specs.Chain.{ncc_of}
+use Rattle.key_model.specs.Least.{least}
+use Rattle.alg_choice.specs.declared.algs.Algs.{Algs}
+use Rattle.alg_choice.specs.Choice.{are_supported}
+use Rattle.rrc_rec.specs.declared.records.RrcRecord.{RrcRecord}
+use Rattle.rrc_rec.specs.declared.records.RrcRecord.TheVariants.{SecurityModeCommand, SecurityModeComplete, Reconfiguration, ReconfigurationComplete, RrcData}
+use Rattle.rrc_rec.specs.Reading.{read_rrc}
+use Rattle.pdcp_guard.specs.declared.pdus.PdcpFault.{PdcpFault}
+use Rattle.pdcp_guard.specs.Counts.{in_32_bits}
+use Rattle.pdcp_guard.specs.declared.counting.TheConstants.{LIMIT}
+use Rattle.pdcp_guard.specs.Srb.{srb_first, srb_sn, srb_count}
+use Rattle.pdcp_guard.specs.Drb.{drb_count}
+use Rattle.lte_machine.specs.Bearers.{srb_counts, drb_counts, OnDrb}
+use Rattle.lte_machine.specs.Wire.{srb_use, ciphering_by}
+use Rattle.lte_machine.specs.Opening.{Differs, OpensSrb}
+use Rattle.lte_machine.specs.PhoneState.{Waiting, Link, Radio, Idle, Connecting, Connected, map_radio, map_link, NasContext, Partial}
+use Rattle.lte_machine.specs.PhoneChoice.{NasFront, NasSettled, AtCommand, AtMessage, AirFront, AtStart, start_read, start_at, waiting_front, signalling_at, packet_at, linked_front, air_front, nas_by_header, header_for_phone}
+use Rattle.lte_machine.specs.PhoneKeys.{nas_expects, air_expects, start_expects, signalling_expects, packet_expects, srb_ciphering_down, command_expects, message_expects}
+use Rattle.lte_machine.specs.StationChoice as st
+use Rattle.lte_machine.specs.StationKeys as stk
+use Rattle.lte_machine.specs.StationStep.{station_front_of}
+use Rattle.lte_machine.specs.CoreChoice.{CoreFront, Settled, FromNas, CoreNasFront, NasSettled as CoreSettled, OpensComplete, OpensProtected}
+use Rattle.lte_machine.specs.CoreKeys.{core_expects, core_nas_expects, opens_by_procedure, opens_by_context}
+use Rattle.lte_machine.specs.CoreState.{CoreContext}
+use Rattle.nas_guard.specs.Keys.{Keys}
+use Rattle.ho_prep.specs.Prep.{Prep}
+use Rattle.lte_properties.specs.Agreement.{IsIn}
+use Rattle.lte_properties.specs.AgreeOpenings.{WasSealed, CipheredAs}
+use Rattle.lte_properties.proofs.Agreement.Ghost.{keys_of, LinkIs}
+use Rattle.lte_properties.proofs.Agreement.PhoneWalk.{by_test, one_key, both_named}
+use Rattle.lte_properties.proofs.Agreement.Later.{same_found}
+use Rattle.lte_properties.proofs.Agreement.Events.{which_srb}
+use Rattle.lte_properties.proofs.Agreement.World.{TheWorld, Conns, ghost, WorldOk, PlainReads}
+
+-- a phone that waits for the security of its connection took its KeNB nowhere yet
+abbrev pub NewKenb : List (Took Term ℕ) → Radio Term ℕ → Type 0
+NewKenb took (Connecting w) = (x : Took Term ℕ) → IsIn x took → x.key ≡ w.kenb → ⊥
+NewKenb took other = ⊤
+
+-- the COUNT of a PDU is not below the next one
+same_ok : (r : Result ℕ PdcpFault) (n count : ℕ) → r ≡ Ok n → r ≡ Ok count → n ≡ count
+same_ok r n count e f = cc
+
+no_fault : (r : Result ℕ PdcpFault) (fault : PdcpFault) (count : ℕ) → r ≡ Err fault → r ≡ Ok count → ⊥
+no_fault r fault count e f = cc
+
+ok_is : (b : Bool) (n count : ℕ) → (if b then Ok n else Err PdcpFault.CountSpent) ≡ Ok count → n ≡ count
+ok_is true n count e = same_ok _ n count refl e
+ok_is false n count e = absurd (no_fault _ PdcpFault.CountSpent count refl e)
+
+count_low : (next : ℕ) (pdu : List ℕ) (count : ℕ) → srb_count next pdu ≡ Ok count → next ≤ count
+unfolding srb_count in_32_bits least
+count_low next pdu count e =
+    by_test (λ r. r ≡ Ok count → next ≤ count) (nat_lt (length pdu) 5) _ _ (λ b f. absurd (no_fault _ PdcpFault.Short count refl f))
+    (λ b. by_test (λ r. r ≡ Ok count → next ≤ count) (nat_lt (srb_first pdu) 32) _ _
+    (λ d f. low (ok_is (nat_lt (least next (srb_sn pdu) 32) LIMIT) (least next (srb_sn pdu) 32) count f))
+    (λ d f. absurd (no_fault _ (PdcpFault.BadHeader (srb_first pdu)) count refl f))) e
+  where
+    low : least next (srb_sn pdu) 32 ≡ count → next ≤ count
+    low f = omega arith
+
+-- THE PHONE
+
+module _ (same : Term → Term → Bool) (g : Ghost) (s : Phone Term ℕ) (caps : Caps) (station air : ℕ) (pdu : List ℕ) (on : Which) (came : Option (Outgoing Term ℕ)) (came_ok : CameDown g station air on pdu came) where
+  abbrev Calmly : Outcome → AirFront → Type 0
+  Calmly outcome front =
+      IsHonest (air_expects (term_reading_by same) front s) came outcome → IsCalm (air_expects (term_reading_by same) front s) came outcome
+
+  -- a ciphered record of this address is under a key that the phone had taken
+  plain_here : (w : Waiting Term) → NewKenb g.took (Connecting w) → (u : KeyUse Term) → (algs : Algs) → u.key ≡ (keys_of w.kenb algs).rrc_int
+      → (text : List ℕ) (o : Option (Outgoing Term ℕ)) → CameDown g station air on pdu o → WasSealed u None text o → CipheredAs Down None o
+  plain_here w never u algs key text None h sealed = tt
+  plain_here w never u algs key text (Some (SealedNas dir header i f sent)) h sealed = tt
+  plain_here w never u algs key text (Some (SealedRrc Up st a srb i f sent)) h sealed = absurd h
+  plain_here w never u algs key text (Some (SealedRrc Down st a srb i None sent)) h sealed = refl
+  plain_here w never u algs key text (Some (SealedRrc Down st a srb i (Some f) sent)) h sealed =
+      let d = h.3 in
+      let had = d.3.1 in
+      let kenb : d.0.key ≡ w.kenb = sym (one_key w.kenb d.0.key _ _ _ _ (sym key ∙ ap (λ v. v.key) sealed.0 ∙ ap (λ v. v.key) d.2)) in
+      absurd (never had.0 had.1 (had.4 ∙ kenb))
+  plain_here w never u algs key text (Some (PlainNas octets)) h sealed = tt
+  plain_here w never u algs key text (Some (UserPacket dir st a drb e sent)) h sealed = tt
+  plain_here w never u algs key text (Some (Between to fields k)) h sealed = tt
+
+  start_calm : (w : Waiting Term) → s.radio ≡ Connecting w → NewKenb g.took (Connecting w) → (count : ℕ) (algs : Algs) (named : Bool) (outcome : Outcome)
+      → Calmly outcome (AtStart count algs named station air)
+  start_calm w is never count algs named (Differs wanted got) honest =
+      subst (λ radio. IsCalm (start_expects (term_reading_by same) count algs radio) came (Differs wanted got)) (sym is) tt
+  start_calm w is never count algs named (Opened text) honest =
+      subst (λ radio. IsCalm (start_expects (term_reading_by same) count algs radio) came (Opened text)) (sym is)
+      (plain_here w never (srb_use Down (keys_of w.kenb algs).rrc_int Signalling1 count) algs refl text came came_ok
+      (subst (λ radio. IsHonest (start_expects (term_reading_by same) count algs radio) came (Opened text)) is honest))
+
+  read_calm : (w : Waiting Term) → s.radio ≡ Connecting w → NewKenb g.took (Connecting w) → (count : ℕ) (outcome : Outcome) (read : Result RrcRecord RecFault)
+      → Calmly outcome (start_read caps station air count read)
+  read_calm w is never count outcome (Err fault) honest = tt
+  read_calm w is never count outcome (Ok (SecurityModeCommand algs ns na)) honest =
+      by_test (Calmly outcome) (are_supported caps algs) _ _ (λ b. start_calm w is never count algs ((ns == station) && (na == air)) outcome) (λ b honest. tt) honest
+  read_calm w is never count outcome (Ok SecurityModeComplete) honest = tt
+  read_calm w is never count outcome (Ok (Reconfiguration cell ncc algs st a)) honest = tt
+  read_calm w is never count outcome (Ok ReconfigurationComplete) honest = tt
+  read_calm w is never count outcome (Ok (RrcData text)) honest = tt
+
+  count_calm : (w : Waiting Term) → s.radio ≡ Connecting w → NewKenb g.took (Connecting w) → (outcome : Outcome) (count : Result ℕ PdcpFault)
+      → Calmly outcome (start_at caps station air pdu count)
+  count_calm w is never outcome (Err fault) honest = tt
+  count_calm w is never outcome (Ok count) honest = read_calm w is never count outcome (read_rrc (unciphered_text pdu)) honest
+
+  waiting_calm : (w : Waiting Term) → s.radio ≡ Connecting w → NewKenb g.took (Connecting w) → (outcome : Outcome) (which : Which)
+      → Calmly outcome (waiting_front caps station air pdu which)
+  waiting_calm w is never outcome (OnSrb Signalling1) honest = count_calm w is never outcome (srb_count 0 pdu) honest
+  waiting_calm w is never outcome (OnSrb Signalling2) honest = tt
+  waiting_calm w is never outcome (OnDrb drb) honest = tt
+
+  -- an unciphered record of this address is the first, which the phone took before
+  ciphered_here : (l : Link Term ℕ) → LinkIs g l → l.station ≡ station → l.air ≡ air → (srb : Srb) (count : ℕ) → on ≡ OnSrb srb
+      → (srb_counts srb l.bearers).receive ≤ count
+      → (text : List ℕ) (o : Option (Outgoing Term ℕ)) → CameDown g station air on pdu o
+      → WasSealed (srb_use Down l.keys.rrc_int srb count) (Some (srb_ciphering_down l.keys srb count)) text o
+      → CipheredAs Down (Some (srb_ciphering_down l.keys srb count)) o
+  ciphered_here l h is_s is_a srb count is_on low text None k sealed = tt
+  ciphered_here l h is_s is_a srb count is_on low text (Some (SealedNas dir header i f sent)) k sealed = tt
+  ciphered_here l h is_s is_a srb count is_on low text (Some (SealedRrc Up st a sr i f sent)) k sealed = absurd k
+  ciphered_here l h is_s is_a srb count is_on low text (Some (SealedRrc Down st a sr i (Some f) sent)) k sealed = refl
+  ciphered_here l h is_s is_a srb count is_on low text (Some (SealedRrc Down st a sr i None sent)) k sealed =
+      let d = k.3 in
+      let there : made_at g.made station air ≡ Some h.2 = (λ j. made_at g.made (sym is_s j) (sym is_a j)) ∙ h.3 in
+      let from : h.2.from_attempt ≡ None = ap (λ x. x.from_attempt) (same_found _ h.2 d.0 there d.1) ∙ d.3.0 in
+      let heard : 1 ≤ l.bearers.srb1.receive = h.7 from in
+      let first : srb ≡ Signalling1 = one_srb srb sr (sym is_on ∙ k.2) ∙ d.3.2 in
+      let none : count ≡ 0 = ap (λ v. v.count) sealed.0 ∙ d.3.1 in
+      let low_first : l.bearers.srb1.receive ≤ count = subst (λ x. (srb_counts x l.bearers).receive ≤ count) first low in
+      absurd (too_low heard low_first none)
+    where
+      one_srb : (a b : Srb) → OnSrb a ≡ OnSrb b → a ≡ b
+      one_srb a b e = cc
+
+      too_low : {a b : ℕ} → 1 ≤ a → a ≤ b → b ≡ 0 → ⊥
+      too_low x y z = omega arith
+  ciphered_here l h is_s is_a srb count is_on low text (Some (PlainNas octets)) k sealed = tt
+  ciphered_here l h is_s is_a srb count is_on low text (Some (UserPacket dir st a drb e sent)) k sealed = tt
+  ciphered_here l h is_s is_a srb count is_on low text (Some (Between to fields key)) k sealed = tt
+
+  signalling_calm : (l : Link Term ℕ) → s.radio ≡ Connected l → LinkIs g l → l.station ≡ station → l.air ≡ air → (srb : Srb) → on ≡ OnSrb srb
+      → (outcome : Outcome) (own : ℕ) (count : Result ℕ PdcpFault) → srb_count (srb_counts srb l.bearers).receive pdu ≡ count
+      → Calmly outcome (signalling_at srb own count)
+  signalling_calm l is h is_s is_a srb is_on outcome own (Err fault) e honest = tt
+  signalling_calm l is h is_s is_a srb is_on (Differs wanted got) own (Ok count) e honest =
+      subst (λ radio. IsCalm (signalling_expects {C = ℕ} srb count radio) came (Differs wanted got)) (sym is) tt
+  signalling_calm l is h is_s is_a srb is_on (Opened text) own (Ok count) e honest =
+      subst (λ radio. IsCalm (signalling_expects {C = ℕ} srb count radio) came (Opened text)) (sym is)
+      (ciphered_here l h is_s is_a srb count is_on (count_low (srb_counts srb l.bearers).receive pdu count e) text came came_ok
+      (subst (λ radio. IsHonest (signalling_expects {C = ℕ} srb count radio) came (Opened text)) is honest))
+
+  packet_calm : (l : Link Term ℕ) → s.radio ≡ Connected l → (drb : Drb) (outcome : Outcome) (count : Result ℕ PdcpFault) → Calmly outcome (packet_at drb count)
+  packet_calm l is drb outcome (Err fault) honest = tt
+  packet_calm l is drb outcome (Ok count) honest = subst (λ radio. IsCalm (packet_expects {C = ℕ} drb count radio) came outcome) (sym is) tt
+
+  linked_calm : (l : Link Term ℕ) → s.radio ≡ Connected l → LinkIs g l → l.station ≡ station → l.air ≡ air → (outcome : Outcome) (which : Which) → on ≡ which
+      → Calmly outcome (linked_front (map_link unseen ncc_of l) pdu which)
+  linked_calm l is h is_s is_a outcome (OnSrb srb) is_on honest =
+      signalling_calm l is h is_s is_a srb is_on outcome (ncc_of l.chain.number) (srb_count (srb_counts srb l.bearers).receive pdu) refl honest
+  linked_calm l is h is_s is_a outcome (OnDrb drb) is_on honest = packet_calm l is drb outcome (drb_count (drb_counts drb l.bearers).receive pdu) honest
+
+  -- a PDU at an air address
+  pub air_calm : (outcome : Outcome) (radio : Radio Term ℕ) → s.radio ≡ radio → RadioOk g radio → NewKenb g.took radio
+      → Calmly outcome (air_front caps station air pdu on (map_radio unseen ncc_of radio))
+  air_calm outcome Idle is h never honest = tt
+  air_calm outcome (Connecting w) is h never honest = waiting_calm w is never outcome on honest
+  air_calm outcome (Connected l) is h never honest =
+      by_test (Calmly outcome) ((l.station == station) && (l.air == air)) _ _
+      (λ b. let here = both_named l.station station l.air air b in linked_calm l is h here.0 here.1 outcome on refl)
+      (λ b honest. tt) honest
+
+-- OTHER OPENINGS: nothing is asked of NAS messages, nor of what goes up
+
+command_calm : (same : Term → Term → Bool) (count : ℕ) (algs : Algs) (o : Option (Partial Term)) (came : Option (Outgoing Term ℕ)) (outcome : Outcome)
+    → IsCalm (command_expects (term_reading_by same) count algs o) came outcome
+command_calm same count algs None came outcome = tt
+command_calm same count algs (Some p) came outcome = tt
+
+message_calm : (count header : ℕ) (o : Option (NasContext Term)) (came : Option (Outgoing Term ℕ)) (outcome : Outcome)
+    → IsCalm (message_expects count header o) came outcome
+message_calm count header None came outcome = tt
+message_calm count header (Some c) came outcome = tt
+
+nas_calm : (same : Term → Term → Bool) (front : NasFront) (s : Phone Term ℕ) (came : Option (Outgoing Term ℕ)) (outcome : Outcome)
+    → IsCalm (nas_expects (term_reading_by same) front s) came outcome
+nas_calm same (NasSettled row) s came outcome = tt
+nas_calm same (AtCommand count algs caps) s came outcome = command_calm same count algs s.partial came outcome
+nas_calm same (AtMessage count header) s came outcome = message_calm count header s.context came outcome
+
+core_calm : (front : CoreFront) (s : Core Term ℕ) (came : Option (Outgoing Term ℕ)) (outcome : Outcome) → IsCalm (core_expects front s) came outcome
+core_calm (Settled row) s came outcome = tt
+core_calm (FromNas front) s came outcome = by_front front
+  where
+    by_procedure : (o : Option (Keys Term)) (count : ℕ) → IsCalm (opens_by_procedure o count) came outcome
+    by_procedure None count = tt
+    by_procedure (Some keys) count = tt
+
+    by_context : (o : Option (CoreContext Term)) (header count : ℕ) → IsCalm (opens_by_context o header count) came outcome
+    by_context None header count = tt
+    by_context (Some c) header count = tt
+
+    by_front : (front : CoreNasFront) → IsCalm (core_nas_expects front s) came outcome
+    by_front (CoreSettled row) = tt
+    by_front (OpensComplete count) = by_procedure s.procedure count
+    by_front (OpensProtected header count) = by_context s.context header count
+
+-- an opening on an SRB of what goes up
+up_calm : (u : KeyUse Term) (e : Option (Ciphering Term)) (came : Option (Outgoing Term ℕ)) (outcome : Outcome) → u.dir ≡ Up → IsCalm (OpensSrb u e) came outcome
+up_calm u e came (Opened text) up = subst (λ d. CipheredAs d e came) (sym up) tt
+up_calm u e came (Differs wanted got) up = tt
+
+station_calm : (front : st.StationFront) (s : Station Term ℕ) (came : Option (Outgoing Term ℕ)) (outcome : Outcome) → IsCalm (stk.station_expects front s) came outcome
+station_calm (st.Settled row) s came outcome = tt
+station_calm (st.FromAir (st.AirSettled row)) s came outcome = tt
+station_calm (st.FromAir (st.OnStarting count)) s came outcome = by_context s.context
+  where
+    by_context : (o : Option (Context Term ℕ)) → IsCalm (stk.starting_expects count o) came outcome
+    by_context None = tt
+    by_context (Some c) = up_calm (srb_use Up c.keys.rrc_int Signalling1 count) None came outcome refl
+station_calm (st.FromAir (st.OnSignalling srb count)) s came outcome = by_context s.context
+  where
+    by_context : (o : Option (Context Term ℕ)) → IsCalm (stk.signalling_expects srb count o) came outcome
+    by_context None = tt
+    by_context (Some c) = up_calm (srb_use Up c.keys.rrc_int srb count) (Some (ciphering_by c.keys.algs.eea (srb_use Up c.keys.rrc_enc srb count))) came outcome refl
+station_calm (st.FromAir (st.OnUser drb count)) s came outcome = by_context s.context
+  where
+    by_context : (o : Option (Context Term ℕ)) → IsCalm (stk.user_expects drb count o) came outcome
+    by_context None = tt
+    by_context (Some c) = tt
+station_calm (st.FromAir (st.OnPrepared air by count)) s came outcome = by_prep (at_air air s.preps)
+  where
+    by_prep : (o : Option (Prep Term ℕ)) → IsCalm (stk.prepared_expects {C = ℕ} count o) came outcome
+    by_prep None = tt
+    by_prep (Some p) = up_calm (srb_use Up p.keys.rrc_int Signalling1 count) (Some (ciphering_by p.keys.algs.eea (srb_use Up p.keys.rrc_enc Signalling1 count))) came outcome refl
+
+-- AN EVENT
+
+module _ (same : Term → Term → Bool) (root : ℕ → List ℕ → Term) (octets : Outgoing Term ℕ → List ℕ) (sender : Option (Outgoing Term ℕ) → Option (KeyUse Term)) (opener : Opening Term → List ℕ → Option (Outgoing Term ℕ) → Outcome) (plain_reads : PlainReads octets) (cells : List Site) where
+  abbrev m : Machine Term ℕ (Outgoing Term ℕ)
+  m = machine_by same root octets sender opener
+
+  abbrev IsHonestAt : Attempted Term (Outgoing Term ℕ) → Type 0
+  IsHonestAt a = IsHonest a.opening a.came (outcome_of m a)
+
+  abbrev IsCalmAt : Attempted Term (Outgoing Term ℕ) → Type 0
+  IsCalmAt a = IsCalm a.opening a.came (outcome_of m a)
+
+  station_calm_at : (id : ℕ) (w : TheWorld) (input : StationInput Term ℕ) (came : Option (Outgoing Term ℕ)) → IsCalmAt (station_attempts m w id input came)
+  station_calm_at id w input came = by_station (station_of_id id w.stations)
+    where
+      by_station : (o : Option (Station Term ℕ)) → IsCalmAt (attempts_at m input came o)
+      by_station None = tt
+      by_station (Some s) = station_calm (station_front_of (term_reading_by same) s input) s came (outcome_of m (attempts_at m input came (Some s)))
+
+  core_calm_at : (w : TheWorld) (input : CoreInput Term ℕ) (came : Option (Outgoing Term ℕ)) → IsCalmAt (core_attempts m w input came)
+  core_calm_at w input came = core_calm (core_front_of (term_reading_by same) w.core input) w.core came (outcome_of m (core_attempts m w input came))
+
+  phone_nas_at : (w : TheWorld) (pdu : List ℕ) (came : Option (Outgoing Term ℕ)) → IsCalmAt (phone_attempts m w (PhoneNasPdu pdu) came)
+  phone_nas_at w pdu came =
+      nas_calm same (nas_by_header (plain_phone (term_reading_by same) w.phone) pdu (header_for_phone pdu)) w.phone came (outcome_of m (phone_attempts m w (PhoneNasPdu pdu) came))
+
+  phone_air_at : (c : Conns) (w : TheWorld) → WorldOk cells c w → NewKenb w.took w.phone.radio → (station air : ℕ) (bearer : Bearer) (pdu : List ℕ) (came : Option (Outgoing Term ℕ))
+      → CameDown (ghost c w) station air (which bearer) pdu came
+      → IsHonestAt (phone_attempts m w (PhoneAirPdu station air bearer pdu) came) → IsCalmAt (phone_attempts m w (PhoneAirPdu station air bearer pdu) came)
+  phone_air_at c w h never station air bearer pdu came k honest =
+      air_calm same (ghost c w) w.phone w.phone.caps station air pdu (which bearer) came k
+      (outcome_of m (phone_attempts m w (PhoneAirPdu station air bearer pdu) came)) w.phone.radio refl h.radio never honest
+
+  -- where nothing is known of what came but that no station sent it to an air address
+  arrival_calm : (c : Conns) (w : TheWorld) → WorldOk cells c w → NewKenb w.took w.phone.radio → (to : Address) (pdu : List ℕ) (came : Option (Outgoing Term ℕ))
+      → ((station air : ℕ) (bearer : Bearer) → to ≡ Address.Phone station air bearer → CameDown (ghost c w) station air (which bearer) pdu came)
+      → IsHonestAt (arrival_attempts m w to pdu came) → IsCalmAt (arrival_attempts m w to pdu came)
+  arrival_calm c w h never Address.PhoneNas pdu came k honest = phone_nas_at w pdu came
+  arrival_calm c w h never (Address.Phone station air bearer) pdu came k honest = phone_air_at c w h never station air bearer pdu came (k station air bearer refl) honest
+  arrival_calm c w h never Address.CoreNas pdu came k honest = core_calm_at w (CoreNasPdu pdu) came
+  arrival_calm c w h never Address.CoreS1 pdu came k honest = core_calm_at w (CoreRecord (content_in m came)) came
+  arrival_calm c w h never (Address.StationAir station air bearer) pdu came k honest = station_calm_at station w (AirPdu air bearer pdu) came
+  arrival_calm c w h never (Address.StationS1 station) pdu came k honest = station_calm_at station w (StationRecord OnS1 (content_in m came)) came
+  arrival_calm c w h never (Address.StationX2 station) pdu came k honest = station_calm_at station w (StationRecord OnX2 (content_in m came)) came
+
+  delivery_calm : (c : Conns) (w : TheWorld) → WorldOk cells c w → NewKenb w.took w.phone.radio → (o : Option (Outgoing Term ℕ)) → OfSome (SentOk (ghost c w)) o
+      → IsHonestAt (delivery_attempts m w o) → IsCalmAt (delivery_attempts m w o)
+  delivery_calm c w h never None k honest = tt
+  delivery_calm c w h never (Some (SealedNas Up header i e text)) k honest =
+      core_calm_at w (CoreNasPdu (octets (SealedNas Up header i e text))) (Some (SealedNas Up header i e text))
+  delivery_calm c w h never (Some (SealedNas Down header i e text)) k honest =
+      phone_nas_at w (octets (SealedNas Down header i e text)) (Some (SealedNas Down header i e text))
+  delivery_calm c w h never (Some (PlainNas pdu)) k honest = core_calm_at w (CoreNasPdu (octets (PlainNas pdu))) (Some (PlainNas pdu))
+  delivery_calm c w h never (Some (SealedRrc Up station air srb i e text)) k honest =
+      station_calm_at station w (AirPdu air (of_srb srb) (octets (SealedRrc Up station air srb i e text))) (Some (SealedRrc Up station air srb i e text))
+  delivery_calm c w h never (Some (SealedRrc Down station air srb i e text)) k honest =
+      phone_air_at c w h never station air (of_srb srb) (octets (SealedRrc Down station air srb i e text)) (Some (SealedRrc Down station air srb i e text))
+      (refl, refl, which_srb srb, k, (λ none. ap (λ f. unciphered_text (octets (SealedRrc Down station air srb i f text))) none ∙ plain_reads Down station air srb i text)) honest
+  delivery_calm c w h never (Some (UserPacket Up station air drb e text)) k honest =
+      station_calm_at station w (AirPdu air (of_drb drb) (octets (UserPacket Up station air drb e text))) (Some (UserPacket Up station air drb e text))
+  delivery_calm c w h never (Some (UserPacket Down station air drb e text)) k honest = phone_air_at c w h never station air (of_drb drb) (octets (UserPacket Down station air drb e text)) (Some (UserPacket Down station air drb e text)) tt honest
+  delivery_calm c w h never (Some (Between to fields key)) k honest = arrival_calm c w h never to (octets (Between to fields key)) (Some (Between to fields key)) (λ station air bearer e. tt) honest
+
+  injection_calm : (c : Conns) (w : TheWorld) → WorldOk cells c w → NewKenb w.took w.phone.radio → (to : Address) (pdu : List ℕ) (o : Option ℕ)
+      → IsHonestAt (injection_attempts m w to pdu o) → IsCalmAt (injection_attempts m w to pdu o)
+  injection_calm c w h never to pdu None honest = arrival_calm c w h never to pdu None (λ station air bearer e. tt) honest
+  injection_calm c w h never to pdu (Some number) honest = tt
+
+  chosen_sent : (c : Conns) (w : TheWorld) → WorldOk cells c w → (i : ℤ) → OfSome (SentOk (ghost c w)) (chosen i w.sent)
+  chosen_sent c w h (pos i) = all_get (SentOk (ghost c w)) w.sent i h.sent
+  chosen_sent c w h (negsuc i) = by_test (nat_lt i (length w.sent))
+    where
+      by_test : (b : Bool) → OfSome (SentOk (ghost c w)) (newest_if b (length w.sent - 1 - i) w.sent)
+      by_test true = all_get (SentOk (ghost c w)) w.sent (length w.sent - 1 - i) h.sent
+      by_test false = tt
+
+  -- an honest event is calm, where the phone took the KeNB that it waits with nowhere yet
+  pub calm_at : (c : Conns) (w : TheWorld) (e : Event) → WorldOk cells c w → NewKenb w.took w.phone.radio → Honest m w e → Calm m w e
+  calm_at c w (Event.Auth ksi key caps) h never honest = tt
+  calm_at c w (Event.Phone act) h never honest = tt
+  calm_at c w (Event.Station id act) h never honest = station_calm_at id w (StationActs act) None
+  calm_at c w (Event.Core act) h never honest = core_calm_at w (CoreActs act) None
+  calm_at c w (Event.Deliver i) h never honest = delivery_calm c w h never (chosen i w.sent) (chosen_sent c w h i) honest
+  calm_at c w (Event.Inject to pdu) h never honest = injection_calm c w h never to pdu (position_from (is_sent m (class_of to) pdu) 0 w.sent) honest

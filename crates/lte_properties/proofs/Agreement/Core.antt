@@ -1,0 +1,349 @@
+-- What the rows of the core leave of the invariant of agreement, and what its choice of a row establishes.
+use Rattle.std.proofs.Common.{◌≡◌, ℕ, suc, ◌+◌, ◌<◌, ◌≤◌, refl, sym, ◌∙◌, ap, subst, arith, Bool, true, false, cond, List, Option, Some, None, option_map, Result, Ok, Err}
+use Rattle.std.specs.Prelude.{◌==◌, nat_le, slice_index, ⊤}
+use Rattle.std.proofs.lemmas.Bool.{eqb-true}
+use Rattle.std.proofs.lemmas.Bool.Decides.{nat_tests}
+use Rattle.alg_choice.specs.declared.algs.Algs.{Algs}
+use Rattle.alg_choice.specs.declared.algs.Eea.{Eea}
+use Rattle.alg_choice.specs.declared.caps.Caps.{Caps}
+use Rattle.alg_choice.specs.declared.choices.NoAlgorithm.{NoAlgorithm as NoneChosen}
+use Rattle.alg_choice.specs.Choice.{choice_of}
+use Rattle.annex_a_keys.specs.Cell.{Place}
+use Rattle.lte_events.specs.declared.acts.CoreAct.{CoreAct}
+use Rattle.lte_events.specs.declared.acts.CoreAct.TheVariants.{StartSmc, Connect, Release, SendNas, Skip}
+use Rattle.lte_events.specs.declared.addresses.Address.{Address}
+use Rattle.lte_events.specs.Site.{Site}
+use Rattle.key_model.specs.Term.{Term, Kenb, Nh}
+use Rattle.key_model.specs.Chain.{nh, ncc_of}
+use Rattle.key_model.specs.HandoverTable.{NumberedKey}
+use Rattle.key_model.specs.Reading.{term_reading_by}
+use Rattle.nas_count.specs.declared.sending.TheConstants.{LIMIT}
+use Rattle.nas_guard.specs.Keys.{Keys}
+use Rattle.s1x2_rec.specs.Fields.{Fields, InitialContext, ContextRelease, PathSwitchRequest, PathSwitchAnswer, HandoverRequired, HandoverRequest, HandoverRequestAck, HandoverCommand, HandoverNotify, HandoverCancel, X2Request, X2Ack, X2Cancel, X2Release}
+use Rattle.lte_machine.specs.Reply.{unseen}
+use Rattle.lte_machine.specs.CoreState.{Core, CorePartial, CoreContext, CoreLink, map_core_link}
+use Rattle.lte_machine.specs.CoreRows.{CoreNasRow, NasRefused, PlainReject, SmcComplete, ServiceAsked, NasOpened, SealedReject, CoreRecordRow, RecordRefused, PathSwitched, HandoverAsked, HandoverOrdered, HandoverNotified, HandoverCancelled, CoreActRow, ActRefused, SmcStarted, ContextSetUp, ContextReleased, NasSent, NasSkipped, CoreRow, OfNas, OfRecord, OfAct, OfAuth}
+use Rattle.lte_machine.specs.CoreKeys.{CoreDone, authenticated, smc_started, smc_complete, service_asked, nas_opened, sealed_reject, nas_sent, nas_skipped, context_set_up, path_switched, handover_asked, handover_notified, core_does_nas, core_does_record, core_does_act, core_does}
+use Rattle.lte_machine.specs.CoreChoice.{PlainCore, station_at_cell, asked_at, caps_in_use, cancelled_at, of_link, core_fields_row, smc_row, start_smc_row, connect_row, release_row, send_nas_row, skip_nas_row, core_act_row, NUMBERS}
+use Rattle.lte_machine.specs.CoreStep.{plain_core}
+use Rattle.lte_machine.specs.StationChoice.{station_of}
+use Rattle.lte_properties.specs.ChainBelow.{AllOf}
+use Rattle.lte_properties.proofs.Agreement.Ghost.{Ghost, chain_at, PairOk, TriedOk, CoreLinkOk, CoreOk, AskedIs, AnyTried, AckIs, HasNcc, BetweenOk, OutOk}
+use Rattle.lte_properties.proofs.Agreement.Later.{Later, later_itself, same_found}
+use Rattle.lte_properties.proofs.Agreement.Phone.{all_found}
+use Rattle.lte_properties.proofs.Agreement.PhoneWalk.{by_test}
+
+-- the connections after a step of the core
+abbrev pub with_conns : Ghost → (ℕ → Term) → (ℕ → ℕ) → (ℕ → ℕ) → ℕ → Ghost
+with_conns g root count top next = record g { root = root; count = count; top = top; next = next }
+
+abbrev pub CoreGoes : List Site → Ghost → CoreDone Term ℕ → Type 0
+CoreGoes cells g d =
+    (root : ℕ → Term) × (count : ℕ → ℕ) × (top : ℕ → ℕ) × (next : ℕ)
+    × Later g (with_conns g root count top next) × CoreOk cells (with_conns g root count top next) d.0
+    × OutOk (with_conns g root count top next) d.1.sent
+
+-- the core's connection is this one
+abbrev pub LinkConn : Option (CoreLink Term ℕ) → ℕ → Type 0
+LinkConn None conn = ⊤
+LinkConn (Some link) conn = link.conn ≡ conn
+
+-- what the rows need
+abbrev pub CoreRecordNeeds : List Site → Ghost → Core Term ℕ → CoreRecordRow → Type 0
+CoreRecordNeeds cells g s (PathSwitched conn station number alarm) = LinkConn s.link conn
+CoreRecordNeeds cells g s (HandoverAsked conn source attempt cell target caps) =
+    LinkConn s.link conn × AskedIs g conn source attempt cell None AnyTried × (station_of cell cells ≡ Some target)
+CoreRecordNeeds cells g s (HandoverOrdered conn source attempt cell ncc algs air) = AckIs g source attempt algs air (HasNcc ncc)
+CoreRecordNeeds cells g s other = ⊤
+
+abbrev pub CoreActNeeds : Core Term ℕ → CoreActRow → Type 0
+CoreActNeeds s (ContextSetUp conn cell target caps count) = conn ≡ s.next
+CoreActNeeds s other = ⊤
+
+abbrev pub CoreNeeds : List Site → Ghost → Core Term ℕ → CoreRow → Type 0
+CoreNeeds cells g s (OfRecord row) = CoreRecordNeeds cells g s row
+CoreNeeds cells g s (OfAct row) = CoreActNeeds s row
+CoreNeeds cells g s other = ⊤
+
+-- a value at one number
+abbrev at_number : {A : Type 0} → ℕ → A → (ℕ → A) → ℕ → A
+at_number n x f i = cond (i == n) x (f i)
+
+here : {A : Type 0} (n : ℕ) (x : A) (f : ℕ → A) → at_number n x f n ≡ x
+here n x f = ap (λ b. cond b x (f n)) same_number
+  where
+    same_number : (n == n) ≡ true
+    same_number = grind (arith, nat_tests)
+
+elsewhere : {A : Type 0} (n i : ℕ) (x : A) (f : ℕ → A) → i < n → at_number n x f i ≡ f i
+elsewhere n i x f low = ap (λ b. cond b x (f i)) other_number
+  where
+    other_number : (i == n) ≡ false
+    other_number = grind (arith, nat_tests)
+
+risen : (f : ℕ → ℕ) (i n : ℕ) → i ≡ n → f i ≤ f n + 1
+risen f i n e = subst (λ m. f i ≤ f m + 1) e (omega arith)
+
+below_by : {a b c : ℕ} → a ≤ b → c ≡ b → a ≤ c
+below_by low e = omega arith
+
+equal_below : {a b : ℕ} → a ≡ b → a ≤ b
+equal_below e = omega arith
+
+-- a number that rises at one place rises nowhere else
+rises : (n : ℕ) (f : ℕ → ℕ) (i : ℕ) → f i ≤ at_number n (f n + 1) f i
+rises n f i = by_number (i == n) refl
+  where
+    by_number : (b : Bool) → (i == n) ≡ b → f i ≤ cond b (f n + 1) (f i)
+    by_number true e = risen f i n (eqb-true i n e)
+    by_number false e = omega arith
+
+module _ (same : Term → Term → Bool) (cells : List Site) (g : Ghost) (tried_ok : AllOf (TriedOk cells g) g.tried) where
+  set_up_goes : (conn : ℕ) (cell : Place) (target : ℕ) (caps : Caps) (count : ℕ) (o : Option (CoreContext Term)) (s : Core Term ℕ)
+      → CoreOk cells g s → conn ≡ s.next → CoreGoes cells g (context_set_up (term_reading_by same) conn cell target caps count o s)
+  set_up_goes conn cell target caps count None s h draws = (g.root, g.count, g.top, g.next, later_itself g, h, tt)
+  set_up_goes conn cell target caps count (Some c) s h draws =
+      let root = at_number conn c.nas.root g.root in
+      let counts = at_number conn count g.count in
+      let top = at_number conn 0 g.top in
+      let k = with_conns g root counts top (conn + 1) in
+      let is : conn ≡ g.next = draws ∙ h.1 in
+      let later : Later g k = record {
+        next = omega arith;
+        root = λ i low. elsewhere conn i c.nas.root g.root (omega arith);
+        count = λ i low. elsewhere conn i count g.count (omega arith);
+        top = λ i low. equal_below (sym (elsewhere conn i 0 g.top (omega arith)));
+        made = λ station air m e. e;
+        tried = λ station number e f. f;
+        took = λ x i. i;
+      } in
+      let key : Kenb c.nas.root count ≡ chain_at k conn 0 = λ j. Kenb (sym (here conn c.nas.root g.root) j) (sym (here conn count g.count) j) in (
+        root,
+        counts,
+        top,
+        conn + 1,
+        later,
+        ((omega arith, sym (here conn 0 g.top), sym (here conn c.nas.root g.root), key), refl, h.2),
+        (omega arith, key),
+      )
+
+  -- a step of the chain
+  module _ (link : CoreLink Term ℕ) (s : Core Term ℕ) (h : CoreOk cells g s) (k : CoreLinkOk g (Some link)) where
+    abbrev up : ℕ → ℕ
+    up = at_number link.conn (g.top link.conn + 1) g.top
+
+    abbrev stepped_ghost : Ghost
+    stepped_ghost = with_conns g g.root g.count up g.next
+
+    steps_later : Later g stepped_ghost
+    steps_later = record {
+      next = omega arith;
+      root = λ i low. refl;
+      count = λ i low. refl;
+      top = λ i low. rises link.conn g.top i;
+      made = λ station air m e. e;
+      tried = λ station number e f. f;
+      took = λ x i. i;
+    }
+
+    number_up : link.chain.number + 1 ≡ up link.conn
+    number_up = ap (λ n. n + 1) k.1 ∙ sym (here link.conn (g.top link.conn + 1) g.top)
+
+    key_up : Nh link.chain.root link.chain.sync ≡ chain_at g link.conn (link.chain.number + 1)
+    key_up = (λ j. Nh (k.2 j) (k.3 j)) ∙ ap (nh (g.root link.conn) (g.count link.conn)) next_number
+      where
+        next_number : suc link.chain.number ≡ link.chain.number + 1
+        next_number = omega arith
+
+    pair_up : (conn : ℕ) → link.conn ≡ conn → PairOk stepped_ghost conn (record { key = Nh link.chain.root link.chain.sync; number = link.chain.number + 1 })
+    pair_up conn e = subst (λ c. PairOk stepped_ghost c (record { key = Nh link.chain.root link.chain.sync; number = link.chain.number + 1 })) e
+        (k.0, equal_below number_up, key_up)
+
+  switched_goes : (conn station number : ℕ) (alarm : Bool) (o : Option (CoreLink Term ℕ)) (s : Core Term ℕ) → CoreOk cells g s → CoreLinkOk g o → LinkConn o conn
+      → CoreGoes cells g (path_switched (term_reading_by same) conn station number alarm o s)
+  switched_goes conn station number alarm None s h k is = (g.root, g.count, g.top, g.next, later_itself g, h, tt)
+  switched_goes conn station number alarm (Some link) s h k is = (
+    g.root,
+    g.count,
+    up link s h k,
+    g.next,
+    steps_later link s h k,
+    ((k.0, number_up link s h k, k.2, key_up link s h k), h.1, h.2),
+    pair_up link s h k conn is,
+  )
+
+  asked_goes : (conn source attempt : ℕ) (cell : Place) (target : ℕ) (caps : Caps) (o : Option (CoreLink Term ℕ)) (s : Core Term ℕ) → CoreOk cells g s → CoreLinkOk g o
+      → LinkConn o conn → AskedIs g conn source attempt cell None AnyTried → station_of cell cells ≡ Some target
+      → CoreGoes cells g (handover_asked (term_reading_by same) conn source attempt cell target caps o s)
+  asked_goes conn source attempt cell target caps None s h k is asked there = (g.root, g.count, g.top, g.next, later_itself g, h, tt)
+  asked_goes conn source attempt cell target caps (Some link) s h k is asked there =
+      let e = asked.0 in
+      let ok = all_found (TriedOk cells g) _ g.tried e tried_ok asked.1 in
+      let to : target ≡ e.target = same_found (station_of cell cells) target e.target there (ap (λ x. station_of x cells) (sym asked.3) ∙ ok.1) in
+      let one : e.conn ≡ link.conn = asked.2 ∙ sym is in
+      let below : e.number ≤ g.top link.conn = subst (λ c. e.number ≤ g.top c) one ok.0.1 in
+      let low : e.number < link.chain.number + 1 = subst (λ n. e.number < n + 1) (sym k.1) (omega arith) in (
+        g.root,
+        g.count,
+        up link s h k,
+        g.next,
+        steps_later link s h k,
+        ((k.0, number_up link s h k, k.2, key_up link s h k), h.1, h.2),
+        (pair_up link s h k conn is, (e, asked.1, asked.2, asked.3, asked.4, (low, to))),
+      )
+
+  notified_goes : (station : ℕ) (o : Option (CoreLink Term ℕ)) (s : Core Term ℕ) → CoreOk cells g s → CoreLinkOk g o
+      → CoreGoes cells g (handover_notified station o s)
+  notified_goes station None s h k = (g.root, g.count, g.top, g.next, later_itself g, h, tt)
+  notified_goes station (Some link) s h k = (g.root, g.count, g.top, g.next, later_itself g, (k, h.1, h.2), tt)
+
+  core_record_goes : (row : CoreRecordRow) (s : Core Term ℕ) → CoreOk cells g s → CoreRecordNeeds cells g s row
+      → CoreGoes cells g (core_does_record (term_reading_by same) row s)
+  core_record_goes (RecordRefused answer) s h needs = (g.root, g.count, g.top, g.next, later_itself g, h, tt)
+  core_record_goes (PathSwitched conn station number alarm) s h needs = switched_goes conn station number alarm s.link s h h.0 needs
+  core_record_goes (HandoverAsked conn source attempt cell target caps) s h needs =
+      asked_goes conn source attempt cell target caps s.link s h h.0 needs.0 needs.1 needs.2
+  core_record_goes (HandoverOrdered conn source attempt cell ncc algs air) s h needs = (g.root, g.count, g.top, g.next, later_itself g, h, needs)
+  core_record_goes (HandoverNotified station) s h needs = notified_goes station s.link s h h.0
+  core_record_goes (HandoverCancelled conn source attempt cell target) s h needs = (g.root, g.count, g.top, g.next, later_itself g, h, tt)
+
+  -- NAS, and acts
+
+  smc_goes : (count : ℕ) (o : Option (CorePartial Term)) (p : Option (Keys Term)) (s : Core Term ℕ) → CoreOk cells g s → CoreGoes cells g (smc_complete count o p s)
+  smc_goes count None p s h = (g.root, g.count, g.top, g.next, later_itself g, h, tt)
+  smc_goes count (Some partial) None s h = (g.root, g.count, g.top, g.next, later_itself g, h, tt)
+  smc_goes count (Some partial) (Some keys) s h = (g.root, g.count, g.top, g.next, later_itself g, h, tt)
+
+  service_goes : (count : ℕ) (o : Option (CoreContext Term)) (s : Core Term ℕ) → CoreOk cells g s → CoreGoes cells g (service_asked count o s)
+  service_goes count None s h = (g.root, g.count, g.top, g.next, later_itself g, h, tt)
+  service_goes count (Some c) s h = (g.root, g.count, g.top, g.next, later_itself g, h, tt)
+
+  opened_goes : (count : ℕ) (text : List ℕ) (o : Option (CoreContext Term)) (s : Core Term ℕ) → CoreOk cells g s → CoreGoes cells g (nas_opened count text o s)
+  opened_goes count text None s h = (g.root, g.count, g.top, g.next, later_itself g, h, tt)
+  opened_goes count text (Some c) s h = (g.root, g.count, g.top, g.next, later_itself g, h, tt)
+
+  reject_goes : (count : ℕ) (o : Option (CoreContext Term)) (s : Core Term ℕ) → CoreOk cells g s → CoreGoes cells g (sealed_reject count o s)
+  reject_goes count None s h = (g.root, g.count, g.top, g.next, later_itself g, h, tt)
+  reject_goes count (Some c) s h = (g.root, g.count, g.top, g.next, later_itself g, h, tt)
+
+  core_nas_goes : (row : CoreNasRow) (s : Core Term ℕ) → CoreOk cells g s → CoreGoes cells g (core_does_nas row s)
+  core_nas_goes (NasRefused answer) s h = (g.root, g.count, g.top, g.next, later_itself g, h, tt)
+  core_nas_goes PlainReject s h = (g.root, g.count, g.top, g.next, later_itself g, h, tt)
+  core_nas_goes (SmcComplete count) s h = smc_goes count s.partial s.procedure s h
+  core_nas_goes (ServiceAsked count) s h = service_goes count s.context s h
+  core_nas_goes (NasOpened count text) s h = opened_goes count text s.context s h
+  core_nas_goes (SealedReject count) s h = reject_goes count s.context s h
+
+  started_goes : (ksi : ℕ) (algs : Algs) (caps : Caps) (count : ℕ) (o : Option (CorePartial Term)) (s : Core Term ℕ) → CoreOk cells g s
+      → CoreGoes cells g (smc_started (term_reading_by same) ksi algs caps count o s)
+  started_goes ksi algs caps count None s h = (g.root, g.count, g.top, g.next, later_itself g, h, tt)
+  started_goes ksi algs caps count (Some partial) s h = (g.root, g.count, g.top, g.next, later_itself g, h, tt)
+
+  nas_sent_goes : (count : ℕ) (text : List ℕ) (o : Option (CoreContext Term)) (s : Core Term ℕ) → CoreOk cells g s → CoreGoes cells g (nas_sent count text o s)
+  nas_sent_goes count text None s h = (g.root, g.count, g.top, g.next, later_itself g, h, tt)
+  nas_sent_goes count text (Some c) s h = (g.root, g.count, g.top, g.next, later_itself g, h, tt)
+
+  skipped_goes : (n : ℕ) (o : Option (CoreContext Term)) (s : Core Term ℕ) → CoreOk cells g s → CoreGoes cells g (nas_skipped n o s)
+  skipped_goes n None s h = (g.root, g.count, g.top, g.next, later_itself g, h, tt)
+  skipped_goes n (Some c) s h = (g.root, g.count, g.top, g.next, later_itself g, h, tt)
+
+  core_act_goes : (row : CoreActRow) (s : Core Term ℕ) → CoreOk cells g s → CoreActNeeds s row → CoreGoes cells g (core_does_act (term_reading_by same) row s)
+  core_act_goes (ActRefused answer) s h needs = (g.root, g.count, g.top, g.next, later_itself g, h, tt)
+  core_act_goes (SmcStarted ksi algs caps count) s h needs = started_goes ksi algs caps count s.partial s h
+  core_act_goes (ContextSetUp conn cell target caps count) s h needs = set_up_goes conn cell target caps count s.context s h needs
+  core_act_goes (ContextReleased conn station) s h needs = (g.root, g.count, g.top, g.next, later_itself g, (tt, h.1, h.2), tt)
+  core_act_goes (NasSent count text) s h needs = nas_sent_goes count text s.context s h
+  core_act_goes (NasSkipped n) s h needs = skipped_goes n s.context s h
+
+  auth_goes : (ksi : ℕ) (caps : Caps) (o : Option Term) (s : Core Term ℕ) → CoreOk cells g s → CoreGoes cells g (authenticated ksi caps o s)
+  auth_goes ksi caps None s h = (g.root, g.count, g.top, g.next, later_itself g, h, tt)
+  auth_goes ksi caps (Some root) s h = (g.root, g.count, g.top, g.next, later_itself g, h, tt)
+
+  -- each row
+  pub core_goes : (row : CoreRow) (root : Option Term) (s : Core Term ℕ) → CoreOk cells g s → CoreNeeds cells g s row
+      → CoreGoes cells g (core_does (term_reading_by same) row root s)
+  core_goes (OfNas row) root s h needs = core_nas_goes row s h
+  core_goes (OfRecord row) root s h needs = core_record_goes row s h needs
+  core_goes (OfAct row) root s h needs = core_act_goes row s h needs
+  core_goes (OfAuth ksi caps) root s h needs = auth_goes ksi caps root s h
+
+-- THE CHOICE
+
+module _ (same : Term → Term → Bool) (cells : List Site) (g : Ghost) (s : Core Term ℕ) (h : CoreOk cells g s) where
+  plain : PlainCore
+  plain = plain_core (term_reading_by same) s
+
+  abbrev Needs : CoreRecordRow → Type 0
+  Needs row = CoreRecordNeeds cells g s row
+
+  linked : (o : Option (CoreLink Term ℕ)) → s.link ≡ o → (conn : ℕ) (row : CoreRecordRow) → (LinkConn s.link conn → Needs row)
+      → Needs (of_link (option_map (map_core_link unseen ncc_of) o) conn row)
+  linked None is conn row f = tt
+  linked (Some link) is conn row f =
+      by_test Needs (link.conn == conn) _ _ (λ b. f (subst (λ o. LinkConn o conn) (sym is) (eqb-true link.conn conn b))) (λ b. tt)
+
+  asked_walks : (conn source attempt : ℕ) (cell : Place) (caps : Caps) (t : Option ℕ) → station_at_cell cell s.cells ≡ t
+      → LinkConn s.link conn → AskedIs g conn source attempt cell None AnyTried → Needs (asked_at conn source attempt cell caps t)
+  asked_walks conn source attempt cell caps None e is asked = tt
+  asked_walks conn source attempt cell caps (Some target) e is asked = (is, asked, subst (λ x. station_of cell x ≡ Some target) h.2 e)
+
+  cancelled_walks : (conn source attempt : ℕ) (cell : Place) (t : Option ℕ) → Needs (cancelled_at conn source attempt cell t)
+  cancelled_walks conn source attempt cell None = tt
+  cancelled_walks conn source attempt cell (Some target) = tt
+
+  pub core_record_walks : (to : Address) (fields : Fields) (key : Option (NumberedKey Term ℕ)) → BetweenOk g to fields key
+      → CoreRecordNeeds cells g s (core_fields_row (plain_core (term_reading_by same) s) fields)
+  unfolding plain
+  core_record_walks to (InitialContext conn cell caps) key k = tt
+  core_record_walks to (ContextRelease conn) key k = tt
+  core_record_walks to (PathSwitchRequest conn station number cell caps) key k =
+      linked s.link refl conn _ (λ is. by_test Needs (nat_le number (slice_index s.requests station)) _ _ (λ b. tt) (λ b. is))
+  core_record_walks to (PathSwitchAnswer conn number) key k = tt
+  core_record_walks to (HandoverRequired conn source attempt cell) key k =
+      linked s.link refl conn _ (λ is. by_test Needs (nat_le attempt (slice_index s.attempts source)) _ _ (λ b. tt)
+      (λ b. asked_walks conn source attempt cell (caps_in_use plain.context) (station_at_cell cell s.cells) refl is k))
+  core_record_walks to (HandoverRequest conn source attempt cell caps) key k = tt
+  core_record_walks to (HandoverRequestAck conn source attempt cell ncc algs air) key k = linked s.link refl conn _ (λ is. k)
+  core_record_walks to (HandoverCommand conn attempt cell ncc algs air) key k = tt
+  core_record_walks to (HandoverNotify conn station cell) key k = linked s.link refl conn _ (λ is. tt)
+  core_record_walks to (HandoverCancel conn source attempt cell) key k =
+      linked s.link refl conn _ (λ is. cancelled_walks conn source attempt cell (station_at_cell cell s.cells))
+  core_record_walks to (X2Request conn source attempt cell caps) key k = tt
+  core_record_walks to (X2Ack conn attempt cell algs air) key k = tt
+  core_record_walks to (X2Cancel conn source attempt) key k = tt
+  core_record_walks to (X2Release conn attempt) key k = tt
+
+  smc_walks : (partial : CorePartial (Unit {0})) (answer : Result Algs NoneChosen) → CoreActNeeds s (smc_row partial answer)
+  smc_walks partial (Err none) = tt
+  smc_walks partial (Ok algs) = by_test (CoreActNeeds s) (nat_le LIMIT partial.send) _ _ (λ b. tt) (λ b. tt)
+
+  start_walks : (priority : List Eea) (o : Option (CorePartial (Unit {0}))) (p : Option (Keys (Unit {0}))) → CoreActNeeds s (start_smc_row priority o p)
+  start_walks priority None p = tt
+  start_walks priority (Some partial) (Some keys) = tt
+  start_walks priority (Some partial) None = smc_walks partial (choice_of priority partial.caps)
+
+  connect_walks : (cell : Place) (t : Option ℕ) (o : Option (CoreContext (Unit {0}))) (trigger : Option ℕ) → CoreActNeeds s (connect_row s.next cell t o trigger)
+  connect_walks cell None o trigger = tt
+  connect_walks cell (Some target) None trigger = tt
+  connect_walks cell (Some target) (Some c) None = tt
+  connect_walks cell (Some target) (Some c) (Some count) = by_test (CoreActNeeds s) (nat_le NUMBERS s.next) _ _ (λ b. tt) (λ b. refl)
+
+  release_walks : (o : Option (CoreLink (Unit {0}) ℕ)) → CoreActNeeds s (release_row o)
+  release_walks None = tt
+  release_walks (Some link) = tt
+
+  send_walks : (o : Option (CoreContext (Unit {0}))) (text : List ℕ) → CoreActNeeds s (send_nas_row o text)
+  send_walks None text = tt
+  send_walks (Some c) text = by_test (CoreActNeeds s) (nat_le LIMIT c.nas.send) _ _ (λ b. tt) (λ b. tt)
+
+  skip_walks : (o : Option (CoreContext (Unit {0}))) (n : ℕ) → CoreActNeeds s (skip_nas_row o n)
+  skip_walks None n = tt
+  skip_walks (Some c) n = tt
+
+  pub core_act_walks : (act : CoreAct) → CoreActNeeds s (core_act_row (plain_core (term_reading_by same) s) act)
+  unfolding plain
+  core_act_walks StartSmc = start_walks s.priority plain.partial plain.procedure
+  core_act_walks (Connect cell) = connect_walks cell (station_at_cell cell s.cells) plain.context s.trigger
+  core_act_walks Release = release_walks plain.link
+  core_act_walks (SendNas text) = send_walks plain.context text
+  core_act_walks (Skip n) = skip_walks plain.context n

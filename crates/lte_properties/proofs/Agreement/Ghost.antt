@@ -1,0 +1,311 @@
+-- The invariant of agreement, part by part. Facts stand once, in what is told of a run: what was made, tried and taken;
+-- states and records only point to it.
+use Rattle.std.proofs.Common.{◌≡◌, ℕ, ◌-◌, ◌<◌, ◌≤◌, List, Option, Some, None, Ok}
+use Rattle.rec_base.specs.declared.uses.Dir.TheVariants.{Up, Down}
+use Rattle.alg_choice.specs.Algs.{eia2_identity}
+use Rattle.alg_choice.specs.declared.algs.Algs.{Algs}
+use Rattle.annex_a_keys.specs.Cell.{Place}
+use Rattle.lte_events.specs.declared.addresses.Address.{Address}
+use Rattle.lte_events.specs.declared.addresses.Address.TheVariants.{StationS1, StationX2}
+use Rattle.lte_events.specs.Site.{Site}
+use Rattle.key_model.specs.Term.{Term, Kenb, Alg}
+use Rattle.key_model.specs.Chain.{nh, ncc_of}
+use Rattle.key_model.specs.Number.{chain_number}
+use Rattle.key_model.specs.Reading.{term_reading}
+use Rattle.key_model.specs.HandoverTable.{NumberedKey}
+use Rattle.key_model.specs.HandoverLines.{steps_to}
+use Rattle.pdcp_guard.specs.AsKeys.{AsKeys, as_keys_of}
+use Rattle.rrc_rec.specs.declared.records.RrcRecord.{RrcRecord}
+use Rattle.rrc_rec.specs.declared.records.RrcRecord.TheVariants.{SecurityModeCommand, Reconfiguration}
+use Rattle.rrc_rec.specs.Reading.{read_rrc}
+use Rattle.s1x2_rec.specs.Fields.{Fields, InitialContext, PathSwitchAnswer, HandoverRequired, HandoverRequest, HandoverRequestAck, HandoverCommand, X2Request, X2Ack}
+use Rattle.ho_prep.specs.Prep.{Prep}
+use Rattle.x2_handover.specs.declared.orders.Order.{Order}
+use Rattle.x2_handover.specs.Attempt.{x2_order}
+use Rattle.s1_handover.specs.Attempt.{s1_order}
+use Rattle.lte_machine.specs.Bearers.{Srb, Signalling1, Bearers}
+use Rattle.lte_machine.specs.Wire.{KeyUse, Ciphering, Outgoing, SealedRrc, Between, srb_use, ciphering_by}
+use Rattle.lte_machine.specs.Reply.{Origin, Made, Tried, Took}
+use Rattle.lte_machine.specs.PhoneState.{Link, Radio, Idle, Connecting, Connected}
+use Rattle.lte_machine.specs.StationState.{Station, Context, Attempt, OverX2, OverS1, Within, X2State, X2Open, X2Ready, X2Commanded, S1State, S1Open, S1Ready, S1Commanded}
+use Rattle.lte_machine.specs.StationChoice.{station_of}
+use Rattle.lte_machine.specs.CoreState.{Core, CoreLink}
+use Rattle.std.specs.Prelude.{◌==◌, ◌&&◌, Bool, true, false, find, ⊤}
+use Rattle.lte_properties.specs.ChainBelow.{AllOf}
+use Rattle.lte_properties.specs.Agreement.{made_at, Obeys, Grows, HadTaken, TakenIfTried}
+use Rattle.lte_properties.proofs.Agreement.Terms.{base, lands, ChainOf}
+
+-- of each connection its KASME, the COUNT of its KeNB and the greatest chain number so far; the next connection; and what
+-- was told of the run
+pub record Ghost : Type 0 where
+  pub root : ℕ → Term
+  pub count : ℕ → ℕ
+  pub top : ℕ → ℕ
+  pub next : ℕ
+  pub made : List (Made Term ℕ)
+  pub tried : List (Tried Term ℕ)
+  pub took : List (Took Term ℕ)
+
+-- the attempt of a station
+abbrev pub is_tried_at : ℕ → ℕ → Tried Term ℕ → Bool
+is_tried_at station attempt t = (t.station == station) && (t.attempt == attempt)
+
+abbrev pub tried_at : List (Tried Term ℕ) → ℕ → ℕ → Option (Tried Term ℕ)
+tried_at tried station attempt = find (is_tried_at station attempt) tried
+
+-- the key of a number of a connection's chain
+abbrev pub chain_at : Ghost → ℕ → ℕ → Term
+chain_at g conn i = nh (g.root conn) (g.count conn) i
+
+-- the AS keys of a KeNB
+abbrev pub keys_of : Term → Algs → AsKeys Term
+keys_of t algs = as_keys_of term_reading t algs
+
+-- a KeNB of a connection, with its number
+abbrev pub TermOk : Ghost → ℕ → Term → ℕ → Type 0
+TermOk g conn t number = (conn < g.next) × (number ≤ g.top conn) × (base t ≡ chain_at g conn number)
+
+-- a pair of a connection
+abbrev pub PairOk : Ghost → ℕ → NumberedKey Term ℕ → Type 0
+PairOk g conn pair = (conn < g.next) × (pair.number ≤ g.top conn) × (pair.key ≡ chain_at g conn pair.number)
+
+abbrev pub PairsOk : Ghost → ℕ → Option (NumberedKey Term ℕ) → Type 0
+PairsOk g conn None = ⊤
+PairsOk g conn (Some pair) = PairOk g conn pair
+
+-- what a phone takes that obeys an attempt's order for what was made
+abbrev pub taken : Tried Term ℕ → Made Term ℕ → Term
+taken e m = lands e.key (steps_to (ncc_of (chain_number e.key)) (ncc_of m.number)) e.cell
+
+-- this is what a phone takes of what was made: the same key, or what an attempt leads to
+abbrev pub FromIs : Ghost → Made Term ℕ → Term → Option Origin → Type 0
+FromIs g m t None = t ≡ m.key
+FromIs g m t (Some o) = (e : Tried Term ℕ) × (tried_at g.tried o.source o.attempt ≡ Some e) × (t ≡ taken e m)
+
+-- this is what a phone takes at a station and air address
+abbrev pub HereIs : Ghost → ℕ → ℕ → Term → Type 0
+HereIs g station air t = (m : Made Term ℕ) × (made_at g.made station air ≡ Some m) × FromIs g m t m.from_attempt
+
+-- the key of a number is that of an attempt's context, so many steps on
+abbrev pub Leads : Tried Term ℕ → Term → ℕ → Type 0
+Leads e key number = (e.number ≤ number) × (key ≡ lands e.key (number - e.number) e.cell)
+
+abbrev pub GivenFits : Option (NumberedKey Term ℕ) → ℕ → Type 0
+GivenFits None number = ⊤
+GivenFits (Some star) number = star.number ≡ number
+
+-- what was made; it is all that was made for its air address
+abbrev pub FromOk : Ghost → Made Term ℕ → Option Origin → Type 0
+FromOk g m None = m.number ≡ 0
+FromOk g m (Some o) =
+    (e : Tried Term ℕ) × (tried_at g.tried o.source o.attempt ≡ Some e) × (chain_number e.key ≡ e.number)
+    × (e.target ≡ m.station) × Leads e m.key m.number × GivenFits e.given m.number
+
+abbrev pub MadeOk : Ghost → Made Term ℕ → Type 0
+MadeOk g m =
+    (1 ≤ m.air) × (m.air < 4294967296) × (m.station ≤ 7) × FromOk g m m.from_attempt
+    × (made_at g.made m.station m.air ≡ Some m)
+
+-- what was tried
+abbrev pub GivenOk : Ghost → Tried Term ℕ → Option (NumberedKey Term ℕ) → Type 0
+GivenOk g e None = ⊤
+GivenOk g e (Some star) = TermOk g e.conn star.key star.number × Leads e star.key star.number
+
+abbrev pub TriedOk : List Site → Ghost → Tried Term ℕ → Type 0
+TriedOk cells g e =
+    TermOk g e.conn e.key e.number × (station_of e.cell cells ≡ Some e.target) × GivenOk g e e.given
+
+-- what was taken
+abbrev pub TookOk : Ghost → Took Term ℕ → Type 0
+TookOk g x = HereIs g x.station x.air x.key × Obeys g.made x x.before × Grows x x.before
+
+-- a context or preparation is what was made for its air address
+abbrev pub IsMade : Made Term ℕ → Term → ℕ → Algs → Type 0
+IsMade m t number algs = (t ≡ m.key) × (number ≡ m.number) × (algs ≡ m.algs)
+
+-- a context's, and the phone takes it there, and had
+abbrev pub EntryIs : Ghost → ℕ → ℕ → Term → ℕ → Algs → Type 0
+EntryIs g id air t number algs =
+    (m : Made Term ℕ) × (made_at g.made id air ≡ Some m) × IsMade m t number algs
+    × FromIs g m t m.from_attempt × TakenIfTried g.took id air t m.from_attempt
+
+-- an order for the phone with this key: of an attempt of that key, for what was made of it
+abbrev pub OrderIs : Ghost → Term → Place → ℕ → Algs → ℕ → ℕ → Type 0
+OrderIs g t cell ncc algs station air =
+    (m : Made Term ℕ) × (o : Origin) × (e : Tried Term ℕ)
+    × (made_at g.made station air ≡ Some m) × (m.from_attempt ≡ Some o) × (tried_at g.tried o.source o.attempt ≡ Some e)
+    × (e.key ≡ t) × (e.cell ≡ cell) × (ncc_of m.number ≡ ncc) × (m.algs ≡ algs)
+
+abbrev pub IsOrder : Ghost → Term → Order → Type 0
+IsOrder g t o = OrderIs g t o.cell o.ncc o.algs o.station o.air
+
+-- an attempt of a context: it was opened under the context's key
+abbrev pub StartIs : Ghost → ℕ → ℕ → Term → ℕ → ℕ → Place → Option (NumberedKey Term ℕ) → Type 0
+StartIs g id conn t number target cell given =
+    (e : Tried Term ℕ) × (tried_at g.tried id number ≡ Some e)
+    × (e.key ≡ t) × (e.cell ≡ cell) × (e.target ≡ target) × (e.conn ≡ conn) × (e.given ≡ given)
+
+abbrev pub X2Ok : Ghost → ℕ → ℕ → Term → X2State Term ℕ → Type 0
+X2Ok g id conn t (X2Open start) =
+    StartIs g id conn t start.number start.station start.cell (Some start.star) × PairsOk g conn start.spent
+X2Ok g id conn t (X2Ready acked) = IsOrder g t (x2_order ncc_of acked) × PairsOk g conn acked.start.spent
+X2Ok g id conn t (X2Commanded sent) = IsOrder g t sent.order
+
+abbrev pub S1Ok : Ghost → ℕ → ℕ → Term → S1State → Type 0
+S1Ok g id conn t (S1Open start) = StartIs g id conn t start.number start.station start.cell None
+S1Ok g id conn t (S1Ready acked) = IsOrder g t (s1_order acked)
+S1Ok g id conn t (S1Commanded sent) = IsOrder g t sent.order
+
+abbrev pub AttemptOk : Ghost → ℕ → ℕ → Term → Option (Attempt Term ℕ) → Type 0
+AttemptOk g id conn t None = ⊤
+AttemptOk g id conn t (Some (OverX2 state)) = X2Ok g id conn t state
+AttemptOk g id conn t (Some (OverS1 state)) = S1Ok g id conn t state
+AttemptOk g id conn t (Some (Within state)) = X2Ok g id conn t state
+
+-- a context whose security starts has no attempt, and the phone had taken the key of any other
+abbrev pub StartedOk : Ghost → ℕ → ℕ → Term → Bool → Option (Attempt Term ℕ) → Type 0
+StartedOk g id air t true attempt = attempt ≡ None
+StartedOk g id air t false attempt = HadTaken g.took id air t
+
+-- a station's context, and its preparations
+abbrev pub CtxOk : Ghost → ℕ → Option (Context Term ℕ) → Type 0
+CtxOk g id None = ⊤
+CtxOk g id (Some c) =
+    TermOk g c.conn c.key.kenb c.key.number × PairsOk g c.conn c.key.pair × (c.keys ≡ keys_of c.key.kenb c.algs)
+    × EntryIs g id c.air c.key.kenb c.key.number c.algs × AttemptOk g id c.conn c.key.kenb c.attempt
+    × StartedOk g id c.air c.key.kenb c.starting c.attempt
+
+abbrev pub PrepOk : Ghost → ℕ → Prep Term ℕ → Type 0
+PrepOk g id p =
+    TermOk g p.conn p.key.kenb p.key.number × PairsOk g p.conn p.key.pair × (p.keys ≡ keys_of p.key.kenb p.algs)
+    × (m : Made Term ℕ) × (made_at g.made id p.air ≡ Some m) × IsMade m p.key.kenb p.key.number p.algs
+
+-- nothing was made or tried at numbers that the station did not draw yet
+abbrev pub FreshFrom : Ghost → ℕ → ℕ → Type 0
+FreshFrom g id next = (n : ℕ) → next ≤ n → (made_at g.made id n ≡ None) × (tried_at g.tried id n ≡ None)
+
+abbrev pub StationOk : List Site → Ghost → Station Term ℕ → Type 0
+StationOk cells g s =
+    CtxOk g s.id s.context × AllOf (PrepOk g s.id) s.preps × FreshFrom g s.id s.next
+    × (s.cells ≡ cells) × (s.id ≤ 7) × (1 ≤ s.next)
+
+-- a phone that came to what was made for a connection took the first record there, so that its next COUNT is not 0
+abbrev pub HeardFirst : Made Term ℕ → Bearers → Type 0
+HeardFirst m bearers = m.from_attempt ≡ None → 1 ≤ bearers.srb1.receive
+
+-- the phone's connection
+abbrev pub LinkIs : Ghost → Link Term ℕ → Type 0
+LinkIs g l =
+    ChainOf l.kenb l.chain × (l.keys ≡ keys_of l.kenb l.keys.algs)
+    × (m : Made Term ℕ) × (made_at g.made l.station l.air ≡ Some m) × (l.keys.algs ≡ m.algs)
+    × FromIs g m l.kenb m.from_attempt × HadTaken g.took l.station l.air l.kenb × HeardFirst m l.bearers
+
+abbrev pub RadioOk : Ghost → Radio Term ℕ → Type 0
+RadioOk g Idle = ⊤
+RadioOk g (Connecting w) = (n : ℕ) × (w.kenb ≡ Kenb w.root n)
+RadioOk g (Connected l) = LinkIs g l
+
+-- the core's connection
+abbrev pub CoreLinkOk : Ghost → Option (CoreLink Term ℕ) → Type 0
+CoreLinkOk g None = ⊤
+CoreLinkOk g (Some link) =
+    (link.conn < g.next) × (link.chain.number ≡ g.top link.conn) × (link.chain.root ≡ g.root link.conn)
+    × (link.chain.sync ≡ chain_at g link.conn link.chain.number)
+
+abbrev pub CoreOk : List Site → Ghost → Core Term ℕ → Type 0
+CoreOk cells g core = CoreLinkOk g core.link × (core.next ≡ g.next) × (core.cells ≡ cells)
+
+-- what an RRC text says to the phone that has this key
+abbrev pub SaysOk : Ghost → Term → RrcRecord → Type 0
+SaysOk g t (Reconfiguration cell ncc algs station air) = OrderIs g t cell ncc algs station air
+SaysOk g t (SecurityModeCommand algs station air) =
+    (m : Made Term ℕ) × (made_at g.made station air ≡ Some m) × (m.from_attempt ≡ None) × (m.algs ≡ algs)
+SaysOk g t other = ⊤
+
+abbrev pub TextOk : Ghost → Term → List ℕ → Type 0
+TextOk g t text = (r : RrcRecord) → read_rrc text ≡ Ok r → SaysOk g t r
+
+-- how a text of a station is ciphered: under its own use, where the phone had taken the key; or not at all in the first
+-- of a new connection
+abbrev pub CipheredSo : Ghost → ℕ → ℕ → Made Term ℕ → Srb → KeyUse Term → Option (Ciphering Term) → Type 0
+CipheredSo g station air m srb i None = (m.from_attempt ≡ None) × (i.count ≡ 0) × (srb ≡ Signalling1)
+CipheredSo g station air m srb i (Some e) =
+    (e ≡ ciphering_by m.algs.eea (srb_use Down (keys_of m.key m.algs).rrc_enc srb i.count))
+    × HadTaken g.took station air m.key
+
+-- an RRC text from a station: under the key made for the air address
+abbrev pub DownOk : Ghost → ℕ → ℕ → Srb → KeyUse Term → Option (Ciphering Term) → List ℕ → Type 0
+DownOk g station air srb i f text =
+    (m : Made Term ℕ) × (made_at g.made station air ≡ Some m)
+    × (i ≡ srb_use Down (keys_of m.key m.algs).rrc_int srb i.count) × CipheredSo g station air m srb i f × TextOk g m.key text
+
+-- and from the phone: under the key that it took there
+abbrev pub UpOk : Ghost → ℕ → ℕ → KeyUse Term → Type 0
+UpOk g station air i =
+    (t : Term) × (i.key ≡ Alg t 4 eia2_identity) × HereIs g station air t × HadTaken g.took station air t
+
+-- records on S1 and X2
+abbrev pub AskedIs : Ghost → ℕ → ℕ → ℕ → Place → Option (NumberedKey Term ℕ) → (Tried Term ℕ → Type 0) → Type 0
+AskedIs g conn source attempt cell given P =
+    (e : Tried Term ℕ) × (tried_at g.tried source attempt ≡ Some e)
+    × (e.conn ≡ conn) × (e.cell ≡ cell) × (e.given ≡ given) × P e
+
+abbrev pub ToStationS1 : Address → ℕ → Type 0
+ToStationS1 (StationS1 station) target = station ≡ target
+ToStationS1 other target = ⊤
+
+abbrev pub ToStationX2 : Address → ℕ → Type 0
+ToStationX2 (StationX2 station) target = station ≡ target
+ToStationX2 other target = ⊤
+
+-- what was made of an attempt
+abbrev pub AckIs : Ghost → ℕ → ℕ → Algs → ℕ → (Made Term ℕ → Type 0) → Type 0
+AckIs g source attempt algs air P =
+    (m : Made Term ℕ) × (made_at g.made m.station air ≡ Some m)
+    × (m.from_attempt ≡ Some (record { source = source; attempt = attempt })) × (m.algs ≡ algs) × P m
+
+abbrev pub HasNcc : ℕ → Made Term ℕ → Type 0
+HasNcc ncc m = ncc_of m.number ≡ ncc
+
+abbrev pub CommandTo : Ghost → Address → ℕ → ℕ → Algs → ℕ → Type 0
+CommandTo g (StationS1 source) attempt ncc algs air = AckIs g source attempt algs air (HasNcc ncc)
+CommandTo g other attempt ncc algs air = ⊤
+
+abbrev pub AnyMade : Made Term ℕ → Type 0
+AnyMade m = ⊤
+
+abbrev pub X2AckTo : Ghost → Address → ℕ → Algs → ℕ → Type 0
+X2AckTo g (StationX2 source) attempt algs air = AckIs g source attempt algs air AnyMade
+X2AckTo g other attempt algs air = ⊤
+
+-- a request on S1 has a pair above the attempt's number
+abbrev pub Surpasses : Address → ℕ → Tried Term ℕ → Type 0
+Surpasses to number e = (e.number < number) × ToStationS1 to e.target
+
+abbrev pub AnyTried : Tried Term ℕ → Type 0
+AnyTried e = ⊤
+
+abbrev pub BetweenOk : Ghost → Address → Fields → Option (NumberedKey Term ℕ) → Type 0
+BetweenOk g to (InitialContext conn cell caps) (Some key) = (conn < g.next) × (key.key ≡ chain_at g conn 0)
+BetweenOk g to (PathSwitchAnswer conn number) (Some pair) = PairOk g conn pair
+BetweenOk g to (HandoverRequired conn source attempt cell) key = AskedIs g conn source attempt cell None AnyTried
+BetweenOk g to (HandoverRequest conn source attempt cell caps) (Some pair) =
+    PairOk g conn pair × AskedIs g conn source attempt cell None (Surpasses to pair.number)
+BetweenOk g to (HandoverRequestAck conn source attempt cell ncc algs air) key =
+    AckIs g source attempt algs air (HasNcc ncc)
+BetweenOk g to (HandoverCommand conn attempt cell ncc algs air) key = CommandTo g to attempt ncc algs air
+BetweenOk g to (X2Request conn source attempt cell caps) (Some star) =
+    TermOk g conn star.key star.number
+    × AskedIs g conn source attempt cell (Some star) (λ e. ToStationX2 to e.target)
+BetweenOk g to (X2Ack conn attempt cell algs air) key = X2AckTo g to attempt algs air
+BetweenOk g to other key = ⊤
+
+abbrev pub SentOk : Ghost → Outgoing Term ℕ → Type 0
+SentOk g (SealedRrc Down station air srb i f text) = DownOk g station air srb i f text
+SentOk g (SealedRrc Up station air srb i f text) = UpOk g station air i
+SentOk g (Between to fields key) = BetweenOk g to fields key
+SentOk g other = ⊤
+
+abbrev pub OutOk : Ghost → Option (Outgoing Term ℕ) → Type 0
+OutOk g None = ⊤
+OutOk g (Some x) = SentOk g x

@@ -1,0 +1,163 @@
+-- Agreement in every world of every run: from the invariant, which the first world has.
+use Rattle.std.proofs.Common.{◌≡◌, refl, sym, ap, ◌∙◌, subst, ℕ, ◌≤◌, List, [], ◌∷◌, Option, Some, None, inl, inr}
+use Rattle.lte_events.specs.declared.setups.Setup.{Setup}
+use Rattle.lte_events.specs.declared.setups.StationSetup.{StationSetup}
+use Rattle.lte_events.specs.Site.{Site}
+use Rattle.key_model.specs.Term.{Term, Root}
+use Rattle.key_model.specs.Number.{chain_number}
+use Rattle.key_model.specs.HandoverTable.{NumberedKey}
+use Rattle.ho_prep.specs.Prep.{Prep}
+use Rattle.lte_machine.specs.Ranges.{IsSetup, IsStation, IsSiteOf, IsEvent}
+use Rattle.lte_machine.specs.Ranges as ranges
+use Rattle.lte_machine.specs.Reply.{Origin, Made, Took}
+use Rattle.lte_machine.specs.PhoneState.{Radio, Idle, Connecting, Connected, Link}
+use Rattle.lte_machine.specs.StationState.{Station, Context}
+use Rattle.lte_machine.specs.Run.{stations_of, first_world}
+use Rattle.lte_properties.specs.ChainBelow.{AllOf}
+use Rattle.lte_properties.specs.Agreement.{IsIn, made_at, ahead, Obeys, Grows, OneTerm, ContextAt, AtStation, Agree, JoinedBy, IsFar, NoneThere, ComesMade, PrepMade, Agrees}
+use Rattle.lte_properties.proofs.ChainNumbers.Lists.{all_map}
+use Rattle.lte_properties.proofs.Agreement.Ghost.{MadeOk, Ghost, tried_at, keys_of, taken, FromIs, HereIs, CtxOk, PrepOk, StationOk, LinkIs, RadioOk, TookOk}
+use Rattle.lte_properties.proofs.Agreement.Follows.{InTurn}
+use Rattle.lte_properties.proofs.Agreement.Later.{Later, same_found, here_later}
+use Rattle.lte_properties.proofs.Agreement.Told.{SiteOk, term_number}
+use Rattle.lte_properties.proofs.Agreement.World.{TheWorld, Conns, ghost, WorldOk}
+
+-- THE FIRST WORLD
+
+sites_ok : (stations : List StationSetup) (sites : List Site) → ranges.AllOf (IsSiteOf stations) sites → AllOf SiteOk sites
+sites_ok stations [] h = tt
+sites_ok stations (site ∷ sites) h = ((h.0.0, h.0.1), sites_ok stations sites h.1)
+
+pub cells_of : (setup : Setup) → IsSetup setup → AllOf SiteOk setup.cells
+cells_of setup h = sites_ok setup.stations setup.cells h.sites
+
+-- before the first event there is no connection
+pub no_conns : Setup → Conns
+no_conns setup = record { root = λ conn. Root 0 []; count = λ conn. 0; top = λ conn. 0; next = setup.core_first }
+
+stations_begin : (cells : List Site) (g : Ghost) (made : g.made ≡ []) (tried : g.tried ≡ []) (ss : List StationSetup) → ranges.AllOf IsStation ss → AllOf (StationOk cells g) (stations_of cells ss)
+stations_begin cells g made tried [] h = tt
+stations_begin cells g made tried (s ∷ ss) h =
+    ((tt, tt, (λ n low. (ap (λ xs. made_at xs s.id n) made, ap (λ xs. tried_at xs s.id n) tried)), refl, h.0.0, h.0.1.0), stations_begin cells g made tried ss h.1)
+
+pub first_ok : (setup : Setup) → IsSetup setup → WorldOk setup.cells (no_conns setup) (first_world setup)
+unfolding no_conns
+first_ok setup h = record {
+  core = (tt, refl, refl);
+  radio = tt;
+  stations = stations_begin setup.cells (ghost (no_conns setup) (first_world setup)) refl refl setup.stations h.stations;
+  sent = tt;
+  made = tt;
+  tried = tt;
+  took = tt;
+}
+
+-- FROM THE INVARIANT
+
+-- what a phone takes at an air address is one key
+pub one_here : (g : Ghost) (station air : ℕ) (t u : Term) → HereIs g station air t → HereIs g station air u → t ≡ u
+one_here g station air t u h k =
+    by_from h.0.from_attempt refl (subst (λ m. FromIs g m u m.from_attempt) (sym one) k.2)
+  where
+    one : h.0 ≡ k.0
+    one = same_found _ h.0 k.0 h.1 k.1
+
+    by_from : (o : Option Origin) → h.0.from_attempt ≡ o → FromIs g h.0 u h.0.from_attempt → t ≡ u
+    by_from None e f = subst (FromIs g h.0 t) e h.2 ∙ sym (subst (FromIs g h.0 u) e f)
+    by_from (Some o) e f =
+        let a = subst (FromIs g h.0 t) e h.2 in
+        let b = subst (FromIs g h.0 u) e f in
+        a.2 ∙ ap (λ x. taken x h.0) (same_found _ a.0 b.0 a.1 b.1) ∙ sym b.2
+
+all_in : {A : Type 0} (P : A → Type 0) (xs : List A) → ((x : A) → IsIn x xs → P x) → AllOf P xs
+all_in P [] f = tt
+all_in P (x ∷ xs) f = (f x (inl refl), all_in P xs (λ y i. f y (inr i)))
+
+pub of_each : {A : Type 0} (P : A → Type 0) (xs : List A) (x : A) → AllOf P xs → IsIn x xs → P x
+of_each P [] x h i = absurd i
+of_each P (y ∷ ys) x h (inl e) = subst P (sym e) h.0
+of_each P (y ∷ ys) x h (inr i) = of_each P ys x h.1 i
+
+module _ (cells : List Site) (c : Conns) (w : TheWorld) (h : WorldOk cells c w) where
+  one_term : OneTerm w
+  one_term =
+      all_in _ w.took (λ x i. all_in _ w.took (λ y j station air.
+      let a = of_each (TookOk (ghost c w)) w.took x h.took i in
+      let b = of_each (TookOk (ghost c w)) w.took y h.took j in
+      one_here (ghost c w) x.station x.air x.key y.key a.0
+      (subst (λ n. HereIs (ghost c w) n x.air y.key) (sym station) (subst (λ n. HereIs (ghost c w) y.station n y.key) (sym air) b.0))))
+
+  -- a joined phone and context have what the phone takes there
+  joined_one : (l : Link Term ℕ) → LinkIs (ghost c w) l → (s : Station Term ℕ) → s.id ≡ l.station → (o : Option (Context Term ℕ)) → CtxOk (ghost c w) s.id o → ContextAt l.air o (Agree l)
+  joined_one l k s is None ok = tt
+  joined_one l k s is (Some x) ok = λ at_air.
+      let here : HereIs (ghost c w) l.station l.air l.kenb = (k.2, k.3, k.5) in
+      let e = ok.3 in
+      let m = e.0 in
+      let found : made_at w.made l.station l.air ≡ Some m = (λ j. made_at w.made (sym is j) (sym at_air j)) ∙ e.1 in
+      let there : HereIs (ghost c w) l.station l.air x.key.kenb = (m, found, e.3) in
+      let kenb : l.kenb ≡ x.key.kenb = one_here (ghost c w) l.station l.air l.kenb x.key.kenb here there in
+      let algs : l.keys.algs ≡ x.algs = k.4 ∙ ap (λ y. y.algs) (same_found _ k.2 m k.3 found) ∙ sym e.2.2 in
+      let keys : l.keys ≡ x.keys = k.1 ∙ (λ j. keys_of (kenb j) (algs j)) ∙ sym ok.2 in
+      let number : l.chain.number ≡ x.key.number =
+      k.0.2 ∙ ap chain_number kenb ∙ term_number (ghost c w) x.conn x.key.kenb x.key.number ok.0 in
+      (kenb, number, keys, algs)
+
+  joined : (radio : Radio Term ℕ) → RadioOk (ghost c w) radio → JoinedBy w radio
+  joined Idle k = tt
+  joined (Connecting waiting) k = tt
+  joined (Connected l) k =
+      all_map (StationOk cells (ghost c w)) (λ s. s.id ≡ l.station → ContextAt l.air s.context (Agree l))
+      (λ s ok is. joined_one l k s is s.context ok.0) w.stations h.stations
+
+  comes : (id : ℕ) (o : Option (Context Term ℕ)) → CtxOk (ghost c w) id o → ComesMade w id o
+  comes id None ok = tt
+  comes id (Some x) ok = (ok.3.0, ok.3.1, ok.3.2.0, ok.3.2.1, ok.3.2.2, ok.3.4)
+
+  preps_made : (id : ℕ) (ps : List (Prep Term ℕ)) → AllOf (PrepOk (ghost c w) id) ps → AllOf (PrepMade w id) ps
+  preps_made id ps ok =
+      all_map (PrepOk (ghost c w) id) (PrepMade w id) (λ p k. (k.3, k.4, k.5.0, k.5.1, k.5.2)) ps ok
+
+  pub agrees : InTurn w → Agrees w
+  agrees turn = record {
+    follow = turn.0;
+    last = turn.1;
+    made_once = all_map (MadeOk (ghost c w)) (λ m. made_at w.made m.station m.air ≡ Some m) (λ m k. k.4) w.made h.made;
+    obeyed = all_map (TookOk (ghost c w)) (λ x. Obeys w.made x x.before) (λ x k. k.1) w.took h.took;
+    grow = all_map (TookOk (ghost c w)) (λ x. Grows x x.before) (λ x k. k.2) w.took h.took;
+    one_term = one_term;
+    joined = joined w.phone.radio h.radio;
+    completed = all_map (StationOk cells (ghost c w)) (λ s. ComesMade w s.id s.context) (λ s ok. comes s.id s.context ok.0) w.stations h.stations;
+    preps = all_map (StationOk cells (ghost c w)) (λ s. AllOf (PrepMade w s.id) s.preps) (λ s ok. preps_made s.id s.preps ok.1) w.stations h.stations;
+  }
+
+-- where the phone took a key that is not the one made, no context has that air address, in any world before or after
+module _ (cells : List Site) (c d : Conns) (v u : TheWorld) (l : Later (ghost c v) (ghost d u)) (a : WorldOk cells c v) (b : WorldOk cells d u) where
+  -- a context's key is the one made, and what the phone takes there
+  far_differs : (x : Took Term ℕ) → TookOk (ghost d u) x → (o : Option (NumberedKey Term ℕ)) → x.before ≡ o → IsFar u.made x o
+      → (m : Made Term ℕ) → made_at u.made x.station x.air ≡ Some m → HereIs (ghost d u) x.station x.air m.key → ⊥
+  far_differs x k None e far m found here = far
+  far_differs x k (Some before) e far m found here =
+      let obeys = subst (Obeys u.made x) e k.1 in
+      let one : obeys.0 ≡ m = same_found _ obeys.0 m obeys.1 found in
+      let also : far.0 ≡ m = same_found _ far.0 m far.1 found in
+      let wide : 8 ≤ ahead obeys.0 before = subst (λ y. 8 ≤ ahead y before) (also ∙ sym one) far.2 in
+      (obeys.2.2 wide).0 (one_here (ghost d u) x.station x.air x.key m.key k.0 here ∙ sym (ap (λ y. y.key) one))
+
+  -- a context of the earlier world
+  none_before_at : (x : Took Term ℕ) → TookOk (ghost d u) x → IsFar u.made x x.before → (s : Station Term ℕ) → s.id ≡ x.station
+      → (o : Option (Context Term ℕ)) → CtxOk (ghost c v) s.id o → ContextAt x.air o (λ y. ⊥)
+  none_before_at x k far s is None ok = tt
+  none_before_at x k far s is (Some y) ok = λ at_air.
+      let e = ok.3 in
+      let m = e.0 in
+      let found : made_at v.made x.station x.air ≡ Some m = (λ j. made_at v.made (sym is j) (sym at_air j)) ∙ e.1 in
+      let here : HereIs (ghost c v) x.station x.air m.key = subst (HereIs (ghost c v) x.station x.air) e.2.0 (m, found, e.3) in
+      far_differs x k x.before refl far m (l.made x.station x.air m found) (here_later (ghost c v) (ghost d u) l x.station x.air m.key here)
+
+  pub none_before : NoneThere v u
+  none_before =
+      all_map (TookOk (ghost d u)) (λ x. IsFar u.made x x.before → AtStation v x.station (λ s. ContextAt x.air s.context (λ y. ⊥)))
+      (λ x k far. all_map (StationOk cells (ghost c v)) (λ s. s.id ≡ x.station → ContextAt x.air s.context (λ y. ⊥))
+      (λ s ok is. none_before_at x k far s is s.context ok.0) v.stations a.stations)
+      u.took b.took

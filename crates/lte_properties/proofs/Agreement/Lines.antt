@@ -1,0 +1,272 @@
+-- Where a station tells that a handover completed, its context is new and has the key that it tells.
+use Rattle.std.proofs.Common.{◌≡◌, refl, subst, take, ℕ, suc, Bool, false, List, [], ◌∷◌, Option, Some, None}
+use Rattle.std.specs.Prelude.{⊤}
+use Rattle.std.specs.List.{position_from}
+use Rattle.std.proofs.lemmas.Bool.{eqb-false}
+use Rattle.alg_choice.specs.declared.caps.Caps.{Caps}
+use Rattle.annex_a_keys.specs.Cell.{Place}
+use Rattle.rec_base.specs.declared.ways.Way.{Way}
+use Rattle.lte_events.specs.declared.lines.Who.{Who}
+use Rattle.lte_events.specs.declared.addresses.Address.{Address}
+use Rattle.lte_events.specs.declared.events.Event.{Event}
+use Rattle.lte_events.specs.Site.{Site}
+use Rattle.key_model.specs.Term.{Term}
+use Rattle.key_model.specs.HandoverTable.{NumberedKey}
+use Rattle.key_model.specs.Reading.{term_reading_by}
+use Rattle.nh_chain.specs.Station.{way_of, opened}
+use Rattle.ho_prep.specs.Prep.{Prep, at_air}
+use Rattle.lte_machine.specs.Bearers.{Srb, Drb}
+use Rattle.lte_machine.specs.Wire.{KeyUse, Outgoing, address_of}
+use Rattle.lte_machine.specs.Opening.{Opening, Outcome}
+use Rattle.lte_machine.specs.Reply.{Note, Origin, Reply}
+use Rattle.lte_machine.specs.StationState.{Station, Context, StationInput, StationActs, AirPdu, StationRecord, OnS1, OnX2}
+use Rattle.x2_handover.specs.declared.orders.Order.{Order}
+use Rattle.lte_machine.specs.StationRows.{Wanted, RecordRow, RecordRefused, ContextGiven, ContextReleased, PairTaken, PreparedByS1, PreparedByX2, AckedByS1, AckedByX2, PreparationCancelled, SourceReleased, AirRow, AirRefused, SecurityStarted, RrcOpened, PacketOpened, CompletedByS1, CompletedWithin, CompletedByX2, ActRow, ActRefused, StartedByX2, StartedByS1, StartedWithin, HandoverCommanded, CancelledByX2, CancelledByS1, CancelledWithin, PathSwitchAsked, PacketSent, RrcSent, BearerSkipped, StationRow, OfRecord, OfAir, OfAct}
+use Rattle.lte_machine.specs.StationKeys.{context_given, pair_taken, prepared_by_s1, prepared_by_x2, record_does, completed_by_s1, completed_within, completed_by_x2, air_does, started_by_x2, started_by_s1, started_within, commands, asks_again, sends_packet, sends_rrc, act_does, station_does}
+use Rattle.lte_machine.specs.StationStep.{station_opens, station_pdu_in, station_row_of, station_key, station_step}
+use Rattle.lte_machine.specs.World.{Machine, put_station, station_after, station_of_id, turn_of, auth_unless, known_root, next_root, content_in, arrives, chosen, delivered, class_of, is_sent, injected, happens}
+use Rattle.lte_properties.specs.ChainBelow.{AllOf}
+use Rattle.lte_properties.specs.ChainHolds.{machine_by, run}
+use Rattle.lte_properties.specs.Agreement.{HadTaken, AtStation, HasContext, TellsWay, TellsNote, CompletedLines}
+use Rattle.lte_properties.proofs.ChainNumbers.Lists.{all_both, all_put}
+use Rattle.lte_properties.proofs.Agreement.Ghost.{Ghost, CtxOk, StartedOk, StationOk}
+use Rattle.lte_properties.proofs.Agreement.World.{TheWorld, Conns, ghost, WorldOk}
+
+-- the context is active, and has this key
+abbrev IsNew : Option (Context Term ℕ) → Term → Type 0
+IsNew o key = HasContext o (λ c. (c.key.kenb ≡ key) × (c.starting ≡ false))
+
+abbrev WayIsNew : Option (Context Term ℕ) → Term → Way → Type 0
+WayIsNew o key Way.Completed = IsNew o key
+WayIsNew o key other = ⊤
+
+abbrev NoteIsNew : Option (Context Term ℕ) → Option (Note Term) → Type 0
+NoteIsNew o None = ⊤
+NoteIsNew o (Some note) = WayIsNew o note.key note.way
+
+-- a row
+abbrev RowTells : Station Term ℕ × Reply Term ℕ → Type 0
+RowTells d = NoteIsNew d.0.context d.1.note
+
+started_way : (o : Option (Context Term ℕ)) (key : Term) (pair : Option (NumberedKey Term ℕ)) → WayIsNew o key (way_of pair)
+started_way o key None = tt
+started_way o key (Some pair) = tt
+
+module _ (same : Term → Term → Bool) where
+  given : (conn : ℕ) (cell : Place) (caps : Caps) (algs : _) (air : ℕ) (key : Option (NumberedKey Term ℕ)) (s : Station Term ℕ) → RowTells (context_given (term_reading_by same) conn cell caps algs air key s)
+  given conn cell caps algs air None s = tt
+  given conn cell caps algs air (Some key) s = tt
+
+  pair : (conn : ℕ) (origin : Option Origin) (key : Option (NumberedKey Term ℕ)) (s : Station Term ℕ) → RowTells (pair_taken conn origin key s)
+  pair conn origin None s = tt
+  pair conn origin (Some key) s = tt
+
+  by_s1 : (w : Wanted) (key : Option (NumberedKey Term ℕ)) (s : Station Term ℕ) → RowTells (prepared_by_s1 (term_reading_by same) w key s)
+  by_s1 w None s = tt
+  by_s1 w (Some key) s = tt
+
+  by_x2 : (w : Wanted) (key : Option (NumberedKey Term ℕ)) (s : Station Term ℕ) → RowTells (prepared_by_x2 (term_reading_by same) w key s)
+  by_x2 w None s = tt
+  by_x2 w (Some key) s = tt
+
+  record_tells : (row : RecordRow) (key : Option (NumberedKey Term ℕ)) (s : Station Term ℕ) → RowTells (record_does (term_reading_by same) row key s)
+  record_tells (RecordRefused answer) key s = tt
+  record_tells (ContextGiven conn cell caps algs air) key s = given conn cell caps algs air key s
+  record_tells ContextReleased key s = tt
+  record_tells (PairTaken conn origin) key s = pair conn origin key s
+  record_tells (PreparedByS1 w) key s = by_s1 w key s
+  record_tells (PreparedByX2 w) key s = by_x2 w key s
+  record_tells (AckedByS1 ncc algs air) key s = tt
+  record_tells (AckedByX2 algs air) key s = tt
+  record_tells (PreparationCancelled from) key s = tt
+  record_tells SourceReleased key s = tt
+
+  done_by_s1 : (count : ℕ) (o : Option (Prep Term ℕ)) (s : Station Term ℕ) → RowTells (completed_by_s1 (term_reading_by same) count o s)
+  done_by_s1 count None s = tt
+  done_by_s1 count (Some p) s = (refl, refl)
+
+  done_within : (count : ℕ) (origin : Option Origin) (o : Option (Prep Term ℕ)) (s : Station Term ℕ) → RowTells (completed_within (term_reading_by same) count origin o s)
+  done_within count origin None s = tt
+  done_within count origin (Some p) s = (refl, refl)
+
+  done_by_x2 : (count number : ℕ) (o : Option (Prep Term ℕ)) (s : Station Term ℕ) → RowTells (completed_by_x2 (term_reading_by same) count number o s)
+  done_by_x2 count number None s = tt
+  done_by_x2 count number (Some p) s = (refl, refl)
+
+  air_tells : (row : AirRow) (s : Station Term ℕ) → RowTells (air_does (term_reading_by same) row s)
+  air_tells (AirRefused answer) s = tt
+  air_tells (SecurityStarted count) s = tt
+  air_tells (RrcOpened srb count text) s = tt
+  air_tells (PacketOpened drb count text) s = tt
+  air_tells (CompletedByS1 air count) s = done_by_s1 count (at_air air s.preps) s
+  air_tells (CompletedWithin air count origin) s = done_within count origin (at_air air s.preps) s
+  air_tells (CompletedByX2 air count number) s = done_by_x2 count number (at_air air s.preps) s
+
+  x2_start : (number target : ℕ) (cell : Place) (o : Option (Context Term ℕ)) (s : Station Term ℕ) → RowTells (started_by_x2 (term_reading_by same) number target cell o s)
+  x2_start number target cell None s = tt
+  x2_start number target cell (Some c) s =
+      started_way (started_by_x2 (term_reading_by same) number target cell (Some c) s).0.context (opened (term_reading_by same) c.key cell).star.key c.key.pair
+
+  s1_start : (number target : ℕ) (cell : Place) (o : Option (Context Term ℕ)) (s : Station Term ℕ) → RowTells (started_by_s1 number target cell o s)
+  s1_start number target cell None s = tt
+  s1_start number target cell (Some c) s = tt
+
+  within_start : (number air : ℕ) (cell : Place) (o : Option (Context Term ℕ)) (s : Station Term ℕ) → RowTells (started_within (term_reading_by same) number air cell o s)
+  within_start number air cell None s = tt
+  within_start number air cell (Some c) s =
+      started_way (started_within (term_reading_by same) number air cell (Some c) s).0.context (opened (term_reading_by same) c.key cell).star.key c.key.pair
+
+  command : (order : Order) (count : ℕ) (o : Option (Context Term ℕ)) (s : Station Term ℕ) → RowTells (commands order count o s)
+  command order count None s = tt
+  command order count (Some c) s = tt
+
+  ask : (number : ℕ) (o : Option (Context Term ℕ)) (s : Station Term ℕ) → RowTells (asks_again number o s)
+  ask number None s = tt
+  ask number (Some c) s = tt
+
+  packet : (drb : Drb) (count : ℕ) (text : List ℕ) (o : Option (Context Term ℕ)) (s : Station Term ℕ) → RowTells (sends_packet drb count text o s)
+  packet drb count text None s = tt
+  packet drb count text (Some c) s = tt
+
+  rrc : (srb : Srb) (count : ℕ) (text : List ℕ) (o : Option (Context Term ℕ)) (s : Station Term ℕ) → RowTells (sends_rrc srb count text o s)
+  rrc srb count text None s = tt
+  rrc srb count text (Some c) s = tt
+
+  act_tells : (row : ActRow) (s : Station Term ℕ) → RowTells (act_does (term_reading_by same) row s)
+  act_tells (ActRefused answer) s = tt
+  act_tells (StartedByX2 number target cell) s = x2_start number target cell s.context s
+  act_tells (StartedByS1 number target cell) s = s1_start number target cell s.context s
+  act_tells (StartedWithin number air cell) s = within_start number air cell s.context s
+  act_tells (HandoverCommanded order count) s = command order count s.context s
+  act_tells (CancelledByX2 conn number target) s = tt
+  act_tells (CancelledByS1 conn number cell) s = tt
+  act_tells (CancelledWithin number) s = tt
+  act_tells (PathSwitchAsked number) s = ask number s.context s
+  act_tells (PacketSent drb count text) s = packet drb count text s.context s
+  act_tells (RrcSent srb count text) s = rrc srb count text s.context s
+  act_tells (BearerSkipped on n) s = tt
+
+  station_tells : (row : StationRow) (key : Option (NumberedKey Term ℕ)) (s : Station Term ℕ) → RowTells (station_does (term_reading_by same) row key s)
+  station_tells (OfRecord row) key s = record_tells row key s
+  station_tells (OfAir row) key s = air_tells row s
+  station_tells (OfAct row) key s = act_tells row s
+
+-- THE WORLD
+
+abbrev WayShown : TheWorld → ℕ → Term → Way → Type 0
+WayShown u id key Way.Completed = AtStation u id (λ s. IsNew s.context key)
+WayShown u id key other = ⊤
+
+abbrev NoteShown : TheWorld → Who → Option (Note Term) → Type 0
+NoteShown u (Who.Station id) (Some note) = WayShown u id note.key note.way
+NoteShown u who told = ⊤
+
+module _ (same : Term → Term → Bool) (root : ℕ → List ℕ → Term) (octets : Outgoing Term ℕ → List ℕ) (sender : Option (Outgoing Term ℕ) → Option (KeyUse Term)) (opener : Opening Term → List ℕ → Option (Outgoing Term ℕ) → Outcome) where
+  abbrev m : Machine Term ℕ (Outgoing Term ℕ)
+  m = machine_by same root octets sender opener
+
+  -- the station that tells it
+  way_put : (id : ℕ) (new : Station Term ℕ) (ss : List (Station Term ℕ)) (key : Term) → IsNew new.context key
+      → AllOf (λ s. s.id ≡ id → IsNew s.context key) (put_station id new ss)
+  way_put id new ss key h =
+      all_put (λ s. ⊤) (λ s. s.id ≡ id → IsNew s.context key) id new ss (λ e. h) (λ s other k e. absurd (eqb-false s.id id other e)) (each ss)
+    where
+      each : (ss : List (Station Term ℕ)) → AllOf (λ s. ⊤) ss
+      each [] = tt
+      each (s ∷ ss) = (tt, each ss)
+
+  way_after : (w : TheWorld) (id : ℕ) (d : Station Term ℕ × Reply Term ℕ) (key : Term) (way : Way) → WayIsNew d.0.context key way → WayShown (station_after m w id d).0 id key way
+  way_after w id d key Way.Completed h = way_put id d.0 w.stations key h
+  way_after w id d key Way.Initial h = tt
+  way_after w id d key Way.Horizontal h = tt
+  way_after w id d key Way.Vertical h = tt
+  way_after w id d key Way.Chained h = tt
+  way_after w id d key Way.Given h = tt
+
+  note_after : (w : TheWorld) (id : ℕ) (d : Station Term ℕ × Reply Term ℕ) (o : Option (Note Term)) → NoteIsNew d.0.context o → NoteShown (station_after m w id d).0 (Who.Station id) o
+  note_after w id d None h = tt
+  note_after w id d (Some note) h = way_after w id d note.key note.way h
+
+  module _ (w : TheWorld) where
+    turn_shows : (id : ℕ) (input : StationInput Term ℕ) (came : Option (Outgoing Term ℕ)) (o : Option (Station Term ℕ))
+        → let h = turn_of m w id input came o in NoteShown h.0 h.1.who h.1.note
+    turn_shows id input came None = tt
+    turn_shows id input came (Some s) =
+        let outcome = opener (station_opens (term_reading_by same) s input) (station_pdu_in input) came in
+        let d = station_step (term_reading_by same) s input outcome in
+        note_after w id d d.1.note (station_tells same (station_row_of (term_reading_by same) s input outcome) (station_key input) s)
+
+    arrives_shows : (to : Address) (pdu : List ℕ) (came : Option (Outgoing Term ℕ)) → let h = arrives m w to pdu came in NoteShown h.0 h.1.who h.1.note
+    arrives_shows Address.PhoneNas pdu came = tt
+    arrives_shows (Address.Phone station air bearer) pdu came = tt
+    arrives_shows Address.CoreNas pdu came = tt
+    arrives_shows Address.CoreS1 pdu came = tt
+    arrives_shows (Address.StationAir station air bearer) pdu came = turn_shows station (AirPdu air bearer pdu) came (station_of_id station w.stations)
+    arrives_shows (Address.StationS1 station) pdu came = turn_shows station (StationRecord OnS1 (content_in m came)) came (station_of_id station w.stations)
+    arrives_shows (Address.StationX2 station) pdu came = turn_shows station (StationRecord OnX2 (content_in m came)) came (station_of_id station w.stations)
+
+    delivered_shows : (o : Option (Outgoing Term ℕ)) → let h = delivered m w o in NoteShown h.0 h.1.who h.1.note
+    delivered_shows None = tt
+    delivered_shows (Some x) = arrives_shows (address_of x) (octets x) (Some x)
+
+    injected_shows : (to : Address) (pdu : List ℕ) (o : Option ℕ) → let h = injected m w to pdu o in NoteShown h.0 h.1.who h.1.note
+    injected_shows to pdu None = arrives_shows to pdu None
+    injected_shows to pdu (Some number) = tt
+
+    auth_shows : (ksi : ℕ) (key : Term) (caps : Caps) (o : Option ℕ) → let h = auth_unless m w ksi key caps o in NoteShown h.0 h.1.who h.1.note
+    auth_shows ksi key caps None = tt
+    auth_shows ksi key caps (Some row) = tt
+
+    happens_shows : (e : Event) → let h = happens m w e in NoteShown h.0 h.1.who h.1.note
+    happens_shows (Event.Auth ksi key caps) = let k = root (next_root w) key in auth_shows ksi k caps (known_root m w k)
+    happens_shows (Event.Phone act) = tt
+    happens_shows (Event.Station id act) = turn_shows id (StationActs act) None (station_of_id id w.stations)
+    happens_shows (Event.Core act) = tt
+    happens_shows (Event.Deliver i) = delivered_shows (chosen i w.sent)
+    happens_shows (Event.Inject to pdu) = injected_shows to pdu (position_from (is_sent m (class_of to) pdu) 0 w.sent)
+
+-- in a world with the invariant, the phone had taken the key of an active context
+had_active : (cells : List Site) (g : Ghost) (s : Station Term ℕ) (id : ℕ) (key : Term) → s.id ≡ id → (o : Option (Context Term ℕ)) → CtxOk g s.id o → IsNew o key
+    → HasContext o (λ c. (c.key.kenb ≡ key) × HadTaken g.took id c.air key)
+had_active cells g s id key is None ok h = h
+had_active cells g s id key is (Some c) ok h =
+    let had : HadTaken g.took s.id c.air c.key.kenb = subst (λ b. StartedOk g s.id c.air c.key.kenb b c.attempt) h.1 ok.5 in
+    (h.0, subst (λ n. HadTaken g.took n c.air key) is (subst (HadTaken g.took s.id c.air) h.0 had))
+
+way_told : (cells : List Site) (c : Conns) (u : TheWorld) → WorldOk cells c u → (id : ℕ) (key : Term) (way : Way) → WayShown u id key way → TellsWay u id key way
+way_told cells c u h id key Way.Completed k =
+    all_both (StationOk cells (ghost c u)) (λ s. s.id ≡ id → IsNew s.context key) _
+    (λ s ok f is. had_active cells (ghost c u) s id key is s.context ok.0 (f is)) u.stations h.stations k
+way_told cells c u h id key Way.Initial k = tt
+way_told cells c u h id key Way.Horizontal k = tt
+way_told cells c u h id key Way.Vertical k = tt
+way_told cells c u h id key Way.Chained k = tt
+way_told cells c u h id key Way.Given k = tt
+
+note_told : (cells : List Site) (c : Conns) (u : TheWorld) → WorldOk cells c u → (who : Who) (o : Option (Note Term)) → NoteShown u who o → TellsNote u who o
+note_told cells c u h (Who.Station id) None k = tt
+note_told cells c u h (Who.Station id) (Some note) k = way_told cells c u h id note.key note.way k
+note_told cells c u h Who.Phone o k = tt
+note_told cells c u h Who.Core o k = tt
+note_told cells c u h Who.World o k = tt
+note_told cells c u h Who.Both o k = tt
+
+-- at each line
+pub line_told : (same : Term → Term → Bool) (root : ℕ → List ℕ → Term) (octets : Outgoing Term ℕ → List ℕ) (sender : Option (Outgoing Term ℕ) → Option (KeyUse Term)) (opener : Opening Term → List ℕ → Option (Outgoing Term ℕ) → Outcome)
+    → (w : TheWorld) (e : Event) (cells : List Site) (c : Conns) → let h = happens (machine_by same root octets sender opener) w e in
+    WorldOk cells c h.0 → TellsNote h.0 h.1.who h.1.note
+line_told same root octets sender opener w e cells c ok =
+    let h = happens (machine_by same root octets sender opener) w e in
+    note_told cells c h.0 ok h.1.who h.1.note (happens_shows same root octets sender opener w e)
+
+-- and so of a run each of whose worlds has the invariant
+pub lines_of : (same : Term → Term → Bool) (root : ℕ → List ℕ → Term) (octets : Outgoing Term ℕ → List ℕ) (sender : Option (Outgoing Term ℕ) → Option (KeyUse Term)) (opener : Opening Term → List ℕ → Option (Outgoing Term ℕ) → Outcome)
+    → (cells : List Site) (w : TheWorld) (es : List Event)
+    → ((n : ℕ) → (c : Conns) × WorldOk cells c (run (machine_by same root octets sender opener) w (take n es)))
+    → CompletedLines (machine_by same root octets sender opener) w es
+lines_of same root octets sender opener cells w [] ok = tt
+lines_of same root octets sender opener cells w (e ∷ es) ok =
+    let first = ok 1 in (
+      line_told same root octets sender opener w e cells first.0 first.1,
+      lines_of same root octets sender opener cells (happens (machine_by same root octets sender opener) w e).0 es (λ n. ok (suc n)),
+    )

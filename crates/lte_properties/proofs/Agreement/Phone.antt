@@ -1,0 +1,344 @@
+-- What each row of the phone leaves of the invariant of agreement.
+use Rattle.std.proofs.Common.{◌≡◌, ℕ, zero, suc, ◌+◌, ◌-◌, ◌<◌, ◌≤◌, refl, sym, ◌∙◌, ap, subst, arith, Bool, true, false, cond, List, [], ◌∷◌, ◌++◌, Option, Some, None, inl, inr}
+use Rattle.std.specs.Prelude.{find, ⊤}
+use Rattle.alg_choice.specs.Algs.{eia2_identity}
+use Rattle.alg_choice.specs.declared.algs.Algs.{Algs}
+use Rattle.annex_a_keys.specs.Cell.{Place}
+use Rattle.lte_events.specs.declared.answers.Answer.{Answer}
+use Rattle.key_model.specs.Term.{Term, Alg}
+use Rattle.key_model.specs.Chain.{ncc_of}
+use Rattle.key_model.specs.Number.{chain_number}
+use Rattle.key_model.specs.Reading.{term_reading_by}
+use Rattle.key_model.specs.HandoverTable.{NumberedKey}
+use Rattle.key_model.specs.HandoverLines.{steps_to}
+use Rattle.nh_chain.specs.Reach.{reached_after}
+use Rattle.lte_machine.specs.Bearers.{Srb, Signalling1, Signalling2, Drb, User1, User2, User3, User4, Which, OnSrb, OnDrb, Bearers, srb_taken, drb_taken, srb_sent, drb_sent, skipped_on}
+use Rattle.lte_machine.specs.Reply.{Origin, Made, Tried, Took}
+use Rattle.lte_machine.specs.World.{with_one}
+use Rattle.lte_machine.specs.PhoneState.{Partial, NasContext, Link, Radio, Connecting, Connected, Phone}
+use Rattle.lte_machine.specs.PhoneRows.{AuthRow, Authenticated, NasRow, NasRefused, RejectedPlain, RejectedUnder, ContextTaken, ContextTakenConnected, NasOpened, AirRow, AirRefused, LinkSecured, HandedOver, RrcOpened, PacketOpened, ActRow, ActRefused, ServiceRequested, CompleteResent, WentIdle, PacketSent, RrcSent, NasSent, NasSkipped, BearerSkipped, PhoneRow, OfAuth, OfNas, OfAir, OfAct}
+use Rattle.lte_machine.specs.PhoneKeys.{PhoneDone, auth_does, rejected_under, context_taken, context_taken_connected, nas_opened, nas_does, link_secured, handed_over, rrc_opened, packet_opened, air_does, service_requested, complete_resent, packet_sent, rrc_sent, nas_sent, nas_skipped, bearer_skipped, act_does, phone_does}
+use Rattle.lte_properties.specs.ChainBelow.{AllOf}
+use Rattle.lte_properties.specs.Agreement.{made_at, ahead, TookMade, ObeysMade, Obeys, Grows, HadTaken}
+use Rattle.lte_properties.proofs.Agreement.Terms.{base, root_of, lands, ChainOf, reached_key, reached_number, reached_chain, steps_near, lands_near, steps_far, lands_far}
+use Rattle.lte_properties.proofs.Agreement.Ghost.{Ghost, taken, FromIs, HereIs, Leads, FromOk, MadeOk, TookOk, OrderIs, LinkIs, RadioOk, OutOk}
+use Rattle.lte_properties.proofs.Agreement.Later.{Later, in_front, in_last, same_found}
+
+-- what is told after the phone took a key, or none
+abbrev pub with_took : Ghost → Option (Took Term ℕ) → Ghost
+with_took g o = record g { took = with_one o g.took }
+
+abbrev pub NewTook : Ghost → Option (Took Term ℕ) → Type 0
+NewTook g None = ⊤
+NewTook g (Some x) = TookOk g x
+
+-- after a step of the phone
+abbrev pub PhoneGoes : Ghost → PhoneDone Term ℕ → Type 0
+PhoneGoes g d =
+    let h = with_took g d.1.took in RadioOk h d.0.radio × NewTook h d.1.took × OutOk h d.1.sent
+
+-- what the rows on a PDU need of the text that came
+abbrev pub StartNeeds : Ghost → ℕ → ℕ → Algs → Radio Term ℕ → Type 0
+StartNeeds g station air algs (Connecting w) =
+    (m : Made Term ℕ) × (made_at g.made station air ≡ Some m) × (m.from_attempt ≡ None) × (w.kenb ≡ m.key) × (algs ≡ m.algs)
+StartNeeds g station air algs other = ⊤
+
+abbrev pub CommandNeeds : Ghost → Place → ℕ → Algs → ℕ → ℕ → Radio Term ℕ → Type 0
+CommandNeeds g cell steps algs station air (Connected l) =
+    (ncc : ℕ) × (steps ≡ steps_to (ncc_of l.chain.number) ncc) × OrderIs g l.kenb cell ncc algs station air
+CommandNeeds g cell steps algs station air other = ⊤
+
+abbrev pub AirNeeds : Ghost → Radio Term ℕ → AirRow → Type 0
+AirNeeds g radio (LinkSecured station air algs count) = StartNeeds g station air algs radio
+AirNeeds g radio (HandedOver cell steps algs station air) = CommandNeeds g cell steps algs station air radio
+AirNeeds g radio other = ⊤
+
+abbrev pub PhoneNeeds : Ghost → Radio Term ℕ → PhoneRow → Type 0
+PhoneNeeds g radio (OfAir row) = AirNeeds g radio row
+PhoneNeeds g radio other = ⊤
+
+-- an item found in a list is as all of them are
+found_step : {A : Type 0} (P : A → Type 0) (b : Bool) (z x : A) (o : Option A) → P z → (o ≡ Some x → P x) → cond b (Some z) o ≡ Some x → P x
+found_step P true z x o h f e = subst P (same_found (Some z) z x refl e) h
+found_step P false z x o h f e = f e
+
+pub all_found : {A : Type 0} (P : A → Type 0) (p : A → Bool) (xs : List A) (x : A) → AllOf P xs → find p xs ≡ Some x → P x
+all_found P p [] x h e = absurd cc
+all_found P p (z ∷ zs) x h e = found_step P (p z) z x (find p zs) h.0 (all_found P p zs x h.1) e
+
+-- THE OBEYED COMMAND
+
+-- a phone whose key is that of the attempt takes what was made, or where it is eight or more steps ahead another key
+obeys_made : (e : Tried Term ℕ) (m : Made Term ℕ) (x : Took Term ℕ) (before : NumberedKey Term ℕ)
+    → before.number ≡ e.number → chain_number e.key ≡ e.number → Leads e m.key m.number
+    → x.key ≡ taken e m → x.number ≡ chain_number e.key + steps_to (ncc_of (chain_number e.key)) (ncc_of m.number) → x.algs ≡ m.algs
+    → ObeysMade x before m
+obeys_made e m x before own number leads key reached algs = (omega arith, near, far)
+  where
+    made_is : m.key ≡ lands e.key (m.number - chain_number e.key) e.cell
+    made_is = leads.1 ∙ ap (λ d. lands e.key (m.number - d) e.cell) (sym number)
+
+    below : chain_number e.key ≤ m.number
+    below = omega arith
+
+    near : ahead m before < 8 → TookMade x m
+    near few =
+        let close : m.number - chain_number e.key < 8 = omega arith in
+        let steps = steps_near (chain_number e.key) m.number below close in
+        (key ∙ lands_near e.key (chain_number e.key) m.number e.cell refl below close ∙ sym made_is, omega arith, algs)
+
+    far : 8 ≤ ahead m before → (x.key ≡ m.key → ⊥) × (x.number ≡ m.number → ⊥)
+    far many =
+        let wide : 8 ≤ m.number - chain_number e.key = omega arith in (
+          λ same. lands_far e.key (chain_number e.key) m.number e.cell refl below wide (sym key ∙ same ∙ made_is),
+          λ same. steps_far (chain_number e.key) m.number below wide (sym reached ∙ same),
+        )
+
+-- the phone's keys grow
+grows : (same : Term → Term → Bool) (l : Link Term ℕ) (steps : ℕ) (cell : Place) → ChainOf l.kenb l.chain
+    → (x : Took Term ℕ) → x.key ≡ (reached_after (term_reading_by same) l.chain l.kenb steps cell).star.key
+    → x.number ≡ (reached_after (term_reading_by same) l.chain l.kenb steps cell).star.number
+    → Grows x (Some (record { key = l.kenb; number = l.chain.number }))
+grows same l zero cell chain x key number = inr (number, cell.pci, cell.earfcn, key)
+grows same l (suc steps) cell chain x key number = inl (omega arith)
+
+-- more is told once the phone took a key
+pub took_more : (g : Ghost) (o : Option (Took Term ℕ)) → Later g (with_took g o)
+took_more g None = record {
+  next = omega arith;
+  root = λ conn d. refl;
+  count = λ conn d. refl;
+  top = λ conn d. omega arith;
+  made = λ station air m e. e;
+  tried = λ station number e f. f;
+  took = λ x i. i;
+}
+took_more g (Some y) = record {
+  next = omega arith;
+  root = λ conn d. refl;
+  count = λ conn d. refl;
+  top = λ conn d. omega arith;
+  made = λ station air m e. e;
+  tried = λ station number e f. f;
+  took = λ x i. in_front x g.took (y ∷ []) i;
+}
+
+-- the next COUNT on SRB1 falls in no row but a handover
+heard_after : (g : Ghost) (l : Link Term ℕ) (bearers : Bearers) → LinkIs g l → (1 ≤ l.bearers.srb1.receive → 1 ≤ bearers.srb1.receive)
+    → RadioOk g (Connected (record l { bearers = bearers }))
+heard_after g l bearers h f = (h.0, h.1, h.2, h.3, h.4, h.5, h.6, λ none. f (h.7 none))
+
+heard_taken : (srb : Srb) (count : ℕ) (b : Bearers) → 1 ≤ b.srb1.receive → 1 ≤ (srb_taken srb count b).srb1.receive
+heard_taken Signalling1 count b h = omega arith
+heard_taken Signalling2 count b h = h
+
+heard_packet : (drb : Drb) (count : ℕ) (b : Bearers) → 1 ≤ b.srb1.receive → 1 ≤ (drb_taken drb count b).srb1.receive
+heard_packet User1 count b h = h
+heard_packet User2 count b h = h
+heard_packet User3 count b h = h
+heard_packet User4 count b h = h
+
+heard_sent : (srb : Srb) (b : Bearers) → 1 ≤ b.srb1.receive → 1 ≤ (srb_sent srb b).srb1.receive
+heard_sent Signalling1 b h = h
+heard_sent Signalling2 b h = h
+
+heard_packet_sent : (drb : Drb) (b : Bearers) → 1 ≤ b.srb1.receive → 1 ≤ (drb_sent drb b).srb1.receive
+heard_packet_sent User1 b h = h
+heard_packet_sent User2 b h = h
+heard_packet_sent User3 b h = h
+heard_packet_sent User4 b h = h
+
+heard_left : (on : Which) (n : ℕ) (b : Bearers) → 1 ≤ b.srb1.receive → 1 ≤ (skipped_on on n b).srb1.receive
+heard_left (OnSrb Signalling1) n b h = h
+heard_left (OnSrb Signalling2) n b h = h
+heard_left (OnDrb User1) n b h = h
+heard_left (OnDrb User2) n b h = h
+heard_left (OnDrb User3) n b h = h
+heard_left (OnDrb User4) n b h = h
+
+-- THE ROWS ON A PDU
+
+link_secured_goes : (same : Term → Term → Bool) (g : Ghost) → AllOf (MadeOk g) g.made → (station air : ℕ) (algs : Algs) (count : ℕ) (s : Phone Term ℕ) (radio : Radio Term ℕ)
+    → RadioOk g s.radio → RadioOk g radio → StartNeeds g station air algs radio
+    → PhoneGoes g (link_secured (term_reading_by same) station air algs count s radio)
+link_secured_goes same g made station air algs count s (Connecting w) old h needs =
+    let m = needs.0 in
+    let x : Took Term ℕ = record { station = station; air = air; key = w.kenb; number = 0; algs = algs; before = None } in
+    let k = with_took g (Some x) in
+    let from : FromIs k m w.kenb m.from_attempt = subst (FromIs k m w.kenb) (sym needs.2) needs.3 in
+    let heard : 1 ≤ count + 1 = omega arith in
+    let had : HadTaken (g.took ++ x ∷ []) station air w.kenb = (x, in_last x g.took, refl, refl, refl) in
+    let here : HereIs k station air w.kenb = (m, needs.1, from) in
+    let number : m.number ≡ 0 = subst (FromOk g m) needs.2 (all_found (MadeOk g) _ g.made m made needs.1).3 in (
+      ((sym (ap root_of h.1), h.1 ∙ sym (ap base h.1), sym (ap chain_number h.1)), refl, m, needs.1, needs.4, from, had, (λ none. heard)),
+      (here, (m, needs.1, (needs.3, sym number, needs.4), needs.2), tt),
+      (w.kenb, refl, here, had),
+    )
+link_secured_goes same g made station air algs count s other old h needs = (old, tt, tt)
+
+no_origin : {o : Option Origin} {from : Origin} → o ≡ Some from → o ≡ None → ⊥
+no_origin e f = cc
+
+handed_over_goes : (same : Term → Term → Bool) (g : Ghost) → AllOf (MadeOk g) g.made
+    → (cell : Place) (steps : ℕ) (algs : Algs) (station air : ℕ) (s : Phone Term ℕ) (radio : Radio Term ℕ)
+    → RadioOk g s.radio → RadioOk g radio → CommandNeeds g cell steps algs station air radio
+    → PhoneGoes g (handed_over (term_reading_by same) cell steps algs station air s radio)
+handed_over_goes same g made cell steps algs station air s (Connected l) old h needs =
+    let r = reached_after (term_reading_by same) l.chain l.kenb steps cell in
+    let order = needs.2 in
+    let m = order.0 in
+    let o = order.1 in
+    let e = order.2 in
+    let x : Took Term ℕ = record {
+      station = station;
+      air = air;
+      key = r.star.key;
+      number = r.star.number;
+      algs = algs;
+      before = Some (record { key = l.kenb; number = l.chain.number });
+    } in
+    let k = with_took g (Some x) in
+    let lands_so : r.star.key ≡ lands l.kenb steps cell = reached_key same l.kenb l.chain steps cell h.0 in
+    let steps_are : steps ≡ steps_to (ncc_of (chain_number e.key)) (ncc_of m.number) =
+    needs.1 ∙ (λ j. steps_to (ncc_of ((h.0.2 ∙ sym (ap chain_number order.6)) j)) (sym order.8 j)) in
+    let takes : r.star.key ≡ taken e m = lands_so ∙ (λ j. lands (sym order.6 j) (steps_are j) (sym order.7 j)) in
+    let from : FromIs k m r.star.key m.from_attempt = subst (FromIs k m r.star.key) (sym order.4) (e, order.5, takes) in
+    let had : HadTaken (g.took ++ x ∷ []) station air r.star.key = (x, in_last x g.took, refl, refl, refl) in
+    let here : HereIs k station air r.star.key = (m, order.3, from) in
+    let ok : FromOk g m (Some o) = subst (FromOk g m) order.4 (all_found (MadeOk g) _ g.made m made order.3).3 in
+    let one : ok.0 ≡ e = same_found _ ok.0 e ok.1 order.5 in
+    let number : chain_number e.key ≡ e.number = subst (λ u. chain_number u.key ≡ u.number) one ok.2 in
+    let leads : Leads e m.key m.number = subst (λ u. Leads u m.key m.number) one ok.4 in
+    let own : l.chain.number ≡ e.number = h.0.2 ∙ sym (ap chain_number order.6) ∙ number in
+    let reached : r.star.number ≡ chain_number e.key + steps_to (ncc_of (chain_number e.key)) (ncc_of m.number) =
+    reached_number same l.kenb l.chain steps cell h.0 ∙ (λ j. chain_number (sym order.6 j) + steps_are j) in
+    let obeys : Obeys g.made x x.before =
+    (m, order.3, obeys_made e m x (record { key = l.kenb; number = l.chain.number }) own number leads takes reached (sym order.9)) in (
+      (
+        (subst (λ t. ChainOf t r.chain) (sym lands_so) (reached_chain same l.kenb l.chain steps cell h.0)),
+        refl,
+        m,
+        order.3,
+        sym order.9,
+        from,
+        had,
+        (λ none. absurd (no_origin order.4 none)),
+      ),
+      (here, obeys, grows same l steps cell h.0 x refl refl),
+      (r.star.key, refl, here, had),
+    )
+handed_over_goes same g made cell steps algs station air s other old h needs = (old, tt, tt)
+
+rrc_opened_goes : (same : Term → Term → Bool) (g : Ghost) (srb : Srb) (count : ℕ) (text : List ℕ) (s : Phone Term ℕ) (radio : Radio Term ℕ)
+    → RadioOk g s.radio → RadioOk g radio → PhoneGoes g (rrc_opened {C = ℕ} srb count text s radio)
+rrc_opened_goes same g srb count text s (Connected l) old h = (heard_after g l (srb_taken srb count l.bearers) h (heard_taken srb count l.bearers), tt, tt)
+rrc_opened_goes same g srb count text s other old h = (old, tt, tt)
+
+packet_opened_goes : (g : Ghost) (drb : Drb) (count : ℕ) (text : List ℕ) (s : Phone Term ℕ) (radio : Radio Term ℕ)
+    → RadioOk g s.radio → RadioOk g radio → PhoneGoes g (packet_opened drb count text s radio)
+packet_opened_goes g drb count text s (Connected l) old h = (heard_after g l (drb_taken drb count l.bearers) h (heard_packet drb count l.bearers), tt, tt)
+packet_opened_goes g drb count text s other old h = (old, tt, tt)
+
+air_goes : (same : Term → Term → Bool) (g : Ghost) → AllOf (MadeOk g) g.made → (row : AirRow) (s : Phone Term ℕ)
+    → RadioOk g s.radio → AirNeeds g s.radio row → PhoneGoes g (air_does (term_reading_by same) row s)
+air_goes same g made (AirRefused answer) s h needs = (h, tt, tt)
+air_goes same g made (LinkSecured station air algs count) s h needs = link_secured_goes same g made station air algs count s s.radio h h needs
+air_goes same g made (HandedOver cell steps algs station air) s h needs =
+    handed_over_goes same g made cell steps algs station air s s.radio h h needs
+air_goes same g made (RrcOpened srb count text) s h needs = rrc_opened_goes same g srb count text s s.radio h h
+air_goes same g made (PacketOpened drb count text) s h needs = packet_opened_goes g drb count text s s.radio h h
+
+-- THE ROWS ON A NAS MESSAGE
+
+rejected_goes : (g : Ghost) (answer : Answer) (cause : ℕ) (s : Phone Term ℕ) (o : Option (NasContext Term)) → RadioOk g s.radio
+    → PhoneGoes g (rejected_under answer cause s o)
+rejected_goes g answer cause s None h = (h, tt, tt)
+rejected_goes g answer cause s (Some c) h = (h, tt, tt)
+
+context_taken_goes : (same : Term → Term → Bool) (g : Ghost) (algs : Algs) (count : ℕ) (s : Phone Term ℕ) (o : Option (Partial Term)) → RadioOk g s.radio
+    → PhoneGoes g (context_taken (term_reading_by same) algs count s o)
+context_taken_goes same g algs count s None h = (h, tt, tt)
+context_taken_goes same g algs count s (Some p) h = ((0, refl), tt, tt)
+
+taken_connected_goes : (same : Term → Term → Bool) (g : Ghost) (algs : Algs) (count : ℕ) (s : Phone Term ℕ) (o : Option (Partial Term)) → RadioOk g s.radio
+    → PhoneGoes g (context_taken_connected (term_reading_by same) algs count s o)
+taken_connected_goes same g algs count s None h = (h, tt, tt)
+taken_connected_goes same g algs count s (Some p) h = (h, tt, tt)
+
+nas_opened_goes : (g : Ghost) (count : ℕ) (text : List ℕ) (s : Phone Term ℕ) (o : Option (NasContext Term)) → RadioOk g s.radio
+    → PhoneGoes g (nas_opened count text s o)
+nas_opened_goes g count text s None h = (h, tt, tt)
+nas_opened_goes g count text s (Some c) h = (h, tt, tt)
+
+nas_goes : (same : Term → Term → Bool) (g : Ghost) (row : NasRow) (s : Phone Term ℕ) → RadioOk g s.radio
+    → PhoneGoes g (nas_does (term_reading_by same) row s)
+nas_goes same g (NasRefused answer) s h = (h, tt, tt)
+nas_goes same g (RejectedPlain answer cause) s h = (h, tt, tt)
+nas_goes same g (RejectedUnder answer cause) s h = rejected_goes g answer cause s s.context h
+nas_goes same g (ContextTaken algs count) s h = context_taken_goes same g algs count s s.partial h
+nas_goes same g (ContextTakenConnected algs count) s h = taken_connected_goes same g algs count s s.partial h
+nas_goes same g (NasOpened count text) s h = nas_opened_goes g count text s s.context h
+
+-- THE ROWS OF ITS OWN ACTS
+
+-- what a connected phone sends on an SRB is under the key that it took there
+sends_up : (g : Ghost) (l : Link Term ℕ) → LinkIs g l → (k : Term) → k ≡ l.keys.rrc_int
+    → (t : Term) × (k ≡ Alg t 4 eia2_identity) × HereIs g l.station l.air t × HadTaken g.took l.station l.air t
+sends_up g l h k e = (l.kenb, e ∙ ap (λ keys. keys.rrc_int) h.1, (h.2, h.3, h.5), h.6)
+
+resent_goes : (g : Ghost) (s : Phone Term ℕ) (radio : Radio Term ℕ) → RadioOk g s.radio → RadioOk g radio
+    → PhoneGoes g (complete_resent s radio)
+resent_goes g s (Connected l) old h = (heard_after g l (srb_sent Signalling1 l.bearers) h (heard_sent Signalling1 l.bearers), tt, sends_up g l h l.keys.rrc_int refl)
+resent_goes g s other old h = (old, tt, tt)
+
+packet_sent_goes : (g : Ghost) (drb : Drb) (text : List ℕ) (s : Phone Term ℕ) (radio : Radio Term ℕ) → RadioOk g s.radio → RadioOk g radio
+    → PhoneGoes g (packet_sent drb text s radio)
+packet_sent_goes g drb text s (Connected l) old h = (heard_after g l (drb_sent drb l.bearers) h (heard_packet_sent drb l.bearers), tt, tt)
+packet_sent_goes g drb text s other old h = (old, tt, tt)
+
+rrc_sent_goes : (g : Ghost) (srb : Srb) (text : List ℕ) (s : Phone Term ℕ) (radio : Radio Term ℕ) → RadioOk g s.radio → RadioOk g radio
+    → PhoneGoes g (rrc_sent srb text s radio)
+rrc_sent_goes g srb text s (Connected l) old h = (heard_after g l (srb_sent srb l.bearers) h (heard_sent srb l.bearers), tt, sends_up g l h l.keys.rrc_int refl)
+rrc_sent_goes g srb text s other old h = (old, tt, tt)
+
+service_goes : (same : Term → Term → Bool) (g : Ghost) (s : Phone Term ℕ) (o : Option (NasContext Term)) → RadioOk g s.radio
+    → PhoneGoes g (service_requested (term_reading_by same) s o)
+service_goes same g s None h = (h, tt, tt)
+service_goes same g s (Some c) h = ((c.send, refl), tt, tt)
+
+nas_sent_goes : (g : Ghost) (text : List ℕ) (s : Phone Term ℕ) (o : Option (NasContext Term)) → RadioOk g s.radio → PhoneGoes g (nas_sent text s o)
+nas_sent_goes g text s None h = (h, tt, tt)
+nas_sent_goes g text s (Some c) h = (h, tt, tt)
+
+nas_left_goes : (g : Ghost) (n : ℕ) (s : Phone Term ℕ) (o : Option (NasContext Term)) → RadioOk g s.radio → PhoneGoes g (nas_skipped n s o)
+nas_left_goes g n s None h = (h, tt, tt)
+nas_left_goes g n s (Some c) h = (h, tt, tt)
+
+bearer_left_goes : (g : Ghost) (on : Which) (n : ℕ) (s : Phone Term ℕ) (radio : Radio Term ℕ) → RadioOk g s.radio → RadioOk g radio
+    → PhoneGoes g (bearer_skipped on n s radio)
+bearer_left_goes g on n s (Connected l) old h = (heard_after g l (skipped_on on n l.bearers) h (heard_left on n l.bearers), tt, tt)
+bearer_left_goes g on n s other old h = (old, tt, tt)
+
+act_goes : (same : Term → Term → Bool) (g : Ghost) (row : ActRow) (s : Phone Term ℕ) → RadioOk g s.radio
+    → PhoneGoes g (act_does (term_reading_by same) row s)
+act_goes same g (ActRefused answer) s h = (h, tt, tt)
+act_goes same g ServiceRequested s h = service_goes same g s s.context h
+act_goes same g CompleteResent s h = resent_goes g s s.radio h h
+act_goes same g WentIdle s h = (tt, tt, tt)
+act_goes same g (PacketSent drb text) s h = packet_sent_goes g drb text s s.radio h h
+act_goes same g (RrcSent srb text) s h = rrc_sent_goes g srb text s s.radio h h
+act_goes same g (NasSent text) s h = nas_sent_goes g text s s.context h
+act_goes same g (NasSkipped n) s h = nas_left_goes g n s s.context h
+act_goes same g (BearerSkipped on n) s h = bearer_left_goes g on n s s.radio h h
+
+auth_goes : (g : Ghost) (row : AuthRow) (root : Option Term) (s : Phone Term ℕ) → RadioOk g s.radio → PhoneGoes g (auth_does row root s)
+auth_goes g (Authenticated ksi) None s h = (h, tt, tt)
+auth_goes g (Authenticated ksi) (Some root) s h = (h, tt, tt)
+
+-- each row
+pub phone_goes : (same : Term → Term → Bool) (g : Ghost) → AllOf (MadeOk g) g.made → (row : PhoneRow) (root : Option Term) (s : Phone Term ℕ)
+    → RadioOk g s.radio → PhoneNeeds g s.radio row → PhoneGoes g (phone_does (term_reading_by same) row root s)
+phone_goes same g made (OfAuth row) root s h needs = auth_goes g row root s h
+phone_goes same g made (OfNas row) root s h needs = nas_goes same g row s h
+phone_goes same g made (OfAir row) root s h needs = air_goes same g made row s h needs
+phone_goes same g made (OfAct row) root s h needs = act_goes same g row s h

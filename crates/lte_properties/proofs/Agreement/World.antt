@@ -1,0 +1,376 @@
+-- Agreement's invariant of a world, and what an event leaves of it.
+use Rattle.std.proofs.Common.{◌≡◌, refl, sym, ◌∙◌, subst, ℕ, ◌≤◌, ◌==◌, Bool, true, List, Option, Some, None}
+use Rattle.std.specs.Prelude.{⊤}
+use Rattle.std.proofs.lemmas.Bool.{eqb-true, eqb-false}
+use Rattle.rec_base.specs.declared.bearers.Bearer.{Bearer}
+use Rattle.rec_base.specs.declared.uses.Dir.{Dir}
+use Rattle.lte_events.specs.declared.acts.StationAct.{StationAct}
+use Rattle.lte_events.specs.declared.addresses.Address.{Address}
+use Rattle.lte_events.specs.declared.answers.Answer.{Answer}
+use Rattle.lte_events.specs.declared.answers.Answer.TheVariants.{NoUe}
+use Rattle.lte_events.specs.Site.{Site}
+use Rattle.key_model.specs.Term.{Term}
+use Rattle.key_model.specs.HandoverTable.{NumberedKey}
+use Rattle.key_model.specs.Reading.{term_reading_by}
+use Rattle.s1x2_rec.specs.Fields.{Fields}
+use Rattle.lte_machine.specs.Bearers.{Srb, which}
+use Rattle.lte_machine.specs.Wire.{KeyUse, Outgoing, SealedNas, PlainNas, SealedRrc, UserPacket, Between}
+use Rattle.lte_machine.specs.Opening.{Opening, Outcome}
+use Rattle.lte_machine.specs.Ranges.{IsStationAct}
+use Rattle.lte_machine.specs.Reply.{Made, Tried, Took, Reply}
+use Rattle.lte_machine.specs.PhoneState.{PhoneInput, PhoneAirPdu}
+use Rattle.lte_machine.specs.PhoneChoice.{unciphered_text, phone_row}
+use Rattle.lte_machine.specs.PhoneKeys.{PhoneDone}
+use Rattle.lte_machine.specs.PhoneStep.{plain_phone, front_of, phone_root, phone_step}
+use Rattle.lte_machine.specs.StationState.{Station, StationInput, StationActs, AirPdu, StationRecord, OnS1, OnX2}
+use Rattle.lte_machine.specs.StationRows.{StationRow, OfRecord, OfAir, OfAct}
+use Rattle.lte_machine.specs.StationKeys.{station_does}
+use Rattle.lte_machine.specs.StationStep.{station_step, station_row_of, station_key, plain_station}
+use Rattle.lte_machine.specs.CoreState.{CoreInput}
+use Rattle.lte_machine.specs.CoreKeys.{CoreDone}
+use Rattle.lte_machine.specs.CoreChoice.{core_row}
+use Rattle.lte_machine.specs.CoreStep.{plain_core, core_root, core_front_of, core_step}
+use Rattle.lte_machine.specs.World.{Machine, World, phone_after, core_after, station_after, by_world, phone_turn, core_turn, station_of_id, turn_of, station_turn, content_in}
+use Rattle.lte_machine.specs.Step.{phone_attempts, core_attempts, attempts_at}
+use Rattle.ho_prep.specs.Prep.{at_air}
+use Rattle.lte_properties.specs.ChainBelow.{AllOf}
+use Rattle.lte_properties.specs.ChainAbove.{ContextAbove, StationAbove, InFlight}
+use Rattle.lte_properties.specs.ChainHolds.{machine_by}
+use Rattle.lte_properties.specs.Agreement.{made_at}
+use Rattle.lte_properties.specs.AgreeOpenings.{IsHonest, IsCalm, outcome_of}
+use Rattle.lte_properties.proofs.ChainNumbers.Lists.{OfSome, all_one, all_find, all_map, all_both, all_put}
+use Rattle.lte_properties.proofs.Agreement.Ghost.{Ghost, tried_at, CoreOk, RadioOk, StationOk, SentOk, MadeOk, TriedOk, TookOk, OutOk, BetweenOk}
+use Rattle.lte_properties.proofs.Agreement.Later.{Later, later_itself, ctx_later, preps_later, radio_later, sent_later, made_later, tried_later, took_later}
+use Rattle.lte_properties.proofs.Agreement.Phone.{PhoneGoes, NewTook, PhoneNeeds, took_more, phone_goes}
+use Rattle.lte_properties.proofs.Agreement.PhoneWalk.{CameDown, air_walks}
+use Rattle.lte_properties.proofs.Agreement.Told.{told_more, fresh_beside, SiteOk}
+use Rattle.lte_properties.proofs.Agreement.Station.{StationGoes, NewMade, NewTried, RecordNeeds, AirNeeds, record_goes, air_goes}
+use Rattle.lte_properties.proofs.Agreement.StationAct.{ActNeeds, act_goes}
+use Rattle.lte_properties.proofs.Agreement.StationWalk.{s1_walks, x2_walks}
+use Rattle.lte_properties.proofs.Agreement.StationOpens.{CameUp, air_walks_by, act_walks}
+use Rattle.lte_properties.proofs.Agreement.Core.{CoreGoes, CoreNeeds, core_goes}
+
+abbrev pub TheWorld : Type 0
+TheWorld = World Term ℕ (Outgoing Term ℕ)
+
+-- of each connection its KASME, the COUNT of its KeNB and its greatest number; the next connection
+pub record Conns : Type 0 where
+  pub root : ℕ → Term
+  pub count : ℕ → ℕ
+  pub top : ℕ → ℕ
+  pub next : ℕ
+
+abbrev pub ghost : Conns → TheWorld → Ghost
+ghost c w = record {
+  root = c.root;
+  count = c.count;
+  top = c.top;
+  next = c.next;
+  made = w.made;
+  tried = w.tried;
+  took = w.took;
+}
+
+-- the invariant
+pub record WorldOk (cells : List Site) (c : Conns) (w : TheWorld) : Type 0 where
+  pub core : CoreOk cells (ghost c w) w.core
+  pub radio : RadioOk (ghost c w) w.phone.radio
+  pub stations : AllOf (StationOk cells (ghost c w)) w.stations
+  pub sent : AllOf (SentOk (ghost c w)) w.sent
+  pub made : AllOf (MadeOk (ghost c w)) w.made
+  pub tried : AllOf (TriedOk cells (ghost c w)) w.tried
+  pub took : AllOf (TookOk (ghost c w)) w.took
+
+-- what an event leaves: the invariant, and all that was told before
+abbrev pub Goes : List Site → Conns → TheWorld → TheWorld → Type 0
+Goes cells c w u = (d : Conns) × Later (ghost c w) (ghost d u) × WorldOk cells d u
+
+-- what an unciphered record's octets hold is its text
+abbrev pub PlainReads : (Outgoing Term ℕ → List ℕ) → Type 0
+PlainReads octets =
+    (dir : Dir) (station air : ℕ) (srb : Srb) (i : KeyUse Term) (text : List ℕ)
+    → unciphered_text (octets (SealedRrc dir station air srb i None text)) ≡ text
+
+-- nothing made or tried at numbers from here on
+abbrev Fresh : List (Made Term ℕ) → List (Tried Term ℕ) → ℕ → ℕ → Type 0
+Fresh made tried id next = (n : ℕ) → next ≤ n → (made_at made id n ≡ None) × (tried_at tried id n ≡ None)
+
+out_ok : (o : Option (Outgoing Term ℕ)) (g : Ghost) → OutOk g o → OfSome (SentOk g) o
+out_ok None g h = tt
+out_ok (Some x) g h = h
+
+new_took : (o : Option (Took Term ℕ)) (g : Ghost) → NewTook g o → OfSome (TookOk g) o
+new_took None g h = tt
+new_took (Some x) g h = h
+
+some_map : {A : Type 0} (P Q : A → Type 0) → ((x : A) → P x → Q x) → (o : Option A) → OfSome P o → OfSome Q o
+some_map P Q f None h = tt
+some_map P Q f (Some x) h = f x h
+
+-- the parts of other actors stay, where more is told
+module _ (cells : List Site) (c d : Conns) (w u : TheWorld) (l : Later (ghost c w) (ghost d u)) where
+  -- of a station, where nothing of its own was told
+  station_stays : (s : Station Term ℕ) → u.made ≡ w.made → u.tried ≡ w.tried → StationOk cells (ghost c w) s → StationOk cells (ghost d u) s
+  station_stays s made tried h = (
+    ctx_later (ghost c w) (ghost d u) l s.id s.context h.0,
+    preps_later (ghost c w) (ghost d u) l s.id s.preps h.1,
+    subst (λ x. Fresh x u.tried s.id s.next) (sym made) (subst (λ x. Fresh w.made x s.id s.next) (sym tried) h.2),
+    h.3,
+    h.4,
+    h.5,
+  )
+
+  stations_stay : (ss : List (Station Term ℕ)) → u.made ≡ w.made → u.tried ≡ w.tried → AllOf (StationOk cells (ghost c w)) ss → AllOf (StationOk cells (ghost d u)) ss
+  stations_stay ss made tried h = all_map (StationOk cells (ghost c w)) (StationOk cells (ghost d u)) (λ s k. station_stays s made tried k) ss h
+
+  sent_stays : (xs : List (Outgoing Term ℕ)) → AllOf (SentOk (ghost c w)) xs → AllOf (SentOk (ghost d u)) xs
+  sent_stays xs h = all_map (SentOk (ghost c w)) (SentOk (ghost d u)) (sent_later (ghost c w) (ghost d u) l) xs h
+
+  made_stays : (xs : List (Made Term ℕ)) → AllOf (MadeOk (ghost c w)) xs → AllOf (MadeOk (ghost d u)) xs
+  made_stays xs h = all_map (MadeOk (ghost c w)) (MadeOk (ghost d u)) (made_later (ghost c w) (ghost d u) l) xs h
+
+  tried_stays : (xs : List (Tried Term ℕ)) → AllOf (TriedOk cells (ghost c w)) xs → AllOf (TriedOk cells (ghost d u)) xs
+  tried_stays xs h = all_map (TriedOk cells (ghost c w)) (TriedOk cells (ghost d u)) (tried_later (ghost c w) (ghost d u) l cells) xs h
+
+  took_stays : (xs : List (Took Term ℕ)) → AllOf (TookOk (ghost c w)) xs → AllOf (TookOk (ghost d u)) xs
+  took_stays xs h = all_map (TookOk (ghost c w)) (TookOk (ghost d u)) (took_later (ghost c w) (ghost d u) l) xs h
+
+-- what came in a record on S1 or X2
+abbrev pub ReadOk : (Address → Fields → Option (NumberedKey Term ℕ) → Type 0) → Option (Outgoing Term ℕ) → Type 0
+ReadOk P (Some (Between to fields key)) = P to fields key
+ReadOk P other = ⊤
+
+module _ (same : Term → Term → Bool) (root : ℕ → List ℕ → Term) (octets : Outgoing Term ℕ → List ℕ) (sender : Option (Outgoing Term ℕ) → Option (KeyUse Term)) (opener : Opening Term → List ℕ → Option (Outgoing Term ℕ) → Outcome) (plain_reads : PlainReads octets) (cells : List Site) (cells_ok : AllOf SiteOk cells) where
+  abbrev m : Machine Term ℕ (Outgoing Term ℕ)
+  m = machine_by same root octets sender opener
+
+  pub by_world_goes : (c : Conns) (w : TheWorld) (answer : Answer) → WorldOk cells c w → Goes cells c w (by_world m w answer).0
+  by_world_goes c w answer h = (
+    c,
+    later_itself (ghost c w),
+    record {
+      core = h.core;
+      radio = h.radio;
+      stations = h.stations;
+      sent = h.sent;
+      made = h.made;
+      tried = h.tried;
+      took = h.took;
+    },
+  )
+
+  -- THE PHONE
+
+  phone_after_goes : (c : Conns) (w : TheWorld) (d : PhoneDone Term ℕ) → WorldOk cells c w → PhoneGoes (ghost c w) d → Goes cells c w (phone_after m w d).0
+  phone_after_goes c w d h k =
+      let u = (phone_after m w d).0 in
+      let l : Later (ghost c w) (ghost c u) = took_more (ghost c w) d.1.took in (
+        c,
+        l,
+        record {
+          core = h.core;
+          radio = k.0;
+          stations = stations_stay cells c c w u l w.stations refl refl h.stations;
+          sent = all_one (SentOk (ghost c u)) d.1.sent w.sent (sent_stays cells c c w u l w.sent h.sent) (out_ok d.1.sent (ghost c u) k.2);
+          made = made_stays cells c c w u l w.made h.made;
+          tried = tried_stays cells c c w u l w.tried h.tried;
+          took = all_one (TookOk (ghost c u)) d.1.took w.took (took_stays cells c c w u l w.took h.took) (new_took d.1.took (ghost c u) k.1);
+        },
+      )
+
+  pub phone_turn_goes : (c : Conns) (w : TheWorld) (input : PhoneInput Term) (came : Option (Outgoing Term ℕ)) → WorldOk cells c w
+      → PhoneNeeds (ghost c w) w.phone.radio (phone_row (plain_phone (term_reading_by same) w.phone) (front_of (term_reading_by same) w.phone input) (outcome_of m (phone_attempts m w input came)))
+      → Goes cells c w (phone_turn m w input came).0
+  phone_turn_goes c w input came h needs =
+      phone_after_goes c w (phone_step (term_reading_by same) w.phone input (outcome_of m (phone_attempts m w input came))) h
+      (phone_goes same (ghost c w) h.made
+      (phone_row (plain_phone (term_reading_by same) w.phone) (front_of (term_reading_by same) w.phone input) (outcome_of m (phone_attempts m w input came)))
+      (phone_root input) w.phone h.radio needs)
+
+  pub phone_air_goes : (c : Conns) (w : TheWorld) (station air : ℕ) (bearer : Bearer) (pdu : List ℕ) (came : Option (Outgoing Term ℕ)) → WorldOk cells c w
+      → CameDown (ghost c w) station air (which bearer) pdu came
+      → let a = phone_attempts m w (PhoneAirPdu station air bearer pdu) came in
+      IsHonest a.opening a.came (outcome_of m a) → IsCalm a.opening a.came (outcome_of m a)
+      → Goes cells c w (phone_turn m w (PhoneAirPdu station air bearer pdu) came).0
+  phone_air_goes c w station air bearer pdu came h k honest calm =
+      phone_turn_goes c w (PhoneAirPdu station air bearer pdu) came h
+      (air_walks same (ghost c w) w.phone w.phone.caps station air pdu (which bearer) came k
+      (outcome_of m (phone_attempts m w (PhoneAirPdu station air bearer pdu) came)) w.phone.radio refl h.radio honest calm)
+
+  -- THE CORE
+
+  core_after_goes : (c : Conns) (w : TheWorld) (d : CoreDone Term ℕ) → WorldOk cells c w → CoreGoes cells (ghost c w) d → Goes cells c w (core_after m w d).0
+  core_after_goes c w d h k =
+      let u = (core_after m w d).0 in
+      let e : Conns = record { root = k.0; count = k.1; top = k.2; next = k.3 } in
+      let l : Later (ghost c w) (ghost e u) = k.4 in (
+        e,
+        l,
+        record {
+          core = k.5;
+          radio = radio_later (ghost c w) (ghost e u) l w.phone.radio h.radio;
+          stations = stations_stay cells c e w u l w.stations refl refl h.stations;
+          sent = all_one (SentOk (ghost e u)) d.1.sent w.sent (sent_stays cells c e w u l w.sent h.sent) (out_ok d.1.sent (ghost e u) k.6);
+          made = made_stays cells c e w u l w.made h.made;
+          tried = tried_stays cells c e w u l w.tried h.tried;
+          took = took_stays cells c e w u l w.took h.took;
+        },
+      )
+
+  pub core_turn_goes : (c : Conns) (w : TheWorld) (input : CoreInput Term ℕ) (came : Option (Outgoing Term ℕ)) → WorldOk cells c w
+      → CoreNeeds cells (ghost c w) w.core (core_row (plain_core (term_reading_by same) w.core) (core_front_of (term_reading_by same) w.core input) (outcome_of m (core_attempts m w input came)))
+      → Goes cells c w (core_turn m w input came).0
+  core_turn_goes c w input came h needs =
+      core_after_goes c w (core_step (term_reading_by same) w.core input (outcome_of m (core_attempts m w input came))) h
+      (core_goes same cells (ghost c w) h.tried
+      (core_row (plain_core (term_reading_by same) w.core) (core_front_of (term_reading_by same) w.core input) (outcome_of m (core_attempts m w input came)))
+      (core_root input) w.core h.core needs)
+
+  -- A STATION
+
+  -- of another station, whose numbers are its own
+  beside : (c : Conns) (w u : TheWorld) (l : Later (ghost c w) (ghost c u)) (s : Station Term ℕ) → StationOk cells (ghost c w) s
+      → ((n : ℕ) → s.next ≤ n → (made_at u.made s.id n ≡ None) × (tried_at u.tried s.id n ≡ None)) → StationOk cells (ghost c u) s
+  beside c w u l s h fresh =
+      (ctx_later (ghost c w) (ghost c u) l s.id s.context h.0, preps_later (ghost c w) (ghost c u) l s.id s.preps h.1, fresh, h.3, h.4, h.5)
+
+  new_made : (o : Option (Made Term ℕ)) (g : Ghost) (id : ℕ) → NewMade g id o → OfSome (MadeOk g) o
+  new_made None g id h = tt
+  new_made (Some x) g id h = h
+
+  new_tried : (o : Option (Tried Term ℕ)) (g : Ghost) (id : ℕ) → NewTried cells g id o → OfSome (TriedOk cells g) o
+  new_tried None g id h = tt
+  new_tried (Some x) g id h = h
+
+  station_after_goes : (c : Conns) (w : TheWorld) (id : ℕ) (s : Station Term ℕ) (d : Station Term ℕ × Reply Term ℕ) → s.id ≡ id → WorldOk cells c w
+      → StationGoes cells (ghost c w) s d → Goes cells c w (station_after m w id d).0
+  station_after_goes c w id s d is h k =
+      let u = (station_after m w id d).0 in
+      let l : Later (ghost c w) (ghost c u) = told_more (ghost c w) d.1.made d.1.tried in (
+        c,
+        l,
+        record {
+          core = h.core;
+          radio = radio_later (ghost c w) (ghost c u) l w.phone.radio h.radio;
+          stations = all_put (StationOk cells (ghost c w)) (StationOk cells (ghost c u)) id d.0 w.stations k.0
+              (λ t other ok. beside c w u l t ok
+              (fresh_beside (ghost c w) d.1.made d.1.tried s.id t.id t.next k.5 k.6 (λ e. eqb-false t.id id other (sym e ∙ is)) ok.2))
+              h.stations;
+          sent = all_one (SentOk (ghost c u)) d.1.sent w.sent (sent_stays cells c c w u l w.sent h.sent) (out_ok d.1.sent (ghost c u) k.3);
+          made = all_one (MadeOk (ghost c u)) d.1.made w.made (made_stays cells c c w u l w.made h.made) (new_made d.1.made (ghost c u) s.id k.1);
+          tried = all_one (TriedOk cells (ghost c u)) d.1.tried w.tried (tried_stays cells c c w u l w.tried h.tried) (new_tried d.1.tried (ghost c u) s.id k.2);
+          took = took_stays cells c c w u l w.took h.took;
+        },
+      )
+
+  -- what a row needs
+  abbrev StationNeeds : Ghost → Station Term ℕ → StationRow → Option (NumberedKey Term ℕ) → Type 0
+  StationNeeds g s (OfRecord row) key = RecordNeeds g s row key
+  StationNeeds g s (OfAir row) key = AirNeeds g s row
+  StationNeeds g s (OfAct row) key = ActNeeds cells g s row
+
+  station_does_goes : (c : Conns) (w : TheWorld) → WorldOk cells c w → (row : StationRow) (key : Option (NumberedKey Term ℕ)) (s : Station Term ℕ)
+      → StationOk cells (ghost c w) s → ContextAbove s.context → StationNeeds (ghost c w) s row key
+      → StationGoes cells (ghost c w) s (station_does (term_reading_by same) row key s)
+  station_does_goes c w h (OfRecord row) key s ok above needs = record_goes same cells (ghost c w) h.made h.tried row key s ok needs
+  station_does_goes c w h (OfAir row) key s ok above needs = air_goes same cells (ghost c w) h.made h.tried row s ok needs
+  station_does_goes c w h (OfAct row) key s ok above needs = act_goes same cells cells_ok (ghost c w) h.made h.tried row s ok above needs
+
+  -- the station of a number, if there is one
+  turn_goes : (c : Conns) (w : TheWorld) (id : ℕ) (input : StationInput Term ℕ) (came : Option (Outgoing Term ℕ)) (o : Option (Station Term ℕ)) → WorldOk cells c w
+      → OfSome (λ s. (StationOk cells (ghost c w) s × StationAbove s) × ((s.id == id) ≡ true)) o
+      → OfSome (λ s. StationOk cells (ghost c w) s → s.id ≡ id →
+      StationNeeds (ghost c w) s (station_row_of (term_reading_by same) s input (outcome_of m (attempts_at m input came (Some s)))) (station_key input)) o
+      → Goes cells c w (turn_of m w id input came o).0
+  turn_goes c w id input came None h ok needs = by_world_goes c w NoUe h
+  turn_goes c w id input came (Some s) h ok needs =
+      let is = eqb-true s.id id ok.1 in
+      station_after_goes c w id s (station_step (term_reading_by same) s input (outcome_of m (attempts_at m input came (Some s)))) is h
+      (station_does_goes c w h (station_row_of (term_reading_by same) s input (outcome_of m (attempts_at m input came (Some s)))) (station_key input) s
+      ok.0.0 ok.0.1.0 (needs ok.0.0 is))
+
+  -- each station is so, and so is the one of a number
+  pub found_of : (c : Conns) (w : TheWorld) (id : ℕ) → WorldOk cells c w → AllOf StationAbove w.stations
+      → OfSome (λ s. (StationOk cells (ghost c w) s × StationAbove s) × ((s.id == id) ≡ true)) (station_of_id id w.stations)
+  found_of c w id h above =
+      all_find (λ s. StationOk cells (ghost c w) s × StationAbove s) (λ s. s.id == id) w.stations
+      (all_both (StationOk cells (ghost c w)) StationAbove (λ s. StationOk cells (ghost c w) s × StationAbove s) (λ s a b. (a, b)) w.stations h.stations above)
+
+  each : {A : Type 0} (P : A → Type 0) → ((x : A) → P x) → (o : Option A) → OfSome P o
+  each P f None = tt
+  each P f (Some x) = f x
+
+  pub station_acts_goes : (c : Conns) (w : TheWorld) (id : ℕ) (act : StationAct) → IsStationAct act → WorldOk cells c w → AllOf StationAbove w.stations
+      → Goes cells c w (station_turn m w id (StationActs act) None).0
+  station_acts_goes c w id act is h above =
+      turn_goes c w id (StationActs act) None (station_of_id id w.stations) h (found_of c w id h above)
+      (each _ (λ s ok e. act_walks same cells (ghost c w) s ok act is) (station_of_id id w.stations))
+
+  pub station_air_goes : (c : Conns) (w : TheWorld) (id air : ℕ) (bearer : Bearer) (pdu : List ℕ) (came : Option (Outgoing Term ℕ)) → WorldOk cells c w → AllOf StationAbove w.stations
+      → CameUp (ghost c w) id air came
+      → (o : Option (Station Term ℕ)) → OfSome (λ s. (StationOk cells (ghost c w) s × StationAbove s) × ((s.id == id) ≡ true)) o
+      → let a = attempts_at m (AirPdu air bearer pdu) came o in IsHonest a.opening a.came (outcome_of m a)
+      → Goes cells c w (turn_of m w id (AirPdu air bearer pdu) came o).0
+  station_air_goes c w id air bearer pdu came h above k None found honest = turn_goes c w id (AirPdu air bearer pdu) came None h tt tt
+  station_air_goes c w id air bearer pdu came h above k (Some s) found honest =
+      turn_goes c w id (AirPdu air bearer pdu) came (Some s) h found
+      (λ ok is. air_walks_by same cells (ghost c w) s ok air came (subst (λ n. CameUp (ghost c w) n air came) (sym is) k)
+      (outcome_of m (attempts_at m (AirPdu air bearer pdu) came (Some s)))
+      (plain_station (term_reading_by same) s).context refl (at_air air (plain_station (term_reading_by same) s).preps) (which bearer) pdu honest)
+
+  -- what came to a station in a record
+  abbrev S1Came : Conns → TheWorld → ℕ → Option (Outgoing Term ℕ) → Type 0
+  S1Came c w id came =
+      ReadOk (λ to fields key. BetweenOk (ghost c w) (Address.StationS1 id) fields key × AllOf (λ s. s.id ≡ id → InFlight s (Between (Address.StationS1 id) fields key)) w.stations) came
+
+  abbrev X2Came : Conns → TheWorld → ℕ → Option (Outgoing Term ℕ) → Type 0
+  X2Came c w id came = ReadOk (λ to fields key. BetweenOk (ghost c w) (Address.StationX2 id) fields key) came
+
+  s1_needs : (c : Conns) (w : TheWorld) (id : ℕ) (came : Option (Outgoing Term ℕ)) → S1Came c w id came → (outcome : Outcome) (s : Station Term ℕ)
+      → (ReadOk (λ to fields key. InFlight s (Between (Address.StationS1 id) fields key)) came)
+      → StationOk cells (ghost c w) s → s.id ≡ id
+      → StationNeeds (ghost c w) s (station_row_of (term_reading_by same) s (StationRecord OnS1 (content_in m came)) outcome) (station_key (StationRecord OnS1 (content_in m came)))
+  s1_needs c w id None k outcome s f ok is = tt
+  s1_needs c w id (Some (SealedNas dir header i e text)) k outcome s f ok is = tt
+  s1_needs c w id (Some (PlainNas pdu)) k outcome s f ok is = tt
+  s1_needs c w id (Some (SealedRrc dir station air srb i e text)) k outcome s f ok is = tt
+  s1_needs c w id (Some (UserPacket dir station air drb e text)) k outcome s f ok is = tt
+  s1_needs c w id (Some (Between to fields key)) k outcome s f ok is =
+      s1_walks same (ghost c w) s fields key
+      (subst (λ n. BetweenOk (ghost c w) (Address.StationS1 n) fields key) (sym is) k.0)
+      (subst (λ n. InFlight s (Between (Address.StationS1 n) fields key)) (sym is) f)
+
+  x2_needs : (c : Conns) (w : TheWorld) (id : ℕ) (came : Option (Outgoing Term ℕ)) → X2Came c w id came → (outcome : Outcome) (s : Station Term ℕ)
+      → StationOk cells (ghost c w) s → s.id ≡ id
+      → StationNeeds (ghost c w) s (station_row_of (term_reading_by same) s (StationRecord OnX2 (content_in m came)) outcome) (station_key (StationRecord OnX2 (content_in m came)))
+  x2_needs c w id None k outcome s ok is = tt
+  x2_needs c w id (Some (SealedNas dir header i e text)) k outcome s ok is = tt
+  x2_needs c w id (Some (PlainNas pdu)) k outcome s ok is = tt
+  x2_needs c w id (Some (SealedRrc dir station air srb i e text)) k outcome s ok is = tt
+  x2_needs c w id (Some (UserPacket dir station air drb e text)) k outcome s ok is = tt
+  x2_needs c w id (Some (Between to fields key)) k outcome s ok is =
+      x2_walks same (ghost c w) s fields key (subst (λ n. BetweenOk (ghost c w) (Address.StationX2 n) fields key) (sym is) k)
+
+  -- the records in flight fit each station, and so the one of a number
+  flight_of : (c : Conns) (w : TheWorld) (id : ℕ) (came : Option (Outgoing Term ℕ)) → S1Came c w id came
+      → OfSome (λ s. (s.id ≡ id) → ReadOk (λ to fields key. InFlight s (Between (Address.StationS1 id) fields key)) came) (station_of_id id w.stations)
+  flight_of c w id None k = each _ (λ s e. tt) (station_of_id id w.stations)
+  flight_of c w id (Some (SealedNas dir header i e text)) k = each _ (λ s e. tt) (station_of_id id w.stations)
+  flight_of c w id (Some (PlainNas pdu)) k = each _ (λ s e. tt) (station_of_id id w.stations)
+  flight_of c w id (Some (SealedRrc dir station air srb i e text)) k = each _ (λ s e. tt) (station_of_id id w.stations)
+  flight_of c w id (Some (UserPacket dir station air drb e text)) k = each _ (λ s e. tt) (station_of_id id w.stations)
+  flight_of c w id (Some (Between to fields key)) k =
+      some_map _ _ (λ s h. h.0) (station_of_id id w.stations) (all_find (λ s. s.id ≡ id → InFlight s (Between (Address.StationS1 id) fields key)) (λ s. s.id == id) w.stations k.1)
+
+  pub station_s1_goes : (c : Conns) (w : TheWorld) (id : ℕ) (came : Option (Outgoing Term ℕ)) → WorldOk cells c w → AllOf StationAbove w.stations → S1Came c w id came
+      → Goes cells c w (station_turn m w id (StationRecord OnS1 (content_in m came)) came).0
+  station_s1_goes c w id came h above k =
+      turn_goes c w id (StationRecord OnS1 (content_in m came)) came (station_of_id id w.stations) h (found_of c w id h above)
+      (some_map _ _ (λ s f ok is. s1_needs c w id came k (outcome_of m (attempts_at m (StationRecord OnS1 (content_in m came)) came (Some s))) s (f is) ok is)
+      (station_of_id id w.stations) (flight_of c w id came k))
+
+  pub station_x2_goes : (c : Conns) (w : TheWorld) (id : ℕ) (came : Option (Outgoing Term ℕ)) → WorldOk cells c w → AllOf StationAbove w.stations → X2Came c w id came
+      → Goes cells c w (station_turn m w id (StationRecord OnX2 (content_in m came)) came).0
+  station_x2_goes c w id came h above k =
+      turn_goes c w id (StationRecord OnX2 (content_in m came)) came (station_of_id id w.stations) h (found_of c w id h above)
+      (each _ (λ s ok is. x2_needs c w id came k (outcome_of m (attempts_at m (StationRecord OnX2 (content_in m came)) came (Some s))) s ok is) (station_of_id id w.stations))

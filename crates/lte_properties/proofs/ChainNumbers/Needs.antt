@@ -1,0 +1,266 @@
+-- A record that comes supplies what its row needs, and the phone sends no pair.
+use Rattle.std.proofs.Common.{◌≡◌, refl, sym, ap, ◌∙◌, subst, ℕ, ◌≤◌, Bool, List, Option, Some, None, Err}
+use Rattle.std.specs.Prelude.{⊤}
+use Rattle.alg_choice.specs.declared.algs.Algs.{Algs}
+use Rattle.annex_a_keys.specs.Cell.{Place}
+use Rattle.rec_base.specs.declared.bearers.Bearer.{Bearer}
+use Rattle.rec_base.specs.declared.faults.RecFault.{RecFault}
+use Rattle.lte_events.specs.declared.acts.StationAct.{StationAct}
+use Rattle.lte_events.specs.declared.addresses.Address.{Address}
+use Rattle.lte_events.specs.declared.addresses.Address.TheVariants.{StationS1, StationX2}
+use Rattle.lte_events.specs.declared.answers.Answer.{Answer}
+use Rattle.lte_events.specs.declared.answers.Answer.TheVariants.{BadRecord}
+use Rattle.key_model.specs.Term.{Term}
+use Rattle.key_model.specs.HandoverTable.{NumberedKey}
+use Rattle.key_model.specs.Reading.{term_reading_by}
+use Rattle.s1x2_rec.specs.Fields.{Fields, InitialContext, ContextRelease, PathSwitchRequest, PathSwitchAnswer, HandoverRequired, HandoverRequest, HandoverRequestAck, HandoverCommand, HandoverNotify, HandoverCancel, X2Request, X2Ack, X2Cancel, X2Release}
+use Rattle.lte_machine.specs.Bearers.{Srb, Drb, Which, which}
+use Rattle.lte_machine.specs.Opening.{Outcome}
+use Rattle.lte_machine.specs.Reply.{Origin, Reply, unseen}
+use Rattle.lte_machine.specs.Wire.{Outgoing, SealedNas, PlainNas, SealedRrc, UserPacket, Between, address_of}
+use Rattle.lte_machine.specs.PhoneState.{Phone, Partial, NasContext, Radio, Idle, Connecting, Connected}
+use Rattle.lte_machine.specs.PhoneRows.{Authenticated, NasRow, NasRefused, RejectedPlain, RejectedUnder, ContextTaken, ContextTakenConnected, NasOpened, AirRow, AirRefused, LinkSecured, HandedOver, RrcOpened, PacketOpened, ActRow, ActRefused, ServiceRequested, CompleteResent, WentIdle, PacketSent, RrcSent, NasSent, NasSkipped, BearerSkipped, PhoneRow, OfAuth, OfNas, OfAir, OfAct}
+use Rattle.lte_machine.specs.PhoneKeys.{authenticated, rejected_under, context_taken, context_taken_connected, nas_opened, nas_does, link_secured, handed_over, rrc_opened, packet_opened, air_does, service_requested, complete_resent, packet_sent, rrc_sent, nas_sent, nas_skipped, bearer_skipped, act_does, phone_does}
+use Rattle.lte_machine.specs.StationState.{Station, Context, StationActs, AirPdu, StationRecord, Interface, OnS1, OnX2, map_read}
+use Rattle.lte_machine.specs.StationRows.{RecordRow, RecordRefused, ContextGiven, ContextReleased, PairTaken, PreparedByS1, PreparedByX2, AckedByS1, AckedByX2, PreparationCancelled, SourceReleased, OfRecord}
+use Rattle.lte_machine.specs.StationChoice.{x2_row, record_row}
+use Rattle.lte_machine.specs.StationStep.{plain_station, key_read, station_row_of, station_step}
+use Rattle.lte_machine.specs.Machines.{content_of}
+use Rattle.lte_properties.specs.ChainBelow.{StationBelow, conn_of, RecordBelow}
+use Rattle.lte_properties.specs.ChainAbove.{AnswerOk, AnswerTo, StationAbove, InFlight}
+use Rattle.lte_properties.specs.ChainHolds.{PairNeeds, RecordNeeds, RowNeeds}
+use Rattle.lte_properties.specs.ChainRows.{TakenFor, RecordFits, RecordDraws}
+use Rattle.lte_properties.proofs.ChainNumbers.Choice.{record_row_fits}
+use Rattle.lte_properties.proofs.ChainNumbers.Draws.{air_row_draws, act_row_draws}
+use Rattle.lte_properties.proofs.ChainNumbers.Station.{Kept, station_does_kept}
+use Rattle.lte_properties.proofs.ChainNumbers.Core.{Plainly}
+
+-- what comes to an address: nothing that was sent, or a record to it that is at most the core's number and fits a station
+abbrev pub ComesOk : (ℕ → ℕ) → Station Term ℕ → Address → Option (Outgoing Term ℕ) → Type 0
+ComesOk top s to None = ⊤
+ComesOk top s to (Some x) = (address_of x ≡ to) × RecordBelow top x × InFlight s x
+
+-- by what the choice established
+record_draws : (s : Station Term ℕ) (fields : Fields) (row : RecordRow) → RecordFits s fields row → RecordDraws s.next row
+record_draws s fields (RecordRefused answer) h = tt
+record_draws s fields (ContextGiven conn cell caps algs air) h = h.2
+record_draws s fields ContextReleased h = tt
+record_draws s fields (PairTaken conn origin) h = tt
+record_draws s fields (PreparedByS1 w) h = h.1.2
+record_draws s fields (PreparedByX2 w) h = h.1.2
+record_draws s fields (AckedByS1 ncc algs air) h = tt
+record_draws s fields (AckedByX2 algs air) h = tt
+record_draws s fields (PreparationCancelled from) h = tt
+record_draws s fields SourceReleased h = tt
+
+-- what an answer in these fields tells of a context
+abbrev Answers : Option (Context Term ℕ) → Fields → ℕ → Type 0
+Answers o fields n = (asked number : ℕ) → fields ≡ PathSwitchAnswer asked number → AnswerOk o asked number n
+
+module _ (top : ℕ → ℕ) (s : Station Term ℕ) (fields : Fields) (key : NumberedKey Term ℕ) (below : key.number ≤ top (conn_of fields)) where
+  taken_needs : (o : Option (Context Term ℕ)) (conn : ℕ) (origin : Option Origin) → TakenFor o conn origin fields → Answers o fields key.number → PairNeeds top key.number o
+  taken_needs None conn origin t f = tt
+  taken_needs (Some c) conn origin t f =
+      let k = f t.0 t.1 t.2 t.3 in (k.1, subst (λ n. key.number ≤ top n) (ap conn_of t.2 ∙ sym k.0) below)
+
+  row_needs : (row : RecordRow) → RecordFits s fields row → Answers s.context fields key.number → RecordNeeds top s row key
+  row_needs (RecordRefused answer) h f = tt
+  row_needs (ContextGiven conn cell caps algs air) h f = tt
+  row_needs ContextReleased h f = tt
+  row_needs (PairTaken conn origin) h f = taken_needs s.context conn origin h f
+  row_needs (PreparedByS1 w) h f = subst (λ n. key.number ≤ top n) (ap conn_of h.0) below
+  row_needs (PreparedByX2 w) h f = subst (λ n. key.number ≤ top n) (ap conn_of h.0) below
+  row_needs (AckedByS1 ncc algs air) h f = tt
+  row_needs (AckedByX2 algs air) h f = tt
+  row_needs (PreparationCancelled from) h f = tt
+  row_needs SourceReleased h f = tt
+
+-- on S1 an answer fits the station that it goes to
+answers_on_s1 : (s : Station Term ℕ) (to : Address) (fields : Fields) (key : NumberedKey Term ℕ) → to ≡ StationS1 s.id → InFlight s (Between to fields (Some key)) → Answers s.context fields key.number
+answers_on_s1 s to fields key e h asked number f =
+    let k = subst (λ a. AnswerTo a s asked number key.number) e (subst (λ g. InFlight s (Between to g (Some key))) f h) in
+    (k refl).1
+
+-- on X2 none is taken
+x2_needs : (top : ℕ → ℕ) (same : Term → Term → Bool) (s : Station Term ℕ) (fields : Fields) (key : NumberedKey Term ℕ) → key.number ≤ top (conn_of fields) →
+    RecordNeeds top s (x2_row (plain_station (term_reading_by same) s) fields) key
+x2_needs top same s (InitialContext conn cell caps) key b = tt
+x2_needs top same s (ContextRelease conn) key b = tt
+x2_needs top same s (PathSwitchRequest conn station number cell caps) key b = tt
+x2_needs top same s (PathSwitchAnswer conn number) key b = tt
+x2_needs top same s (HandoverRequired conn station attempt cell) key b = tt
+x2_needs top same s (HandoverRequest conn source attempt cell caps) key b = tt
+x2_needs top same s (HandoverRequestAck conn source attempt cell ncc algs air) key b = tt
+x2_needs top same s (HandoverCommand conn attempt cell ncc algs air) key b = tt
+x2_needs top same s (HandoverNotify conn station cell) key b = tt
+x2_needs top same s (HandoverCancel conn source attempt cell) key b = tt
+x2_needs top same s (X2Request conn source attempt cell caps) key b =
+    row_needs top s (X2Request conn source attempt cell caps) key b _ (record_row_fits (term_reading_by same) s OnX2 (record { fields = X2Request conn source attempt cell caps; key = Some key })) (λ asked number e. cc)
+x2_needs top same s (X2Ack conn attempt cell algs air) key b =
+    row_needs top s (X2Ack conn attempt cell algs air) key b _ (record_row_fits (term_reading_by same) s OnX2 (record { fields = X2Ack conn attempt cell algs air; key = Some key })) (λ asked number e. cc)
+x2_needs top same s (X2Cancel conn source attempt) key b =
+    row_needs top s (X2Cancel conn source attempt) key b _ (record_row_fits (term_reading_by same) s OnX2 (record { fields = X2Cancel conn source attempt; key = Some key })) (λ asked number e. cc)
+x2_needs top same s (X2Release conn attempt) key b =
+    row_needs top s (X2Release conn attempt) key b _ (record_row_fits (term_reading_by same) s OnX2 (record { fields = X2Release conn attempt; key = Some key })) (λ asked number e. cc)
+
+-- a record that comes on S1 or X2
+abbrev pub to_of : Interface → ℕ → Address
+to_of OnS1 id = StationS1 id
+to_of OnX2 id = StationX2 id
+
+abbrev RecordOf : (Term → Term → Bool) → Station Term ℕ → Interface → Outgoing Term ℕ → RecordRow
+RecordOf same s on x = record_row (plain_station (term_reading_by same) s) on (map_read unseen (term_reading_by same).ncc (content_of x))
+
+record_needs_by : (top : ℕ → ℕ) (same : Term → Term → Bool) (s : Station Term ℕ) (on : Interface) (to : Address) (fields : Fields) (key : NumberedKey Term ℕ) →
+    to ≡ to_of on s.id → key.number ≤ top (conn_of fields) → InFlight s (Between to fields (Some key)) → RecordNeeds top s (RecordOf same s on (Between to fields (Some key))) key
+record_needs_by top same s OnS1 to fields key e b h =
+    row_needs top s fields key b _ (record_row_fits (term_reading_by same) s OnS1 (record { fields = fields; key = Some key })) (answers_on_s1 s to fields key e h)
+record_needs_by top same s OnX2 to fields key e b h = x2_needs top same s fields key b
+
+-- every record supplies what its row needs
+pub record_needs : (top : ℕ → ℕ) (same : Term → Term → Bool) (s : Station Term ℕ) (on : Interface) (x : Outgoing Term ℕ) →
+    address_of x ≡ to_of on s.id → RecordBelow top x → InFlight s x → RowNeeds top s (OfRecord (RecordOf same s on x)) (key_read (content_of x))
+record_needs top same s on (SealedNas dir header u e text) a b h = tt
+record_needs top same s on (PlainNas octets) a b h = tt
+record_needs top same s on (SealedRrc dir station air srb u e text) a b h = tt
+record_needs top same s on (UserPacket dir station air drb e text) a b h = tt
+record_needs top same s on (Between to fields None) a b h = tt
+record_needs top same s on (Between to fields (Some key)) a b h = record_needs_by top same s on to fields key a b h
+
+-- and its row draws the next number
+pub record_row_draws : (same : Term → Term → Bool) (s : Station Term ℕ) (on : Interface) (x : Outgoing Term ℕ) → RecordDraws s.next (RecordOf same s on x)
+record_row_draws same s on (SealedNas dir header u e text) = tt
+record_row_draws same s on (PlainNas octets) = tt
+record_row_draws same s on (SealedRrc dir station air srb u e text) = tt
+record_row_draws same s on (UserPacket dir station air drb e text) = tt
+record_row_draws same s on (Between to fields key) =
+    record_draws s fields _ (record_row_fits (term_reading_by same) s on (record { fields = fields; key = key }))
+
+-- A STEP OF A STATION
+
+abbrev pub StepKept : (ℕ → ℕ) → Station Term ℕ → Station Term ℕ × Reply Term ℕ → Type 0
+StepKept top s d = Kept top s.id s.next s.context d.0 d.1.sent
+
+module _ (top : ℕ → ℕ) (same : Term → Term → Bool) (s : Station Term ℕ) (below : StationBelow top s) (above : StationAbove s) where
+  pub act_step_kept : (act : StationAct) (outcome : Outcome) → StepKept top s (station_step (term_reading_by same) s (StationActs act) outcome)
+  act_step_kept act outcome =
+      station_does_kept top same s (station_row_of (term_reading_by same) s (StationActs act) outcome) None (act_row_draws (plain_station (term_reading_by same) s) act) tt below above
+
+  pub air_step_kept : (air : ℕ) (bearer : Bearer) (pdu : List ℕ) (outcome : Outcome) → StepKept top s (station_step (term_reading_by same) s (AirPdu air bearer pdu) outcome)
+  air_step_kept air bearer pdu outcome =
+      station_does_kept top same s (station_row_of (term_reading_by same) s (AirPdu air bearer pdu) outcome) None (air_row_draws (plain_station (term_reading_by same) s) air (which bearer) pdu outcome) tt below above
+
+  -- a record that was sent, and one that was not
+  pub record_step_kept : (on : Interface) (x : Outgoing Term ℕ) (outcome : Outcome) → address_of x ≡ to_of on s.id → RecordBelow top x → InFlight s x →
+      StepKept top s (station_step (term_reading_by same) s (StationRecord on (content_of x)) outcome)
+  record_step_kept on x outcome e b h =
+      station_does_kept top same s (OfRecord (RecordOf same s on x)) (key_read (content_of x)) (record_row_draws same s on x) (record_needs top same s on x e b h) below above
+
+  pub unread_step_kept : (on : Interface) (fault : RecFault) (outcome : Outcome) → StepKept top s (station_step (term_reading_by same) s (StationRecord on (Err fault)) outcome)
+  unread_step_kept on fault outcome = station_does_kept top same s (OfRecord (RecordRefused (BadRecord fault))) None tt tt below above
+
+-- THE PHONE SENDS NO PAIR
+
+authenticated_plain : (ksi : ℕ) (s : Phone Term ℕ) (o : Option Term) → Plainly (authenticated ksi s o).1.sent
+authenticated_plain ksi s None = ((λ top. tt), (λ u. tt))
+authenticated_plain ksi s (Some x) = ((λ top. tt), (λ u. tt))
+
+rejected_under_plain : (answer : Answer) (cause : ℕ) (s : Phone Term ℕ) (o : Option (NasContext Term)) → Plainly (rejected_under answer cause s o).1.sent
+rejected_under_plain answer cause s None = ((λ top. tt), (λ u. tt))
+rejected_under_plain answer cause s (Some x) = ((λ top. tt), (λ u. tt))
+
+context_taken_plain : (same : Term → Term → Bool) (algs : Algs) (count : ℕ) (s : Phone Term ℕ) (o : Option (Partial Term)) → Plainly (context_taken (term_reading_by same) algs count s o).1.sent
+context_taken_plain same algs count s None = ((λ top. tt), (λ u. tt))
+context_taken_plain same algs count s (Some x) = ((λ top. tt), (λ u. tt))
+
+context_taken_connected_plain : (same : Term → Term → Bool) (algs : Algs) (count : ℕ) (s : Phone Term ℕ) (o : Option (Partial Term)) → Plainly (context_taken_connected (term_reading_by same) algs count s o).1.sent
+context_taken_connected_plain same algs count s None = ((λ top. tt), (λ u. tt))
+context_taken_connected_plain same algs count s (Some x) = ((λ top. tt), (λ u. tt))
+
+nas_opened_plain : (count : ℕ) (text : List ℕ) (s : Phone Term ℕ) (o : Option (NasContext Term)) → Plainly (nas_opened count text s o).1.sent
+nas_opened_plain count text s None = ((λ top. tt), (λ u. tt))
+nas_opened_plain count text s (Some x) = ((λ top. tt), (λ u. tt))
+
+link_secured_plain : (same : Term → Term → Bool) (station air : ℕ) (algs : Algs) (count : ℕ) (s : Phone Term ℕ) (radio : Radio Term ℕ) → Plainly (link_secured (term_reading_by same) station air algs count s radio).1.sent
+link_secured_plain same station air algs count s Idle = ((λ top. tt), (λ u. tt))
+link_secured_plain same station air algs count s (Connecting x) = ((λ top. tt), (λ u. tt))
+link_secured_plain same station air algs count s (Connected l) = ((λ top. tt), (λ u. tt))
+
+handed_over_plain : (same : Term → Term → Bool) (cell : Place) (steps : ℕ) (algs : Algs) (station air : ℕ) (s : Phone Term ℕ) (radio : Radio Term ℕ) → Plainly (handed_over (term_reading_by same) cell steps algs station air s radio).1.sent
+handed_over_plain same cell steps algs station air s Idle = ((λ top. tt), (λ u. tt))
+handed_over_plain same cell steps algs station air s (Connecting x) = ((λ top. tt), (λ u. tt))
+handed_over_plain same cell steps algs station air s (Connected l) = ((λ top. tt), (λ u. tt))
+
+rrc_opened_plain : (srb : Srb) (count : ℕ) (text : List ℕ) (s : Phone Term ℕ) (radio : Radio Term ℕ) → Plainly (rrc_opened srb count text s radio).1.sent
+rrc_opened_plain srb count text s Idle = ((λ top. tt), (λ u. tt))
+rrc_opened_plain srb count text s (Connecting x) = ((λ top. tt), (λ u. tt))
+rrc_opened_plain srb count text s (Connected l) = ((λ top. tt), (λ u. tt))
+
+packet_opened_plain : (drb : Drb) (count : ℕ) (text : List ℕ) (s : Phone Term ℕ) (radio : Radio Term ℕ) → Plainly (packet_opened drb count text s radio).1.sent
+packet_opened_plain drb count text s Idle = ((λ top. tt), (λ u. tt))
+packet_opened_plain drb count text s (Connecting x) = ((λ top. tt), (λ u. tt))
+packet_opened_plain drb count text s (Connected l) = ((λ top. tt), (λ u. tt))
+
+service_requested_plain : (same : Term → Term → Bool) (s : Phone Term ℕ) (o : Option (NasContext Term)) → Plainly (service_requested (term_reading_by same) s o).1.sent
+service_requested_plain same s None = ((λ top. tt), (λ u. tt))
+service_requested_plain same s (Some x) = ((λ top. tt), (λ u. tt))
+
+complete_resent_plain : (s : Phone Term ℕ) (radio : Radio Term ℕ) → Plainly (complete_resent s radio).1.sent
+complete_resent_plain s Idle = ((λ top. tt), (λ u. tt))
+complete_resent_plain s (Connecting x) = ((λ top. tt), (λ u. tt))
+complete_resent_plain s (Connected l) = ((λ top. tt), (λ u. tt))
+
+packet_sent_plain : (drb : Drb) (text : List ℕ) (s : Phone Term ℕ) (radio : Radio Term ℕ) → Plainly (packet_sent drb text s radio).1.sent
+packet_sent_plain drb text s Idle = ((λ top. tt), (λ u. tt))
+packet_sent_plain drb text s (Connecting x) = ((λ top. tt), (λ u. tt))
+packet_sent_plain drb text s (Connected l) = ((λ top. tt), (λ u. tt))
+
+rrc_sent_plain : (srb : Srb) (text : List ℕ) (s : Phone Term ℕ) (radio : Radio Term ℕ) → Plainly (rrc_sent srb text s radio).1.sent
+rrc_sent_plain srb text s Idle = ((λ top. tt), (λ u. tt))
+rrc_sent_plain srb text s (Connecting x) = ((λ top. tt), (λ u. tt))
+rrc_sent_plain srb text s (Connected l) = ((λ top. tt), (λ u. tt))
+
+nas_sent_plain : (text : List ℕ) (s : Phone Term ℕ) (o : Option (NasContext Term)) → Plainly (nas_sent text s o).1.sent
+nas_sent_plain text s None = ((λ top. tt), (λ u. tt))
+nas_sent_plain text s (Some x) = ((λ top. tt), (λ u. tt))
+
+nas_left_out_plain : (n : ℕ) (s : Phone Term ℕ) (o : Option (NasContext Term)) → Plainly (nas_skipped n s o).1.sent
+nas_left_out_plain n s None = ((λ top. tt), (λ u. tt))
+nas_left_out_plain n s (Some x) = ((λ top. tt), (λ u. tt))
+
+bearer_left_out_plain : (bearer : Which) (n : ℕ) (s : Phone Term ℕ) (radio : Radio Term ℕ) → Plainly (bearer_skipped bearer n s radio).1.sent
+bearer_left_out_plain bearer n s Idle = ((λ top. tt), (λ u. tt))
+bearer_left_out_plain bearer n s (Connecting x) = ((λ top. tt), (λ u. tt))
+bearer_left_out_plain bearer n s (Connected l) = ((λ top. tt), (λ u. tt))
+
+nas_does_plain : (same : Term → Term → Bool) (row : NasRow) (s : Phone Term ℕ) → Plainly (nas_does (term_reading_by same) row s).1.sent
+nas_does_plain same (NasRefused answer) s = ((λ top. tt), (λ u. tt))
+nas_does_plain same (RejectedPlain answer cause) s = ((λ top. tt), (λ u. tt))
+nas_does_plain same (RejectedUnder answer cause) s = rejected_under_plain answer cause s s.context
+nas_does_plain same (ContextTaken algs count) s = context_taken_plain same algs count s s.partial
+nas_does_plain same (ContextTakenConnected algs count) s = context_taken_connected_plain same algs count s s.partial
+nas_does_plain same (NasOpened count text) s = nas_opened_plain count text s s.context
+
+air_does_plain : (same : Term → Term → Bool) (row : AirRow) (s : Phone Term ℕ) → Plainly (air_does (term_reading_by same) row s).1.sent
+air_does_plain same (AirRefused answer) s = ((λ top. tt), (λ u. tt))
+air_does_plain same (LinkSecured station air algs count) s = link_secured_plain same station air algs count s s.radio
+air_does_plain same (HandedOver cell steps algs station air) s = handed_over_plain same cell steps algs station air s s.radio
+air_does_plain same (RrcOpened srb count text) s = rrc_opened_plain srb count text s s.radio
+air_does_plain same (PacketOpened drb count text) s = packet_opened_plain drb count text s s.radio
+
+act_does_plain : (same : Term → Term → Bool) (row : ActRow) (s : Phone Term ℕ) → Plainly (act_does (term_reading_by same) row s).1.sent
+act_does_plain same (ActRefused answer) s = ((λ top. tt), (λ u. tt))
+act_does_plain same ServiceRequested s = service_requested_plain same s s.context
+act_does_plain same CompleteResent s = complete_resent_plain s s.radio
+act_does_plain same WentIdle s = ((λ top. tt), (λ u. tt))
+act_does_plain same (PacketSent drb text) s = packet_sent_plain drb text s s.radio
+act_does_plain same (RrcSent srb text) s = rrc_sent_plain srb text s s.radio
+act_does_plain same (NasSent text) s = nas_sent_plain text s s.context
+act_does_plain same (NasSkipped n) s = nas_left_out_plain n s s.context
+act_does_plain same (BearerSkipped bearer n) s = bearer_left_out_plain bearer n s s.radio
+
+pub phone_does_plain : (same : Term → Term → Bool) (row : PhoneRow) (root : Option Term) (s : Phone Term ℕ) → Plainly (phone_does (term_reading_by same) row root s).1.sent
+phone_does_plain same (OfAuth (Authenticated ksi)) root s = authenticated_plain ksi s root
+phone_does_plain same (OfNas row) root s = nas_does_plain same row s
+phone_does_plain same (OfAir row) root s = air_does_plain same row s
+phone_does_plain same (OfAct row) root s = act_does_plain same row s

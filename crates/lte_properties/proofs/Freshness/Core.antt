@@ -1,0 +1,306 @@
+-- What each row of the core keeps of the keys that it gives and uses.
+use Rattle.std.proofs.Common.{◌≡◌, refl, sym, ap, subst, ℕ, ◌+◌, ◌<◌, ◌≤◌, ◌⊎◌, inl, inr, Bool, List, Option, Some, None, arith}
+use Rattle.std.specs.Prelude.{IfSome, ⊤}
+use Rattle.alg_choice.specs.declared.algs.Algs.{Algs}
+use Rattle.alg_choice.specs.declared.caps.Caps.{Caps}
+use Rattle.alg_choice.specs.Algs.{identity_of, eia2_identity}
+use Rattle.annex_a_keys.specs.Cell.{Place}
+use Rattle.rec_base.specs.declared.uses.Dir.TheVariants.{Down}
+use Rattle.key_model.specs.Term.{Term, Kenb, Alg}
+use Rattle.key_model.specs.Reading.{term_reading_by}
+use Rattle.nas_count.specs.declared.sending.TheConstants.{LIMIT}
+use Rattle.nas_guard.specs.Keys.{Keys}
+use Rattle.nas_guard.specs.Seal.{nas_bearer}
+use Rattle.lte_machine.specs.Bearers.{skipped}
+use Rattle.lte_machine.specs.Wire.{KeyUse, Outgoing, nas_use}
+use Rattle.lte_machine.specs.CoreState.{Core, CorePartial, CoreContext, CoreLink}
+use Rattle.lte_machine.specs.CoreRows.{CoreNasRow, NasRefused, PlainReject, SmcComplete, ServiceAsked, NasOpened, SealedReject, CoreRecordRow, RecordRefused, PathSwitched, HandoverAsked, HandoverOrdered, HandoverNotified, HandoverCancelled, CoreActRow, ActRefused, SmcStarted, ContextSetUp, ContextReleased, NasSent, NasSkipped}
+use Rattle.lte_machine.specs.CoreKeys.{smc_started, smc_complete, nas_taken, nas_sent_to, service_asked, nas_opened, sealed_reject, nas_sent, nas_skipped, context_set_up, path_switched, handover_asked, handover_notified, core_does_nas, core_does_record, core_does_act, nas_text}
+use Rattle.lte_machine.specs.World.{uses_in}
+use Rattle.lte_properties.specs.ChainBelow.{AllOf}
+use Rattle.lte_properties.specs.FreshOrder.{authentication_of}
+use Rattle.lte_properties.specs.FreshUses.{Home, home_at, Homes, Grows, OnKey, IsNas, NasDown, CoreUse, AllApart}
+use Rattle.lte_properties.specs.FreshHolds.{IsPast, NasKeysOf, core_partial_root, core_context_root, due, core_mark, CoreStands, RecordStands}
+use Rattle.lte_properties.proofs.ChainNumbers.Choice.{by_some}
+use Rattle.lte_properties.proofs.Freshness.Order.{homed, homed_here, homed_is, homed_grows}
+use Rattle.lte_properties.proofs.Freshness.Lists.{both_apart}
+use Rattle.lte_properties.proofs.Freshness.Phone.{types_apart}
+
+-- a use that the core had not made before, and has made now, of a NAS key
+abbrev pub NewDown : ℕ → Core Term ℕ → Core Term ℕ → KeyUse Term → Type 0
+NewDown roots s t u = (u.dir ≡ Down) × OnKey (λ k type. IsNas type) u.key × CoreUse roots t u × (CoreUse roots s u → ⊥)
+
+-- what a step of the core keeps, with the homes of keys afterwards
+pub record CoreKeeps (roots : ℕ) (given : Homes) (s t : Core Term ℕ) (sent : Option (Outgoing Term ℕ)) : Type 0 where
+  pub new : Homes
+  pub grows : Grows given new
+  pub stands : CoreStands roots new t
+  pub nas : (k : Term) (count : ℕ) → NasDown roots s.partial s.context k count → NasDown roots t.partial t.context k count
+  pub uses : AllOf (NewDown roots s t) (uses_in sent)
+  pub apart : AllApart (uses_in sent)
+  pub sends : (taken : Homes) → IfSome sent (RecordStands taken new)
+
+-- what a row needs of its choice: a COUNT taken is not below the next one, and a COUNT sent with is the next one
+abbrev pub CoreNasNeeds : Option (CoreContext Term) → CoreNasRow → Type 0
+CoreNasNeeds context (ServiceAsked count) = IfSome context (λ c. c.nas.receive ≤ count)
+CoreNasNeeds context (NasOpened count text) = IfSome context (λ c. c.nas.receive ≤ count)
+CoreNasNeeds context (SealedReject count) = IfSome context (λ c. c.nas.receive ≤ count)
+CoreNasNeeds context other = ⊤
+
+-- an act sends with the next COUNT, and connects for the trigger
+abbrev pub CoreActNeeds : Core Term ℕ → CoreActRow → Type 0
+CoreActNeeds s (SmcStarted ksi algs caps count) = IfSome s.partial (λ p. count ≡ p.send)
+CoreActNeeds s (ContextSetUp conn cell target caps count) = s.trigger ≡ Some count
+CoreActNeeds s (NasSent count text) = IfSome s.context (λ c. count ≡ c.nas.send)
+CoreActNeeds s other = ⊤
+
+module _ (roots : ℕ) (given : Homes) where
+  -- no key is given, no COUNT taken
+  keeps : (s t : Core Term ℕ) (sent : Option (Outgoing Term ℕ)) → CoreStands roots given t →
+      ((k : Term) (count : ℕ) → NasDown roots s.partial s.context k count → NasDown roots t.partial t.context k count) →
+      AllOf (NewDown roots s t) (uses_in sent) → AllApart (uses_in sent) → ((taken : Homes) → IfSome sent (RecordStands taken given)) →
+      CoreKeeps roots given s t sent
+  keeps s t sent stands nas uses apart sends = record {
+    new = given;
+    grows = λ k h e. e;
+    stands = stands;
+    nas = nas;
+    uses = uses;
+    apart = apart;
+    sends = sends;
+  }
+
+  -- nothing changes
+  still : (s : Core Term ℕ) → CoreStands roots given s → CoreKeeps roots given s s None
+  still s h = keeps s s None h (λ k count u. u) tt tt (λ taken. tt)
+
+  -- the mark goes on
+  mark_on : (partial : Option ℕ) (root m n : ℕ) (t : Term) → m ≤ n → IsPast roots partial (Some (record { root = root; count = m })) t →
+      IsPast roots partial (Some (record { root = root; count = n })) t
+  mark_on partial root m n t le h = (h.0, h.1, (h.2.0, λ e. let k = h.2.1 e in omega arith))
+
+  module _ (s : Core Term ℕ) (c : CoreContext Term) where
+    -- a trigger is below the next COUNT to be taken
+    due_below : (o : Option ℕ) → IfSome o (λ count. count < c.nas.receive) → due o c.nas.receive ≤ c.nas.receive
+    due_below None h = omega arith
+    due_below (Some count) h = omega arith
+
+    -- and where none stands, the next one is what is due
+    due_rises : (o : Option ℕ) (count : ℕ) → c.nas.receive ≤ count → due o c.nas.receive ≤ due o (count + 1)
+    due_rises None count le = omega arith
+    due_rises (Some n) count le = omega arith
+
+    -- a trigger stays below the next COUNT to be taken
+    trigger_below : (o : Option ℕ) (count : ℕ) → c.nas.receive ≤ count → IfSome o (λ n. n < c.nas.receive) → IfSome o (λ n. n < count + 1)
+    trigger_below None count le h = tt
+    trigger_below (Some n) count le h = omega arith
+
+    -- a message of a COUNT was taken
+    taken_stands : (count : ℕ) (procedure : Option (Keys Term)) → c.nas.receive ≤ count → CoreStands roots given (record s { context = Some c }) →
+        IfSome procedure (λ keys. IfSome s.partial (λ p. NasKeysOf p.root keys)) →
+        CoreStands roots given (record s { context = Some (nas_taken count c); procedure = procedure })
+    taken_stands count procedure le h p = (
+      h.0,
+      h.1,
+      p,
+      trigger_below s.trigger count le h.3,
+      λ t k e. mark_on (core_partial_root s.partial) (authentication_of c.nas.root) (due s.trigger c.nas.receive) (due s.trigger (count + 1)) t
+          (due_rises s.trigger count le) (h.4 t k e),
+    )
+
+    -- and asks for a connection
+    asked_stands : (count : ℕ) → c.nas.receive ≤ count → CoreStands roots given (record s { context = Some c }) →
+        CoreStands roots given (record s { context = Some (nas_taken count c); trigger = Some count })
+    asked_stands count le h = (
+      h.0,
+      h.1,
+      h.2,
+      omega arith,
+      λ t k e. mark_on (core_partial_root s.partial) (authentication_of c.nas.root) (due s.trigger c.nas.receive) count t
+          (let x = due_below s.trigger h.3 in omega arith) (h.4 t k e),
+    )
+
+    -- another KASME is that of a newer partial context
+    other_root : (root : Term) (P : CorePartial Term → Type 0) (o : Option (CorePartial Term)) → IfSome (core_partial_root o) (λ p. authentication_of root < p) →
+        IfSome o (λ p. root ≡ p.root → P p)
+    other_root root P None h = tt
+    other_root root P (Some p) h = λ e. let k = ap authentication_of e in absurd (omega arith)
+
+    -- the next COUNT under a NAS key of the context
+    new_nas : (type id bearer : ℕ) → IsNas type → CoreStands roots given (record s { context = Some c }) →
+        NewDown roots (record s { context = Some c }) (record s { context = Some (nas_sent_to (c.nas.send + 1) c) })
+        (record { key = Alg c.nas.root type id; count = c.nas.send; bearer = bearer; dir = Down })
+    new_nas type id bearer lt h = (
+      refl,
+      lt,
+      λ n. (h.0.1.0, other_root c.nas.root (λ p. c.nas.send < p.send) s.partial h.0.1.1, λ e. omega arith),
+      λ old. let x = (old lt).2 refl in absurd (omega arith),
+    )
+
+    -- both uses of a NAS sending are new, and apart
+    abbrev BothNas : Keys Term → Type 0
+    BothNas keys =
+        NewDown roots (record s { context = Some c }) (record s { context = Some (nas_sent_to (c.nas.send + 1) c) }) (nas_use Down keys.enc c.nas.send)
+        × NewDown roots (record s { context = Some c }) (record s { context = Some (nas_sent_to (c.nas.send + 1) c) }) (nas_use Down keys.int c.nas.send)
+        × (nas_use Down keys.int c.nas.send ≡ nas_use Down keys.enc c.nas.send → ⊥)
+
+    -- a NAS text takes the next COUNT
+    text_sent : (text : List ℕ) → CoreStands roots given (record s { context = Some c }) →
+        CoreKeeps roots given (record s { context = Some c }) (record s { context = Some (nas_sent_to (c.nas.send + 1) c) })
+        (Some (nas_text c.nas.keys c.nas.send text))
+    text_sent text h =
+        let b = subst BothNas (sym h.1)
+        (new_nas 1 (identity_of c.nas.keys.algs.eea) nas_bearer (omega arith) h, new_nas 2 eia2_identity nas_bearer (omega arith) h, types_apart _ _ 1 2 refl refl (λ e. absurd (omega arith))) in
+        keeps _ _ _ h (λ k count u. (u.0, u.1, λ e. let x = u.2 e in omega arith)) (b.0, (b.1, tt)) (both_apart _ _ b.2) (λ taken. tt)
+
+    -- COUNTs are left out
+    skipped_on : (n : ℕ) → c.nas.send ≤ n → CoreStands roots given (record s { context = Some c }) →
+        CoreKeeps roots given (record s { context = Some c }) (record s { context = Some (nas_sent_to n c) }) None
+    skipped_on n le h = keeps _ _ None h (λ k count u. (u.0, u.1, λ e. let x = u.2 e in omega arith)) tt tt (λ taken. tt)
+
+  -- rows of NAS
+
+  -- a Service Request
+  asked_keeps : (count : ℕ) (s : Core Term ℕ) (o : Option (CoreContext Term)) → CoreNasNeeds o (ServiceAsked count) → CoreStands roots given (record s { context = o }) →
+      let d = service_asked count o (record s { context = o }) in CoreKeeps roots given (record s { context = o }) d.0 d.1.sent
+  asked_keeps count s None le h = still (record s { context = None }) h
+  asked_keeps count s (Some c) le h = keeps _ _ None (asked_stands s c count le h) (λ k n u. u) tt tt (λ taken. tt)
+
+  -- a NAS text that was taken
+  opened_keeps : (count : ℕ) (text : List ℕ) (s : Core Term ℕ) (o : Option (CoreContext Term)) → CoreNasNeeds o (NasOpened count text) → CoreStands roots given (record s { context = o }) →
+      let d = nas_opened count text o (record s { context = o }) in CoreKeeps roots given (record s { context = o }) d.0 d.1.sent
+  opened_keeps count text s None le h = still (record s { context = None }) h
+  opened_keeps count text s (Some c) le h = keeps _ _ None (taken_stands s c count s.procedure le h h.2) (λ k n u. u) tt tt (λ taken. tt)
+
+  -- a protected Security Mode Reject
+  reject_keeps : (count : ℕ) (s : Core Term ℕ) (o : Option (CoreContext Term)) → CoreNasNeeds o (SealedReject count) → CoreStands roots given (record s { context = o }) →
+      let d = sealed_reject count o (record s { context = o }) in CoreKeeps roots given (record s { context = o }) d.0 d.1.sent
+  reject_keeps count s None le h = still (record s { context = None }) h
+  reject_keeps count s (Some c) le h = keeps _ _ None (taken_stands s c count None le h tt) (λ k n u. u) tt tt (λ taken. tt)
+
+  -- the new context in use: all that was given is of an older authentication
+  complete_keeps : (count : ℕ) (s : Core Term ℕ) (p : Option (CorePartial Term)) (keys : Option (Keys Term)) →
+      CoreStands roots given (record s { partial = p; procedure = keys }) →
+      let d = smc_complete count p keys (record s { partial = p; procedure = keys }) in CoreKeeps roots given (record s { partial = p; procedure = keys }) d.0 d.1.sent
+  complete_keeps count s None keys h = still (record s { partial = None; procedure = keys }) h
+  complete_keeps count s (Some p) None h = still (record s { partial = Some p; procedure = None }) h
+  complete_keeps count s (Some p) (Some keys) h =
+      keeps _ _ None (
+        (tt, (h.0.0, tt)),
+        h.2,
+        tt,
+        omega arith,
+        λ t k e. let x = h.4 t k e in (x.0, tt, (let y = x.1 in omega arith, λ f. let y = x.1 in absurd (omega arith))),
+      )
+      (λ k n u. (u.0, tt, u.1)) tt tt (λ taken. tt)
+
+  -- a row of a NAS message
+  pub core_nas_keeps : (row : CoreNasRow) (s : Core Term ℕ) → CoreNasNeeds s.context row → CoreStands roots given s →
+      let d = core_does_nas row s in CoreKeeps roots given s d.0 d.1.sent
+  core_nas_keeps (NasRefused answer) s n h = still s h
+  core_nas_keeps PlainReject s n h = keeps s (record s { procedure = None }) None (h.0, h.1, tt, h.3, h.4) (λ k count u. u) tt tt (λ taken. tt)
+  core_nas_keeps (SmcComplete count) s n h = complete_keeps count s s.partial s.procedure h
+  core_nas_keeps (ServiceAsked count) s n h = asked_keeps count s s.context n h
+  core_nas_keeps (NasOpened count text) s n h = opened_keeps count text s s.context n h
+  core_nas_keeps (SealedReject count) s n h = reject_keeps count s s.context n h
+
+  -- records of S1 move the chain alone
+
+  -- a Path Switch Request
+  switched_keeps : (same : Term → Term → Bool) (conn station number : ℕ) (alarm : Bool) (s : Core Term ℕ) (o : Option (CoreLink Term ℕ)) → CoreStands roots given s →
+      let d = path_switched (term_reading_by same) conn station number alarm o s in CoreKeeps roots given s d.0 d.1.sent
+  switched_keeps same conn station number alarm s None h = still s h
+  switched_keeps same conn station number alarm s (Some link) h = keeps s _ _ h (λ k count u. u) tt tt (λ taken. tt)
+
+  -- a Handover Required
+  required_keeps : (same : Term → Term → Bool) (conn source attempt : ℕ) (cell : Place) (target : ℕ) (caps : Caps) (s : Core Term ℕ) (o : Option (CoreLink Term ℕ)) → CoreStands roots given s →
+      let d = handover_asked (term_reading_by same) conn source attempt cell target caps o s in CoreKeeps roots given s d.0 d.1.sent
+  required_keeps same conn source attempt cell target caps s None h = still s h
+  required_keeps same conn source attempt cell target caps s (Some link) h = keeps s _ _ h (λ k count u. u) tt tt (λ taken. tt)
+
+  -- a Handover Notify
+  notified_keeps : (station : ℕ) (s : Core Term ℕ) (o : Option (CoreLink Term ℕ)) → CoreStands roots given s →
+      let d = handover_notified station o s in CoreKeeps roots given s d.0 d.1.sent
+  notified_keeps station s None h = still s h
+  notified_keeps station s (Some link) h = keeps s _ None h (λ k count u. u) tt tt (λ taken. tt)
+
+  -- a row of a record on S1
+  pub core_record_keeps : (same : Term → Term → Bool) (row : CoreRecordRow) (s : Core Term ℕ) → CoreStands roots given s →
+      let d = core_does_record (term_reading_by same) row s in CoreKeeps roots given s d.0 d.1.sent
+  core_record_keeps same (RecordRefused answer) s h = still s h
+  core_record_keeps same (PathSwitched conn station number alarm) s h = switched_keeps same conn station number alarm s s.link h
+  core_record_keeps same (HandoverAsked conn source attempt cell target caps) s h = required_keeps same conn source attempt cell target caps s s.link h
+  core_record_keeps same (HandoverOrdered conn source attempt cell ncc algs air) s h = keeps s s _ h (λ k count u. u) tt tt (λ taken. tt)
+  core_record_keeps same (HandoverNotified station) s h = notified_keeps station s s.link h
+  core_record_keeps same (HandoverCancelled conn source attempt cell target) s h = keeps s s _ h (λ k count u. u) tt tt (λ taken. tt)
+
+  -- acts
+
+  -- the Security Mode Command takes the next downlink COUNT of the partial context
+  started_keeps : (same : Term → Term → Bool) (ksi : ℕ) (algs : Algs) (caps : Caps) (count : ℕ) (s : Core Term ℕ) (o : Option (CorePartial Term)) →
+      IfSome o (λ p. count ≡ p.send) → CoreStands roots given (record s { partial = o }) →
+      let d = smc_started (term_reading_by same) ksi algs caps count o (record s { partial = o }) in CoreKeeps roots given (record s { partial = o }) d.0 d.1.sent
+  started_keeps same ksi algs caps count s None e h = still (record s { partial = None }) h
+  started_keeps same ksi algs caps count s (Some p) e h =
+      keeps _ _ _ (h.0, h.1, refl, h.3, h.4) (λ k n u. (u.0, (λ g. let x = u.1 g in omega arith), u.2))
+      ((refl, omega arith, λ n. (h.0.0, λ g. omega arith, older s.context h.0.1), λ old. let x = (old (omega arith)).1 refl in absurd (omega arith)), tt)
+      (tt, tt) (λ taken. tt)
+    where
+      older : (o : Option (CoreContext Term)) → IfSome (core_context_root o) (λ c. (c < roots) × (c < authentication_of p.root)) → IfSome o (λ c. p.root ≡ c.nas.root → count < c.nas.send)
+      older None k = tt
+      older (Some c) k = λ g. let x = ap authentication_of g in let y = k.1 in absurd (omega arith)
+
+  -- a NAS text is sent
+  sent_keeps : (count : ℕ) (text : List ℕ) (s : Core Term ℕ) (o : Option (CoreContext Term)) → IfSome o (λ c. count ≡ c.nas.send) → CoreStands roots given (record s { context = o }) →
+      let d = nas_sent count text o (record s { context = o }) in CoreKeeps roots given (record s { context = o }) d.0 d.1.sent
+  sent_keeps count text s None e h = still (record s { context = None }) h
+  sent_keeps count text s (Some c) e h =
+      subst (λ n. let d = nas_sent n text (Some c) (record s { context = Some c }) in CoreKeeps roots given (record s { context = Some c }) d.0 d.1.sent) (sym e) (text_sent s c _ h)
+
+  -- downlink COUNTs are left out
+  skipped_keeps : (n : ℕ) (s : Core Term ℕ) (o : Option (CoreContext Term)) → CoreStands roots given (record s { context = o }) →
+      let d = nas_skipped n o (record s { context = o }) in CoreKeeps roots given (record s { context = o }) d.0 d.1.sent
+  skipped_keeps n s None h = still (record s { context = None }) h
+  skipped_keeps n s (Some c) h = skipped_on s c (skipped n c.nas.send LIMIT) (omega arith) h
+
+  -- the KeNB of the trigger has no home yet, and gets the station of the cell
+  set_up_keeps : (same : Term → Term → Bool) (conn : ℕ) (cell : Place) (target : ℕ) (caps : Caps) (count : ℕ) (s : Core Term ℕ) (o : Option (CoreContext Term)) (trigger : Option ℕ) →
+      trigger ≡ Some count → CoreStands roots given (record s { context = o; trigger = trigger }) →
+      let d = context_set_up (term_reading_by same) conn cell target caps count o (record s { context = o; trigger = trigger }) in
+      CoreKeeps roots given (record s { context = o; trigger = trigger }) d.0 d.1.sent
+  set_up_keeps same conn cell target caps count s None trigger e h = still (record s { context = None; trigger = trigger }) h
+  set_up_keeps same conn cell target caps count s (Some c) None e h = absurd (cc)
+  set_up_keeps same conn cell target caps count s (Some c) (Some n) e h = record {
+    new = homed given kenb (home_at target conn);
+    grows = homed_grows given kenb (home_at target conn) not_given;
+    stands = (h.0, h.1, h.2, tt, all);
+    nas = λ k m u. u;
+    uses = tt;
+    apart = tt;
+    sends = λ taken. (target, refl, homed_here given kenb (home_at target conn), refl);
+  }
+    where
+      kenb : Term
+      kenb = Kenb c.nas.root count
+
+      not_given : (k : Home) → given kenb ≡ Some k → ⊥
+      not_given k f = let x = (h.4 kenb k f).2.1 refl in let y = by_some e in absurd (omega arith)
+
+      all : (t : Term) (k : Home) → homed given kenb (home_at target conn) t ≡ Some k → IsPast roots (core_partial_root s.partial) (core_mark None (Some c)) t
+      all t k f = by_side (homed_is given kenb (home_at target conn) t k f) where
+        by_side : ((given t ≡ Some k) ⊎ ((t ≡ kenb) × (home_at target conn ≡ k))) → IsPast roots (core_partial_root s.partial) (core_mark None (Some c)) t
+        by_side (inl g) =
+            mark_on (core_partial_root s.partial) (authentication_of c.nas.root) n c.nas.receive t (let x = h.3 in omega arith) (h.4 t k g)
+        by_side (inr g) =
+            subst (IsPast roots (core_partial_root s.partial) (core_mark None (Some c))) (sym g.0)
+            (h.0.1.0, h.0.1.1, (omega arith, λ i. let x = h.3 in let y = by_some e in omega arith))
+
+  -- a row of an act
+  pub core_act_keeps : (same : Term → Term → Bool) (row : CoreActRow) (s : Core Term ℕ) → CoreActNeeds s row → CoreStands roots given s →
+      let d = core_does_act (term_reading_by same) row s in CoreKeeps roots given s d.0 d.1.sent
+  core_act_keeps same (ActRefused answer) s n h = still s h
+  core_act_keeps same (SmcStarted ksi algs caps count) s n h = started_keeps same ksi algs caps count s s.partial n h
+  core_act_keeps same (ContextSetUp conn cell target caps count) s n h = set_up_keeps same conn cell target caps count s s.context s.trigger n h
+  core_act_keeps same (ContextReleased conn station) s n h = keeps s _ _ h (λ k count u. u) tt tt (λ taken. tt)
+  core_act_keeps same (NasSent count text) s n h = sent_keeps count text s s.context n h
+  core_act_keeps same (NasSkipped m) s n h = skipped_keeps m s s.context h

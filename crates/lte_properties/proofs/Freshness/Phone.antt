@@ -1,0 +1,588 @@
+-- What each row of the phone keeps of the keys that it takes and uses.
+use Rattle.std.proofs.Common.{◌≡◌, refl, sym, ap, ◌∙◌, subst, ℕ, ◌+◌, ◌<◌, ◌≤◌, ◌==◌, ◌⊎◌, inl, inr, Bool, true, false, List, Option, Some, None, arith}
+use Rattle.std.specs.Prelude.{IfSome}
+use Rattle.alg_choice.specs.declared.algs.Algs.{Algs}
+use Rattle.alg_choice.specs.Algs.{identity_of, eia2_identity}
+use Rattle.annex_a_keys.specs.Cell.{Place}
+use Rattle.rec_base.specs.declared.uses.Dir.TheVariants.{Up}
+use Rattle.rec_base.specs.Bearer.{bearer5_of}
+use Rattle.lte_events.specs.declared.answers.Answer.{Answer}
+use Rattle.key_model.specs.Term.{Term, Root, Kenb, Nh, Star, Alg}
+use Rattle.key_model.specs.Reading.{term_reading, term_reading_by}
+use Rattle.nas_count.specs.declared.sending.TheConstants.{LIMIT as NAS_LIMIT}
+use Rattle.nas_guard.specs.Keys.{Keys}
+use Rattle.rrc_rec.specs.declared.records.RrcRecord.{RrcRecord}
+use Rattle.nh_chain.specs.Chain.{begun}
+use Rattle.nh_chain.specs.Reach.{reached_after}
+use Rattle.pdcp_guard.specs.AsKeys.{AsKeys, as_keys_of}
+use Rattle.lte_machine.specs.Bearers.{Srb, Signalling1, Drb, Which, Bearers, of_srb, of_drb, srb_counts, drb_counts, srb_sent, drb_sent, srb_taken, skipped, new_bearers}
+use Rattle.lte_machine.specs.Wire.{KeyUse, Outgoing, SealedNas, PlainNas, UserPacket, uses_of, nas_use, drb_use}
+use Rattle.lte_machine.specs.Reply.{Took}
+use Rattle.lte_machine.specs.PhoneState.{nas_keys_of, Partial, NasContext, Link, Radio, Idle, Connecting, Connected, Phone}
+use Rattle.lte_machine.specs.PhoneRows.{NasRow, NasRefused, RejectedPlain, RejectedUnder, ContextTaken, ContextTakenConnected, NasOpened, AirRow, AirRefused, LinkSecured, HandedOver, RrcOpened, PacketOpened, ActRow, ActRefused, ServiceRequested, CompleteResent, WentIdle, PacketSent, RrcSent, NasSent, NasSkipped, BearerSkipped}
+use Rattle.lte_machine.specs.PhoneKeys.{nas_ciphering_up, drb_ciphering_up, rrc_sealed, one_nas_sent, with_bearers, context_of, rejected_under, context_taken, context_taken_connected, nas_opened, nas_does, link_secured, arrived, handed_over, rrc_opened, packet_opened, air_does, service_requested, complete_resent, packet_sent, rrc_sent, nas_sent, nas_skipped, bearer_skipped, act_does}
+use Rattle.lte_machine.specs.World.{uses_in}
+use Rattle.lte_properties.specs.ChainBelow.{AllOf}
+use Rattle.lte_properties.specs.FreshOrder.{authentication_of, IsBefore, IsNotAfter, IsLevel}
+use Rattle.lte_properties.specs.FreshUses.{Home, home_at, Homes, Grows, OnKey, IsNas, IsAs, NasUp, AsUp, UpUse, next_on, send_on, AllApart}
+use Rattle.lte_properties.specs.FreshHolds.{Mark, IsPast, AsKeysOf, partial_root, phone_mark, RadioStands, PhoneStands, RecordStands}
+use Rattle.lte_properties.proofs.Freshness.Order.{not_before_itself, before_is_not_after, not_after_itself, not_after_before, past_is_before, past_alike, star_is_later, homed, homed_here, homed_is, homed_grows}
+use Rattle.lte_properties.proofs.Freshness.Lists.{both_apart}
+use Rattle.lte_properties.proofs.Freshness.Bearers.{Rise, below_stays, srb_taken_rises, drb_taken_rises, srb_sent_rises, drb_sent_rises, left_out_rises, srb_is_next, srb_is_used, drb_is_next, drb_is_used}
+
+-- a use that the phone had not made before, and has made now
+abbrev pub NewUp : ℕ → Homes → Homes → Phone Term ℕ → Phone Term ℕ → KeyUse Term → Type 0
+NewUp roots taken new s t u = (u.dir ≡ Up) × UpUse roots new t u × (UpUse roots taken s u → ⊥)
+
+-- what a step of the phone keeps, with the homes of keys afterwards
+pub record PhoneKeeps (roots : ℕ) (taken : Homes) (s t : Phone Term ℕ) (sent : Option (Outgoing Term ℕ)) (took : Option (Took Term ℕ)) : Type 0 where
+  pub new : Homes
+  pub grows : Grows taken new
+  pub stands : PhoneStands roots new t
+  pub nas : (k : Term) (count : ℕ) → NasUp roots s.partial s.context k count → NasUp roots t.partial t.context k count
+  pub link : (k : Term) (type count bearer : ℕ) → AsUp taken s.radio k type count bearer → AsUp new t.radio k type count bearer
+  pub uses : AllOf (NewUp roots taken new s t) (uses_in sent)
+  pub apart : AllApart (uses_in sent)
+  pub sends : (given : Homes) → IfSome sent (RecordStands new given)
+  pub takes : IfSome took (λ x. new x.key ≡ Some (home_at x.station x.air))
+  pub rises : IfSome took (λ x. (k : Term) (h : Home) → taken k ≡ Some h → IsBefore k x.key)
+
+-- the type of an algorithm key
+abbrev pub type_of : Term → ℕ
+type_of (Alg t type id) = type
+type_of (Root r octets) = 0
+type_of (Kenb r n) = 0
+type_of (Nh r t) = 0
+type_of (Star t pci earfcn) = 0
+
+-- uses of keys of two types are two
+pub types_apart : (u v : KeyUse Term) (m n : ℕ) → type_of u.key ≡ m → type_of v.key ≡ n → (m ≡ n → ⊥) → v ≡ u → ⊥
+types_apart u v m n e f d g = d (sym e ∙ sym (ap (λ (x : KeyUse Term). type_of x.key) g) ∙ f)
+
+module _ (roots : ℕ) (taken : Homes) where
+  -- nothing changes
+  still : (s : Phone Term ℕ) → PhoneStands roots taken s → PhoneKeeps roots taken s s None None
+  still s h = record {
+    new = taken;
+    grows = λ t k e. e;
+    stands = h;
+    nas = λ k count u. u;
+    link = λ k type count bearer u. u;
+    uses = tt;
+    apart = tt;
+    sends = λ given. tt;
+    takes = tt;
+    rises = tt;
+  }
+
+  -- a record goes as it is
+  plain_sent : (octets : List ℕ) (s : Phone Term ℕ) → PhoneStands roots taken s → PhoneKeeps roots taken s s (Some (PlainNas octets)) None
+  plain_sent octets s h = record {
+    new = taken;
+    grows = λ t k e. e;
+    stands = h;
+    nas = λ k count u. u;
+    link = λ k type count bearer u. u;
+    uses = tt;
+    apart = tt;
+    sends = λ given. tt;
+    takes = tt;
+    rises = tt;
+  }
+
+  -- NAS
+
+  -- a key that is past stays so as the COUNT rises
+  later_mark : (partial : Option ℕ) (root m n : ℕ) (t : Term) → m ≤ n → IsPast roots partial (Some (record { root = root; count = m })) t →
+      IsPast roots partial (Some (record { root = root; count = n })) t
+  later_mark partial root m n t le h = (h.0, h.1, (h.2.0, λ e. let k = h.2.1 e in omega arith))
+
+  -- and so the radio
+  later_radio : (partial : Option ℕ) (root m n : ℕ) (radio : Radio Term ℕ) → m ≤ n →
+      RadioStands roots partial (Some (record { root = root; count = m })) taken radio → RadioStands roots partial (Some (record { root = root; count = n })) taken radio
+  later_radio partial root m n Idle le h = tt
+  later_radio partial root m n (Connecting w) le h = (later_mark partial root m n w.kenb le h.0, h.1)
+  later_radio partial root m n (Connected l) le h = h
+
+  -- the KASME of the context in use is another than that of a newer partial context
+  other_root : (root : Term) (o : Option (Partial Term)) → IfSome (partial_root o) (λ p. authentication_of root < p) → IfSome o (λ p. root ≡ p.root → ⊥)
+  other_root root None h = tt
+  other_root root (Some p) h = λ e. let k = ap authentication_of e in absurd (omega arith)
+
+  module _ (s : Phone Term ℕ) (c : NasContext Term) where
+    -- the context's next COUNT rises
+    counts_on : (n : ℕ) → c.send ≤ n → PhoneStands roots taken (record s { context = Some c }) → PhoneStands roots taken (record s { context = Some (record c { send = n }) })
+    counts_on n le h = (
+      h.0,
+      h.1,
+      λ t k e. later_mark (partial_root s.partial) (authentication_of c.root) c.send n t le (h.2 t k e),
+      later_radio (partial_root s.partial) (authentication_of c.root) c.send n s.radio le h.3,
+    )
+
+    -- uses stay below the next COUNT
+    counts_nas : (n : ℕ) → c.send ≤ n → (k : Term) (count : ℕ) → NasUp roots s.partial (Some c) k count → NasUp roots s.partial (Some (record c { send = n })) k count
+    counts_nas n le k count u = (u.0, u.1, λ e. let x = u.2 e in omega arith)
+
+    -- the next COUNT under a NAS key of the context is new
+    new_nas : (radio : Radio Term ℕ) (type id bearer : ℕ) → IsNas type → PhoneStands roots taken (record s { context = Some c }) →
+        NewUp roots taken taken (record s { context = Some c }) (record s { context = Some (one_nas_sent c); radio = radio })
+        (record { key = Alg c.root type id; count = c.send; bearer = bearer; dir = Up })
+    new_nas radio type id bearer lt h = (
+      refl,
+      (λ n. (h.0.1.0, other_root c.root s.partial h.0.1.1, λ e. omega arith), λ a. absurd (omega arith)),
+      λ old. let x = (old.0 lt).2 refl in absurd (omega arith),
+    )
+
+    -- both uses of a NAS sending
+    abbrev BothNas : Radio Term ℕ → Keys Term → Type 0
+    BothNas radio keys =
+        NewUp roots taken taken (record s { context = Some c }) (record s { context = Some (one_nas_sent c); radio = radio }) (nas_use Up keys.enc c.send)
+        × NewUp roots taken taken (record s { context = Some c }) (record s { context = Some (one_nas_sent c); radio = radio }) (nas_use Up keys.int c.send)
+        × (nas_use Up keys.int c.send ≡ nas_use Up keys.enc c.send → ⊥)
+
+    -- both are new, under the keys of the context
+    both_nas : (radio : Radio Term ℕ) → PhoneStands roots taken (record s { context = Some c }) → BothNas radio c.keys
+    both_nas radio h = subst (BothNas radio) (sym h.1)
+        (new_nas radio 1 (identity_of c.keys.algs.eea) _ (omega arith) h, new_nas radio 2 eia2_identity _ (omega arith) h, types_apart _ _ 1 2 refl refl (λ e. absurd (omega arith)))
+
+    -- a NAS text takes the next COUNT
+    sealed : (header : ℕ) (text : List ℕ) → PhoneStands roots taken (record s { context = Some c }) →
+        PhoneKeeps roots taken (record s { context = Some c }) (record s { context = Some (one_nas_sent c) })
+        (Some (SealedNas Up header (nas_use Up c.keys.int c.send) (Some (nas_ciphering_up c.keys c.send)) text)) None
+    sealed header text h = let b = both_nas s.radio h in record {
+      new = taken;
+      grows = λ t k e. e;
+      stands = counts_on (c.send + 1) (omega arith) h;
+      nas = counts_nas (c.send + 1) (omega arith);
+      link = λ k type count bearer u. u;
+      uses = (b.0, (b.1, tt));
+      apart = both_apart _ _ b.2;
+      sends = λ given. tt;
+      takes = tt;
+      rises = tt;
+    }
+
+    -- COUNTs are left out
+    left_out : (n : ℕ) → c.send ≤ n → PhoneStands roots taken (record s { context = Some c }) →
+        PhoneKeeps roots taken (record s { context = Some c }) (record s { context = Some (record c { send = n }) }) None None
+    left_out n le h = record {
+      new = taken;
+      grows = λ t k e. e;
+      stands = counts_on n le h;
+      nas = counts_nas n le;
+      link = λ k type count bearer u. u;
+      uses = tt;
+      apart = tt;
+      sends = λ given. tt;
+      takes = tt;
+      rises = tt;
+    }
+
+    -- a SERVICE REQUEST, and the KeNB of its COUNT
+    requested : (text : List ℕ) → PhoneStands roots taken (record s { context = Some c }) →
+        PhoneKeeps roots taken (record s { context = Some c })
+        (record s { context = Some (one_nas_sent c); radio = Connecting (record { root = c.root; kenb = Kenb c.root c.send }) })
+        (Some (SealedNas Up 1 (nas_use Up c.keys.int c.send) None text)) None
+    requested text h =
+        let radio : Radio Term ℕ = Connecting (record { root = c.root; kenb = Kenb c.root c.send }) in
+        let b = both_nas radio h in record {
+          new = taken;
+          grows = λ t k e. e;
+          stands = (
+            h.0,
+            h.1,
+            λ t k e. later_mark (partial_root s.partial) (authentication_of c.root) c.send (c.send + 1) t (omega arith) (h.2 t k e),
+            ((h.0.1.0, h.0.1.1, (omega arith, λ e. omega arith)), λ t k e. past_is_before roots (partial_root s.partial) c.root c.send t (h.2 t k e)),
+          );
+          nas = counts_nas (c.send + 1) (omega arith);
+          link = λ k type count bearer u. (u.0, u.1, tt);
+          uses = (b.1, tt);
+          apart = (tt, tt);
+          sends = λ given. tt;
+          takes = tt;
+          rises = tt;
+        }
+
+  -- a new context in use, of the partial context's KASME
+  module _ (same : Term → Term → Bool) (algs : Algs) (count : ℕ) (s : Phone Term ℕ) (p : Partial Term) where
+    -- a key that comes before the new context comes before its first KeNB
+    past_all : (mark : Option Mark) (t : Term) → IsPast roots (Some (authentication_of p.root)) mark t →
+        IsPast roots None (Some (record { root = authentication_of p.root; count = 1 })) t
+    past_all mark t h = (h.0, tt, (let x = h.1 in omega arith, λ e. let x = h.1 in absurd (omega arith)))
+
+    -- a connection stands beside a new context
+    taken_radio : (mark : Option Mark) (radio : Radio Term ℕ) → RadioStands roots (Some (authentication_of p.root)) mark taken radio →
+        RadioStands roots None (Some (record { root = authentication_of p.root; count = 1 })) taken radio
+    taken_radio mark Idle h = tt
+    taken_radio mark (Connecting w) h = (past_all mark w.kenb h.0, h.1)
+    taken_radio mark (Connected l) h = h
+
+    -- its first COUNT under a NAS key is new
+    new_first : (radio : Radio Term ℕ) (type id bearer : ℕ) → IsNas type → PhoneStands roots taken (record s { partial = Some p }) →
+        NewUp roots taken taken (record s { partial = Some p })
+        (record s { partial = None; context = Some (context_of (term_reading_by same) algs count p.root); radio = radio })
+        (record { key = Alg p.root type id; count = 0; bearer = bearer; dir = Up })
+    new_first radio type id bearer lt h =
+        (refl, (λ n. (h.0.0, tt, λ e. omega arith), λ a. absurd (omega arith)), λ old. (old.0 lt).1 refl)
+
+    -- the radio afterwards stands, and so does all
+    first_sent : (radio : Radio Term ℕ) (header : ℕ) (text : List ℕ) → PhoneStands roots taken (record s { partial = Some p }) →
+        RadioStands roots None (Some (record { root = authentication_of p.root; count = 1 })) taken radio →
+        ((k : Term) (type count bearer : ℕ) → AsUp taken s.radio k type count bearer → AsUp taken radio k type count bearer) →
+        PhoneKeeps roots taken (record s { partial = Some p })
+        (record s { partial = None; context = Some (context_of (term_reading_by same) algs count p.root); radio = radio })
+        (Some (SealedNas Up header (nas_use Up (nas_keys_of (term_reading_by same) p.root algs).int 0)
+        (Some (nas_ciphering_up (nas_keys_of (term_reading_by same) p.root algs) 0)) text)) None
+    first_sent radio header text h r link = record {
+      new = taken;
+      grows = λ t k e. e;
+      stands = ((tt, (h.0.0, tt)), refl, λ t k e. past_all (phone_mark s.context) t (h.2 t k e), r);
+      nas = λ k count u. (u.0, tt, λ e. absurd (u.1 e));
+      link = link;
+      uses = (new_first radio 1 (identity_of algs.eea) _ (omega arith) h, (new_first radio 2 eia2_identity _ (omega arith) h, tt));
+      apart = both_apart _ _ (types_apart _ _ 1 2 refl refl (λ e. absurd (omega arith)));
+      sends = λ given. tt;
+      takes = tt;
+      rises = tt;
+    }
+
+    -- the phone waits with the first KeNB of the new context
+    waits : PhoneStands roots taken (record s { partial = Some p }) →
+        RadioStands roots None (Some (record { root = authentication_of p.root; count = 1 })) taken (Connecting (record { root = p.root; kenb = Kenb p.root 0 }))
+    waits h =
+        ((h.0.0, tt, (omega arith, λ e. omega arith)), λ t k e. let x = (h.2 t k e).1 in (omega arith, λ f. absurd (omega arith)))
+
+  -- rows of NAS
+
+  -- a Security Mode Reject under the context
+  rejected_keeps : (answer : Answer) (cause : ℕ) (s : Phone Term ℕ) (o : Option (NasContext Term)) → PhoneStands roots taken (record s { context = o }) →
+      let d = rejected_under answer cause (record s { context = o }) o in PhoneKeeps roots taken (record s { context = o }) d.0 d.1.sent d.1.took
+  rejected_keeps answer cause s None h = still (record s { context = None }) h
+  rejected_keeps answer cause s (Some c) h = sealed s c 2 _ h
+
+  -- a NAS text that was taken
+  opened_keeps : (count : ℕ) (text : List ℕ) (s : Phone Term ℕ) (o : Option (NasContext Term)) → PhoneStands roots taken (record s { context = o }) →
+      let d = nas_opened count text (record s { context = o }) o in PhoneKeeps roots taken (record s { context = o }) d.0 d.1.sent d.1.took
+  opened_keeps count text s None h = still (record s { context = None }) h
+  opened_keeps count text s (Some c) h = record {
+    new = taken;
+    grows = λ t k e. e;
+    stands = h;
+    nas = λ k count u. u;
+    link = λ k type count bearer u. u;
+    uses = tt;
+    apart = tt;
+    sends = λ given. tt;
+    takes = tt;
+    rises = tt;
+  }
+
+  -- a Security Mode Command with no connection
+  taken_keeps : (same : Term → Term → Bool) (algs : Algs) (count : ℕ) (s : Phone Term ℕ) (o : Option (Partial Term)) → PhoneStands roots taken (record s { partial = o }) →
+      let d = context_taken (term_reading_by same) algs count (record s { partial = o }) o in PhoneKeeps roots taken (record s { partial = o }) d.0 d.1.sent d.1.took
+  taken_keeps same algs count s None h = still (record s { partial = None }) h
+  taken_keeps same algs count s (Some p) h =
+      first_sent same algs count s p (Connecting (record { root = p.root; kenb = Kenb p.root 0 })) 4 _ h (waits same algs count s p h) (λ k type count bearer u. (u.0, u.1, tt))
+
+  -- and one on a connection
+  taken_connected_keeps : (same : Term → Term → Bool) (algs : Algs) (count : ℕ) (s : Phone Term ℕ) (o : Option (Partial Term)) → PhoneStands roots taken (record s { partial = o }) →
+      let d = context_taken_connected (term_reading_by same) algs count (record s { partial = o }) o in PhoneKeeps roots taken (record s { partial = o }) d.0 d.1.sent d.1.took
+  taken_connected_keeps same algs count s None h = still (record s { partial = None }) h
+  taken_connected_keeps same algs count s (Some p) h =
+      first_sent same algs count s p s.radio 4 _ h (taken_radio same algs count s p (phone_mark s.context) s.radio h.3) (λ k type count bearer u. u)
+
+  -- a row of a NAS message
+  pub nas_keeps : (same : Term → Term → Bool) (row : NasRow) (s : Phone Term ℕ) → PhoneStands roots taken s →
+      let d = nas_does (term_reading_by same) row s in PhoneKeeps roots taken s d.0 d.1.sent d.1.took
+  nas_keeps same (NasRefused answer) s h = still s h
+  nas_keeps same (RejectedPlain answer cause) s h = plain_sent _ s h
+  nas_keeps same (RejectedUnder answer cause) s h = rejected_keeps answer cause s s.context h
+  nas_keeps same (ContextTaken algs count) s h = taken_keeps same algs count s s.partial h
+  nas_keeps same (ContextTakenConnected algs count) s h = taken_connected_keeps same algs count s s.partial h
+  nas_keeps same (NasOpened count text) s h = opened_keeps count text s s.context h
+
+  -- THE ACCESS STRATUM
+
+  module _ (s : Phone Term ℕ) (l : Link Term ℕ) (b : Bearers) where
+    -- a use of the next COUNT of an SRB, and of a DRB
+    new_srb : (srb : Srb) → b ≡ srb_sent srb l.bearers → (type id : ℕ) → IsAs type → (type == 5) ≡ false → PhoneStands roots taken (record s { radio = Connected l }) →
+        NewUp roots taken taken (record s { radio = Connected l }) (record s { radio = with_bearers l b })
+        (record { key = Alg l.kenb type id; count = (srb_counts srb l.bearers).send; bearer = bearer5_of (of_srb srb); dir = Up })
+    new_srb srb e type id ge f h =
+        let used = subst (λ on. (srb_counts srb l.bearers).send < send_on on (bearer5_of (of_srb srb)) b) (sym f)
+        (subst (λ x. (srb_counts srb l.bearers).send < send_on false (bearer5_of (of_srb srb)) x) (sym e) (srb_is_used srb l.bearers)) in (
+          refl,
+          (λ n. absurd (omega arith), λ a. (home_at l.station l.air, h.3.0, λ g. used)),
+          λ old. srb_is_next srb l.bearers (subst (λ on. (srb_counts srb l.bearers).send < send_on on (bearer5_of (of_srb srb)) l.bearers) f ((old.1 ge).2 refl)),
+        )
+
+    -- and of the next COUNT of a DRB
+    new_drb : (drb : Drb) → b ≡ drb_sent drb l.bearers → (id : ℕ) → PhoneStands roots taken (record s { radio = Connected l }) →
+        NewUp roots taken taken (record s { radio = Connected l }) (record s { radio = with_bearers l b })
+        (record { key = Alg l.kenb 5 id; count = (drb_counts drb l.bearers).send; bearer = bearer5_of (of_drb drb); dir = Up })
+    new_drb drb e id h =
+        let used = subst (λ x. (drb_counts drb l.bearers).send < send_on true (bearer5_of (of_drb drb)) x) (sym e) (drb_is_used drb l.bearers) in (
+          refl,
+          (λ n. absurd (omega arith), λ a. (home_at l.station l.air, h.3.0, λ g. used)),
+          λ old. drb_is_next drb l.bearers ((old.1 (omega arith)).2 refl),
+        )
+
+    -- COUNTs that do not fall, and uses of the ones that rose
+    bearers_keep : (sent : Option (Outgoing Term ℕ)) → Rise l.bearers b → PhoneStands roots taken (record s { radio = Connected l }) →
+        AllOf (NewUp roots taken taken (record s { radio = Connected l }) (record s { radio = with_bearers l b })) (uses_in sent) →
+        AllApart (uses_in sent) → ((given : Homes) → IfSome sent (RecordStands taken given)) →
+        PhoneKeeps roots taken (record s { radio = Connected l }) (record s { radio = with_bearers l b }) sent None
+    bearers_keep sent rise h uses apart sends = record {
+      new = taken;
+      grows = λ t k e. e;
+      stands = h;
+      nas = λ k count u. u;
+      link = λ k type count bearer u. (u.0, u.1, λ e. below_stays type bearer l.bearers b count rise (u.2 e));
+      uses = uses;
+      apart = apart;
+      sends = sends;
+      takes = tt;
+      rises = tt;
+    }
+
+    -- an RRC text by the keys of the connection
+    abbrev OfRrc : Srb → RrcRecord → AsKeys Term → Type 0
+    OfRrc srb x keys =
+        AllOf (NewUp roots taken taken (record s { radio = Connected l }) (record s { radio = with_bearers l b }))
+        (uses_of {C = ℕ} (rrc_sealed keys l.station l.air srb (srb_counts srb l.bearers).send x))
+        × AllApart (uses_of {C = ℕ} (rrc_sealed keys l.station l.air srb (srb_counts srb l.bearers).send x))
+        × OnKey (λ t type. taken t ≡ Some (home_at l.station l.air)) keys.rrc_int
+
+    -- its uses are new
+    rrc_keeps : (srb : Srb) (x : RrcRecord) → b ≡ srb_sent srb l.bearers → PhoneStands roots taken (record s { radio = Connected l }) →
+        PhoneKeeps roots taken (record s { radio = Connected l }) (record s { radio = with_bearers l b })
+        (Some (rrc_sealed l.keys l.station l.air srb (srb_counts srb l.bearers).send x)) None
+    rrc_keeps srb x e h =
+        let a : OfRrc srb x (as_keys_of term_reading l.kenb l.keys.algs) = (
+          (new_srb srb e 3 (identity_of l.keys.algs.eea) (omega arith) refl h, (new_srb srb e 4 eia2_identity (omega arith) refl h, tt)),
+          both_apart _ _ (types_apart _ _ 3 4 refl refl (λ g. absurd (omega arith))),
+          h.3.0,
+        ) in
+        let k = subst (OfRrc srb x) (sym h.3.2) a in
+        bearers_keep _ (subst (Rise l.bearers) (sym e) (srb_sent_rises srb l.bearers)) h k.0 k.1 (λ given. k.2)
+
+    -- a user packet
+    packet_keeps : (drb : Drb) (text : List ℕ) → b ≡ drb_sent drb l.bearers → PhoneStands roots taken (record s { radio = Connected l }) →
+        PhoneKeeps roots taken (record s { radio = Connected l }) (record s { radio = with_bearers l b })
+        (Some (UserPacket Up l.station l.air drb (drb_ciphering_up l.keys drb (drb_counts drb l.bearers).send) text)) None
+    packet_keeps drb text e h =
+        let k = subst (λ keys. NewUp roots taken taken (record s { radio = Connected l }) (record s { radio = with_bearers l b }) (drb_use Up keys.up_enc drb (drb_counts drb l.bearers).send))
+        (sym h.3.2) (new_drb drb e (identity_of l.keys.algs.eea) h) in
+        bearers_keep _ (subst (Rise l.bearers) (sym e) (drb_sent_rises drb l.bearers)) h (k, tt) (tt, tt) (λ given. tt)
+
+  -- a KeNB that is taken now was not before
+  not_taken : (kenb : Term) → ((t : Term) (h : Home) → taken t ≡ Some h → IsBefore t kenb) → (k : Home) → taken kenb ≡ Some k → ⊥
+  not_taken kenb before k e = not_before_itself kenb (before kenb k e)
+
+  module _ (s : Phone Term ℕ) (radio : Radio Term ℕ) (kenb : Term) (l : Link Term ℕ) where
+    -- what holds of the new key and of the old ones holds of all
+    taken_all : (P : Term → Type 0) (h : Home) → P kenb → ((t : Term) (k : Home) → taken t ≡ Some k → P t) →
+        (t : Term) (k : Home) → homed taken kenb h t ≡ Some k → P t
+    taken_all P h new old t k e = by_side (homed_is taken kenb h t k e) where
+      by_side : ((taken t ≡ Some k) ⊎ ((t ≡ kenb) × (h ≡ k))) → P t
+      by_side (inl f) = old t k f
+      by_side (inr f) = subst P (sym f.0) new
+
+    -- the phone is connected under a KeNB that comes after all that it took
+    joins : (sent : Option (Outgoing Term ℕ)) (took : Option (Took Term ℕ)) → PhoneStands roots taken (record s { radio = radio }) → l.kenb ≡ kenb →
+        IsPast roots (partial_root s.partial) (phone_mark s.context) kenb → ((t : Term) (h : Home) → taken t ≡ Some h → IsBefore t kenb) →
+        IsLevel l.kenb l.chain.sync → AsKeysOf l.kenb l.keys →
+        AllOf (NewUp roots taken (homed taken kenb (home_at l.station l.air)) (record s { radio = radio }) (record s { radio = Connected l })) (uses_in sent) →
+        AllApart (uses_in sent) → ((given : Homes) → IfSome sent (RecordStands (homed taken kenb (home_at l.station l.air)) given)) →
+        IfSome took (λ x. homed taken kenb (home_at l.station l.air) x.key ≡ Some (home_at x.station x.air)) →
+        IfSome took (λ x. (k : Term) (h : Home) → taken k ≡ Some h → IsBefore k x.key) →
+        PhoneKeeps roots taken (record s { radio = radio }) (record s { radio = Connected l }) sent took
+    joins sent took h same past before level keys uses apart sends takes rises = record {
+      new = homed taken kenb (home_at l.station l.air);
+      grows = homed_grows taken kenb (home_at l.station l.air) (not_taken kenb before);
+      stands = (
+        h.0,
+        h.1,
+        taken_all (IsPast roots (partial_root s.partial) (phone_mark s.context)) (home_at l.station l.air) past h.2,
+        (
+          subst (λ k. homed taken kenb (home_at l.station l.air) k ≡ Some (home_at l.station l.air)) (sym same) (homed_here taken kenb (home_at l.station l.air)),
+          level,
+          keys,
+          taken_all (λ t. IsNotAfter t l.kenb) (home_at l.station l.air) (subst (IsNotAfter kenb) (sym same) (not_after_itself kenb))
+              (λ t k e. subst (IsNotAfter t) (sym same) (before_is_not_after t kenb (before t k e))),
+        ),
+      );
+      nas = λ k count u. u;
+      link = λ k type count bearer u. (
+        u.0,
+        homed_grows taken kenb (home_at l.station l.air) (not_taken kenb before) k u.0 u.1,
+        λ e. absurd (not_taken kenb before u.0 (ap taken (sym same) ∙ (ap taken (sym e) ∙ u.1))),
+      );
+      uses = uses;
+      apart = apart;
+      sends = sends;
+      takes = takes;
+      rises = rises;
+    }
+
+    -- a use of COUNT 0 under it is new
+    new_zero : PhoneStands roots taken (record s { radio = radio }) → ((t : Term) (h : Home) → taken t ≡ Some h → IsBefore t kenb) →
+        (type id bearer : ℕ) → IsAs type → 0 < next_on type bearer l.bearers →
+        NewUp roots taken (homed taken kenb (home_at l.station l.air)) (record s { radio = radio }) (record s { radio = Connected l })
+        (record { key = Alg kenb type id; count = 0; bearer = bearer; dir = Up })
+    new_zero h before type id bearer ge used = (
+      refl,
+      (λ n. absurd (omega arith), λ a. (home_at l.station l.air, homed_here taken kenb (home_at l.station l.air), λ g. used)),
+      λ old. not_taken kenb before (old.1 ge).0 (old.1 ge).1,
+    )
+
+  module _ (same : Term → Term → Bool) (algs : Algs) (station air : ℕ) (s : Phone Term ℕ) where
+    -- the security of a connection starts
+    secured_keeps : (count : ℕ) (o : Radio Term ℕ) → PhoneStands roots taken (record s { radio = o }) →
+        let d = link_secured (term_reading_by same) station air algs count (record s { radio = o }) o in PhoneKeeps roots taken (record s { radio = o }) d.0 d.1.sent d.1.took
+    secured_keeps count Idle h = still (record s { radio = Idle }) h
+    secured_keeps count (Connected l) h = still (record s { radio = Connected l }) h
+    secured_keeps count (Connecting w) h =
+        let l : Link Term ℕ = record {
+          station = station;
+          air = air;
+          chain = begun (term_reading_by same) w.root w.kenb;
+          kenb = w.kenb;
+          keys = as_keys_of (term_reading_by same) w.kenb algs;
+          bearers = srb_sent Signalling1 (srb_taken Signalling1 count new_bearers);
+          by_handover = false;
+        } in
+        joins s (Connecting w) w.kenb l _ _ h refl h.3.0 h.3.1 (refl, refl, refl) refl
+        (new_zero s (Connecting w) w.kenb l h h.3.1 4 eia2_identity 0 (omega arith) (omega arith), tt) (tt, tt)
+        (λ given. homed_here taken w.kenb (home_at station air)) (homed_here taken w.kenb (home_at station air)) h.3.1
+
+    -- a handover
+    arrived_keeps : (l : Link Term ℕ) (steps : ℕ) (cell : Place) → PhoneStands roots taken (record s { radio = Connected l }) →
+        let d = arrived (term_reading_by same) algs station air (record s { radio = Connected l }) l (reached_after (term_reading_by same) l.chain l.kenb steps cell) in
+        PhoneKeeps roots taken (record s { radio = Connected l }) d.0 d.1.sent d.1.took
+    arrived_keeps l steps cell h =
+        let star = (reached_after (term_reading_by same) l.chain l.kenb steps cell).star.key in
+        let k = star_is_later same l.chain l.kenb steps cell h.3.1 in
+        let t : Link Term ℕ = record {
+          station = station;
+          air = air;
+          chain = (reached_after (term_reading_by same) l.chain l.kenb steps cell).chain;
+          kenb = star;
+          keys = as_keys_of (term_reading_by same) star algs;
+          bearers = srb_sent Signalling1 new_bearers;
+          by_handover = true;
+        } in
+        let before : (t : Term) (h : Home) → taken t ≡ Some h → IsBefore t star = λ t g e. not_after_before t l.kenb star (h.3.3 t g e) k.0 in
+        joins s (Connected l) star t _ _ h refl
+        (past_alike roots (partial_root s.partial) (phone_mark s.context) l.kenb star k.1 k.2 (h.2 l.kenb (home_at l.station l.air) h.3.0))
+        before k.3 refl (
+          new_zero s (Connected l) star t h before 3 (identity_of algs.eea) 0 (omega arith) (omega arith),
+          (new_zero s (Connected l) star t h before 4 eia2_identity 0 (omega arith) (omega arith), tt),
+        )
+        (both_apart _ _ (types_apart _ _ 3 4 refl refl (λ g. absurd (omega arith))))
+        (λ given. homed_here taken star (home_at station air)) (homed_here taken star (home_at station air)) before
+
+    -- a handover command
+    handed_keeps : (cell : Place) (steps : ℕ) (o : Radio Term ℕ) → PhoneStands roots taken (record s { radio = o }) →
+        let d = handed_over (term_reading_by same) cell steps algs station air (record s { radio = o }) o in PhoneKeeps roots taken (record s { radio = o }) d.0 d.1.sent d.1.took
+    handed_keeps cell steps Idle h = still (record s { radio = Idle }) h
+    handed_keeps cell steps (Connecting w) h = still (record s { radio = Connecting w }) h
+    handed_keeps cell steps (Connected l) h = arrived_keeps l steps cell h
+
+  module _ (s : Phone Term ℕ) where
+    -- an RRC text that was taken
+    rrc_opened_keeps : (srb : Srb) (count : ℕ) (text : List ℕ) (o : Radio Term ℕ) → PhoneStands roots taken (record s { radio = o }) →
+        let d = rrc_opened srb count text (record s { radio = o }) o in PhoneKeeps roots taken (record s { radio = o }) d.0 d.1.sent d.1.took
+    rrc_opened_keeps srb count text Idle h = still (record s { radio = Idle }) h
+    rrc_opened_keeps srb count text (Connecting w) h = still (record s { radio = Connecting w }) h
+    rrc_opened_keeps srb count text (Connected l) h = bearers_keep s l _ None (srb_taken_rises srb count l.bearers) h tt tt (λ given. tt)
+
+    -- a user packet that was taken
+    packet_opened_keeps : (drb : Drb) (count : ℕ) (text : List ℕ) (o : Radio Term ℕ) → PhoneStands roots taken (record s { radio = o }) →
+        let d = packet_opened drb count text (record s { radio = o }) o in PhoneKeeps roots taken (record s { radio = o }) d.0 d.1.sent d.1.took
+    packet_opened_keeps drb count text Idle h = still (record s { radio = Idle }) h
+    packet_opened_keeps drb count text (Connecting w) h = still (record s { radio = Connecting w }) h
+    packet_opened_keeps drb count text (Connected l) h = bearers_keep s l _ None (drb_taken_rises drb count l.bearers) h tt tt (λ given. tt)
+
+    -- the completion sent again
+    resent_keeps : (o : Radio Term ℕ) → PhoneStands roots taken (record s { radio = o }) →
+        let d = complete_resent (record s { radio = o }) o in PhoneKeeps roots taken (record s { radio = o }) d.0 d.1.sent d.1.took
+    resent_keeps Idle h = still (record s { radio = Idle }) h
+    resent_keeps (Connecting w) h = still (record s { radio = Connecting w }) h
+    resent_keeps (Connected l) h = rrc_keeps s l _ Signalling1 _ refl h
+
+    -- a user packet is sent
+    packet_sent_keeps : (drb : Drb) (text : List ℕ) (o : Radio Term ℕ) → PhoneStands roots taken (record s { radio = o }) →
+        let d = packet_sent drb text (record s { radio = o }) o in PhoneKeeps roots taken (record s { radio = o }) d.0 d.1.sent d.1.took
+    packet_sent_keeps drb text Idle h = still (record s { radio = Idle }) h
+    packet_sent_keeps drb text (Connecting w) h = still (record s { radio = Connecting w }) h
+    packet_sent_keeps drb text (Connected l) h = packet_keeps s l _ drb text refl h
+
+    -- an RRC text is sent
+    rrc_sent_keeps : (srb : Srb) (text : List ℕ) (o : Radio Term ℕ) → PhoneStands roots taken (record s { radio = o }) →
+        let d = rrc_sent srb text (record s { radio = o }) o in PhoneKeeps roots taken (record s { radio = o }) d.0 d.1.sent d.1.took
+    rrc_sent_keeps srb text Idle h = still (record s { radio = Idle }) h
+    rrc_sent_keeps srb text (Connecting w) h = still (record s { radio = Connecting w }) h
+    rrc_sent_keeps srb text (Connected l) h = rrc_keeps s l _ srb _ refl h
+
+    -- COUNTs of a bearer are left out
+    left_out_on_keeps : (on : Which) (n : ℕ) (o : Radio Term ℕ) → PhoneStands roots taken (record s { radio = o }) →
+        let d = bearer_skipped on n (record s { radio = o }) o in PhoneKeeps roots taken (record s { radio = o }) d.0 d.1.sent d.1.took
+    left_out_on_keeps on n Idle h = still (record s { radio = Idle }) h
+    left_out_on_keeps on n (Connecting w) h = still (record s { radio = Connecting w }) h
+    left_out_on_keeps on n (Connected l) h = bearers_keep s l _ None (left_out_rises on n l.bearers) h tt tt (λ given. tt)
+
+    -- a SERVICE REQUEST
+    requested_keeps : (same : Term → Term → Bool) (o : Option (NasContext Term)) → PhoneStands roots taken (record s { context = o }) →
+        let d = service_requested (term_reading_by same) (record s { context = o }) o in PhoneKeeps roots taken (record s { context = o }) d.0 d.1.sent d.1.took
+    requested_keeps same None h = still (record s { context = None }) h
+    requested_keeps same (Some c) h = requested s c _ h
+
+    -- a NAS text is sent
+    nas_sent_keeps : (text : List ℕ) (o : Option (NasContext Term)) → PhoneStands roots taken (record s { context = o }) →
+        let d = nas_sent text (record s { context = o }) o in PhoneKeeps roots taken (record s { context = o }) d.0 d.1.sent d.1.took
+    nas_sent_keeps text None h = still (record s { context = None }) h
+    nas_sent_keeps text (Some c) h = sealed s c 2 _ h
+
+    -- uplink NAS COUNTs are left out
+    nas_left_out_keeps : (n : ℕ) (o : Option (NasContext Term)) → PhoneStands roots taken (record s { context = o }) →
+        let d = nas_skipped n (record s { context = o }) o in PhoneKeeps roots taken (record s { context = o }) d.0 d.1.sent d.1.took
+    nas_left_out_keeps n None h = still (record s { context = None }) h
+    nas_left_out_keeps n (Some c) h = left_out s c (skipped n c.send NAS_LIMIT) (omega arith) h
+
+    -- the phone goes idle
+    idle_keeps : PhoneStands roots taken s → PhoneKeeps roots taken s (record s { radio = Idle }) None None
+    idle_keeps h = record {
+      new = taken;
+      grows = λ t k e. e;
+      stands = (h.0, h.1, h.2, tt);
+      nas = λ k count u. u;
+      link = λ k type count bearer u. (u.0, u.1, tt);
+      uses = tt;
+      apart = tt;
+      sends = λ given. tt;
+      takes = tt;
+      rises = tt;
+    }
+
+  -- a row of a PDU
+  pub air_keeps : (same : Term → Term → Bool) (row : AirRow) (s : Phone Term ℕ) → PhoneStands roots taken s →
+      let d = air_does (term_reading_by same) row s in PhoneKeeps roots taken s d.0 d.1.sent d.1.took
+  air_keeps same (AirRefused answer) s h = still s h
+  air_keeps same (LinkSecured station air algs count) s h = secured_keeps same algs station air s count s.radio h
+  air_keeps same (HandedOver cell steps algs station air) s h = handed_keeps same algs station air s cell steps s.radio h
+  air_keeps same (RrcOpened srb count text) s h = rrc_opened_keeps s srb count text s.radio h
+  air_keeps same (PacketOpened drb count text) s h = packet_opened_keeps s drb count text s.radio h
+
+  -- a row of an act
+  pub act_keeps : (same : Term → Term → Bool) (row : ActRow) (s : Phone Term ℕ) → PhoneStands roots taken s →
+      let d = act_does (term_reading_by same) row s in PhoneKeeps roots taken s d.0 d.1.sent d.1.took
+  act_keeps same (ActRefused answer) s h = still s h
+  act_keeps same ServiceRequested s h = requested_keeps s same s.context h
+  act_keeps same CompleteResent s h = resent_keeps s s.radio h
+  act_keeps same WentIdle s h = idle_keeps s h
+  act_keeps same (PacketSent drb text) s h = packet_sent_keeps s drb text s.radio h
+  act_keeps same (RrcSent srb text) s h = rrc_sent_keeps s srb text s.radio h
+  act_keeps same (NasSent text) s h = nas_sent_keeps s text s.context h
+  act_keeps same (NasSkipped n) s h = nas_left_out_keeps s n s.context h
+  act_keeps same (BearerSkipped on n) s h = left_out_on_keeps s on n s.radio h

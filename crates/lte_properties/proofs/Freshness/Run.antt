@@ -1,0 +1,386 @@
+-- Each event keeps what holds of keys and uses, where a station accepts what was sealed so.
+use Rattle.std.proofs.Common.{◌≡◌, refl, sym, ap, ◌∙◌, subst, ℕ, ◌+◌, ◌-◌, ◌<◌, ◌==◌, nat_lt, Bool, true, false, ℤ, pos, negsuc, List, [], ◌∷◌, length, Option, Some, None, Result, Ok, Err, arith}
+use Rattle.std.specs.Prelude.{IfSome, ⊤}
+use Rattle.std.specs.List.{position_from}
+use Rattle.alg_choice.specs.declared.caps.Caps.{Caps}
+use Rattle.rec_base.specs.declared.bearers.Bearer.{Bearer}
+use Rattle.rec_base.specs.declared.faults.RecFault.{RecFault}
+use Rattle.rec_base.specs.declared.uses.Dir.TheVariants.{Up, Down}
+use Rattle.lte_events.specs.declared.addresses.Address.{Address}
+use Rattle.lte_events.specs.declared.addresses.Address.TheVariants as at
+use Rattle.lte_events.specs.declared.acts.StationAct.{StationAct}
+use Rattle.lte_events.specs.declared.answers.Answer.{Answer}
+use Rattle.lte_events.specs.declared.answers.Answer.TheVariants.{NoUe, BadRecord, NoRecord, Sent, RepeatedRoot}
+use Rattle.lte_events.specs.declared.events.Event.{Event}
+use Rattle.key_model.specs.Term.{Term, Root}
+use Rattle.key_model.specs.Reading.{Reading, term_reading_by}
+use Rattle.s1x2_rec.specs.Content.{Content}
+use Rattle.ho_prep.specs.Prep.{Prep, at_air}
+use Rattle.lte_machine.specs.Bearers.{which}
+use Rattle.lte_machine.specs.Wire.{KeyUse, Outgoing, SealedNas, PlainNas, SealedRrc, UserPacket, Between, address_of, integrity_of}
+use Rattle.lte_machine.specs.Opening.{Opening, Outcome, Opened, Differs}
+use Rattle.lte_machine.specs.PhoneState.{Radio, Idle, Connecting, Connected, Phone, PhoneInput, PhoneAuth, PhoneActs, PhoneNasPdu, PhoneAirPdu}
+use Rattle.lte_machine.specs.PhoneStep.{phone_step, phone_opens, phone_pdu_in, plain_phone}
+use Rattle.lte_machine.specs.PhoneChoice.{act_row}
+use Rattle.lte_machine.specs.StationState.{Station, Context, StationActs, AirPdu, StationRecord, Interface, OnS1, OnX2}
+use Rattle.lte_machine.specs.StationChoice.{AirFront, AirSettled, OnStarting, OnSignalling, OnUser, OnPrepared}
+use Rattle.lte_machine.specs.StationRows.{RecordRefused}
+use Rattle.lte_machine.specs.StationStep.{station_step, station_opens, plain_station}
+use Rattle.lte_machine.specs.StationKeys.{air_expects, starting_expects, signalling_expects, user_expects, prepared_expects}
+use Rattle.lte_machine.specs.CoreState.{Core, CoreInput, CoreAuth, CoreActs, CoreNasPdu, CoreRecord}
+use Rattle.lte_machine.specs.CoreStep.{core_step, core_opens}
+use Rattle.lte_machine.specs.World.{Machine, World, by_world, phone_turn, core_turn, turn_of, station_of_id, content_in, arrives, newest_if, chosen, delivered, injected, is_sent, class_of, auth_unless, known_root, next_root, happens}
+use Rattle.lte_machine.specs.Machines.{sender_of}
+use Rattle.lte_machine.specs.Step.{attempts_at, arrival_attempts, delivery_attempts, injection_attempts}
+use Rattle.lte_properties.specs.ChainBelow.{AllOf}
+use Rattle.lte_properties.specs.ChainHolds.{machine_by, run}
+use Rattle.lte_properties.specs.Freshness.{srb_accepted, SealedAsAccepted, SentUnder, AllSentUnder}
+use Rattle.lte_properties.specs.FreshOrder.{authentication_of}
+use Rattle.lte_properties.specs.FreshUses.{home_at, Homes, OnKey, IsNas, IsAs, NasUp, AsUp, UpUse, NasDown, CoreUse, StationUse}
+use Rattle.lte_properties.specs.FreshHolds.{Mark, IsPast, partial_root, context_root, phone_mark, RadioStands, PhoneStands, core_partial_root, core_context_root, core_mark, CoreStands, StationStands, BetweenStands, RecordStands, Fresh}
+use Rattle.lte_properties.proofs.ChainNumbers.Choice.{by_some, none_some, same_of}
+use Rattle.lte_properties.proofs.ChainNumbers.Draws.{air_row_draws, act_row_draws}
+use Rattle.lte_properties.proofs.ChainNumbers.Lists.{OfSome, all_find, all_get, all_map, all_both}
+use Rattle.lte_properties.proofs.Freshness.Order.{on_key}
+use Rattle.lte_properties.proofs.Freshness.Lists.{one_root_more}
+use Rattle.lte_properties.proofs.Freshness.Phone as phone
+use Rattle.lte_properties.proofs.Freshness.Core.{core_nas_keeps, core_record_keeps, core_act_keeps}
+use Rattle.lte_properties.proofs.Freshness.CoreFront.{nas_needs, act_needs}
+use Rattle.lte_properties.proofs.Freshness.Station as station
+use Rattle.lte_properties.proofs.Freshness.StationFront.{act_row_counts, air_row_needs, record_needs, GoesHere, on_s1, on_x2}
+use Rattle.lte_properties.proofs.Freshness.World.{phone_fresh, core_fresh, station_fresh}
+
+-- AUTHENTICATIONS
+
+-- a key of an older authentication is not the new KASME
+not_new : (roots : ℕ) (t root : Term) → authentication_of t < roots → authentication_of root ≡ roots → t ≡ root → ⊥
+not_new roots t root lt e f = let k = ap authentication_of f in absurd (omega arith)
+
+module _ (roots : ℕ) (root : Term) (new : authentication_of root ≡ roots) where
+  -- what is past is past after one more authentication
+  past_more : (partial : Option ℕ) (mark : Option Mark) (t : Term) → IsPast roots partial mark t → IsPast (roots + 1) (Some (authentication_of root)) mark t
+  past_more partial mark t h = let x = h.0 in (omega arith, omega arith, h.2)
+
+  -- all KASMEs are older than the new one
+  context_older : (partial context : Option ℕ) → IfSome context (λ c. (c < roots) × IfSome partial (λ p. c < p)) →
+      IfSome context (λ c. (c < roots + 1) × (c < authentication_of root))
+  context_older partial None h = tt
+  context_older partial (Some c) h = let x = h.0 in (omega arith, omega arith)
+
+  -- the radio stands
+  radio_more : (taken : Homes) (partial : Option ℕ) (mark : Option Mark) (radio : Radio Term ℕ) → RadioStands roots partial mark taken radio →
+      RadioStands (roots + 1) (Some (authentication_of root)) mark taken radio
+  radio_more taken partial mark Idle h = tt
+  radio_more taken partial mark (Connecting k) h = (past_more partial mark k.kenb h.0, h.1)
+  radio_more taken partial mark (Connected l) h = h
+
+  -- the phone stands, with its new partial context
+  pub phone_more : (taken : Homes) (ksi : ℕ) (s : Phone Term ℕ) → PhoneStands roots taken s → PhoneStands (roots + 1) taken (record s { partial = Some (record { ksi = ksi; root = root }) })
+  phone_more taken ksi s h = (
+    (omega arith, context_older (partial_root s.partial) (context_root s.context) h.0.1),
+    h.1,
+    λ t k e. past_more (partial_root s.partial) (phone_mark s.context) t (h.2 t k e),
+    radio_more taken (partial_root s.partial) (phone_mark s.context) s.radio h.3,
+  )
+
+  -- and the core
+  core_more : (given : Homes) (ksi : ℕ) (caps : Caps) (s : Core Term ℕ) → CoreStands roots given s →
+      CoreStands (roots + 1) given (record s { latest = caps; partial = Some (record { ksi = ksi; root = root; caps = caps; send = 0 }); procedure = None })
+  core_more given ksi caps s h = (
+    (omega arith, context_older (core_partial_root s.partial) (core_context_root s.context) h.0.1),
+    h.1,
+    tt,
+    h.3,
+    λ t k e. past_more (core_partial_root s.partial) (core_mark s.trigger s.context) t (h.4 t k e),
+  )
+
+  -- uplink uses stand
+  up_more : (taken : Homes) (ksi : ℕ) (s : Phone Term ℕ) (u : KeyUse Term) → UpUse roots taken s u → UpUse (roots + 1) taken (record s { partial = Some (record { ksi = ksi; root = root }) }) u
+  up_more taken ksi s u h =
+      on_key (λ t type. (IsNas type → NasUp roots s.partial s.context t u.count) × (IsAs type → AsUp taken s.radio t type u.count u.bearer))
+      (λ t type. (IsNas type → NasUp (roots + 1) (Some (record { ksi = ksi; root = root })) s.context t u.count) × (IsAs type → AsUp taken s.radio t type u.count u.bearer))
+      (λ t type x. (λ n. let y = x.0 n in (let z = y.0 in omega arith, not_new roots t root y.0 new, y.2), x.1)) u.key h
+
+  -- and the core's
+  nas_more : (ksi : ℕ) (caps : Caps) (s : Core Term ℕ) (u : KeyUse Term) → CoreUse roots s u →
+      CoreUse (roots + 1) (record s { latest = caps; partial = Some (record { ksi = ksi; root = root; caps = caps; send = 0 }); procedure = None }) u
+  nas_more ksi caps s u h =
+      on_key (λ t type. IsNas type → NasDown roots s.partial s.context t u.count)
+      (λ t type. IsNas type → NasDown (roots + 1) (Some (record { ksi = ksi; root = root; caps = caps; send = 0 })) s.context t u.count)
+      (λ t type x n. let y = x n in (let z = y.0 in omega arith, λ e. absurd (not_new roots t root y.0 new e), y.2)) u.key h
+
+-- WHAT A STATION ACCEPTS
+
+-- it expects uplink
+starting_up : (count : ℕ) (o : Option (Context Term ℕ)) (outcome : Outcome) (u : KeyUse Term) → srb_accepted (starting_expects count o) outcome ≡ Some u → u.dir ≡ Up
+starting_up count None outcome u e = absurd (none_some e)
+starting_up count (Some c) (Opened text) u e = sym (ap (λ (v : KeyUse Term). v.dir) (by_some e))
+starting_up count (Some c) (Differs wanted got) u e = absurd (none_some e)
+
+-- by whether there is a context
+signalling_up : (front : Option (Context Term ℕ) → Opening Term) → (outcome : Outcome) (u : KeyUse Term) → (o : Option (Context Term ℕ)) →
+    ((c : Context Term ℕ) → srb_accepted (front (Some c)) outcome ≡ Some u → u.dir ≡ Up) → (srb_accepted (front None) outcome ≡ Some u → u.dir ≡ Up) →
+    srb_accepted (front o) outcome ≡ Some u → u.dir ≡ Up
+signalling_up front outcome u None f g e = g e
+signalling_up front outcome u (Some c) f g e = f c e
+
+-- so does a preparation
+prepared_up : (count : ℕ) (o : Option (Prep Term ℕ)) (outcome : Outcome) (u : KeyUse Term) → srb_accepted (prepared_expects count o) outcome ≡ Some u → u.dir ≡ Up
+prepared_up count None outcome u e = absurd (none_some e)
+prepared_up count (Some p) (Opened text) u e = sym (ap (λ (v : KeyUse Term). v.dir) (by_some e))
+prepared_up count (Some p) (Differs wanted got) u e = absurd (none_some e)
+
+-- all that a station accepts is uplink
+accepts_up : (s : Station Term ℕ) (front : AirFront) (outcome : Outcome) (u : KeyUse Term) → srb_accepted (air_expects front s) outcome ≡ Some u → u.dir ≡ Up
+accepts_up s (AirSettled row) outcome u e = absurd (none_some e)
+accepts_up s (OnStarting count) outcome u e = starting_up count s.context outcome u e
+accepts_up s (OnSignalling srb count) (Opened text) u e =
+    signalling_up (signalling_expects srb count) (Opened text) u s.context (λ c f. sym (ap (λ (v : KeyUse Term). v.dir) (by_some f))) (λ f. absurd (none_some f)) e
+accepts_up s (OnSignalling srb count) (Differs wanted got) u e =
+    signalling_up (signalling_expects srb count) (Differs wanted got) u s.context (λ c f. absurd (none_some f)) (λ f. absurd (none_some f)) e
+accepts_up s (OnUser drb count) outcome u e =
+    signalling_up (user_expects drb count) outcome u s.context (λ c f. absurd (none_some f)) (λ f. absurd (none_some f)) e
+accepts_up s (OnPrepared air by count) outcome u e = prepared_up count (at_air air s.preps) outcome u e
+
+-- the station and air address of an address on the air
+abbrev air_station : Address → ℕ
+air_station (at.StationAir station air bearer) = station
+air_station other = 0
+
+-- and the air address
+abbrev air_number : Address → ℕ
+air_number (at.StationAir station air bearer) = air
+air_number other = 0
+
+-- a sealed record that goes to a station and air address is under a KeNB that the phone took there
+sealed_there : (taken given : Homes) (station air : ℕ) (bearer : Bearer) (u : KeyUse Term) (x : Outgoing Term ℕ) → address_of x ≡ at.StationAir station air bearer →
+    integrity_of x ≡ Some u → RecordStands taken given x → OnKey (λ t type. taken t ≡ Some (home_at station air)) u.key
+sealed_there taken given station air bearer u (SealedRrc Up station' air' srb v e text) f g h =
+    let a : home_at station' air' ≡ home_at station air = λ j. home_at (ap air_station f j) (ap air_number f j) in
+    subst (λ k. OnKey (λ t type. taken t ≡ Some (home_at station air)) k) (ap (λ (w : KeyUse Term). w.key) (by_some g))
+    (on_key (λ t type. taken t ≡ Some (home_at station' air')) (λ t type. taken t ≡ Some (home_at station air)) (λ t type k. k ∙ ap Some a) v.key h)
+sealed_there taken given station air bearer u (SealedRrc Down station' air' srb v e text) f g h = absurd (cc)
+sealed_there taken given station air bearer u (SealedNas Up header v e text) f g h = absurd (cc)
+sealed_there taken given station air bearer u (SealedNas Down header v e text) f g h = absurd (cc)
+sealed_there taken given station air bearer u (PlainNas octets) f g h = absurd (none_some g)
+sealed_there taken given station air bearer u (UserPacket dir station' air' drb e text) f g h = absurd (none_some g)
+sealed_there taken given station air bearer u (Between to fields key) f g h = absurd (none_some g)
+
+-- what came to an address stands, if it was sent
+abbrev Came : Homes → Homes → Address → Option (Outgoing Term ℕ) → Type 0
+Came taken given to came = OfSome (λ x. (address_of x ≡ to) × RecordStands taken given x) came
+
+-- what came so is under a KeNB that the phone took there
+came_there : (taken given : Homes) (station air : ℕ) (bearer : Bearer) (u : KeyUse Term) (came : Option (Outgoing Term ℕ)) → Came taken given (at.StationAir station air bearer) came →
+    sender_of came ≡ Some u → OnKey (λ t type. taken t ≡ Some (home_at station air)) u.key
+came_there taken given station air bearer u None h e = absurd (none_some e)
+came_there taken given station air bearer u (Some x) h e = sealed_there taken given station air bearer u x h.0 e h.1
+
+-- a record on S1 or X2 as it reads
+abbrev ReadStands : Homes → Address → Result (Content Term ℕ) RecFault → Type 0
+ReadStands given to (Ok content) = BetweenStands given to content.fields content.key
+ReadStands given to (Err fault) = ⊤
+
+-- an input of an event, but an authentication
+abbrev pub IsTurn : PhoneInput Term → Type 0
+IsTurn (PhoneAuth ksi root) = ⊥
+IsTurn (PhoneActs act) = ⊤
+IsTurn (PhoneNasPdu pdu) = ⊤
+IsTurn (PhoneAirPdu station air bearer pdu) = ⊤
+
+-- and of the core
+abbrev IsCoreTurn : CoreInput Term ℕ → Type 0
+IsCoreTurn (CoreAuth ksi root caps) = ⊥
+IsCoreTurn (CoreActs act) = ⊤
+IsCoreTurn (CoreNasPdu pdu) = ⊤
+IsCoreTurn (CoreRecord read) = ⊤
+
+-- a step of the phone needs nothing of what it opens
+pub turn_keeps : (same : Term → Term → Bool) (roots : ℕ) (taken : Homes) (s : Phone Term ℕ) (input : PhoneInput Term) (outcome : Outcome) → IsTurn input → PhoneStands roots taken s →
+    let d = phone_step (term_reading_by same) s input outcome in phone.PhoneKeeps roots taken s d.0 d.1.sent d.1.took
+turn_keeps same roots taken s (PhoneAuth ksi root) outcome t h = absurd t
+turn_keeps same roots taken s (PhoneActs act) outcome t h = phone.act_keeps roots taken same (act_row (plain_phone (term_reading_by same) s) act) s h
+turn_keeps same roots taken s (PhoneNasPdu pdu) outcome t h = phone.nas_keeps roots taken same _ s h
+turn_keeps same roots taken s (PhoneAirPdu station air bearer pdu) outcome t h = phone.air_keeps roots taken same _ s h
+
+module _ (same : Term → Term → Bool) (octets : Outgoing Term ℕ → List ℕ) (sender : Option (Outgoing Term ℕ) → Option (KeyUse Term))
+    (opener : Opening Term → List ℕ → Option (Outgoing Term ℕ) → Outcome) where
+  -- the machine
+  abbrev pub m : Machine Term ℕ (Outgoing Term ℕ)
+  m = machine_by same Root octets sender opener
+
+  -- its reading
+  abbrev r : Reading Term ℕ
+  r = term_reading_by same
+
+  module _ (w : World Term ℕ (Outgoing Term ℕ)) where
+    -- a step of the phone needs no premise
+    phone_turn_fresh : (input : PhoneInput Term) (came : Option (Outgoing Term ℕ)) → IsTurn input → Fresh w → Fresh (phone_turn m w input came).0
+    phone_turn_fresh input came t h =
+        let outcome = opener (phone_opens r w.phone input) (phone_pdu_in input) came in
+        phone_fresh m w (λ o. refl) h (phone_step r w.phone input outcome) (turn_keeps same h.roots h.taken w.phone input outcome t h.phone)
+
+    -- nor does one of the core
+    core_turn_fresh : (input : CoreInput Term ℕ) (came : Option (Outgoing Term ℕ)) → IsCoreTurn input → Fresh w → Fresh (core_turn m w input came).0
+    core_turn_fresh (CoreAuth ksi root caps) came t h = absurd t
+    core_turn_fresh (CoreActs act) came t h =
+        core_fresh m w (λ o. refl) h (core_step r w.core (CoreActs act) (opener (core_opens r w.core (CoreActs act)) [] came))
+        (core_act_keeps h.roots h.given same _ w.core (act_needs r w.core act) h.core)
+    core_turn_fresh (CoreNasPdu pdu) came t h =
+        let outcome = opener (core_opens r w.core (CoreNasPdu pdu)) pdu came in
+        core_fresh m w (λ o. refl) h (core_step r w.core (CoreNasPdu pdu) outcome)
+        (core_nas_keeps h.roots h.given _ w.core (nas_needs r w.core pdu outcome) h.core)
+    core_turn_fresh (CoreRecord read) came t h =
+        core_fresh m w (λ o. refl) h (core_step r w.core (CoreRecord read) (opener (core_opens r w.core (CoreRecord read)) [] came))
+        (core_record_keeps h.roots h.given same _ w.core h.core)
+
+    -- an event that reaches no actor
+    by_world_fresh : (answer : Answer) → Fresh w → Fresh (by_world m w answer).0
+    by_world_fresh answer h = record {
+      roots = h.roots;
+      taken = h.taken;
+      given = h.given;
+      counted = h.counted;
+      phone = h.phone;
+      core = h.core;
+      stations = h.stations;
+      up = h.up;
+      nas = h.nas;
+      down = h.down;
+      sent = h.sent;
+      took = h.took;
+      apart = h.apart;
+    }
+
+    -- a station that is named, with all that holds of it
+    module _ (h : Fresh w) (id : ℕ) where
+      -- what holds of one station
+      abbrev Stands : Station Term ℕ → Type 0
+      Stands s = StationStands h.taken h.given s × AllOf (λ u. u.dir ≡ Down → StationUse h.taken h.given s u) w.uses
+
+      -- it holds of the one that is named
+      found : OfSome (λ s. Stands s × ((s.id == id) ≡ true)) (station_of_id id w.stations)
+      found = all_find Stands (λ s. s.id == id) w.stations
+          (all_both (StationStands h.taken h.given) (λ s. AllOf (λ u. u.dir ≡ Down → StationUse h.taken h.given s u) w.uses) Stands (λ s x y. (x, y)) w.stations h.stations h.down)
+
+      -- an act of a station
+      act_turn : (act : StationAct) (came : Option (Outgoing Term ℕ)) (o : Option (Station Term ℕ)) → OfSome (λ s. Stands s × ((s.id == id) ≡ true)) o → Fresh (turn_of m w id (StationActs act) came o).0
+      act_turn act came None k = by_world_fresh NoUe h
+      act_turn act came (Some s) k =
+          let outcome = opener (station_opens r s (StationActs act)) [] came in
+          station_fresh m w (λ o. refl) h id s (station_step r s (StationActs act) outcome) (same_of s.id id k.1) k.0.1
+          (station.act_keeps h.taken h.given same _ s (act_row_draws (plain_station r s) act) (act_row_counts r s act) k.0.0)
+
+      -- a record that comes to a station
+      record_turn : (to : Address) (interface : Interface) → GoesHere to id → (read : Result (Content Term ℕ) RecFault) → ReadStands h.given to read → (came : Option (Outgoing Term ℕ)) →
+          (o : Option (Station Term ℕ)) → OfSome (λ s. Stands s × ((s.id == id) ≡ true)) o → Fresh (turn_of m w id (StationRecord interface read) came o).0
+      record_turn to interface here read b came None k = by_world_fresh NoUe h
+      record_turn to interface here (Err fault) b came (Some s) k =
+          let outcome = opener (station_opens r s (StationRecord interface (Err fault))) [] came in
+          station_fresh m w (λ o. refl) h id s (station_step r s (StationRecord interface (Err fault)) outcome) (same_of s.id id k.1) k.0.1
+          (station.record_keeps h.taken h.given same (RecordRefused (BadRecord fault)) None s tt k.0.0)
+      record_turn to interface here (Ok content) b came (Some s) k =
+          let outcome = opener (station_opens r s (StationRecord interface (Ok content))) [] came in
+          station_fresh m w (λ o. refl) h id s (station_step r s (StationRecord interface (Ok content)) outcome) (same_of s.id id k.1) k.0.1
+          (station.record_keeps h.taken h.given same _ content.key s
+          (record_needs h.given s to (subst (GoesHere to) (sym (same_of s.id id k.1)) here) r interface content.fields content.key b) k.0.0)
+
+      -- a PDU that comes to a station: here alone it matters that what is accepted was sealed so
+      air_turn : (air : ℕ) (bearer : Bearer) (pdu : List ℕ) (came : Option (Outgoing Term ℕ)) → Came h.taken h.given (at.StationAir id air bearer) came →
+          (o : Option (Station Term ℕ)) → OfSome (λ s. Stands s × ((s.id == id) ≡ true)) o → SealedAsAccepted m (attempts_at m (AirPdu air bearer pdu) came o) →
+          Fresh (turn_of m w id (AirPdu air bearer pdu) came o).0
+      air_turn air bearer pdu came c None k honest = by_world_fresh NoUe h
+      air_turn air bearer pdu came c (Some s) k honest =
+          let outcome = opener (station_opens r s (AirPdu air bearer pdu)) pdu came in
+          let named : s.id ≡ id = same_of s.id id k.1 in
+          station_fresh m w (λ o. refl) h id s (station_step r s (AirPdu air bearer pdu) outcome) named k.0.1
+          (station.air_keeps h.taken h.given same _ s (air_row_draws (plain_station r s) air (which bearer) pdu outcome)
+          (air_row_needs h.taken s air r (which bearer) pdu outcome k.0.0.1
+          (λ u e. subst (λ i. OnKey (λ t type. h.taken t ≡ Some (home_at i air)) u.key) (sym named)
+          (came_there h.taken h.given id air bearer u came c (honest u (accepts_up s _ outcome u e) e))))
+          k.0.0)
+
+    -- ARRIVALS
+
+    -- a record on S1 or X2 reads as it was sent
+    content_stands : (h : Fresh w) (to : Address) (came : Option (Outgoing Term ℕ)) → Came h.taken h.given to came → ReadStands h.given to (content_in m came)
+    content_stands h to None k = tt
+    content_stands h to (Some (Between to' fields key)) k = subst (λ a. BetweenStands h.given a fields key) k.0 k.1
+    content_stands h to (Some (SealedNas dir header u e text)) k = tt
+    content_stands h to (Some (PlainNas x)) k = tt
+    content_stands h to (Some (SealedRrc dir station air srb u e text)) k = tt
+    content_stands h to (Some (UserPacket dir station air drb e text)) k = tt
+
+    -- what comes to an address
+    arrives_fresh : (h : Fresh w) (to : Address) (pdu : List ℕ) (came : Option (Outgoing Term ℕ)) → Came h.taken h.given to came →
+        SealedAsAccepted m (arrival_attempts m w to pdu came) → Fresh (arrives m w to pdu came).0
+    arrives_fresh h at.PhoneNas pdu came c honest = phone_turn_fresh (PhoneNasPdu pdu) came tt h
+    arrives_fresh h (at.Phone station air bearer) pdu came c honest = phone_turn_fresh (PhoneAirPdu station air bearer pdu) came tt h
+    arrives_fresh h at.CoreNas pdu came c honest = core_turn_fresh (CoreNasPdu pdu) came tt h
+    arrives_fresh h at.CoreS1 pdu came c honest = core_turn_fresh (CoreRecord (content_in m came)) came tt h
+    arrives_fresh h (at.StationAir id air bearer) pdu came c honest = air_turn h id air bearer pdu came c (station_of_id id w.stations) (found h id) honest
+    arrives_fresh h (at.StationS1 id) pdu came c honest =
+        record_turn h id (at.StationS1 id) OnS1 (on_s1 id) (content_in m came) (content_stands h (at.StationS1 id) came c) came (station_of_id id w.stations) (found h id)
+    arrives_fresh h (at.StationX2 id) pdu came c honest =
+        record_turn h id (at.StationX2 id) OnX2 (on_x2 id) (content_in m came) (content_stands h (at.StationX2 id) came c) came (station_of_id id w.stations) (found h id)
+
+    -- a record is delivered as it was sent
+    newest_stands : (P : Outgoing Term ℕ → Type 0) (b : Bool) (i : ℕ) (sent : List (Outgoing Term ℕ)) → AllOf P sent → OfSome P (newest_if b i sent)
+    newest_stands P true i sent h = all_get P sent i h
+    newest_stands P false i sent h = tt
+
+    -- so is the one that is chosen
+    chosen_stands : (P : Outgoing Term ℕ → Type 0) (i : ℤ) (sent : List (Outgoing Term ℕ)) → AllOf P sent → OfSome P (chosen i sent)
+    chosen_stands P (pos i) sent h = all_get P sent i h
+    chosen_stands P (negsuc i) sent h = newest_stands P (nat_lt i (length sent)) (length sent - 1 - i) sent h
+
+    -- a delivery
+    delivered_fresh : (h : Fresh w) (o : Option (Outgoing Term ℕ)) → OfSome (RecordStands h.taken h.given) o → SealedAsAccepted m (delivery_attempts m w o) → Fresh (delivered m w o).0
+    delivered_fresh h None k honest = by_world_fresh NoRecord h
+    delivered_fresh h (Some x) k honest = arrives_fresh h (address_of x) (octets x) (Some x) (refl, k) honest
+
+    -- octets that are injected
+    injected_fresh : (h : Fresh w) (to : Address) (pdu : List ℕ) (o : Option ℕ) → SealedAsAccepted m (injection_attempts m w to pdu o) → Fresh (injected m w to pdu o).0
+    injected_fresh h to pdu None honest = arrives_fresh h to pdu None tt honest
+    injected_fresh h to pdu (Some n) honest = by_world_fresh (Sent n) h
+
+    -- an authentication
+    auth_fresh : (ksi : ℕ) (octets' : List ℕ) (caps : Caps) (o : Option ℕ) → Fresh w → Fresh (auth_unless m w ksi (Root (next_root w) octets') caps o).0
+    auth_fresh ksi octets' caps (Some row) h = by_world_fresh (RepeatedRoot row) h
+    auth_fresh ksi octets' caps None h =
+        let root = Root (next_root w) octets' in record {
+          roots = h.roots + 1;
+          taken = h.taken;
+          given = h.given;
+          counted = one_root_more w.history root ∙ ap (λ n. n + 1) h.counted;
+          phone = phone_more h.roots root h.counted h.taken ksi w.phone h.phone;
+          core = core_more h.roots root h.counted h.given ksi caps w.core h.core;
+          stations = h.stations;
+          up = all_map (λ u. u.dir ≡ Up → UpUse h.roots h.taken w.phone u) (λ u. u.dir ≡ Up → UpUse (h.roots + 1) h.taken (record w.phone { partial = Some (record { ksi = ksi; root = root }) }) u)
+              (λ u x e. up_more h.roots root h.counted h.taken ksi w.phone u (x e)) w.uses h.up;
+          nas = all_map (λ u. u.dir ≡ Down → CoreUse h.roots w.core u)
+              (λ u. u.dir ≡ Down → CoreUse (h.roots + 1) (record w.core { latest = caps; partial = Some (record { ksi = ksi; root = root; caps = caps; send = 0 }); procedure = None }) u)
+              (λ u x e. nas_more h.roots root h.counted ksi caps w.core u (x e)) w.uses h.nas;
+          down = h.down;
+          sent = h.sent;
+          took = h.took;
+          apart = h.apart;
+        }
+
+    -- EVENTS
+
+    -- an event
+    pub happens_fresh : (e : Event) → SentUnder m w e → Fresh w → Fresh (happens m w e).0
+    happens_fresh (Event.Auth ksi octets' caps) honest h = auth_fresh ksi octets' caps (known_root m w (Root (next_root w) octets')) h
+    happens_fresh (Event.Phone act) honest h = phone_turn_fresh (PhoneActs act) None tt h
+    happens_fresh (Event.Station id act) honest h = act_turn h id act None (station_of_id id w.stations) (found h id)
+    happens_fresh (Event.Core act) honest h = core_turn_fresh (CoreActs act) None tt h
+    happens_fresh (Event.Deliver i) honest h = delivered_fresh h (chosen i w.sent) (chosen_stands (RecordStands h.taken h.given) i w.sent h.sent) honest
+    happens_fresh (Event.Inject to pdu) honest h = injected_fresh h to pdu (position_from (is_sent m (class_of to) pdu) 0 w.sent) honest
+
+  -- RUNS
+
+  -- a run
+  pub run_fresh : (w : World Term ℕ (Outgoing Term ℕ)) (es : List Event) → AllSentUnder m w es → Fresh w → Fresh (run m w es)
+  run_fresh w [] honest h = h
+  run_fresh w (e ∷ es) honest h = run_fresh (happens m w e).0 es honest.1 (happens_fresh w e honest.0 h)

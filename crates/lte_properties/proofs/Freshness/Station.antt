@@ -1,0 +1,506 @@
+-- What each row of a station keeps of the keys that it has and uses.
+use Rattle.std.proofs.Common.{◌≡◌, refl, sym, ap, ◌∙◌, subst, subst₂, ℕ, ◌+◌, ◌<◌, ◌≤◌, Bool, true, false, not, nat_le, List, [], ◌∷◌, ◌++◌, Option, Some, None, option_map, arith}
+use Rattle.std.specs.Prelude.{IfSome, ⊤}
+use Rattle.std.proofs.lemmas.Bool.Decides.{nat_tests}
+use Rattle.alg_choice.specs.declared.algs.Algs.{Algs}
+use Rattle.alg_choice.specs.declared.caps.Caps.{Caps}
+use Rattle.alg_choice.specs.Algs.{identity_of, eia2_identity}
+use Rattle.annex_a_keys.specs.Cell.{Place}
+use Rattle.rec_base.specs.declared.uses.Dir.TheVariants.{Down}
+use Rattle.rec_base.specs.Bearer.{bearer5_of}
+use Rattle.key_model.specs.Term.{Term, Alg}
+use Rattle.key_model.specs.Reading.{term_reading, term_reading_by}
+use Rattle.key_model.specs.HandoverTable.{NumberedKey}
+use Rattle.key_model.specs.HandoverLines.{star_line}
+use Rattle.nh_chain.specs.Station.{StationKey, restored_if, opened}
+use Rattle.pdcp_guard.specs.AsKeys.{AsKeys, as_keys_of}
+use Rattle.rrc_rec.specs.declared.records.RrcRecord.TheVariants.{RrcData}
+use Rattle.rrc_rec.specs.Spelling.{spelling_of}
+use Rattle.ho_prep.specs.declared.origins.By.{By}
+use Rattle.ho_prep.specs.Prep.{Prep, is_at, at_air, without, drop_below, is_of}
+use Rattle.x2_handover.specs.declared.orders.Order.{Order}
+use Rattle.lte_machine.specs.Bearers.{Srb, Signalling1, Drb, Bearers, of_srb, of_drb, srb_counts, drb_counts, srb_sent, drb_sent}
+use Rattle.lte_machine.specs.Wire.{KeyUse, Outgoing, uses_of, drb_use}
+use Rattle.lte_machine.specs.Reply.{Origin}
+use Rattle.lte_machine.specs.StationState.{Station, Context, Attempt}
+use Rattle.lte_machine.specs.StationRows.{Wanted, RecordRow, RecordRefused, ContextGiven, ContextReleased, PairTaken, PreparedByS1, PreparedByX2, AckedByS1, AckedByX2, PreparationCancelled, SourceReleased, AirRow, AirRefused, SecurityStarted, RrcOpened, PacketOpened, CompletedByS1, CompletedWithin, CompletedByX2, ActRow, ActRefused, StartedByX2, StartedByS1, StartedWithin, HandoverCommanded, CancelledByX2, CancelledByS1, CancelledWithin, PathSwitchAsked, PacketSent, RrcSent, BearerSkipped}
+use Rattle.lte_machine.specs.StationKeys.{signalling_sent, packet_sent, initial_context, context_given, with_pair, pair_taken, wanted_prep, prepared_by_s1, prepared_by_x2, with_wanted, with_s1_ack, with_x2_ack, record_does, with_security, with_rrc_taken, with_packet_taken, arrived, completed_by_s1, completed_within, completed_by_x2, air_does, started_by_x2, started_by_s1, started_within, own_prep, commands, commanded, order_text, given_up, spent_in, asks_again, sends_packet, sends_rrc, with_skipped, act_does}
+use Rattle.lte_machine.specs.World.{uses_in}
+use Rattle.lte_properties.specs.ChainBelow.{AllOf}
+use Rattle.lte_properties.specs.ChainRows.{AirDraws, ActDraws}
+use Rattle.lte_properties.specs.FreshUses.{Home, home_at, Homes, OnKey, IsAs, is_star, home_of, home, NoneWaits, IsSpent, next_on, send_on, ContextAhead, AsDown, StationUse, AllApart}
+use Rattle.lte_properties.specs.FreshHolds.{AsKeysOf, ContextStands, PrepStands, StationStands, RecordStands}
+use Rattle.lte_properties.proofs.ChainNumbers.Choice.{by_some}
+use Rattle.lte_properties.proofs.ChainNumbers.Lists.{OfSome, all_append, all_filter, all_find, all_map}
+use Rattle.lte_properties.proofs.Freshness.Lists.{both_apart}
+use Rattle.lte_properties.proofs.Freshness.Bearers.{Rise, rise_same, below_stays, srb_taken_rises, drb_taken_rises, srb_sent_rises, drb_sent_rises, left_out_rises, srb_is_next, srb_is_used, drb_is_next, drb_is_used}
+use Rattle.lte_properties.proofs.Freshness.Phone.{types_apart}
+
+-- STEPS
+
+-- a place that is spent stays so
+pub record Later (s t : Station Term ℕ) : Type 0 where
+  pub same : t.id ≡ s.id
+  pub next : s.next ≤ t.next
+  pub last : s.last ≤ t.last
+  pub free : (air : ℕ) → air < s.next → NoneWaits air s.preps → NoneWaits air t.preps
+
+-- by the kind of the place
+later_spent : (s t : Station Term ℕ) → Later s t → (b : Bool) (place : ℕ) → IsSpent b place s.next s.last s.preps → IsSpent b place t.next t.last t.preps
+later_spent s t l true place h = (let k = l.next in let x = h.0 in omega arith, l.free place h.0 h.1)
+later_spent s t l false place h = let k = l.last in omega arith
+
+-- a context goes, or stays with its KeNB and keys, and no COUNT falls
+abbrev pub Stays : Context Term ℕ → Context Term ℕ → Type 0
+Stays c d = (d.key.kenb ≡ c.key.kenb) × (d.keys ≡ c.keys) × Rise c.bearers d.bearers
+
+-- by whether there is one
+abbrev pub ContextStays : Option (Context Term ℕ) → Option (Context Term ℕ) → Type 0
+ContextStays o None = ⊤
+ContextStays None (Some d) = ⊥
+ContextStays (Some c) (Some d) = Stays c d
+
+-- a context that does not change stays
+stays_same : (o : Option (Context Term ℕ)) → ContextStays o o
+stays_same None = tt
+stays_same (Some c) = (refl, refl, rise_same c.bearers)
+
+-- so does one that changes in other parts
+stays_map : (f : Context Term ℕ → Context Term ℕ) → ((c : Context Term ℕ) → Stays c (f c)) → (o : Option (Context Term ℕ)) → ContextStays o (option_map f o)
+stays_map f h None = tt
+stays_map f h (Some c) = h c
+
+-- a pair that goes back leaves the KeNB
+restored_kenb : (key : StationKey Term ℕ) (o : Option (NumberedKey Term ℕ)) → (restored_if key o).kenb ≡ key.kenb
+restored_kenb key None = refl
+restored_kenb key (Some back) = refl
+
+-- a use that the station had not made before, and has made now, of a key whose home it is
+abbrev pub IsOwn : Homes → Homes → ℕ → KeyUse Term → Type 0
+IsOwn taken given id u = OnKey (λ k type. IsAs type × ((h : Home) × (home taken given k ≡ Some h) × (h.station ≡ id))) u.key
+
+-- a use that is new at a station
+abbrev pub NewAt : Homes → Homes → Station Term ℕ → Station Term ℕ → KeyUse Term → Type 0
+NewAt taken given s t u = (u.dir ≡ Down) × IsOwn taken given s.id u × StationUse taken given t u × (StationUse taken given s u → ⊥)
+
+-- what a step of a station keeps
+pub record StationKeeps (taken given : Homes) (s t : Station Term ℕ) (sent : Option (Outgoing Term ℕ)) : Type 0 where
+  pub same : t.id ≡ s.id
+  pub stands : StationStands taken given t
+  pub old : (k : Term) (type count bearer : ℕ) → AsDown taken given s k type count bearer → AsDown taken given t k type count bearer
+  pub uses : AllOf (NewAt taken given s t) (uses_in sent)
+  pub apart : AllApart (uses_in sent)
+  pub sends : IfSome sent (RecordStands taken given)
+
+-- WHAT A ROW NEEDS
+
+-- a KeNB that is given is for this station and a newer connection; a preparation is of no older connection, draws the next
+-- air address, and has a KeNB*
+abbrev pub RecordNeeds : Homes → Station Term ℕ → RecordRow → Option (NumberedKey Term ℕ) → Type 0
+RecordNeeds given s (ContextGiven conn cell caps algs air) key =
+    IfSome key (λ k. (s.last < conn) × (air ≡ s.next) × (given k.key ≡ Some (home_at s.id conn)) × (is_star k.key ≡ false))
+RecordNeeds given s (PreparedByS1 w) key = (s.last ≤ w.conn) × (w.air ≡ s.next)
+RecordNeeds given s (PreparedByX2 w) key = (s.last ≤ w.conn) × (w.air ≡ s.next) × IfSome key (λ k. is_star k.key ≡ true)
+RecordNeeds given s other key = ⊤
+
+-- the phone took the key of a preparation that completes, at this station and its air address
+abbrev pub TakenHere : Homes → ℕ → ℕ → Option (Prep Term ℕ) → Type 0
+TakenHere taken id air o = IfSome o (λ p. taken p.key.kenb ≡ Some (home_at id air))
+
+abbrev pub AirNeeds : Homes → Station Term ℕ → AirRow → Type 0
+AirNeeds taken s (CompletedByS1 air count) = TakenHere taken s.id air (at_air air s.preps)
+AirNeeds taken s (CompletedWithin air count origin) = TakenHere taken s.id air (at_air air s.preps)
+AirNeeds taken s (CompletedByX2 air count number) = TakenHere taken s.id air (at_air air s.preps)
+AirNeeds taken s other = ⊤
+
+-- a COUNT sent with is the next one
+abbrev pub ActCounts : Option (Context Term ℕ) → ActRow → Type 0
+ActCounts o (HandoverCommanded order count) = IfSome o (λ c. count ≡ c.bearers.srb1.send)
+ActCounts o (PacketSent drb count text) = IfSome o (λ c. count ≡ (drb_counts drb c.bearers).send)
+ActCounts o (RrcSent srb count text) = IfSome o (λ c. count ≡ (srb_counts srb c.bearers).send)
+ActCounts o other = ⊤
+
+module _ (taken given : Homes) where
+  -- CONTEXTS THAT STAY
+
+  -- a KeNB and its keys sit at a station
+  abbrev Sits : Station Term ℕ → Term → AsKeys Term → Type 0
+  Sits s kenb keys =
+      ((h : Home) × (home taken given kenb ≡ Some h) × (h.station ≡ s.id) × IsSpent (is_star kenb) h.place s.next s.last s.preps) × AsKeysOf kenb keys
+
+  -- they sit there later
+  sits_later : (s t : Station Term ℕ) → Later s t → (kenb : Term) (keys : AsKeys Term) → Sits s kenb keys → Sits t kenb keys
+  sits_later s t l kenb keys h = ((h.0.0, h.0.1, h.0.2 ∙ sym l.same, later_spent s t l (is_star kenb) h.0.0.place h.0.3), h.1)
+
+  -- so the context stands later
+  context_later : (s t : Station Term ℕ) → Later s t → (o n : Option (Context Term ℕ)) → ContextStays o n →
+      IfSome o (ContextStands taken given s) → IfSome n (ContextStands taken given t)
+  context_later s t l o None h k = tt
+  context_later s t l None (Some d) h k = absurd h
+  context_later s t l (Some c) (Some d) h k = subst₂ (Sits t) (sym h.0) (sym h.1) (sits_later s t l c.key.kenb c.keys k)
+
+  -- and its next COUNTs are above
+  ahead_later : (o n : Option (Context Term ℕ)) → ContextStays o n → (k : Term) (type count bearer : ℕ) → ContextAhead o k type count bearer → ContextAhead n k type count bearer
+  ahead_later o None h k type count bearer u = tt
+  ahead_later None (Some d) h k type count bearer u = absurd h
+  ahead_later (Some c) (Some d) h k type count bearer u = λ e. below_stays type bearer c.bearers d.bearers count h.2 (u (e ∙ h.0))
+
+  -- what such a step keeps, with the uses of what it sends
+  keeps : (s t : Station Term ℕ) (sent : Option (Outgoing Term ℕ)) → Later s t → ContextStays s.context t.context → AllOf (PrepStands t.next) t.preps →
+      StationStands taken given s → AllOf (NewAt taken given s t) (uses_in sent) → AllApart (uses_in sent) → IfSome sent (RecordStands taken given) →
+      StationKeeps taken given s t sent
+  keeps s t sent l c p h uses apart sends = record {
+    same = l.same;
+    stands = (context_later s t l s.context t.context c h.0, p);
+    old = λ k type count bearer u.
+        (u.0, u.1, λ e. later_spent s t l (is_star k) u.0.place (u.2 (e ∙ l.same)), ahead_later s.context t.context c k type count bearer u.3);
+    uses = uses;
+    apart = apart;
+    sends = sends;
+  }
+
+  -- preparations as they were
+  later_same : (s : Station Term ℕ) (next : ℕ) (o : Option (Context Term ℕ)) → s.next ≤ next → Later s (record s { next = next; context = o })
+  later_same s next o le = record { same = refl; next = le; last = omega arith; free = λ air lt h. h }
+
+  -- preparations stand as numbers are drawn
+  preps_rise : (m n : ℕ) (preps : List (Prep Term ℕ)) → m ≤ n → AllOf (PrepStands m) preps → AllOf (PrepStands n) preps
+  preps_rise m n preps le h = all_map (PrepStands m) (PrepStands n) (λ p k. (k.0, k.1, let x = k.2 in omega arith)) preps h
+
+  -- the context changes, or nothing does
+  changes : (s : Station Term ℕ) (next : ℕ) (o : Option (Context Term ℕ)) (sent : Option (Outgoing Term ℕ)) → s.next ≤ next → ContextStays s.context o →
+      StationStands taken given s → AllOf (NewAt taken given s (record s { next = next; context = o })) (uses_in sent) → AllApart (uses_in sent) →
+      IfSome sent (RecordStands taken given) → StationKeeps taken given s (record s { next = next; context = o }) sent
+  changes s next o sent le c h uses apart sends =
+      keeps s (record s { next = next; context = o }) sent (later_same s next o le) c (preps_rise s.next next s.preps le h.1) h uses apart sends
+
+  -- nothing changes
+  still : (s : Station Term ℕ) → StationStands taken given s → StationKeeps taken given s s None
+  still s h = changes s s.next s.context None (omega arith) (stays_same s.context) h tt tt tt
+
+  -- the context changes in other parts
+  mapped : (s : Station Term ℕ) (f : Context Term ℕ → Context Term ℕ) → ((c : Context Term ℕ) → Stays c (f c)) → StationStands taken given s →
+      StationKeeps taken given s (record s { context = option_map f s.context }) None
+  mapped s f c h = changes s s.next (option_map f s.context) None (omega arith) (stays_map f c s.context) h tt tt tt
+
+  -- SENDING
+
+  module _ (s : Station Term ℕ) (c : Context Term ℕ) (b : Bearers) (attempt : Option (Attempt Term ℕ)) where
+    -- the next COUNT of a bearer is new
+    new_use : (type id count bearer : ℕ) → IsAs type → StationStands taken given (record s { context = Some c }) →
+        count < next_on type bearer b → (count < next_on type bearer c.bearers → ⊥) →
+        NewAt taken given (record s { context = Some c }) (record s { context = Some (record c { bearers = b; attempt = attempt }) })
+        (record { key = Alg c.key.kenb type id; count = count; bearer = bearer; dir = Down })
+    new_use type id count bearer ge h used next =
+        (refl, (ge, (h.0.0.0, h.0.0.1, h.0.0.2)), λ a. (h.0.0.0, h.0.0.1, λ e. h.0.0.3, λ g. used), λ old. next ((old ge).3 refl))
+
+    -- the uses of an RRC text, by its keys
+    abbrev OfRrc : Srb → List ℕ → AsKeys Term → Type 0
+    OfRrc srb text keys =
+        AllOf (NewAt taken given (record s { context = Some c }) (record s { context = Some (record c { bearers = b; attempt = attempt }) }))
+        (uses_of {C = ℕ} (signalling_sent s.id c.air keys srb (srb_counts srb c.bearers).send text))
+        × AllApart (uses_of {C = ℕ} (signalling_sent s.id c.air keys srb (srb_counts srb c.bearers).send text))
+
+    -- an RRC text takes the next COUNT of its bearer
+    rrc_keeps : (srb : Srb) (text : List ℕ) → b ≡ srb_sent srb c.bearers → StationStands taken given (record s { context = Some c }) →
+        StationKeeps taken given (record s { context = Some c }) (record s { context = Some (record c { bearers = b; attempt = attempt }) })
+        (Some (signalling_sent s.id c.air c.keys srb (srb_counts srb c.bearers).send text))
+    rrc_keeps srb text e h =
+        let used : (srb_counts srb c.bearers).send < send_on false (bearer5_of (of_srb srb)) b =
+        subst (λ x. (srb_counts srb c.bearers).send < send_on false (bearer5_of (of_srb srb)) x) (sym e) (srb_is_used srb c.bearers) in
+        let a : OfRrc srb text (as_keys_of term_reading c.key.kenb c.keys.algs) = (
+          (
+            new_use 3 (identity_of c.keys.algs.eea) _ (bearer5_of (of_srb srb)) (omega arith) h used (srb_is_next srb c.bearers),
+            (new_use 4 eia2_identity _ (bearer5_of (of_srb srb)) (omega arith) h used (srb_is_next srb c.bearers), tt),
+          ),
+          both_apart _ _ (types_apart _ _ 3 4 refl refl (λ g. absurd (omega arith))),
+        ) in
+        let k = subst (OfRrc srb text) (sym h.0.1) a in
+        changes (record s { context = Some c }) s.next _ _ (omega arith)
+        (refl, refl, subst (Rise c.bearers) (sym e) (srb_sent_rises srb c.bearers)) h k.0 k.1 tt
+
+    -- a user packet
+    packet_keeps : (drb : Drb) (text : List ℕ) → b ≡ drb_sent drb c.bearers → StationStands taken given (record s { context = Some c }) →
+        StationKeeps taken given (record s { context = Some c }) (record s { context = Some (record c { bearers = b; attempt = attempt }) })
+        (Some (packet_sent s.id c.air c.keys drb (drb_counts drb c.bearers).send text))
+    packet_keeps drb text e h =
+        let used : (drb_counts drb c.bearers).send < send_on true (bearer5_of (of_drb drb)) b =
+        subst (λ x. (drb_counts drb c.bearers).send < send_on true (bearer5_of (of_drb drb)) x) (sym e) (drb_is_used drb c.bearers) in
+        let k = subst (λ (keys : AsKeys Term). NewAt taken given (record s { context = Some c }) (record s { context = Some (record c { bearers = b; attempt = attempt }) }) (drb_use Down keys.up_enc drb (drb_counts drb c.bearers).send))
+        (sym h.0.1) (new_use 5 (identity_of c.keys.algs.eea) _ (bearer5_of (of_drb drb)) (omega arith) h used (drb_is_next drb c.bearers)) in
+        changes (record s { context = Some c }) s.next _ _ (omega arith)
+        (refl, refl, subst (Rise c.bearers) (sym e) (drb_sent_rises drb c.bearers)) h (k, tt) (tt, tt) tt
+
+  -- A NEW CONTEXT
+
+  -- of a KeNB whose home is here, at a place that was not spent and is now
+  renewed : (s t : Station Term ℕ) (c : Context Term ℕ) (place : ℕ) (sent : Option (Outgoing Term ℕ)) → Later s (record t { context = Some c }) →
+      home taken given c.key.kenb ≡ Some (home_at s.id place) → (IsSpent (is_star c.key.kenb) place s.next s.last s.preps → ⊥) →
+      IsSpent (is_star c.key.kenb) place t.next t.last t.preps → AsKeysOf c.key.kenb c.keys → AllOf (PrepStands t.next) t.preps →
+      AllOf (NewAt taken given s (record t { context = Some c })) (uses_in sent) → AllApart (uses_in sent) → IfSome sent (RecordStands taken given) →
+      StationKeeps taken given s (record t { context = Some c }) sent
+  renewed s t c place sent l here unspent spent keys preps uses apart sends = record {
+    same = l.same;
+    stands = (((home_at s.id place, here, sym l.same, spent), keys), preps);
+    old = λ k type count bearer u. (
+      u.0,
+      u.1,
+      λ e. later_spent s (record t { context = Some c }) l (is_star k) u.0.place (u.2 (e ∙ l.same)),
+      λ e. absurd (unspent (used_here k type count bearer u e)),
+    );
+    uses = uses;
+    apart = apart;
+    sends = sends;
+  } where
+    used_here : (k : Term) (type count bearer : ℕ) → AsDown taken given s k type count bearer → k ≡ c.key.kenb → IsSpent (is_star c.key.kenb) place s.next s.last s.preps
+    used_here k type count bearer u e =
+        let same : u.0 ≡ home_at s.id place = by_some (sym u.1 ∙ ap (home taken given) e ∙ here) in
+        subst₂ (λ b n. IsSpent b n s.next s.last s.preps) (ap is_star e) (ap (λ (h : Home). h.place) same) (u.2 (ap (λ (h : Home). h.station) same))
+
+  -- rows by a record
+
+  -- an Initial Context
+  given_keeps : (same : Term → Term → Bool) (conn : ℕ) (cell : Place) (caps : Caps) (algs : Algs) (air : ℕ) (key : Option (NumberedKey Term ℕ)) (s : Station Term ℕ) →
+      RecordNeeds given s (ContextGiven conn cell caps algs air) key → StationStands taken given s →
+      let d = context_given (term_reading_by same) conn cell caps algs air key s in StationKeeps taken given s d.0 d.1.sent
+  given_keeps same conn cell caps algs air None s n h = still s h
+  given_keeps same conn cell caps algs air (Some k) s n h =
+      let c = initial_context (term_reading_by same) conn cell caps algs air k.key in
+      let here : home taken given k.key ≡ Some (home_at s.id conn) = ap (λ b. home_of b (taken k.key) (given k.key)) n.3 ∙ n.2 in
+      renewed s (record s { next = air + 1; last = conn; preps = [] }) c conn _
+      (record { same = refl; next = let x = n.1 in omega arith; last = let x = n.0 in omega arith; free = λ a lt f. tt })
+      here (λ spent. unspent (subst (λ b. IsSpent b conn s.next s.last s.preps) n.3 spent))
+      (subst (λ b. IsSpent b conn (air + 1) conn []) (sym n.3) (omega arith)) refl tt (
+        (
+          refl,
+          (omega arith, (home_at s.id conn, here, refl)),
+          λ a. (home_at s.id conn, here, λ e. subst (λ b. IsSpent b conn (air + 1) conn []) (sym n.3) (omega arith), λ e. omega arith),
+          λ old. unspent (old_spent here (old (omega arith))),
+        ),
+        tt,
+      )
+      (tt, tt) tt
+    where
+      unspent : conn ≤ s.last → ⊥
+      unspent le = let x = n.0 in absurd (omega arith)
+
+      old_spent : home taken given k.key ≡ Some (home_at s.id conn) → AsDown taken given s k.key 4 0 0 → conn ≤ s.last
+      old_spent here u =
+          let same : u.0 ≡ home_at s.id conn = by_some (sym u.1 ∙ here) in
+          subst₂ (λ b n. IsSpent b n s.next s.last s.preps) n.3 (ap (λ (h : Home). h.place) same) (u.2 (ap (λ (h : Home). h.station) same))
+
+  -- a pair that is taken
+  pair_keeps : (conn : ℕ) (origin : Option Origin) (key : Option (NumberedKey Term ℕ)) (s : Station Term ℕ) → StationStands taken given s →
+      let d = pair_taken conn origin key s in StationKeeps taken given s d.0 d.1.sent
+  pair_keeps conn origin None s h = still s h
+  pair_keeps conn None (Some pair) s h =
+      changes s s.next (option_map (with_pair pair) s.context) None (omega arith) (stays_map (with_pair pair) (λ c. (refl, refl, rise_same c.bearers)) s.context) h tt tt tt
+  pair_keeps conn (Some o) (Some pair) s h =
+      changes s s.next (option_map (with_pair pair) s.context) _ (omega arith) (stays_map (with_pair pair) (λ c. (refl, refl, rise_same c.bearers)) s.context) h tt tt tt
+
+  -- a preparation that is added waits at an air address that was not drawn before
+  waits_apart : (s : Station Term ℕ) (p : Prep Term ℕ) (preps : List (Prep Term ℕ)) → s.next ≤ p.air → (air : ℕ) → air < s.next → NoneWaits air preps → NoneWaits air (preps ++ p ∷ [])
+  waits_apart s p preps le air lt h = all_append (λ q. q.air ≡ air → ⊥) preps (p ∷ []) h ((λ e. absurd (omega arith)), tt)
+
+  -- a preparation is added
+  wanted_keeps : (w : Wanted) (p : Prep Term ℕ) (sent : Option (Outgoing Term ℕ)) (s : Station Term ℕ) → s.last ≤ w.conn → w.air ≡ s.next → p.air ≡ w.air → is_star p.key.kenb ≡ true →
+      AsKeysOf p.key.kenb p.keys → StationStands taken given s →
+      AllOf (NewAt taken given s (with_wanted w p s)) (uses_in sent) → AllApart (uses_in sent) → IfSome sent (RecordStands taken given) →
+      StationKeeps taken given s (with_wanted w p s) sent
+  wanted_keeps w p sent s last air at star keys h uses apart sends =
+      keeps s (with_wanted w p s) sent
+      (record {
+        same = refl;
+        next = omega arith;
+        last = last;
+        free = λ a lt f. waits_apart s p (drop_below w.conn s.preps) (omega arith) a lt (all_filter (λ q. q.air ≡ a → ⊥) (λ (q : Prep Term ℕ). nat_le w.conn q.conn) s.preps f);
+      })
+      (stays_same s.context)
+      (all_append (PrepStands (w.air + 1)) (drop_below w.conn s.preps) (p ∷ [])
+      (all_filter (PrepStands (w.air + 1)) (λ (q : Prep Term ℕ). nat_le w.conn q.conn) s.preps (preps_rise s.next (w.air + 1) s.preps (omega arith) h.1))
+      ((star, keys, omega arith), tt))
+      h uses apart sends
+
+  -- by a Handover Request on S1
+  by_s1_keeps : (same : Term → Term → Bool) (w : Wanted) (key : Option (NumberedKey Term ℕ)) (s : Station Term ℕ) → (s.last ≤ w.conn) × (w.air ≡ s.next) → StationStands taken given s →
+      let d = prepared_by_s1 (term_reading_by same) w key s in StationKeeps taken given s d.0 d.1.sent
+  by_s1_keeps same w None s n h = still s h
+  by_s1_keeps same w (Some pair) s n h =
+      wanted_keeps w (wanted_prep (term_reading_by same) w By.S1 (star_line (term_reading_by same) pair w.cell.pci w.cell.earfcn)) _ s n.0 n.1 refl refl refl h tt tt tt
+
+  -- by one on X2
+  by_x2_keeps : (same : Term → Term → Bool) (w : Wanted) (key : Option (NumberedKey Term ℕ)) (s : Station Term ℕ) → RecordNeeds given s (PreparedByX2 w) key → StationStands taken given s →
+      let d = prepared_by_x2 (term_reading_by same) w key s in StationKeeps taken given s d.0 d.1.sent
+  by_x2_keeps same w None s n h = still s h
+  by_x2_keeps same w (Some star) s n h = wanted_keeps w (wanted_prep (term_reading_by same) w By.X2 star) _ s n.0 n.1 refl n.2 refl h tt tt tt
+
+  -- no preparation comes, and perhaps some go
+  fewer : (s : Station Term ℕ) (o : Option (Context Term ℕ)) (preps : List (Prep Term ℕ)) → ContextStays s.context o → AllOf (PrepStands s.next) preps →
+      ((air : ℕ) → NoneWaits air s.preps → NoneWaits air preps) → StationStands taken given s → StationKeeps taken given s (record s { context = o; preps = preps }) None
+  fewer s o preps c p f h =
+      keeps s (record s { context = o; preps = preps }) None (record { same = refl; next = omega arith; last = omega arith; free = λ a lt. f a }) c p h tt tt tt
+
+  -- preparations of an attempt go
+  filtered : (s : Station Term ℕ) (o : Option (Context Term ℕ)) (source attempt : ℕ) → ContextStays s.context o → StationStands taken given s →
+      StationKeeps taken given s (record s { context = o; preps = without source attempt s.preps }) None
+  filtered s o source attempt c h =
+      fewer s o (without source attempt s.preps) c (all_filter (PrepStands s.next) (λ p. not (is_of source attempt p)) s.preps h.1)
+      (λ a f. all_filter (λ q. q.air ≡ a → ⊥) (λ p. not (is_of source attempt p)) s.preps f) h
+
+  -- a row of a record
+  pub record_keeps : (same : Term → Term → Bool) (row : RecordRow) (key : Option (NumberedKey Term ℕ)) (s : Station Term ℕ) → RecordNeeds given s row key → StationStands taken given s →
+      let d = record_does (term_reading_by same) row key s in StationKeeps taken given s d.0 d.1.sent
+  record_keeps same (RecordRefused answer) key s n h = still s h
+  record_keeps same (ContextGiven conn cell caps algs air) key s n h = given_keeps same conn cell caps algs air key s n h
+  record_keeps same ContextReleased key s n h = fewer s None [] tt tt (λ a f. tt) h
+  record_keeps same (PairTaken conn origin) key s n h = pair_keeps conn origin key s h
+  record_keeps same (PreparedByS1 w) key s n h = by_s1_keeps same w key s n h
+  record_keeps same (PreparedByX2 w) key s n h = by_x2_keeps same w key s n h
+  record_keeps same (AckedByS1 ncc algs air) key s n h = mapped s (with_s1_ack ncc algs air) (λ c. (refl, refl, rise_same c.bearers)) h
+  record_keeps same (AckedByX2 algs air) key s n h = mapped s (with_x2_ack algs air) (λ c. (refl, refl, rise_same c.bearers)) h
+  record_keeps same (PreparationCancelled o) key s n h = filtered s s.context o.source o.attempt (stays_same s.context) h
+  record_keeps same SourceReleased key s n h = changes s s.next None None (omega arith) tt h tt tt tt
+
+  -- rows by a PDU
+
+  -- the preparation at an air address stands, and waits there
+  abbrev WaitsAt : Station Term ℕ → ℕ → Prep Term ℕ → Type 0
+  WaitsAt s air p = PrepStands s.next p × (p.air ≡ air) × (NoneWaits air s.preps → ⊥)
+
+  -- and the one that is found does
+  waits_at : (s : Station Term ℕ) (air : ℕ) → StationStands taken given s → OfSome (WaitsAt s air) (at_air air s.preps)
+  waits_at s air h = by_found (at_air air s.preps) refl (all_find (PrepStands s.next) (is_at air) s.preps h.1) where
+    by_found : (o : Option (Prep Term ℕ)) → at_air air s.preps ≡ o → OfSome (λ p. PrepStands s.next p × (is_at air p ≡ true)) o → OfSome (WaitsAt s air) o
+    by_found None e k = tt
+    by_found (Some p) e k =
+        let at : p.air ≡ air = let x = k.1 in grind (arith, nat_tests) in
+        (k.0, at, λ none. let g = subst (OfSome (λ (q : Prep Term ℕ). (q.air ≡ air → ⊥) × (is_at air q ≡ true))) e (all_find (λ (q : Prep Term ℕ). q.air ≡ air → ⊥) (is_at air) s.preps none) in g.0 at)
+
+  -- its context is new: nobody waits there any more
+  arrives : (s : Station Term ℕ) (air next count : ℕ) (outstanding : Option ℕ) (origin : Option Origin) (p : Prep Term ℕ) (sent : Option (Outgoing Term ℕ)) →
+      s.next ≤ next → WaitsAt s air p → taken p.key.kenb ≡ Some (home_at s.id air) →
+      AllOf (NewAt taken given s (record s { next = next; context = Some (arrived count outstanding origin p); preps = [] })) (uses_in sent) →
+      AllApart (uses_in sent) → IfSome sent (RecordStands taken given) →
+      StationKeeps taken given s (record s { next = next; context = Some (arrived count outstanding origin p); preps = [] }) sent
+  arrives s air next count outstanding origin p sent le w here uses apart sends =
+      renewed s (record s { next = next; preps = [] }) (arrived count outstanding origin p) air sent
+      (record { same = refl; next = le; last = omega arith; free = λ a lt f. tt })
+      (ap (λ b. home_of b (taken p.key.kenb) (given p.key.kenb)) w.0.0 ∙ here)
+      (λ spent. w.2 (subst (λ b. IsSpent b air s.next s.last s.preps) w.0.0 spent).1)
+      (subst (λ b. IsSpent b air next s.last []) (sym w.0.0) (let x = w.0.2 in let y = w.1 in omega arith, tt))
+      w.0.1 tt uses apart sends
+
+  module _ (same : Term → Term → Bool) (s : Station Term ℕ) (air : ℕ) where
+    -- a handover on S1 completes
+    s1_keeps : (count : ℕ) (o : Option (Prep Term ℕ)) → OfSome (WaitsAt s air) o → TakenHere taken s.id air o → StationStands taken given s →
+        let d = completed_by_s1 (term_reading_by same) count o s in StationKeeps taken given s d.0 d.1.sent
+    s1_keeps count None w n h = still s h
+    s1_keeps count (Some p) w n h = arrives s air s.next count None None p _ (omega arith) w n tt tt tt
+
+    -- one within the station completes
+    within_keeps : (count : ℕ) (origin : Option Origin) (o : Option (Prep Term ℕ)) → OfSome (WaitsAt s air) o → TakenHere taken s.id air o → StationStands taken given s →
+        let d = completed_within (term_reading_by same) count origin o s in StationKeeps taken given s d.0 d.1.sent
+    within_keeps count origin None w n h = still s h
+    within_keeps count origin (Some p) w n h = arrives s air s.next count None origin p None (omega arith) w n tt tt tt
+
+    -- one on X2 completes
+    x2_keeps : (count number : ℕ) (o : Option (Prep Term ℕ)) → number ≡ s.next → OfSome (WaitsAt s air) o → TakenHere taken s.id air o → StationStands taken given s →
+        let d = completed_by_x2 (term_reading_by same) count number o s in StationKeeps taken given s d.0 d.1.sent
+    x2_keeps count number None e w n h = still s h
+    x2_keeps count number (Some p) e w n h = arrives s air (number + 1) count (Some number) _ p _ (omega arith) w n tt tt tt
+
+  -- a row of a PDU
+  pub air_keeps : (same : Term → Term → Bool) (row : AirRow) (s : Station Term ℕ) → AirDraws s.next row → AirNeeds taken s row → StationStands taken given s →
+      let d = air_does (term_reading_by same) row s in StationKeeps taken given s d.0 d.1.sent
+  air_keeps same (AirRefused answer) s d n h = still s h
+  air_keeps same (SecurityStarted count) s d n h = mapped s (with_security count) (λ c. (refl, refl, srb_taken_rises Signalling1 count c.bearers)) h
+  air_keeps same (RrcOpened srb count text) s d n h = mapped s (with_rrc_taken srb count) (λ c. (refl, refl, srb_taken_rises srb count c.bearers)) h
+  air_keeps same (PacketOpened drb count text) s d n h = mapped s (with_packet_taken drb count) (λ c. (refl, refl, drb_taken_rises drb count c.bearers)) h
+  air_keeps same (CompletedByS1 air count) s d n h = s1_keeps same s air count (at_air air s.preps) (waits_at s air h) n h
+  air_keeps same (CompletedWithin air count origin) s d n h = within_keeps same s air count origin (at_air air s.preps) (waits_at s air h) n h
+  air_keeps same (CompletedByX2 air count number) s d n h = x2_keeps same s air count number (at_air air s.preps) d (waits_at s air h) n h
+
+  -- rows by an act
+
+  module _ (same : Term → Term → Bool) (s : Station Term ℕ) where
+    -- a handover on X2 begins, with a KeNB* in its request
+    by_x2_start_keeps : (number target : ℕ) (cell : Place) (o : Option (Context Term ℕ)) → number ≡ s.next → StationStands taken given (record s { context = o }) →
+        let d = started_by_x2 (term_reading_by same) number target cell o (record s { context = o }) in StationKeeps taken given (record s { context = o }) d.0 d.1.sent
+    by_x2_start_keeps number target cell None e h = still (record s { context = None }) h
+    by_x2_start_keeps number target cell (Some c) e h =
+        changes (record s { context = Some c }) (number + 1) _ _ (omega arith) (refl, refl, rise_same c.bearers) h tt tt refl
+
+    -- one on S1 begins
+    by_s1_start_keeps : (number target : ℕ) (cell : Place) (o : Option (Context Term ℕ)) → number ≡ s.next → StationStands taken given (record s { context = o }) →
+        let d = started_by_s1 number target cell o (record s { context = o }) in StationKeeps taken given (record s { context = o }) d.0 d.1.sent
+    by_s1_start_keeps number target cell None e h = still (record s { context = None }) h
+    by_s1_start_keeps number target cell (Some c) e h =
+        changes (record s { context = Some c }) (number + 1) _ _ (omega arith) (refl, refl, rise_same c.bearers) h tt tt tt
+
+    -- within the station: one more preparation, at the air address drawn
+    within_start_keeps : (number air : ℕ) (cell : Place) (o : Option (Context Term ℕ)) → (number ≡ s.next) × (air ≡ s.next + 1) → StationStands taken given (record s { context = o }) →
+        let d = started_within (term_reading_by same) number air cell o (record s { context = o }) in StationKeeps taken given (record s { context = o }) d.0 d.1.sent
+    within_start_keeps number air cell None e h = still (record s { context = None }) h
+    within_start_keeps number air cell (Some c) e h =
+        let p = own_prep (term_reading_by same) s.id number air cell c (opened (term_reading_by same) c.key cell).star in
+        let le : s.next ≤ air = let x = e.1 in omega arith in
+        keeps (record s { context = Some c }) _ None
+        (record { same = refl; next = omega arith; last = omega arith; free = λ a lt f. waits_apart s p s.preps le a lt f })
+        (refl, refl, rise_same c.bearers)
+        (all_append (PrepStands (air + 1)) s.preps (p ∷ []) (preps_rise s.next (air + 1) s.preps (omega arith) h.1) ((refl, refl, omega arith), tt))
+        h tt tt tt
+
+    -- the handover command is sent
+    commands_keeps : (order : Order) (count : ℕ) (o : Option (Context Term ℕ)) → IfSome o (λ c. count ≡ c.bearers.srb1.send) → StationStands taken given (record s { context = o }) →
+        let d = commands order count o (record s { context = o }) in StationKeeps taken given (record s { context = o }) d.0 d.1.sent
+    commands_keeps order count None e h = still (record s { context = None }) h
+    commands_keeps order count (Some c) e h =
+        subst (λ n. let d = commands order n (Some c) (record s { context = Some c }) in StationKeeps taken given (record s { context = Some c }) d.0 d.1.sent) (sym e)
+        (rrc_keeps s c (srb_sent Signalling1 c.bearers) (option_map (commanded order) c.attempt) Signalling1 (order_text order) refl h)
+
+    -- a Path Switch Request again
+    asks_keeps : (number : ℕ) (o : Option (Context Term ℕ)) → number ≡ s.next → StationStands taken given (record s { context = o }) →
+        let d = asks_again number o (record s { context = o }) in StationKeeps taken given (record s { context = o }) d.0 d.1.sent
+    asks_keeps number None e h = still (record s { context = None }) h
+    asks_keeps number (Some c) e h =
+        changes (record s { context = Some c }) (number + 1) _ _ (omega arith) (refl, refl, rise_same c.bearers) h tt tt tt
+
+    -- a user packet is sent
+    packets_keeps : (drb : Drb) (count : ℕ) (text : List ℕ) (o : Option (Context Term ℕ)) → IfSome o (λ c. count ≡ (drb_counts drb c.bearers).send) →
+        StationStands taken given (record s { context = o }) →
+        let d = sends_packet drb count text o (record s { context = o }) in StationKeeps taken given (record s { context = o }) d.0 d.1.sent
+    packets_keeps drb count text None e h = still (record s { context = None }) h
+    packets_keeps drb count text (Some c) e h =
+        subst (λ n. let d = sends_packet drb n text (Some c) (record s { context = Some c }) in StationKeeps taken given (record s { context = Some c }) d.0 d.1.sent) (sym e)
+        (packet_keeps s c (drb_sent drb c.bearers) c.attempt drb text refl h)
+
+    -- an RRC text is sent
+    texts_keeps : (srb : Srb) (count : ℕ) (text : List ℕ) (o : Option (Context Term ℕ)) → IfSome o (λ c. count ≡ (srb_counts srb c.bearers).send) →
+        StationStands taken given (record s { context = o }) →
+        let d = sends_rrc srb count text o (record s { context = o }) in StationKeeps taken given (record s { context = o }) d.0 d.1.sent
+    texts_keeps srb count text None e h = still (record s { context = None }) h
+    texts_keeps srb count text (Some c) e h =
+        subst (λ n. let d = sends_rrc srb n text (Some c) (record s { context = Some c }) in StationKeeps taken given (record s { context = Some c }) d.0 d.1.sent) (sym e)
+        (rrc_keeps s c (srb_sent srb c.bearers) c.attempt srb (spelling_of (RrcData text)) refl h)
+
+  -- an attempt that is given up leaves the KeNB
+  gives_up : (c : Context Term ℕ) → Stays c (given_up c)
+  gives_up c = (restored_kenb c.key (spent_in c.attempt), refl, rise_same c.bearers)
+
+  -- a row of an act
+  pub act_keeps : (same : Term → Term → Bool) (row : ActRow) (s : Station Term ℕ) → ActDraws s.next row → ActCounts s.context row → StationStands taken given s →
+      let d = act_does (term_reading_by same) row s in StationKeeps taken given s d.0 d.1.sent
+  act_keeps same (ActRefused answer) s d n h = still s h
+  act_keeps same (StartedByX2 number target cell) s d n h = by_x2_start_keeps same s number target cell s.context d h
+  act_keeps same (StartedByS1 number target cell) s d n h = by_s1_start_keeps same s number target cell s.context d h
+  act_keeps same (StartedWithin number air cell) s d n h = within_start_keeps same s number air cell s.context d h
+  act_keeps same (HandoverCommanded order count) s d n h = commands_keeps same s order count s.context n h
+  act_keeps same (CancelledByX2 conn number target) s d n h =
+      changes s s.next (option_map given_up s.context) _ (omega arith) (stays_map given_up gives_up s.context) h tt tt tt
+  act_keeps same (CancelledByS1 conn number cell) s d n h =
+      changes s s.next (option_map given_up s.context) _ (omega arith) (stays_map given_up gives_up s.context) h tt tt tt
+  act_keeps same (CancelledWithin number) s d n h = filtered s (option_map given_up s.context) s.id number (stays_map given_up gives_up s.context) h
+  act_keeps same (PathSwitchAsked number) s d n h = asks_keeps same s number s.context d h
+  act_keeps same (PacketSent drb count text) s d n h = packets_keeps same s drb count text s.context n h
+  act_keeps same (RrcSent srb count text) s d n h = texts_keeps same s srb count text s.context n h
+  act_keeps same (BearerSkipped on m) s d n h = mapped s (with_skipped on m) (λ c. (refl, refl, left_out_rises on m c.bearers)) h

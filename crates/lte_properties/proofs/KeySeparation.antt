@@ -1,0 +1,11 @@
+pub mod All
+pub mod Attempts
+pub mod Choice
+pub mod Core
+pub mod Ever
+pub mod Keys
+pub mod Phone
+pub mod Run
+pub mod Shared
+pub mod Station
+pub mod World

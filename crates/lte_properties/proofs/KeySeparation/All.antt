@@ -1,0 +1,233 @@
+-- Every key of a run was held by somebody, and each station held the keys that it has.
+use Rattle.std.proofs.Common.{◌≡◌, refl, sym, ◌∙◌, subst, ℕ, ◌==◌, Bool, true, List, [], ◌∷◌, ◌++◌, map, Option, Some, None, inl, inr}
+use Rattle.std.specs.Prelude.{◌⊎◌, option_map, Err}
+use Rattle.std.specs.List.{position_from}
+use Rattle.std.proofs.lemmas.List.{map-append}
+use Rattle.alg_choice.specs.declared.caps.Caps.{Caps}
+use Rattle.lte_machine.specs.Bearers.{which}
+use Rattle.rec_base.specs.declared.faults.RecFault.{RecFault}
+use Rattle.lte_events.specs.declared.addresses.Address.{Address}
+use Rattle.lte_events.specs.declared.events.Event.{Event}
+use Rattle.lte_events.specs.declared.setups.Setup.{Setup}
+use Rattle.lte_events.specs.declared.setups.StationSetup.{StationSetup}
+use Rattle.lte_events.specs.Site.{Site}
+use Rattle.key_model.specs.Derivation.{Derivation}
+use Rattle.key_model.specs.HandoverTable.{NumberedKey}
+use Rattle.key_model.specs.Reading.{term_reading_by}
+use Rattle.key_model.specs.Term.{Term}
+use Rattle.lte_machine.specs.Wire.{KeyUse, Outgoing, address_of}
+use Rattle.lte_machine.specs.Opening.{Opening, Outcome}
+use Rattle.lte_machine.specs.Reply.{Reply}
+use Rattle.lte_machine.specs.Ladder.{RowOrigin, OfRoot, Of, row_key}
+use Rattle.lte_machine.specs.Distinct.{keys_of, Member}
+use Rattle.lte_machine.specs.Known.{PairKnown, StationKnown}
+use Rattle.lte_machine.specs.StationState.{Station, StationInput, StationActs, AirPdu, StationRecord, Interface, OnS1, OnX2}
+use Rattle.lte_machine.specs.StationStep.{station_key, station_opens, station_pdu_in, station_row_of, station_step, plain_station}
+use Rattle.lte_machine.specs.PhoneState.{PhoneInput, PhoneActs, PhoneNasPdu, PhoneAirPdu}
+use Rattle.lte_machine.specs.PhoneStep.{phone_step, phone_opens, phone_pdu_in}
+use Rattle.lte_machine.specs.CoreState.{CoreInput, CoreActs, CoreNasPdu, CoreRecord}
+use Rattle.lte_machine.specs.CoreStep.{core_step, core_opens, core_pdu_in}
+use Rattle.lte_machine.specs.Machines.{content_of}
+use Rattle.lte_machine.specs.Run.{first_world, stations_of}
+use Rattle.lte_machine.specs.World.{Machine, World, Holder, AtPhone, AtCore, AtStation, Holding, holds, station_after, station_of_id, turn_of, station_turn, phone_turn, core_turn, auth_unless, known_root, next_root, content_in, arrives, chosen, delivered, class_of, is_sent, injected, happens}
+use Rattle.lte_machine.proofs.Rows.{member_either}
+use Rattle.lte_machine.proofs.KnownLists.{AllOut, station_more}
+use Rattle.lte_machine.proofs.KnownLadder.{outs_more}
+use Rattle.lte_machine.proofs.KnownStation.{station_does_keeps}
+use Rattle.lte_properties.specs.ChainBelow.{AllOf}
+use Rattle.lte_properties.specs.ChainHolds.{machine_by, run}
+use Rattle.lte_properties.specs.Separation.{IsStationOf, HeldBy, WasHeld, AllHeld, OwnHeld}
+use Rattle.lte_properties.proofs.ChainNumbers.Draws.{air_row_draws, act_row_draws}
+use Rattle.lte_properties.proofs.ChainNumbers.Lists.{OfSome, all_map, all_find, all_put}
+use Rattle.lte_properties.proofs.KeySeparation.Attempts.{Numbered, step_numbered, read_draws, is_one}
+use Rattle.lte_properties.proofs.KeySeparation.Keys.{any_before, any_behind}
+
+-- WHAT A STEP GIVES ITS ACTOR
+
+abbrev Heres : Holder → List (Derivation Term) → List (Holding Term)
+Heres holder ds = map (λ d. record { holder = holder; key = d.out }) ds
+
+here_held : (holder : Holder) (ds : List (Derivation Term)) (t : Term) → Member t (keys_of (map Of ds)) → WasHeld (Heres holder ds) t
+here_held holder [] t h = absurd h
+here_held holder (d ∷ ds) t (inl e) = inl (sym e)
+here_held holder (d ∷ ds) t (inr h) = inr (here_held holder ds t h)
+
+-- each key derived is held then
+derived_held : (holder : Holder) (received : Option Term) (ds : List (Derivation Term)) (t : Term) → Member t (keys_of (map Of ds)) → WasHeld (holds holder received ds) t
+derived_held holder None ds t h = here_held holder ds t h
+derived_held holder (Some key) ds t h = inr (here_held holder ds t h)
+
+-- by the station that derived it
+abbrev Own : ℕ → List (Holding Term) → Term → Type 0
+Own id held t = HeldBy (λ i. i ≡ id) held t
+
+own_derived : (id : ℕ) (ds : List (Derivation Term)) → AllOut (Own id (Heres (AtStation id) ds)) ds
+own_derived id [] = tt
+own_derived id (d ∷ ds) = (inl (refl, refl), outs_more (Own id (Heres (AtStation id) ds)) (Own id (Heres (AtStation id) (d ∷ ds))) (λ t h. inr h) ds (own_derived id ds))
+
+own_outs : (id : ℕ) (received : Option Term) (ds : List (Derivation Term)) → AllOut (Own id (holds (AtStation id) received ds)) ds
+own_outs id None ds = own_derived id ds
+own_outs id (Some key) ds = outs_more (Own id (Heres (AtStation id) ds)) (Own id (holds (AtStation id) (Some key) ds)) (λ t h. inr h) ds (own_derived id ds)
+
+-- and so is the key that it received
+own_received : (id : ℕ) (ds : List (Derivation Term)) (o : Option (NumberedKey Term ℕ)) → PairKnown (Own id (holds (AtStation id) (option_map (λ x. x.key) o) ds)) o
+own_received id ds None = tt
+own_received id ds (Some pair) = inl (refl, refl)
+
+pair_more : (P Q : Term → Type 0) → ((t : Term) → P t → Q t) → (o : Option (NumberedKey Term ℕ)) → PairKnown P o → PairKnown Q o
+pair_more P Q f None h = tt
+pair_more P Q f (Some pair) h = f pair.key h
+
+module _ (held more : List (Holding Term)) where
+  own_before : (id : ℕ) (t : Term) → Own id held t → Own id (held ++ more) t
+  own_before id t h = any_before (λ e. IsStationOf (λ i. i ≡ id) e.holder × (e.key ≡ t)) held more h
+
+  own_behind : (id : ℕ) (t : Term) → Own id more t → Own id (held ++ more) t
+  own_behind id t h = any_behind (λ e. IsStationOf (λ i. i ≡ id) e.holder × (e.key ≡ t)) held more h
+
+  -- what a station held it has held later too
+  own_later : (s : Station Term ℕ) → StationKnown (Own s.id held) s → StationKnown (Own s.id (held ++ more)) s
+  own_later s h = station_more (Own s.id held) (Own s.id (held ++ more)) (own_before s.id) s h
+
+  own_all : (ss : List (Station Term ℕ)) → AllOf (λ s. StationKnown (Own s.id held) s) ss → AllOf (λ s. StationKnown (Own s.id (held ++ more)) s) ss
+  own_all ss h = all_map (λ s. StationKnown (Own s.id held) s) (λ s. StationKnown (Own s.id (held ++ more)) s) own_later ss h
+
+-- THE INVARIANT
+
+pub record HeldAll (w : World Term ℕ (Outgoing Term ℕ)) : Type 0 where
+  pub all : AllHeld w
+  pub own : OwnHeld w
+
+-- the keys of a longer history
+all_longer : (w : World Term ℕ (Outgoing Term ℕ)) (ms : List (RowOrigin Term)) (more : List (Holding Term)) → AllHeld w → ((t : Term) → Member t (keys_of ms) → WasHeld more t)
+    → (t : Term) → Member t (keys_of (w.history ++ ms)) → WasHeld (w.held ++ more) t
+all_longer w ms more h f t k = by (member_either t (keys_of w.history) (keys_of ms) (subst (Member t) (map-append row_key w.history ms) k))
+  where
+    by : Member t (keys_of w.history) ⊎ Member t (keys_of ms) → WasHeld (w.held ++ more) t
+    by (inl m) = any_before (λ e. e.key ≡ t) w.held more (h t m)
+    by (inr m) = any_behind (λ e. e.key ≡ t) w.held more (f t m)
+
+module _ (same : Term → Term → Bool) (root : ℕ → List ℕ → Term) (octets : Outgoing Term ℕ → List ℕ) (sender : Option (Outgoing Term ℕ) → Option (KeyUse Term)) (opener : Opening Term → List ℕ → Option (Outgoing Term ℕ) → Outcome) where
+  abbrev TheWorld : Type 0
+  TheWorld = World Term ℕ (Outgoing Term ℕ)
+
+  abbrev m : Machine Term ℕ (Outgoing Term ℕ)
+  m = machine_by same root octets sender opener
+
+  -- after a step of phone or core: what was held, and what it gave out
+  beside : (w u : TheWorld) (holder : Holder) (reply : Reply Term ℕ) → u.history ≡ w.history ++ map Of reply.derived → u.held ≡ w.held ++ holds holder reply.received reply.derived → u.stations ≡ w.stations
+      → HeldAll w → HeldAll u
+  beside w u holder reply e f g h = record {
+    all = λ t k. subst (λ x. WasHeld x t) (sym f) (all_longer w (map Of reply.derived) (holds holder reply.received reply.derived) h.all (derived_held holder reply.received reply.derived) t
+        (subst (λ x. Member t (keys_of x)) e k));
+    own = subst (λ x. AllOf (λ s. StationKnown (Own s.id x) s) u.stations) (sym f)
+        (subst (λ x. AllOf (λ s. StationKnown (Own s.id (w.held ++ holds holder reply.received reply.derived)) s) x) (sym g)
+        (own_all w.held (holds holder reply.received reply.derived) w.stations h.own));
+  }
+
+  phone_held : (w : TheWorld) (input : PhoneInput Term) (came : Option (Outgoing Term ℕ)) → HeldAll w → HeldAll (phone_turn m w input came).0
+  phone_held w input came h =
+      let d = phone_step (term_reading_by same) w.phone input (opener (phone_opens (term_reading_by same) w.phone input) (phone_pdu_in input) came) in
+      beside w (phone_turn m w input came).0 AtPhone d.1 refl refl refl h
+
+  core_held : (w : TheWorld) (input : CoreInput Term ℕ) (came : Option (Outgoing Term ℕ)) → HeldAll w → HeldAll (core_turn m w input came).0
+  core_held w input came h =
+      let d = core_step (term_reading_by same) w.core input (opener (core_opens (term_reading_by same) w.core input) (core_pdu_in input) came) in
+      beside w (core_turn m w input came).0 AtCore d.1 refl refl refl h
+
+  unchanged : (w u : TheWorld) → u.history ≡ w.history → u.held ≡ w.held → u.stations ≡ w.stations → HeldAll w → HeldAll u
+  unchanged w u e f g h = record {
+    all = λ t k. subst (λ x. WasHeld x t) (sym f) (h.all t (subst (λ x. Member t (keys_of x)) e k));
+    own = subst (λ x. AllOf (λ s. StationKnown (Own s.id x) s) u.stations) (sym f)
+        (subst (λ x. AllOf (λ s. StationKnown (Own s.id w.held) s) x) (sym g) h.own);
+  }
+
+  -- A STATION'S STEP
+
+  abbrev Steps : StationInput Term ℕ → Type 0
+  Steps input = (s : Station Term ℕ) → (outcome : Outcome) → Numbered s (station_step (term_reading_by same) s input outcome)
+
+  stepped : (w : TheWorld) (id : ℕ) (input : StationInput Term ℕ) (s : Station Term ℕ) (outcome : Outcome) → s.id ≡ id → Numbered s (station_step (term_reading_by same) s input outcome)
+      → StationKnown (Own s.id w.held) s → HeldAll w → HeldAll (station_after m w id (station_step (term_reading_by same) s input outcome)).0
+  stepped w id input s outcome e n k h =
+      let d = station_step (term_reading_by same) s input outcome in
+      let more = holds (AtStation id) d.1.received d.1.derived in
+      let P : Term → Type 0 = Own id (w.held ++ more) in
+      let known : StationKnown P s = station_more (Own s.id w.held) P (λ t o. own_before w.held more id t (subst (λ i. Own i w.held t) e o)) s k in
+      let received : PairKnown P (station_key input) =
+      pair_more (Own id more) P (own_behind w.held more id) (station_key input) (own_received id d.1.derived (station_key input)) in
+      let outs : AllOut P d.1.derived = outs_more (Own id more) P (own_behind w.held more id) d.1.derived (own_outs id d.1.received d.1.derived) in
+      let keeps = station_does_keeps same P P (λ t o. o) (station_row_of (term_reading_by same) s input outcome) (station_key input) s received known in
+      let here : StationKnown P d.0 = (keeps.1 outs).0 in
+      record {
+        all = λ t j. all_longer w (map Of d.1.derived) more h.all (derived_held (AtStation id) d.1.received d.1.derived) t j;
+        own = all_put (λ u. StationKnown (Own u.id w.held) u) (λ u. StationKnown (Own u.id (w.held ++ more)) u) id d.0 w.stations
+            (subst (λ i. StationKnown (Own i (w.held ++ more)) d.0) (sym (n.same ∙ e)) here)
+            (λ u no o. own_later w.held more u o) h.own;
+      }
+
+  turn_held : (w : TheWorld) (id : ℕ) (input : StationInput Term ℕ) (came : Option (Outgoing Term ℕ)) → Steps input → (o : Option (Station Term ℕ))
+      → OfSome (λ s. StationKnown (Own s.id w.held) s × ((s.id == id) ≡ true)) o → HeldAll w → HeldAll (turn_of m w id input came o).0
+  turn_held w id input came step None k h = unchanged w (turn_of m w id input came None).0 refl refl refl h
+  turn_held w id input came step (Some s) k h =
+      let outcome = opener (station_opens (term_reading_by same) s input) (station_pdu_in input) came in
+      stepped w id input s outcome (is_one s.id id k.1) (step s outcome) k.0 h
+
+  station_held : (w : TheWorld) (id : ℕ) (input : StationInput Term ℕ) (came : Option (Outgoing Term ℕ)) → Steps input → HeldAll w → HeldAll (station_turn m w id input came).0
+  station_held w id input came step h =
+      turn_held w id input came step (station_of_id id w.stations) (all_find (λ s. StationKnown (Own s.id w.held) s) (λ s. s.id == id) w.stations h.own) h
+
+  read_held : (w : TheWorld) (on : Interface) (id : ℕ) (came : Option (Outgoing Term ℕ)) → HeldAll w → HeldAll (station_turn m w id (StationRecord on (content_in m came)) came).0
+  read_held w on id None h = station_held w id (StationRecord on (Err RecFault.Short)) None (λ s outcome. step_numbered same s (StationRecord on (Err RecFault.Short)) outcome tt) h
+  read_held w on id (Some x) h = station_held w id (StationRecord on (content_of x)) (Some x) (λ s outcome. step_numbered same s (StationRecord on (content_of x)) outcome (read_draws same s on x)) h
+
+  -- AN EVENT
+
+  arrives_held : (w : TheWorld) (to : Address) (pdu : List ℕ) (came : Option (Outgoing Term ℕ)) → HeldAll w → HeldAll (arrives m w to pdu came).0
+  arrives_held w Address.PhoneNas pdu came h = phone_held w (PhoneNasPdu pdu) came h
+  arrives_held w (Address.Phone station air bearer) pdu came h = phone_held w (PhoneAirPdu station air bearer pdu) came h
+  arrives_held w Address.CoreNas pdu came h = core_held w (CoreNasPdu pdu) came h
+  arrives_held w Address.CoreS1 pdu came h = core_held w (CoreRecord (content_in m came)) came h
+  arrives_held w (Address.StationAir station air bearer) pdu came h =
+      station_held w station (AirPdu air bearer pdu) came (λ s outcome. step_numbered same s (AirPdu air bearer pdu) outcome (air_row_draws (plain_station (term_reading_by same) s) air (which bearer) pdu outcome)) h
+  arrives_held w (Address.StationS1 station) pdu came h = read_held w OnS1 station came h
+  arrives_held w (Address.StationX2 station) pdu came h = read_held w OnX2 station came h
+
+  auth_held : (w : TheWorld) (ksi : ℕ) (key : Term) (caps : Caps) (o : Option ℕ) → HeldAll w → HeldAll (auth_unless m w ksi key caps o).0
+  auth_held w ksi key caps None h =
+      let both : List (Holding Term) = record { holder = AtPhone; key = key } ∷ record { holder = AtCore; key = key } ∷ [] in
+      record { all = λ t k. all_longer w (OfRoot key ∷ []) both h.all (root_held key both refl) t k; own = own_all w.held both w.stations h.own }
+    where
+      root_held : (key : Term) (both : List (Holding Term)) → both ≡ record { holder = AtPhone; key = key } ∷ record { holder = AtCore; key = key } ∷ [] → (t : Term) → Member t (key ∷ []) → WasHeld both t
+      root_held key both e t (inl f) = subst (λ x. WasHeld x t) (sym e) (inl (sym f))
+      root_held key both e t (inr f) = absurd f
+  auth_held w ksi key caps (Some row) h = unchanged w (auth_unless m w ksi key caps (Some row)).0 refl refl refl h
+
+  delivered_held : (w : TheWorld) (o : Option (Outgoing Term ℕ)) → HeldAll w → HeldAll (delivered m w o).0
+  delivered_held w None h = unchanged w (delivered m w None).0 refl refl refl h
+  delivered_held w (Some x) h = arrives_held w (address_of x) (octets x) (Some x) h
+
+  injected_held : (w : TheWorld) (to : Address) (pdu : List ℕ) (o : Option ℕ) → HeldAll w → HeldAll (injected m w to pdu o).0
+  injected_held w to pdu None h = arrives_held w to pdu None h
+  injected_held w to pdu (Some number) h = unchanged w (injected m w to pdu (Some number)).0 refl refl refl h
+
+  happens_held : (w : TheWorld) (e : Event) → HeldAll w → HeldAll (happens m w e).0
+  happens_held w (Event.Auth ksi key caps) h = let k = root (next_root w) key in auth_held w ksi k caps (known_root m w k) h
+  happens_held w (Event.Phone act) h = phone_held w (PhoneActs act) None h
+  happens_held w (Event.Station id act) h =
+      station_held w id (StationActs act) None (λ s outcome. step_numbered same s (StationActs act) outcome (act_row_draws (plain_station (term_reading_by same) s) act)) h
+  happens_held w (Event.Core act) h = core_held w (CoreActs act) None h
+  happens_held w (Event.Deliver i) h = delivered_held w (chosen i w.sent) h
+  happens_held w (Event.Inject to pdu) h = injected_held w to pdu (position_from (is_sent m (class_of to) pdu) 0 w.sent) h
+
+  pub run_held : (w : TheWorld) (es : List Event) → HeldAll w → HeldAll (run m w es)
+  run_held w [] h = h
+  run_held w (e ∷ es) h = run_held (happens m w e).0 es (happens_held w e h)
+
+first_own : (sites : List Site) (ss : List StationSetup) → AllOf (λ s. StationKnown (Own s.id []) s) (stations_of sites ss)
+first_own sites [] = tt
+first_own sites (s ∷ ss) = ((tt, tt), first_own sites ss)
+
+-- before the first event there is no key
+pub first_held : (setup : Setup) → HeldAll (first_world setup)
+first_held setup = record { all = λ t h. absurd h; own = first_own setup.cells setup.stations }

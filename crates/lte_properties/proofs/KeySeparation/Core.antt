@@ -1,0 +1,471 @@
+-- What each row of the core keeps: it gives each key to one station, since each key that it gives is a later one.
+use Rattle.std.proofs.Common.{◌≡◌, refl, sym, ◌∙◌, subst, ℕ, suc, ◌+◌, ◌≤◌, ◌<◌, ◌⊎◌, inl, inr, Bool, List, [], Option, Some, None, arith}
+use Rattle.std.specs.Prelude.{⊤}
+use Rattle.alg_choice.specs.declared.algs.Algs.{Algs}
+use Rattle.alg_choice.specs.declared.caps.Caps.{Caps}
+use Rattle.annex_a_keys.specs.Cell.{Place}
+use Rattle.lte_events.specs.Site.{Site}
+use Rattle.lte_events.specs.declared.addresses.Address.TheVariants.{StationS1}
+use Rattle.nas_count.specs.declared.sending.TheConstants.{LIMIT}
+use Rattle.nas_guard.specs.Keys.{Keys}
+use Rattle.key_model.specs.Term.{Term, Root, Kenb, Nh, Star, Alg, IsRoot, IsDerivationKey, IsWellFormed}
+use Rattle.key_model.specs.Number.{chain_number}
+use Rattle.key_model.specs.Reading.{term_reading_by}
+use Rattle.s1x2_rec.specs.Fields.{Fields, InitialContext, ContextRelease, PathSwitchAnswer, HandoverRequest}
+use Rattle.nh_chain.specs.Chain.{ChainState, stepped, present_pair}
+use Rattle.lte_machine.specs.Bearers.{skipped}
+use Rattle.lte_machine.specs.Wire.{Outgoing, Between}
+use Rattle.lte_machine.specs.Reply.{Reply, Tried}
+use Rattle.lte_machine.specs.CoreState.{Core, CorePartial, CoreContext, CoreLink}
+use Rattle.lte_machine.specs.CoreRows.{CoreNasRow, NasRefused, PlainReject, SmcComplete, ServiceAsked, NasOpened, SealedReject, CoreRecordRow, RecordRefused, PathSwitched, HandoverAsked, HandoverOrdered, HandoverNotified, HandoverCancelled, CoreActRow, ActRefused, SmcStarted, ContextSetUp, ContextReleased, NasSent, NasSkipped}
+use Rattle.lte_machine.specs.CoreKeys.{CoreDone, authenticated, smc_started, smc_complete, service_asked, nas_opened, sealed_reject, nas_sent, nas_skipped, context_set_up, path_switched, handover_asked, handover_notified, core_does_nas, core_does_record, core_does_act}
+use Rattle.lte_machine.specs.World.{with_one}
+use Rattle.lte_properties.specs.Separation.{GivenTo}
+use Rattle.lte_properties.proofs.ChainNumbers.Lists.{OfSome}
+use Rattle.lte_properties.proofs.KeySeparation.Keys.{Gifts, GivesIn, given_new, given_split, HasTried, FlyOk, OutsAre}
+use Rattle.lte_properties.proofs.KeySeparation.Phone.{root_derives}
+use Rattle.lte_properties.proofs.KeySeparation.Choice.{NextIn, RowNext, ActTriggered}
+
+-- THE ORDER OF THE KEYS THAT ARE GIVEN
+
+-- the authentication that a key comes from
+abbrev pub root_number : Term → ℕ
+root_number (Root r octets) = r
+root_number (Kenb r n) = root_number r
+root_number (Nh r t) = root_number r
+root_number (Star t pci earfcn) = root_number t
+root_number (Alg t type i) = root_number t
+
+-- the uplink NAS COUNT of its KeNB
+abbrev pub count_of : Term → ℕ
+count_of (Root r octets) = 0
+count_of (Kenb r n) = n
+count_of (Nh r t) = count_of t
+count_of (Star t pci earfcn) = count_of t
+count_of (Alg t type i) = count_of t
+
+-- of an earlier authentication than that which waits for its procedure
+abbrev pub BelowPartial : Option (CorePartial Term) → Term → Type 0
+BelowPartial None t = ⊤
+BelowPartial (Some p) t = root_number t < root_number p.root
+
+-- the COUNT under which the next KeNB comes, at the least
+abbrev pub next_count : Option ℕ → ℕ → ℕ
+next_count None receive = receive
+next_count (Some count) receive = count
+
+-- of no later authentication than the context in use, and there of an earlier COUNT
+abbrev pub BelowContext : Option (CoreContext Term) → Option ℕ → Term → Type 0
+BelowContext None trigger t = ⊤
+BelowContext (Some c) trigger t =
+    (root_number t ≤ root_number c.nas.root)
+    × (root_number t ≡ root_number c.nas.root → count_of t < next_count trigger c.nas.receive)
+
+-- no later KeNB is this key
+abbrev pub Past : ℕ → Option (CorePartial Term) → Option (CoreContext Term) → Option ℕ → Term → Type 0
+Past roots partial context trigger t = (root_number t < roots) × BelowPartial partial t × BelowContext context trigger t
+
+-- it is no later than the key of the chain
+abbrev pub AtMost : Option (CoreLink Term ℕ) → Term → Type 0
+AtMost None t = ⊤
+AtMost (Some l) t =
+    (root_number t ≤ root_number l.chain.sync)
+    × (root_number t ≡ root_number l.chain.sync →
+    (count_of t ≤ count_of l.chain.sync)
+    × (count_of t ≡ count_of l.chain.sync → chain_number t ≤ chain_number l.chain.sync))
+
+abbrev pub PartialOk : ℕ → Option (CorePartial Term) → Type 0
+PartialOk roots o = OfSome (λ p. IsRoot p.root × (root_number p.root < roots)) o
+
+abbrev pub ContextOk : ℕ → Option (CorePartial Term) → Option (CoreContext Term) → Type 0
+ContextOk roots partial o = OfSome (λ c. IsRoot c.nas.root × (root_number c.nas.root < roots) × BelowPartial partial c.nas.root) o
+
+-- the COUNT of the trigger was taken
+abbrev pub TriggerOk : Option ℕ → Option (CoreContext Term) → Type 0
+TriggerOk trigger None = ⊤
+TriggerOk None (Some c) = ⊤
+TriggerOk (Some count) (Some c) = count < c.nas.receive
+
+abbrev pub ChainOk : ℕ → Option (CorePartial Term) → Option (CoreContext Term) → Option ℕ → ChainState Term ℕ → Type 0
+ChainOk roots partial context trigger chain =
+    IsRoot chain.root × IsDerivationKey chain.sync × (root_number chain.root ≡ root_number chain.sync)
+    × Past roots partial context trigger chain.sync
+
+abbrev pub LinkOk : ℕ → Option (CorePartial Term) → Option (CoreContext Term) → Option ℕ → Option (CoreLink Term ℕ) → Type 0
+LinkOk roots partial context trigger o = OfSome (λ l. ChainOk roots partial context trigger l.chain) o
+
+-- with so many authentications so far, and these keys given
+pub record CoreOk (roots : ℕ) (G : Gifts) (s : Core Term ℕ) : Type 0 where
+  pub partial : PartialOk roots s.partial
+  pub context : ContextOk roots s.partial s.context
+  pub trigger : TriggerOk s.trigger s.context
+  pub link : LinkOk roots s.partial s.context s.trigger s.link
+  pub given : (t : Term) (id : ℕ) → G t id → Past roots s.partial s.context s.trigger t × AtMost s.link t
+
+-- what a step keeps, where these were sent before
+pub record CoreKept (roots : ℕ) (xs : List (Outgoing Term ℕ)) (sites : List Site) (tried : List (Tried Term ℕ)) (d : Core Term ℕ × Reply Term ℕ) : Type 0 where
+  pub ok : CoreOk roots (GivenTo (with_one d.1.sent xs)) d.0
+  pub outs : OutsAre IsWellFormed d.1.derived
+  pub sends : OfSome (FlyOk (GivenTo (with_one d.1.sent xs)) sites tried) d.1.sent
+  pub fresh : (t : Term) (a b : ℕ) → GivenTo xs t a → GivesIn d.1.sent t b → ⊥
+
+below_partial_same : (p : Option (CorePartial Term)) (t u : Term) → root_number u ≡ root_number t → BelowPartial p t → BelowPartial p u
+below_partial_same None t u e h = tt
+below_partial_same (Some q) t u e h = subst (λ n. n < root_number q.root) (sym e) h
+
+-- the order sees authentication and COUNT alone
+past_same : (roots : ℕ) (p : Option (CorePartial Term)) (c : Option (CoreContext Term)) (tr : Option ℕ) (t u : Term) → root_number u ≡ root_number t → count_of u ≡ count_of t →
+    Past roots p c tr t → Past roots p c tr u
+past_same roots p c tr t u e f h = (subst (λ n. n < roots) (sym e) h.0, below_partial_same p t u e h.1, context c h.2) where
+  context : (c : Option (CoreContext Term)) → BelowContext c tr t → BelowContext c tr u
+  context None k = tt
+  context (Some q) k = (
+    subst (λ n. n ≤ root_number q.nas.root) (sym e) k.0,
+    λ g. subst (λ n. n < next_count tr q.nas.receive) (sym f) (k.1 (sym e ∙ g)),
+  )
+
+-- what a row needs of the record: a request for a handover is of an attempt
+abbrev pub RecordNeeds : List (Tried Term ℕ) → CoreRecordRow → Type 0
+RecordNeeds tried (HandoverAsked conn source attempt cell target caps) = HasTried tried source attempt None
+RecordNeeds tried other = ⊤
+
+-- a chain goes on to a key that was not given
+not_itself : (n : ℕ) → suc n ≤ n → ⊥
+not_itself n h = omega arith
+
+not_below : (n : ℕ) → n < n → ⊥
+not_below n h = omega arith
+
+module _ (roots : ℕ) (xs : List (Outgoing Term ℕ)) (sites : List Site) (tried : List (Tried Term ℕ)) (same : Term → Term → Bool) (s : Core Term ℕ) where
+  abbrev Before : Core Term ℕ → Type 0
+  Before t = CoreOk roots (GivenTo xs) t
+
+  abbrev After : CoreDone Term ℕ → Type 0
+  After d = CoreKept roots xs sites tried d
+
+  -- what was given, where nothing is given now
+  still : (x : Option (Outgoing Term ℕ)) (P : Term → Type 0) → ((t : Term) (id : ℕ) → GivesIn x t id → ⊥) → ((t : Term) (id : ℕ) → GivenTo xs t id → P t) →
+      (t : Term) (id : ℕ) → GivenTo (with_one x xs) t id → P t
+  still x P none h t id g = by (given_split x xs t id g) where
+    by : GivenTo xs t id ⊎ GivesIn x t id → P t
+    by (inl k) = h t id k
+    by (inr k) = absurd (none t id k)
+
+  chain_past : (p q : Option (CorePartial Term)) (c d : Option (CoreContext Term)) (tr ur : Option ℕ) → ((t : Term) → Past roots p c tr t → Past roots q d ur t) → (o : Option (CoreLink Term ℕ)) →
+      LinkOk roots p c tr o → LinkOk roots q d ur o
+  chain_past p q c d tr ur f None h = tt
+  chain_past p q c d tr ur f (Some l) h = (h.0, h.1, h.2, f l.chain.sync h.3)
+
+  -- a step that gives no key, after which the keys of before are past
+  quiet : (old t : Core Term ℕ) (reply : Reply Term ℕ) → Before old → t.link ≡ old.link → PartialOk roots t.partial → ContextOk roots t.partial t.context → TriggerOk t.trigger t.context →
+      ((u : Term) → Past roots old.partial old.context old.trigger u → Past roots t.partial t.context t.trigger u) →
+      ((u : Term) (id : ℕ) → GivesIn reply.sent u id → ⊥) → OutsAre IsWellFormed reply.derived →
+      OfSome (FlyOk (GivenTo (with_one reply.sent xs)) sites tried) reply.sent → After (t, reply)
+  quiet old t reply h e p c tr past none outs sends = record {
+    ok = record {
+      partial = p;
+      context = c;
+      trigger = tr;
+      link = subst (LinkOk roots t.partial t.context t.trigger) (sym e)
+          (chain_past old.partial t.partial old.context t.context old.trigger t.trigger past old.link h.link);
+      given = still reply.sent (λ u. Past roots t.partial t.context t.trigger u × AtMost t.link u) none
+          (λ u id g. let k = h.given u id g in (past u k.0, subst (λ o. AtMost o u) (sym e) k.1));
+    };
+    outs = outs;
+    sends = sends;
+    fresh = λ u a b g k. none u b k;
+  }
+
+  -- and that keeps the roots, COUNTs and trigger
+  calm : (t : Core Term ℕ) (reply : Reply Term ℕ) → Before t → ((u : Term) (id : ℕ) → GivesIn reply.sent u id → ⊥) → OutsAre IsWellFormed reply.derived →
+      OfSome (FlyOk (GivenTo (with_one reply.sent xs)) sites tried) reply.sent → After (t, reply)
+  calm t reply h none outs sends = quiet t t reply h refl h.partial h.context h.trigger (λ u k. k) none outs sends
+
+  -- BY A NAS MESSAGE
+
+  complete_kept : (count : ℕ) (o : Option (CorePartial Term)) (k : Option (Keys Term)) → Before (record s { partial = o }) → After (smc_complete count o k (record s { partial = o }))
+  complete_kept count None k h = calm _ _ h (λ u id g. g) tt tt
+  complete_kept count (Some p) None h = calm _ _ h (λ u id g. g) tt tt
+  complete_kept count (Some p) (Some keys) h =
+      quiet (record s { partial = Some p }) _ _ h refl tt (h.partial.0, h.partial.1, tt) below past (λ u id g. g) tt tt
+    where
+      below : count < count + 1
+      below = omega arith
+
+      least : (a b n : ℕ) → a < b → (a ≤ b) × (a ≡ b → n < count)
+      least a b n lt = (omega arith, λ e. omega arith)
+
+      past : (u : Term) → Past roots (Some p) s.context s.trigger u → (root_number u < roots) × ⊤ × ((root_number u ≤ root_number p.root) × (root_number u ≡ root_number p.root → count_of u < count))
+      past u k = (k.0, tt, least (root_number u) (root_number p.root) (count_of u) k.1)
+
+  asked_kept : (count : ℕ) (o : Option (CoreContext Term)) → NextIn o count → Before (record s { context = o }) → After (service_asked count o (record s { context = o }))
+  asked_kept count None n h = calm _ _ h (λ u id g. g) tt tt
+  asked_kept count (Some c) n h =
+      quiet (record s { context = Some c }) _ _ h refl h.partial h.context below past (λ u id g. g) tt tt
+    where
+      below : count < count + 1
+      below = omega arith
+
+      rises : (tr : Option ℕ) → TriggerOk tr (Some c) → (m : ℕ) → m < next_count tr c.nas.receive → m < count
+      rises None k m lt = omega arith
+      rises (Some old) k m lt = omega arith
+
+      past : (u : Term) → Past roots s.partial (Some c) s.trigger u → (root_number u < roots) × BelowPartial s.partial u × ((root_number u ≤ root_number c.nas.root) × (root_number u ≡ root_number c.nas.root → count_of u < count))
+      past u k = (k.0, k.1, (k.2.0, λ e. rises s.trigger h.trigger (count_of u) (k.2.1 e)))
+
+  -- a message of this COUNT was taken, and the trigger stays
+  count_kept : (count : ℕ) (c : CoreContext Term) → c.nas.receive ≤ count → (t : Core Term ℕ) (reply : Reply Term ℕ) → Before (record s { context = Some c }) →
+      t.link ≡ s.link → t.partial ≡ s.partial → t.trigger ≡ s.trigger →
+      t.context ≡ Some (record c { nas = record c.nas { receive = count + 1 } }) → reply.sent ≡ None → reply.derived ≡ [] → After (t, reply)
+  count_kept count c n t reply h e f g i j k =
+      quiet (record s { context = Some c }) t reply h e (subst (PartialOk roots) (sym f) h.partial)
+      (subst (λ p. ContextOk roots p t.context) (sym f) (subst (ContextOk roots s.partial) (sym i) h.context))
+      (subst (λ r. TriggerOk r t.context) (sym g) (subst (TriggerOk s.trigger) (sym i) (triggered s.trigger h.trigger)))
+      (λ u q. subst (λ p. Past roots p t.context t.trigger u) (sym f) (subst (λ r. Past roots s.partial t.context r u) (sym g)
+      (subst (λ o. Past roots s.partial o s.trigger u) (sym i) (q.0, q.1, (q.2.0, λ e. rises s.trigger (count_of u) (q.2.1 e))))))
+      (λ u id. subst (λ x. GivesIn x u id → ⊥) (sym j) (λ l. l))
+      (subst (OutsAre IsWellFormed) (sym k) tt)
+      (subst (λ x. OfSome (FlyOk (GivenTo (with_one x xs)) sites tried) x) (sym j) tt)
+    where
+      rises : (tr : Option ℕ) (m : ℕ) → m < next_count tr c.nas.receive → m < next_count tr (count + 1)
+      rises None m lt = omega arith
+      rises (Some old) m lt = lt
+
+      triggered : (tr : Option ℕ) → TriggerOk tr (Some c) → TriggerOk tr (Some (record c { nas = record c.nas { receive = count + 1 } }))
+      triggered None k = tt
+      triggered (Some old) k = omega arith
+
+  opened_kept : (count : ℕ) (text : List ℕ) (o : Option (CoreContext Term)) → NextIn o count → Before (record s { context = o }) → After (nas_opened count text o (record s { context = o }))
+  opened_kept count text None n h = calm _ _ h (λ u id g. g) tt tt
+  opened_kept count text (Some c) n h = count_kept count c n _ _ h refl refl refl refl refl refl
+
+  reject_kept : (count : ℕ) (o : Option (CoreContext Term)) → NextIn o count → Before (record s { context = o }) → After (sealed_reject count o (record s { context = o }))
+  reject_kept count None n h = calm _ _ h (λ u id g. g) tt tt
+  reject_kept count (Some c) n h = count_kept count c n _ _ h refl refl refl refl refl refl
+
+  pub nas_kept : (row : CoreNasRow) → RowNext s.context row → Before s → After (core_does_nas row s)
+  nas_kept (NasRefused answer) n h = calm _ _ h (λ u id g. g) tt tt
+  nas_kept PlainReject n h = quiet s _ _ h refl h.partial h.context h.trigger (λ u k. k) (λ u id g. g) tt tt
+  nas_kept (SmcComplete count) n h = complete_kept count s.partial s.procedure h
+  nas_kept (ServiceAsked count) n h = asked_kept count s.context n h
+  nas_kept (NasOpened count text) n h = opened_kept count text s.context n h
+  nas_kept (SealedReject count) n h = reject_kept count s.context n h
+
+  -- A CHAIN GOES ONE STEP ON
+
+  -- the next key of the chain goes to this station, in this record
+  abbrev pair_sent : CoreLink Term ℕ → ℕ → Fields → Outgoing Term ℕ
+  pair_sent link target fields = Between (StationS1 target) fields (Some (present_pair (stepped (term_reading_by same) link.chain)))
+
+  step_kept : (link new : CoreLink Term ℕ) (target : ℕ) (fields : Fields) (t : Core Term ℕ) (reply : Reply Term ℕ) →
+      Before (record s { link = Some link }) → new.chain ≡ stepped (term_reading_by same) link.chain →
+      reply.sent ≡ Some (pair_sent link target fields) → t.link ≡ Some new → t.partial ≡ s.partial → t.context ≡ s.context → t.trigger ≡ s.trigger →
+      CoreOk roots (GivenTo (with_one (Some (pair_sent link target fields)) xs)) t
+  step_kept link new target fields t reply h e f g i j k = record {
+    partial = subst (PartialOk roots) (sym i) h.partial;
+    context = subst (λ o. ContextOk roots o t.context) (sym i) (subst (ContextOk roots s.partial) (sym j) h.context);
+    trigger = subst (λ o. TriggerOk o t.context) (sym k) (subst (TriggerOk s.trigger) (sym j) h.trigger);
+    link = subst (λ o. LinkOk roots t.partial t.context t.trigger o) (sym g) (subst (ChainOk roots t.partial t.context t.trigger) (sym e)
+        (subst (λ o. ChainOk roots o t.context t.trigger chain) (sym i) (subst (λ o. ChainOk roots s.partial o t.trigger chain) (sym j)
+        (subst (λ o. ChainOk roots s.partial s.context o chain) (sym k) (h.link.0, (h.link.0, h.link.1), refl, next_past)))));
+    given = λ u id q. by u id (given_split (Some (pair_sent link target fields)) xs u id q);
+  } where
+    chain : ChainState Term ℕ
+    chain = stepped (term_reading_by same) link.chain
+
+    next_past : Past roots s.partial s.context s.trigger (Nh link.chain.root link.chain.sync)
+    next_past = past_same roots s.partial s.context s.trigger link.chain.sync (Nh link.chain.root link.chain.sync) h.link.2 refl h.link.3
+
+    moved : (u : Term) → Past roots s.partial s.context s.trigger u → Past roots t.partial t.context t.trigger u
+    moved u q = subst (λ o. Past roots o t.context t.trigger u) (sym i) (subst (λ o. Past roots s.partial o t.trigger u) (sym j) (subst (λ o. Past roots s.partial s.context o u) (sym k) q))
+
+    below : (u : Term) → AtMost (Some link) u → AtMost (Some (record new { chain = chain })) u
+    below u q = (subst (λ n. root_number u ≤ n) (sym h.link.2) q.0, λ a. let r = q.1 (a ∙ h.link.2) in (r.0, λ b. rise (r.1 b))) where
+      rise : chain_number u ≤ chain_number link.chain.sync → chain_number u ≤ suc (chain_number link.chain.sync)
+      rise l = omega arith
+
+    itself : AtMost (Some (record new { chain = chain })) (Nh link.chain.root link.chain.sync)
+    itself = (omega arith, λ a. (omega arith, λ b. omega arith))
+
+    at_most : (u : Term) → AtMost (Some (record new { chain = chain })) u → AtMost t.link u
+    at_most u q = subst (λ o. AtMost o u) (sym g) (subst (λ c. AtMost (Some (record new { chain = c })) u) (sym e) q)
+
+    by : (u : Term) (id : ℕ) → GivenTo xs u id ⊎ GivesIn (Some (pair_sent link target fields)) u id → Past roots t.partial t.context t.trigger u × AtMost t.link u
+    by u id (inl q) = let r = h.given u id q in (moved u r.0, at_most u (below u r.1))
+    by u id (inr q) = subst (λ v. Past roots t.partial t.context t.trigger v × AtMost t.link v) q.0 (moved _ next_past, at_most _ itself)
+
+  -- it was given to nobody before
+  step_fresh : (link : CoreLink Term ℕ) (target : ℕ) (fields : Fields) → Before (record s { link = Some link }) → (t : Term) (a b : ℕ) → GivenTo xs t a → GivesIn (Some (pair_sent link target fields)) t b → ⊥
+  step_fresh link target fields h t a b g k =
+      let q = (h.given (Nh link.chain.root link.chain.sync) a (subst (λ u. GivenTo xs u a) (sym k.0) g)).1 in
+      not_itself (chain_number link.chain.sync) ((q.1 h.link.2).1 refl)
+
+  step_may : (link : CoreLink Term ℕ) (target : ℕ) (fields : Fields) → Before (record s { link = Some link }) →
+      IsRoot link.chain.root × IsDerivationKey link.chain.sync × GivenTo (with_one (Some (pair_sent link target fields)) xs) (Nh link.chain.root link.chain.sync) target
+  step_may link target fields h = (h.link.0, h.link.1, given_new (Some (pair_sent link target fields)) xs (Nh link.chain.root link.chain.sync) target (refl, refl))
+
+  switched_kept : (conn station number : ℕ) (alarm : Bool) (o : Option (CoreLink Term ℕ)) → Before (record s { link = o }) →
+      After (path_switched (term_reading_by same) conn station number alarm o (record s { link = o }))
+  switched_kept conn station number alarm None h = calm _ _ h (λ u id g. g) tt tt
+  switched_kept conn station number alarm (Some link) h = record {
+    ok = step_kept link (record { conn = link.conn; chain = stepped (term_reading_by same) link.chain; station = station }) station (PathSwitchAnswer conn number)
+        (path_switched (term_reading_by same) conn station number alarm (Some link) (record s { link = Some link })).0
+        (path_switched (term_reading_by same) conn station number alarm (Some link) (record s { link = Some link })).1
+        h refl refl refl refl refl refl;
+    outs = ((h.link.0, h.link.1), tt);
+    sends = ((step_may link station (PathSwitchAnswer conn number) h, tt), tt);
+    fresh = step_fresh link station (PathSwitchAnswer conn number) h;
+  }
+
+  asked_over_kept : (conn source attempt : ℕ) (cell : Place) (target : ℕ) (caps : Caps) (o : Option (CoreLink Term ℕ)) → HasTried tried source attempt None → Before (record s { link = o }) →
+      After (handover_asked (term_reading_by same) conn source attempt cell target caps o (record s { link = o }))
+  asked_over_kept conn source attempt cell target caps None n h = calm _ _ h (λ u id g. g) tt tt
+  asked_over_kept conn source attempt cell target caps (Some link) n h = record {
+    ok = step_kept link (record link { chain = stepped (term_reading_by same) link.chain }) target (HandoverRequest conn source attempt cell caps)
+        (handover_asked (term_reading_by same) conn source attempt cell target caps (Some link) (record s { link = Some link })).0
+        (handover_asked (term_reading_by same) conn source attempt cell target caps (Some link) (record s { link = Some link })).1
+        h refl refl refl refl refl refl;
+    outs = ((h.link.0, h.link.1), tt);
+    sends = ((step_may link target (HandoverRequest conn source attempt cell caps) h, tt), n);
+    fresh = step_fresh link target (HandoverRequest conn source attempt cell caps) h;
+  }
+
+  notified_kept : (station : ℕ) (o : Option (CoreLink Term ℕ)) → Before (record s { link = o }) → After (handover_notified station o (record s { link = o }))
+  notified_kept station None h = calm _ _ h (λ u id g. g) tt tt
+  notified_kept station (Some link) h = record {
+    ok = record { partial = h.partial; context = h.context; trigger = h.trigger; link = h.link; given = h.given };
+    outs = tt;
+    sends = tt;
+    fresh = λ u a b g k. k;
+  }
+
+  pub record_kept : (row : CoreRecordRow) → RecordNeeds tried row → Before s → After (core_does_record (term_reading_by same) row s)
+  record_kept (RecordRefused answer) n h = calm _ _ h (λ u id g. g) tt tt
+  record_kept (PathSwitched conn station number alarm) n h = switched_kept conn station number alarm s.link h
+  record_kept (HandoverAsked conn source attempt cell target caps) n h = asked_over_kept conn source attempt cell target caps s.link n h
+  record_kept (HandoverOrdered conn source attempt cell ncc algs air) n h = calm _ _ h (λ u id g. g) tt (tt, tt)
+  record_kept (HandoverNotified station) n h = notified_kept station s.link h
+  record_kept (HandoverCancelled conn source attempt cell target) n h = calm _ _ h (λ u id g. g) tt (tt, tt)
+
+  -- BY AN ACT
+
+  started_kept : (ksi : ℕ) (algs : Algs) (caps : Caps) (count : ℕ) (o : Option (CorePartial Term)) → Before (record s { partial = o }) →
+      After (smc_started (term_reading_by same) ksi algs caps count o (record s { partial = o }))
+  started_kept ksi algs caps count None h = calm _ _ h (λ u id g. g) tt tt
+  started_kept ksi algs caps count (Some p) h =
+      quiet (record s { partial = Some p }) _ _ h refl h.partial h.context h.trigger (λ u k. k) (λ u id g. g)
+      (root_derives p.root h.partial.0, (root_derives p.root h.partial.0, tt)) tt
+
+  -- a KeNB of the COUNT that triggered, which was given to nobody before
+  set_up_kept : (conn : ℕ) (cell : Place) (target : ℕ) (caps : Caps) (count : ℕ) (o : Option (CoreContext Term)) → s.trigger ≡ Some count → Before (record s { context = o }) →
+      After (context_set_up (term_reading_by same) conn cell target caps count o (record s { context = o }))
+  set_up_kept conn cell target caps count None e h = calm _ _ h (λ u id g. g) tt tt
+  set_up_kept conn cell target caps count (Some c) e h = record {
+    ok = record {
+      partial = h.partial;
+      context = h.context;
+      trigger = tt;
+      link = (h.context.0, h.context.0, refl, kenb_past);
+      given = λ u id q. by u id (given_split (Some sent) xs u id q);
+    };
+    outs = (h.context.0, tt);
+    sends = (((h.context.0, given_new (Some sent) xs (Kenb c.nas.root count) target (refl, refl)), tt), tt);
+    fresh = λ t a b g k. not_below count ((before (Kenb c.nas.root count) a (subst (λ u. GivenTo xs u a) (sym k.0) g)).2.1 refl);
+  } where
+    sent : Outgoing Term ℕ
+    sent = Between (StationS1 target) (InitialContext conn cell caps) (Some (record { key = Kenb c.nas.root count; number = 0 }))
+
+    taken : count < c.nas.receive
+    taken = subst (λ o. TriggerOk o (Some c)) e h.trigger
+
+    kenb_past : Past roots s.partial (Some c) None (Kenb c.nas.root count)
+    kenb_past = (h.context.1, below_partial_same s.partial c.nas.root (Kenb c.nas.root count) refl h.context.2, (omega arith, λ g. taken))
+
+    before : (u : Term) (id : ℕ) → GivenTo xs u id → Past roots s.partial (Some c) (Some count) u
+    before u id g = subst (λ o. Past roots s.partial (Some c) o u) e (h.given u id g).0
+
+    rise : (n : ℕ) → n < count → n < c.nas.receive
+    rise n lt = omega (arith, taken)
+
+    less : (n : ℕ) → n < count → n ≤ count
+    less n lt = omega arith
+
+    apart : (n : ℕ) → n < count → n ≡ count → ⊥
+    apart n lt e = omega arith
+
+    by : (u : Term) (id : ℕ) → GivenTo xs u id ⊎ GivesIn (Some sent) u id →
+        Past roots s.partial (Some c) None u × ((root_number u ≤ root_number c.nas.root) × (root_number u ≡ root_number c.nas.root →
+        (count_of u ≤ count) × (count_of u ≡ count → chain_number u ≤ 0)))
+    by u id (inl q) =
+        let k = before u id q in (
+          (k.0, k.1, (k.2.0, λ g. rise (count_of u) (k.2.1 g))),
+          (k.2.0, λ g. (less (count_of u) (k.2.1 g), λ i. absurd (apart (count_of u) (k.2.1 g) i))),
+        )
+    by u id (inr q) =
+        subst (λ v. Past roots s.partial (Some c) None v × ((root_number v ≤ root_number c.nas.root) × (root_number v ≡ root_number c.nas.root →
+        (count_of v ≤ count) × (count_of v ≡ count → chain_number v ≤ 0)))) q.0 (kenb_past, (omega arith, λ g. (omega arith, λ i. omega arith)))
+
+  nas_sent_kept : (count : ℕ) (text : List ℕ) (o : Option (CoreContext Term)) → Before (record s { context = o }) → After (nas_sent count text o (record s { context = o }))
+  nas_sent_kept count text None h = calm _ _ h (λ u id g. g) tt tt
+  nas_sent_kept count text (Some c) h =
+      quiet (record s { context = Some c }) _ _ h refl h.partial h.context (triggered s.trigger h.trigger) (λ u k. k) (λ u id g. g) tt tt
+    where
+      triggered : (tr : Option ℕ) → TriggerOk tr (Some c) → TriggerOk tr (Some (record c { nas = record c.nas { send = count + 1 } }))
+      triggered None k = tt
+      triggered (Some old) k = k
+
+  nas_skipped_kept : (n : ℕ) (o : Option (CoreContext Term)) → Before (record s { context = o }) → After (nas_skipped n o (record s { context = o }))
+  nas_skipped_kept n None h = calm _ _ h (λ u id g. g) tt tt
+  nas_skipped_kept n (Some c) h =
+      quiet (record s { context = Some c }) _ _ h refl h.partial h.context (triggered s.trigger h.trigger) (λ u k. k) (λ u id g. g) tt tt
+    where
+      triggered : (tr : Option ℕ) → TriggerOk tr (Some c) → TriggerOk tr (Some (record c { nas = record c.nas { send = skipped n c.nas.send LIMIT } }))
+      triggered None k = tt
+      triggered (Some old) k = k
+
+  pub act_kept : (row : CoreActRow) → ActTriggered s.trigger row → Before s → After (core_does_act (term_reading_by same) row s)
+  act_kept (ActRefused answer) n h = calm _ _ h (λ u id g. g) tt tt
+  act_kept (SmcStarted ksi algs caps count) n h = started_kept ksi algs caps count s.partial h
+  act_kept (ContextSetUp conn cell target caps count) n h = set_up_kept conn cell target caps count s.context n h
+  act_kept (ContextReleased conn station) n h = record {
+    ok = record {
+      partial = h.partial;
+      context = h.context;
+      trigger = h.trigger;
+      link = tt;
+      given = still (Some (Between (StationS1 station) (ContextRelease conn) None)) (λ u. Past roots s.partial s.context s.trigger u × ⊤) (λ u id g. g) (λ u id g. ((h.given u id g).0, tt));
+    };
+    outs = tt;
+    sends = (tt, tt);
+    fresh = λ u a b g k. k;
+  }
+  act_kept (NasSent count text) n h = nas_sent_kept count text s.context h
+  act_kept (NasSkipped m) n h = nas_skipped_kept m s.context h
+
+-- AN AUTHENTICATION
+
+-- its KASME is the next one
+pub auth_kept : (roots : ℕ) (G : Gifts) (s : Core Term ℕ) (ksi : ℕ) (caps : Caps) (root : Term) → IsRoot root → root_number root ≡ roots → CoreOk roots G s →
+    CoreOk (roots + 1) G (authenticated ksi caps (Some root) s).0
+auth_kept roots G s ksi caps root i e h = record {
+  partial = (i, subst (λ n. n < roots + 1) (sym e) (omega arith));
+  context = context s.context h.context;
+  trigger = h.trigger;
+  link = link s.link h.link;
+  given = λ t id g. let k = h.given t id g in (past t k.0, k.1);
+} where
+  more : (n : ℕ) → n < roots → n < roots + 1
+  more n lt = omega arith
+
+  past : (t : Term) → Past roots s.partial s.context s.trigger t → (root_number t < roots + 1) × (root_number t < root_number root) × BelowContext s.context s.trigger t
+  past t k = (more (root_number t) k.0, subst (λ n. root_number t < n) (sym e) k.0, k.2)
+
+  context : (o : Option (CoreContext Term)) → ContextOk roots s.partial o → OfSome (λ c. IsRoot c.nas.root × (root_number c.nas.root < roots + 1) × (root_number c.nas.root < root_number root)) o
+  context None k = tt
+  context (Some c) k = (k.0, more (root_number c.nas.root) k.1, subst (λ n. root_number c.nas.root < n) (sym e) k.1)
+
+  link : (o : Option (CoreLink Term ℕ)) → LinkOk roots s.partial s.context s.trigger o →
+      OfSome (λ l. IsRoot l.chain.root × IsDerivationKey l.chain.sync × (root_number l.chain.root ≡ root_number l.chain.sync)
+      × ((root_number l.chain.sync < roots + 1) × (root_number l.chain.sync < root_number root) × BelowContext s.context s.trigger l.chain.sync)) o
+  link None k = tt
+  link (Some l) k = (k.0, k.1, k.2, past l.chain.sync k.3)

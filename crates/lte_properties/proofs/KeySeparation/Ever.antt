@@ -1,0 +1,58 @@
+-- Separation and holding in every run.
+use Rattle.std.proofs.Common.{ℕ, Bool, List, Option}
+use Rattle.lte_events.specs.declared.events.Event.{Event}
+use Rattle.lte_events.specs.declared.setups.Setup.{Setup}
+use Rattle.key_model.specs.Term.{Term, Root}
+use Rattle.key_model.specs.HandoverTable.{NumberedKey}
+use Rattle.s1x2_rec.specs.Fields.{Fields}
+use Rattle.lte_machine.specs.Ciphers.{Ciphers}
+use Rattle.lte_machine.specs.Opening.{Opening, Outcome}
+use Rattle.lte_machine.specs.Wire.{KeyUse, Outgoing}
+use Rattle.lte_machine.specs.World.{World}
+use Rattle.lte_machine.specs.Machines.{machine_over, opening_by_octets}
+use Rattle.lte_machine.specs.Run.{first_world}
+use Rattle.lte_properties.specs.ChainHolds.{machine_by, run}
+use Rattle.lte_properties.specs.Agreement.{ObeysAgreement}
+use Rattle.lte_properties.specs.Separation.{SeparationHolds, GivingHolds}
+use Rattle.lte_properties.specs.SharedKeys.{SharedApart}
+use Rattle.lte_properties.proofs.KeySeparation.All.{HeldAll, run_held, first_held}
+use Rattle.lte_properties.proofs.KeySeparation.World.{Holders, run_holds, first_holds}
+use Rattle.lte_properties.proofs.KeySeparation.Run.{separates, made_from}
+use Rattle.lte_properties.proofs.KeySeparation.Attempts.{run_apart, first_apart}
+use Rattle.lte_properties.proofs.KeySeparation.Shared.{shared_apart}
+
+-- of any machine over terms whose roots are numbered, with any opener
+module _ (same : Term → Term → Bool) (octets : Outgoing Term ℕ → List ℕ) (sender : Option (Outgoing Term ℕ) → Option (KeyUse Term)) (opener : Opening Term → List ℕ → Option (Outgoing Term ℕ) → Outcome) (setup : Setup) (events : List Event) where
+  abbrev last_world : World Term ℕ (Outgoing Term ℕ)
+  last_world = run (machine_by same Root octets sender opener) (first_world setup) events
+
+  pub run_holders : Holders setup.cells last_world
+  run_holders = run_holds setup.cells same octets sender opener (first_world setup) events (first_holds setup)
+
+  run_all_held : HeldAll last_world
+  run_all_held = run_held same Root octets sender opener (first_world setup) events (first_held setup)
+
+  pub separation_holds_by : SeparationHolds (machine_by same Root octets sender opener) setup events
+  separation_holds_by = separates setup.cells last_world run_holders run_all_held
+
+  pub giving_holds_by : GivingHolds (machine_by same Root octets sender opener) setup events
+  giving_holds_by = (made_from setup.cells last_world run_holders, (run_apart same Root octets sender opener (first_world setup) events (first_apart setup)).differ)
+
+  -- where phone and stations agree at each obeyed command
+  pub sharing_holds_by : ObeysAgreement last_world → SharedApart setup.cells last_world
+  sharing_holds_by agree = shared_apart setup.cells last_world run_holders agree
+
+-- of the written machine, whichever test says that two keys are one
+module _ (same : Term → Term → Bool) (c : Ciphers Term) (between : Fields → Option (NumberedKey Term ℕ) → List ℕ) (setup : Setup) (events : List Event) where
+  pub separation_holds : SeparationHolds (machine_over same c between) setup events
+  separation_holds = let m = machine_over same c between in separation_holds_by same m.octets m.sender m.opener setup events
+
+  pub giving_holds : GivingHolds (machine_over same c between) setup events
+  giving_holds = let m = machine_over same c between in giving_holds_by same m.octets m.sender m.opener setup events
+
+  -- and where octets open by themselves
+  pub separation_holds_in_octets : SeparationHolds (opening_by_octets same c between) setup events
+  separation_holds_in_octets = let m = opening_by_octets same c between in separation_holds_by same m.octets m.sender m.opener setup events
+
+  pub giving_holds_in_octets : GivingHolds (opening_by_octets same c between) setup events
+  giving_holds_in_octets = let m = opening_by_octets same c between in giving_holds_by same m.octets m.sender m.opener setup events

@@ -1,0 +1,527 @@
+-- Which keys are held and given, in every world of every run.
+use Rattle.std.proofs.Common.{◌≡◌, refl, sym, ap, ◌∙◌, subst, ℕ, suc, ◌+◌, ◌⊎◌, inl, inr, ◌==◌, Bool, true, List, [], ◌∷◌, ◌++◌, length, map, filter, Option, Some, None, option_map, Result, Err, arith}
+use Rattle.std.proofs.lemmas.Bool.Decides.{nat_tests}
+use Rattle.std.specs.Prelude.{⊤}
+use Rattle.std.specs.List.{position_from}
+use Rattle.alg_choice.specs.declared.caps.Caps.{Caps}
+use Rattle.rec_base.specs.declared.faults.RecFault.{RecFault}
+use Rattle.rec_base.specs.declared.bearers.Bearer.{Bearer}
+use Rattle.lte_events.specs.declared.acts.CoreAct.{CoreAct}
+use Rattle.lte_events.specs.declared.acts.StationAct.{StationAct}
+use Rattle.lte_events.specs.declared.addresses.Address.{Address}
+use Rattle.lte_events.specs.declared.addresses.Address.TheVariants.{Phone, PhoneNas, CoreNas, CoreS1, StationAir, StationS1, StationX2}
+use Rattle.lte_events.specs.declared.answers.Answer.{Answer}
+use Rattle.lte_events.specs.declared.answers.Answer.TheVariants.{NoUe, NoRecord, Sent, RepeatedRoot, BadRecord}
+use Rattle.lte_events.specs.declared.events.Event.{Event}
+use Rattle.lte_events.specs.declared.setups.Setup.{Setup}
+use Rattle.lte_events.specs.declared.setups.StationSetup.{StationSetup}
+use Rattle.lte_events.specs.Site.{Site}
+use Rattle.key_model.specs.Term.{Term, Root, IsRoot, IsWellFormed}
+use Rattle.key_model.specs.Derivation.{Derivation}
+use Rattle.key_model.specs.HandoverTable.{NumberedKey}
+use Rattle.key_model.specs.Reading.{term_reading_by}
+use Rattle.s1x2_rec.specs.Fields.{Fields}
+use Rattle.s1x2_rec.specs.Content.{Content, map_content}
+use Rattle.lte_machine.specs.Bearers.{which}
+use Rattle.lte_machine.specs.Ladder.{RowOrigin, OfRoot, Of}
+use Rattle.lte_machine.specs.Wire.{KeyUse, Outgoing, SealedNas, PlainNas, SealedRrc, UserPacket, Between, address_of}
+use Rattle.lte_machine.specs.Opening.{Opening, Outcome, Opened}
+use Rattle.lte_machine.specs.Reply.{Made, Tried, Reply, unseen}
+use Rattle.lte_machine.specs.PhoneState.{Phone as PhoneState, PhoneInput, PhoneActs, PhoneNasPdu, PhoneAirPdu}
+use Rattle.lte_machine.specs.PhoneChoice.{phone_row}
+use Rattle.lte_machine.specs.PhoneRows.{Authenticated, OfAuth}
+use Rattle.lte_machine.specs.PhoneStep.{plain_phone, front_of, phone_root, phone_opens, phone_pdu_in, phone_step}
+use Rattle.lte_machine.specs.StationState.{Station, StationInput, StationActs, AirPdu, StationRecord, Interface, OnS1, OnX2, map_read}
+use Rattle.lte_machine.specs.StationRows.{RecordRow, RecordRefused, ContextGiven, ContextReleased, PairTaken, PreparedByS1, PreparedByX2, AckedByS1, AckedByX2, PreparationCancelled, SourceReleased, OfRecord, OfAir, OfAct}
+use Rattle.lte_machine.specs.StationChoice.{station_of, record_row, air_front, air_row, act_row}
+use Rattle.lte_machine.specs.StationStep.{plain_station, station_opens, station_pdu_in, station_step}
+use Rattle.lte_machine.specs.CoreState.{Core, CoreContext, CoreInput, CoreAuth, CoreActs, CoreNasPdu, CoreRecord, map_core_context}
+use Rattle.lte_machine.specs.CoreRows.{CoreNasRow, NasRefused, PlainReject, SmcComplete, ServiceAsked, NasOpened, SealedReject, CoreRecordRow, PathSwitched, HandoverAsked, HandoverOrdered, HandoverNotified, HandoverCancelled, CoreActRow, ActRefused, SmcStarted, ContextSetUp, NasSent, NasSkipped}
+use Rattle.lte_machine.specs.CoreRows as core_rows
+use Rattle.lte_machine.specs.CoreChoice.{core_header, core_nas_front, core_nas_row, core_record_row, core_act_row}
+use Rattle.lte_machine.specs.CoreStep.{plain_core, core_opens, core_pdu_in, core_received, core_step}
+use Rattle.lte_machine.specs.World.{Machine, World, AtPhone, AtCore, AtStation, Holding, with_one, phone_after, core_after, station_after, by_world, phone_turn, core_turn, station_of_id, turn_of, station_turn, authenticated, auth_unless, is_root_row, known_root, next_root, content_in, arrives, chosen, delivered, class_of, is_sent, injected, happens}
+use Rattle.lte_machine.specs.Machines.{content_of}
+use Rattle.lte_machine.specs.Run.{stations_of, first_world}
+use Rattle.lte_properties.specs.ChainBelow.{AllOf}
+use Rattle.lte_properties.specs.ChainHolds.{machine_by, run}
+use Rattle.lte_properties.specs.ChainRows.{RecordFits, CoreFits}
+use Rattle.lte_properties.specs.Separation.{Gives, GivenTo}
+use Rattle.lte_properties.proofs.ChainNumbers.Choice.{record_row_fits}
+use Rattle.lte_properties.proofs.ChainNumbers.Lists.{OfSome, all_append, all_one, all_find, all_map, all_put, all_chosen}
+use Rattle.lte_properties.proofs.ChainNumbers.Core.{core_record_fits}
+use Rattle.lte_properties.proofs.KeySeparation.Keys.{Gifts, GivesIn, given_old, given_split, May, MayHold, may_hold, StationHas, StationOk, OwnCell, TriedOk, KeyGoes, FieldsOk, FlyOk, MadeOk, HoldOk, OutsAre, step_held, holder_may_grows, station_ok_grows, tried_ok_grows, fly_grows, made_ok_grows}
+use Rattle.lte_properties.proofs.KeySeparation.Station.{StationKept, RecordNeeds, station_kept}
+use Rattle.lte_properties.proofs.KeySeparation.Phone.{PhoneOk, PhoneKept, Keyless, keyless_flies, phone_kept}
+use Rattle.lte_properties.proofs.KeySeparation.Core as core
+use Rattle.lte_properties.proofs.KeySeparation.Core.{CoreOk, CoreKept, auth_kept}
+use Rattle.lte_properties.proofs.KeySeparation.Choice.{act_goes, CellOwn, record_own, RowNext, nas_next, act_triggered}
+
+-- THE INVARIANT
+
+-- each key was given to one station
+abbrev pub Once : List (Outgoing Term ℕ) → Type 0
+Once xs = (t : Term) (a b : ℕ) → GivenTo xs t a → GivenTo xs t b → a ≡ b
+
+-- the keys of each actor, of what is in flight and of what anybody held
+pub record Holders (sites : List Site) (w : World Term ℕ (Outgoing Term ℕ)) : Type 0 where
+  pub phone : PhoneOk w.phone
+  pub core : CoreOk (next_root w) (GivenTo w.sent) w.core
+  pub stations : AllOf (StationOk (GivenTo w.sent) sites) w.stations
+  pub flying : AllOf (FlyOk (GivenTo w.sent) sites w.tried) w.sent
+  pub held : AllOf (HoldOk (GivenTo w.sent) sites) w.held
+  pub once : Once w.sent
+  pub tried : AllOf (TriedOk (GivenTo w.sent)) w.tried
+  pub made : AllOf (MadeOk (GivenTo w.sent) sites w.tried) w.made
+
+-- one record gives a key to one station
+gives_one : (t : Term) (a b : ℕ) (x : Outgoing Term ℕ) → Gives t a x → Gives t b x → a ≡ b
+gives_one t a b (SealedNas dir header u e text) h k = absurd h
+gives_one t a b (PlainNas octets) h k = absurd h
+gives_one t a b (SealedRrc dir station air srb u e text) h k = absurd h
+gives_one t a b (UserPacket dir station air drb e text) h k = absurd h
+gives_one t a b (Between (Phone station air bearer) fields key) h k = absurd h
+gives_one t a b (Between PhoneNas fields key) h k = absurd h
+gives_one t a b (Between CoreNas fields key) h k = absurd h
+gives_one t a b (Between CoreS1 fields key) h k = absurd h
+gives_one t a b (Between (StationAir station air bearer) fields key) h k = absurd h
+gives_one t a b (Between (StationX2 station) fields key) h k = absurd h
+gives_one t a b (Between (StationS1 station) fields None) h k = absurd h
+gives_one t a b (Between (StationS1 station) fields (Some key)) h k = sym h.1 ∙ k.1
+
+module _ (x : Option (Outgoing Term ℕ)) (xs : List (Outgoing Term ℕ)) where
+  given_by : (t : Term) (a b : ℕ) → GivesIn x t a → GivesIn x t b → a ≡ b
+  given_by t a b h k = of x h k where
+    of : (o : Option (Outgoing Term ℕ)) → GivesIn o t a → GivesIn o t b → a ≡ b
+    of None h k = absurd h
+    of (Some y) h k = gives_one t a b y h k
+
+  once_one : ((t : Term) (a b : ℕ) → GivenTo xs t a → GivesIn x t b → ⊥) → Once xs → Once (with_one x xs)
+  once_one fresh once t a b g h = by (given_split x xs t a g) (given_split x xs t b h) where
+    by : GivenTo xs t a ⊎ GivesIn x t a → GivenTo xs t b ⊎ GivesIn x t b → a ≡ b
+    by (inl k) (inl l) = once t a b k l
+    by (inl k) (inr l) = absurd (fresh t a b k l)
+    by (inr k) (inl l) = absurd (fresh t b a l k)
+    by (inr k) (inr l) = given_by t a b k l
+
+  -- a step that gives nothing leaves the core as it was
+  core_stays : (roots : ℕ) (s : Core Term ℕ) → ((t : Term) (a : ℕ) → GivesIn x t a → ⊥) → CoreOk roots (GivenTo xs) s → CoreOk roots (GivenTo (with_one x xs)) s
+  core_stays roots s none h = record {
+    partial = h.partial;
+    context = h.context;
+    trigger = h.trigger;
+    link = h.link;
+    given = λ t id g. by t id (given_split x xs t id g);
+  } where
+    by : (t : Term) (id : ℕ) → GivenTo xs t id ⊎ GivesIn x t id → core.Past roots s.partial s.context s.trigger t × core.AtMost s.link t
+    by t id (inl k) = h.given t id k
+    by t id (inr k) = absurd (none t id k)
+
+keyless_gives : (x : Option (Outgoing Term ℕ)) → Keyless x → (t : Term) (a : ℕ) → GivesIn x t a → ⊥
+keyless_gives None h t a g = g
+keyless_gives (Some (SealedNas dir header u e text)) h t a g = g
+keyless_gives (Some (PlainNas octets)) h t a g = g
+keyless_gives (Some (SealedRrc dir station air srb u e text)) h t a g = g
+keyless_gives (Some (UserPacket dir station air drb e text)) h t a g = g
+keyless_gives (Some (Between to fields key)) h t a g = absurd h
+
+-- how many authentications there were: derivations add none, and an authentication adds one
+derived_adds_none : (ds : List (Derivation Term)) → length (filter is_root_row (map Of ds)) ≡ 0
+derived_adds_none [] = refl
+derived_adds_none (d ∷ ds) = derived_adds_none ds
+
+roots_stay : (hs : List (RowOrigin Term)) (ds : List (Derivation Term)) → length (filter is_root_row (hs ++ map Of ds)) ≡ length (filter is_root_row hs)
+roots_stay [] ds = derived_adds_none ds
+roots_stay (OfRoot k ∷ hs) ds = ap suc (roots_stay hs ds)
+roots_stay (Of d ∷ hs) ds = roots_stay hs ds
+
+roots_rise : (hs : List (RowOrigin Term)) (k : Term) → length (filter is_root_row (hs ++ OfRoot k ∷ [])) ≡ length (filter is_root_row hs) + 1
+roots_rise [] k = refl
+roots_rise (OfRoot l ∷ hs) k = ap suc (roots_rise hs k) ∙ omega arith
+roots_rise (Of d ∷ hs) k = roots_rise hs k
+
+-- what is so of each grows
+module _ (sites : List Site) (w : World Term ℕ (Outgoing Term ℕ)) (x : Option (Outgoing Term ℕ)) (one : Option (Tried Term ℕ)) where
+  abbrev Old : Gifts
+  Old = GivenTo w.sent
+
+  abbrev New : Gifts
+  New = GivenTo (with_one x w.sent)
+
+  grows : (t : Term) (a : ℕ) → Old t a → New t a
+  grows t a h = given_old x w.sent t a h
+
+  stations_grow : (ss : List (Station Term ℕ)) → AllOf (StationOk Old sites) ss → AllOf (StationOk New sites) ss
+  stations_grow ss h = all_map (StationOk Old sites) (StationOk New sites) (station_ok_grows Old New grows sites) ss h
+
+  flying_grow : AllOf (FlyOk Old sites w.tried) w.sent → OfSome (FlyOk New sites (with_one one w.tried)) x → AllOf (FlyOk New sites (with_one one w.tried)) (with_one x w.sent)
+  flying_grow h k =
+      all_one (FlyOk New sites (with_one one w.tried)) x w.sent
+      (all_map (FlyOk Old sites w.tried) (FlyOk New sites (with_one one w.tried)) (fly_grows Old New grows sites w.tried one) w.sent h) k
+
+  held_grow : (hs : List (Holding Term)) → AllOf (HoldOk Old sites) w.held → AllOf (HoldOk New sites) hs → AllOf (HoldOk New sites) (w.held ++ hs)
+  held_grow hs h k =
+      all_append (HoldOk New sites) w.held hs
+      (all_map (HoldOk Old sites) (HoldOk New sites) (λ e l. holder_may_grows Old New grows sites e.holder e.key l) w.held h) k
+
+  tried_grow : AllOf (TriedOk Old) w.tried → OfSome (TriedOk New) one → AllOf (TriedOk New) (with_one one w.tried)
+  tried_grow h k = all_one (TriedOk New) one w.tried (all_map (TriedOk Old) (TriedOk New) (tried_ok_grows Old New grows sites) w.tried h) k
+
+  made_grow : (made : Option (Made Term ℕ)) → AllOf (MadeOk Old sites w.tried) w.made → OfSome (MadeOk New sites (with_one one w.tried)) made → AllOf (MadeOk New sites (with_one one w.tried)) (with_one made w.made)
+  made_grow made h k =
+      all_one (MadeOk New sites (with_one one w.tried)) made w.made
+      (all_map (MadeOk Old sites w.tried) (MadeOk New sites (with_one one w.tried)) (made_ok_grows Old New grows sites w.tried one) w.made h) k
+
+some_map : {A : Type 0} (P Q : A → Type 0) → ((x : A) → P x → Q x) → (o : Option A) → OfSome P o → OfSome Q o
+some_map P Q f None h = tt
+some_map P Q f (Some x) h = f x h
+
+outs_map : (P Q : Term → Type 0) → ((t : Term) → P t → Q t) → (ds : List (Derivation Term)) → OutsAre P ds → OutsAre Q ds
+outs_map P Q f ds h = all_map (λ d. P d.out) (λ d. Q d.out) (λ d k. f d.out k) ds h
+
+-- THE STEP OF ONE ACTOR
+
+-- where a record comes to a station
+abbrev pub station_at : Interface → ℕ → Address
+station_at OnS1 id = StationS1 id
+station_at OnX2 id = StationX2 id
+
+-- what a step of a station keeps, with the key that it read
+abbrev pub StationStepped : Gifts → List Site → List (Tried Term ℕ) → ℕ → Station Term ℕ × Reply Term ℕ → Type 0
+StationStepped G sites tried id d =
+    StationKept G sites tried id d.0 d.1.sent d.1.derived d.1.tried d.1.made × OfSome (MayHold G sites id) d.1.received
+
+module _ (G : Gifts) (sites : List Site) (tried : List (Tried Term ℕ)) (same : Term → Term → Bool) (s : Station Term ℕ) (h : StationOk G sites s) where
+  abbrev Stepped : Station Term ℕ × Reply Term ℕ → Type 0
+  Stepped d = StationStepped G sites tried s.id d
+
+  act_stepped : (act : StationAct) (outcome : Outcome) → Stepped (station_step (term_reading_by same) s (StationActs act) outcome)
+  act_stepped act outcome = (
+    station_kept G sites tried same s h.cells (OfAct (act_row (plain_station (term_reading_by same) s) act)) None
+        (act_goes sites s.id (plain_station (term_reading_by same) s) act refl h.cells) h.keys,
+    tt,
+  )
+
+  air_stepped : (air : ℕ) (bearer : Bearer) (pdu : List ℕ) (outcome : Outcome) → Stepped (station_step (term_reading_by same) s (AirPdu air bearer pdu) outcome)
+  air_stepped air bearer pdu outcome = (
+    station_kept G sites tried same s h.cells
+        (OfAir (air_row (plain_station (term_reading_by same) s) (air_front (plain_station (term_reading_by same) s) air (which bearer) pdu) outcome)) None tt h.keys,
+    tt,
+  )
+
+  unread_stepped : (on : Interface) (fault : RecFault) (outcome : Outcome) → Stepped (station_step (term_reading_by same) s (StationRecord on (Err fault)) outcome)
+  unread_stepped on fault outcome = (station_kept G sites tried same s h.cells (OfRecord (RecordRefused (BadRecord fault))) None tt h.keys, tt)
+
+  -- a record with a key goes to a station that may have it, and with a KeNB* to the one of its cell
+  goes_may : (on : Interface) (to : Address) (t : Term) → to ≡ station_at on s.id → KeyGoes G sites to t → May G sites s.id t × OwnCell sites s.id t
+  goes_may OnS1 to t e k = subst (λ a. KeyGoes G sites a t) e k
+  goes_may OnX2 to t e k = subst (λ a. KeyGoes G sites a t) e k
+
+  row_needs : (fields : Fields) (key : NumberedKey Term ℕ) → May G sites s.id key.key × OwnCell sites s.id key.key → FieldsOk tried fields (Some key) → (row : RecordRow) → RecordFits s fields row →
+      CellOwn s.cells s.id row → RecordNeeds G sites tried s.id row key
+  row_needs fields key m f (RecordRefused answer) r c = tt
+  row_needs fields key m f (ContextGiven conn cell caps algs air) r c = (m.0, subst (λ g. FieldsOk tried g (Some key)) r.0 f)
+  row_needs fields key m f ContextReleased r c = tt
+  row_needs fields key m f (PairTaken conn origin) r c = m.0
+  row_needs fields key m f (PreparedByS1 w) r c =
+      (m.0, subst (λ g. FieldsOk tried g (Some key)) r.0 f, subst (λ l. station_of w.cell l ≡ Some s.id) h.cells c)
+  row_needs fields key m f (PreparedByX2 w) r c = (m.0, subst (λ g. FieldsOk tried g (Some key)) r.0 f, m.1)
+  row_needs fields key m f (AckedByS1 ncc algs air) r c = tt
+  row_needs fields key m f (AckedByX2 algs air) r c = tt
+  row_needs fields key m f (PreparationCancelled from) r c = tt
+  row_needs fields key m f SourceReleased r c = tt
+
+  abbrev row_at : Interface → Outgoing Term ℕ → RecordRow
+  row_at on x = record_row (plain_station (term_reading_by same) s) on (map_read unseen (term_reading_by same).ncc (content_of x))
+
+  record_stepped : (on : Interface) (x : Outgoing Term ℕ) (outcome : Outcome) → address_of x ≡ station_at on s.id → FlyOk G sites tried x →
+      Stepped (station_step (term_reading_by same) s (StationRecord on (content_of x)) outcome)
+  record_stepped on (SealedNas dir header u e text) outcome a f = unread_stepped on RecFault.Short outcome
+  record_stepped on (PlainNas octets) outcome a f = unread_stepped on RecFault.Short outcome
+  record_stepped on (SealedRrc dir station air srb u e text) outcome a f = unread_stepped on RecFault.Short outcome
+  record_stepped on (UserPacket dir station air drb e text) outcome a f = unread_stepped on RecFault.Short outcome
+  record_stepped on (Between to fields None) outcome a f =
+      (station_kept G sites tried same s h.cells (OfRecord (row_at on (Between to fields None))) None tt h.keys, tt)
+  record_stepped on (Between to fields (Some key)) outcome a f =
+      let m = goes_may on to key.key a f.0 in (
+        station_kept G sites tried same s h.cells (OfRecord (row_at on (Between to fields (Some key)))) (Some key)
+            (row_needs fields key m f.1 (row_at on (Between to fields (Some key)))
+            (record_row_fits (term_reading_by same) s on (record { fields = fields; key = Some key }))
+            (record_own (plain_station (term_reading_by same) s) on (map_content unseen (term_reading_by same).ncc (record { fields = fields; key = Some key })))) h.keys,
+        may_hold G sites s.id key.key m.0,
+      )
+
+is_one : (a b : ℕ) → (a == b) ≡ true → a ≡ b
+is_one a b e = grind (arith, nat_tests)
+
+all_each : {A : Type 0} (P : A → Type 0) → ((x : A) → P x) → (xs : List A) → AllOf P xs
+all_each P f [] = tt
+all_each P f (x ∷ xs) = (f x, all_each P f xs)
+
+module _ (sites : List Site) (same : Term → Term → Bool) (octets : Outgoing Term ℕ → List ℕ) (sender : Option (Outgoing Term ℕ) → Option (KeyUse Term)) (opener : Opening Term → List ℕ → Option (Outgoing Term ℕ) → Outcome) where
+  abbrev TheWorld : Type 0
+  TheWorld = World Term ℕ (Outgoing Term ℕ)
+
+  abbrev m : Machine Term ℕ (Outgoing Term ℕ)
+  m = machine_by same Root octets sender opener
+
+  phone_after_holds : (w : TheWorld) (d : PhoneState Term ℕ × Reply Term ℕ) → d.1.received ≡ None → PhoneKept d → Holders sites w → Holders sites (phone_after m w d).0
+  phone_after_holds w d e k h =
+      let none = keyless_gives d.1.sent k.keyless in record {
+        phone = k.ok;
+        core = subst (λ n. CoreOk n (GivenTo (with_one d.1.sent w.sent)) w.core) (sym (roots_stay w.history d.1.derived)) (core_stays d.1.sent w.sent (next_root w) w.core none h.core);
+        stations = stations_grow sites w d.1.sent None w.stations h.stations;
+        flying = flying_grow sites w d.1.sent None h.flying (keyless_flies (GivenTo (with_one d.1.sent w.sent)) sites w.tried d.1.sent k.keyless);
+        held = held_grow sites w d.1.sent None _ h.held
+            (step_held (GivenTo (with_one d.1.sent w.sent)) sites AtPhone d.1.received d.1.derived (subst (OfSome IsWellFormed) (sym e) tt) k.outs);
+        once = once_one d.1.sent w.sent (λ t a b g l. none t b l) h.once;
+        tried = tried_grow sites w d.1.sent None h.tried tt;
+        made = made_grow sites w d.1.sent None None h.made tt;
+      }
+
+  core_after_holds : (w : TheWorld) (d : Core Term ℕ × Reply Term ℕ) → OfSome IsWellFormed d.1.received → CoreKept (next_root w) w.sent sites w.tried d → Holders sites w →
+      Holders sites (core_after m w d).0
+  core_after_holds w d r k h = record {
+    phone = h.phone;
+    core = subst (λ n. CoreOk n (GivenTo (with_one d.1.sent w.sent)) d.0) (sym (roots_stay w.history d.1.derived)) k.ok;
+    stations = stations_grow sites w d.1.sent None w.stations h.stations;
+    flying = flying_grow sites w d.1.sent None h.flying k.sends;
+    held = held_grow sites w d.1.sent None _ h.held (step_held (GivenTo (with_one d.1.sent w.sent)) sites AtCore d.1.received d.1.derived r k.outs);
+    once = once_one d.1.sent w.sent k.fresh h.once;
+    tried = tried_grow sites w d.1.sent None h.tried tt;
+    made = made_grow sites w d.1.sent None None h.made tt;
+  }
+
+  station_after_holds : (w : TheWorld) (id : ℕ) (s : Station Term ℕ) (d : Station Term ℕ × Reply Term ℕ) → s.id ≡ id → StationStepped (GivenTo w.sent) sites w.tried s.id d → Holders sites w →
+      Holders sites (station_after m w id d).0
+  station_after_holds w id s d e k h =
+      let after = GivenTo (with_one d.1.sent w.sent) in
+      let le = grows sites w d.1.sent None in
+      let new : StationOk (GivenTo w.sent) sites d.0 = record { cells = k.0.cells; keys = subst (λ n. StationHas (May (GivenTo w.sent) sites n) d.0) (sym k.0.same) k.0.keys } in record {
+        phone = h.phone;
+        core = subst (λ n. CoreOk n after w.core) (sym (roots_stay w.history d.1.derived)) (core_stays d.1.sent w.sent (next_root w) w.core k.0.gives h.core);
+        stations = all_put (StationOk (GivenTo w.sent) sites) (StationOk after sites) id d.0 w.stations (station_ok_grows (GivenTo w.sent) after le sites d.0 new)
+            (λ u f g. station_ok_grows (GivenTo w.sent) after le sites u g) h.stations;
+        flying = flying_grow sites w d.1.sent d.1.tried h.flying
+            (some_map (FlyOk (GivenTo w.sent) sites (with_one d.1.tried w.tried)) (FlyOk after sites (with_one d.1.tried w.tried))
+            (fly_grows (GivenTo w.sent) after le sites (with_one d.1.tried w.tried) None) d.1.sent k.0.sends);
+        held = held_grow sites w d.1.sent None _ h.held
+            (step_held after sites (AtStation id) d.1.received d.1.derived
+            (some_map (MayHold (GivenTo w.sent) sites s.id) (MayHold after sites id) (λ t. here t) d.1.received k.1)
+            (outs_map (MayHold (GivenTo w.sent) sites s.id) (MayHold after sites id) (λ t. here t) d.1.derived k.0.outs));
+        once = once_one d.1.sent w.sent (λ t a b g l. k.0.gives t b l) h.once;
+        tried = tried_grow sites w d.1.sent d.1.tried h.tried (some_map (TriedOk (GivenTo w.sent)) (TriedOk after) (tried_ok_grows (GivenTo w.sent) after le sites) d.1.tried k.0.tries);
+        made = made_grow sites w d.1.sent d.1.tried d.1.made h.made
+            (some_map (MadeOk (GivenTo w.sent) sites (with_one d.1.tried w.tried)) (MadeOk after sites (with_one d.1.tried w.tried))
+            (made_ok_grows (GivenTo w.sent) after le sites (with_one d.1.tried w.tried) None) d.1.made k.0.makes);
+      }
+    where
+      here : (t : Term) → MayHold (GivenTo w.sent) sites s.id t → MayHold (GivenTo (with_one d.1.sent w.sent)) sites id t
+      here t l = holder_may_grows (GivenTo w.sent) (GivenTo (with_one d.1.sent w.sent)) (grows sites w d.1.sent None) sites (AtStation id) t (subst (λ n. MayHold (GivenTo w.sent) sites n t) e l)
+
+  by_world_holds : (w : TheWorld) (answer : Answer) → Holders sites w → Holders sites (by_world m w answer).0
+  by_world_holds w answer h = record {
+    phone = h.phone;
+    core = h.core;
+    stations = h.stations;
+    flying = h.flying;
+    held = h.held;
+    once = h.once;
+    tried = h.tried;
+    made = h.made;
+  }
+
+  -- AT A STATION
+
+  abbrev Steps : TheWorld → ℕ → StationInput Term ℕ → Type 0
+  Steps w id input =
+      (s : Station Term ℕ) → s.id ≡ id → StationOk (GivenTo w.sent) sites s → (outcome : Outcome) →
+      StationStepped (GivenTo w.sent) sites w.tried s.id (station_step (term_reading_by same) s input outcome)
+
+  turn_holds : (w : TheWorld) (id : ℕ) (input : StationInput Term ℕ) (came : Option (Outgoing Term ℕ)) → Steps w id input →
+      (o : Option (Station Term ℕ)) → OfSome (λ s. StationOk (GivenTo w.sent) sites s × ((s.id == id) ≡ true)) o → Holders sites w → Holders sites (turn_of m w id input came o).0
+  turn_holds w id input came step None k h = by_world_holds w NoUe h
+  turn_holds w id input came step (Some s) k h =
+      let e = is_one s.id id k.1 in
+      let outcome = opener (station_opens (term_reading_by same) s input) (station_pdu_in input) came in
+      station_after_holds w id s (station_step (term_reading_by same) s input outcome) e (step s e k.0 outcome) h
+
+  station_turn_holds : (w : TheWorld) (id : ℕ) (input : StationInput Term ℕ) (came : Option (Outgoing Term ℕ)) → Steps w id input → Holders sites w → Holders sites (station_turn m w id input came).0
+  station_turn_holds w id input came step h =
+      turn_holds w id input came step (station_of_id id w.stations) (all_find (StationOk (GivenTo w.sent) sites) (λ s. s.id == id) w.stations h.stations) h
+
+  -- what comes to an address was sent there, or never
+  abbrev CameOk : TheWorld → Address → Option (Outgoing Term ℕ) → Type 0
+  CameOk w to None = ⊤
+  CameOk w to (Some x) = (address_of x ≡ to) × FlyOk (GivenTo w.sent) sites w.tried x
+
+  station_record_holds : (w : TheWorld) (on : Interface) (id : ℕ) (came : Option (Outgoing Term ℕ)) → CameOk w (station_at on id) came → Holders sites w →
+      Holders sites (station_turn m w id (StationRecord on (content_in m came)) came).0
+  station_record_holds w on id None c h =
+      station_turn_holds w id (StationRecord on (Err RecFault.Short)) None (λ s e k outcome. unread_stepped (GivenTo w.sent) sites w.tried same s k on RecFault.Short outcome) h
+  station_record_holds w on id (Some x) c h =
+      station_turn_holds w id (StationRecord on (content_of x)) (Some x)
+      (λ s e k outcome. record_stepped (GivenTo w.sent) sites w.tried same s k on x outcome (c.0 ∙ ap (station_at on) (sym e)) c.1) h
+
+  station_acts_holds : (w : TheWorld) (id : ℕ) (act : StationAct) (came : Option (Outgoing Term ℕ)) → Holders sites w → Holders sites (station_turn m w id (StationActs act) came).0
+  station_acts_holds w id act came h =
+      station_turn_holds w id (StationActs act) came (λ s e k outcome. act_stepped (GivenTo w.sent) sites w.tried same s k act outcome) h
+
+  station_air_holds : (w : TheWorld) (id air : ℕ) (bearer : Bearer) (pdu : List ℕ) (came : Option (Outgoing Term ℕ)) → Holders sites w → Holders sites (station_turn m w id (AirPdu air bearer pdu) came).0
+  station_air_holds w id air bearer pdu came h =
+      station_turn_holds w id (AirPdu air bearer pdu) came (λ s e k outcome. air_stepped (GivenTo w.sent) sites w.tried same s k air bearer pdu outcome) h
+
+  -- AT THE PHONE
+
+  phone_turn_holds : (w : TheWorld) (input : PhoneInput Term) (came : Option (Outgoing Term ℕ)) → OfSome IsRoot (phone_root input) → Holders sites w → Holders sites (phone_turn m w input came).0
+  phone_turn_holds w input came r h =
+      let outcome = opener (phone_opens (term_reading_by same) w.phone input) (phone_pdu_in input) came in
+      let row = phone_row (plain_phone (term_reading_by same) w.phone) (front_of (term_reading_by same) w.phone input) outcome in
+      let k = phone_kept same w.phone row (phone_root input) r h.phone in
+      phone_after_holds w (phone_step (term_reading_by same) w.phone input outcome) refl (record { ok = k.ok; outs = k.outs; keyless = k.keyless }) h
+
+  -- AT THE CORE
+
+  abbrev Kept : TheWorld → CoreInput Term ℕ → Type 0
+  Kept w input = (outcome : Outcome) → CoreKept (next_root w) w.sent sites w.tried (core_step (term_reading_by same) w.core input outcome)
+
+  core_turn_holds : (w : TheWorld) (input : CoreInput Term ℕ) (came : Option (Outgoing Term ℕ)) → OfSome IsWellFormed (core_received input) → Kept w input → Holders sites w →
+      Holders sites (core_turn m w input came).0
+  core_turn_holds w input came r k h =
+      let outcome = opener (core_opens (term_reading_by same) w.core input) (core_pdu_in input) came in
+      core_after_holds w (core_step (term_reading_by same) w.core input outcome) r (k outcome) h
+
+  core_acts_holds : (w : TheWorld) (act : CoreAct) (came : Option (Outgoing Term ℕ)) → Holders sites w → Holders sites (core_turn m w (CoreActs act) came).0
+  core_acts_holds w act came h =
+      core_turn_holds w (CoreActs act) came tt (λ outcome. let k = core.act_kept (next_root w) w.sent sites w.tried same w.core (core_act_row (plain_core (term_reading_by same) w.core) act)
+      (act_triggered (plain_core (term_reading_by same) w.core) act) h.core in
+      record { ok = k.ok; outs = k.outs; sends = k.sends; fresh = k.fresh }) h
+
+  unseen_next : (o : Option (CoreContext Term)) (row : CoreNasRow) → RowNext (option_map (map_core_context unseen) o) row → RowNext o row
+  unseen_next None row h = none row where
+    none : (row : CoreNasRow) → RowNext {K = Term} None row
+    none (NasRefused answer) = tt
+    none PlainReject = tt
+    none (SmcComplete count) = tt
+    none (ServiceAsked count) = tt
+    none (NasOpened count text) = tt
+    none (SealedReject count) = tt
+  unseen_next (Some c) (NasRefused answer) h = tt
+  unseen_next (Some c) PlainReject h = tt
+  unseen_next (Some c) (SmcComplete count) h = tt
+  unseen_next (Some c) (ServiceAsked count) h = h
+  unseen_next (Some c) (NasOpened count text) h = h
+  unseen_next (Some c) (SealedReject count) h = h
+
+  core_nas_holds : (w : TheWorld) (pdu : List ℕ) (came : Option (Outgoing Term ℕ)) → Holders sites w → Holders sites (core_turn m w (CoreNasPdu pdu) came).0
+  core_nas_holds w pdu came h =
+      let plain = plain_core (term_reading_by same) w.core in
+      core_turn_holds w (CoreNasPdu pdu) came tt (λ outcome. let row = core_nas_row plain (core_nas_front plain pdu (core_header pdu)) outcome in
+      let k = core.nas_kept (next_root w) w.sent sites w.tried same w.core row (unseen_next w.core.context row (nas_next plain pdu (core_header pdu) outcome)) h.core in
+      record { ok = k.ok; outs = k.outs; sends = k.sends; fresh = k.fresh }) h
+
+  -- a record that asks for a handover is of an attempt
+  record_needs : (w : TheWorld) (fields : Fields) (key : Option (NumberedKey Term ℕ)) (row : CoreRecordRow) → CoreFits w.core.link fields row → FieldsOk w.tried fields key → core.RecordNeeds w.tried row
+  record_needs w fields key (core_rows.RecordRefused answer) r f = tt
+  record_needs w fields key (PathSwitched conn station number alarm) r f = tt
+  record_needs w fields key (HandoverAsked conn source attempt cell target caps) r f = subst (λ g. FieldsOk w.tried g key) r.1 f
+  record_needs w fields key (HandoverOrdered conn source attempt cell ncc algs air) r f = tt
+  record_needs w fields key (HandoverNotified station) r f = tt
+  record_needs w fields key (HandoverCancelled conn source attempt cell target) r f = tt
+
+  abbrev core_row_at : TheWorld → Outgoing Term ℕ → CoreRecordRow
+  core_row_at w x = core_record_row (plain_core (term_reading_by same) w.core) (map_read unseen (term_reading_by same).ncc (content_of x))
+
+  read_kept : (w : TheWorld) (read : Result (Content Term ℕ) RecFault) → core.RecordNeeds w.tried (core_record_row (plain_core (term_reading_by same) w.core) (map_read unseen (term_reading_by same).ncc read)) →
+      Holders sites w → Kept w (CoreRecord read)
+  read_kept w read n h outcome =
+      let k = core.record_kept (next_root w) w.sent sites w.tried same w.core (core_record_row (plain_core (term_reading_by same) w.core) (map_read unseen (term_reading_by same).ncc read)) n h.core in
+      record { ok = k.ok; outs = k.outs; sends = k.sends; fresh = k.fresh }
+
+  no_key_comes : (to : Address) (t : Term) (w : TheWorld) → to ≡ CoreS1 → KeyGoes (GivenTo w.sent) sites to t → ⊥
+  no_key_comes to t w e k = subst (λ a. KeyGoes (GivenTo w.sent) sites a t) e k
+
+  came_holds : (w : TheWorld) (x : Outgoing Term ℕ) → address_of x ≡ CoreS1 → FlyOk (GivenTo w.sent) sites w.tried x → Holders sites w →
+      Holders sites (core_turn m w (CoreRecord (content_of x)) (Some x)).0
+  came_holds w (SealedNas dir header u e text) a f h = core_turn_holds w (CoreRecord (Err RecFault.Short)) (Some (SealedNas dir header u e text)) tt (read_kept w (Err RecFault.Short) tt h) h
+  came_holds w (PlainNas pdu) a f h = core_turn_holds w (CoreRecord (Err RecFault.Short)) (Some (PlainNas pdu)) tt (read_kept w (Err RecFault.Short) tt h) h
+  came_holds w (SealedRrc dir station air srb u e text) a f h = core_turn_holds w (CoreRecord (Err RecFault.Short)) (Some (SealedRrc dir station air srb u e text)) tt (read_kept w (Err RecFault.Short) tt h) h
+  came_holds w (UserPacket dir station air drb e text) a f h = core_turn_holds w (CoreRecord (Err RecFault.Short)) (Some (UserPacket dir station air drb e text)) tt (read_kept w (Err RecFault.Short) tt h) h
+  came_holds w (Between to fields None) a f h =
+      core_turn_holds w (CoreRecord (content_of (Between to fields None))) (Some (Between to fields None)) tt (read_kept w (content_of (Between to fields None))
+      (record_needs w fields None (core_row_at w (Between to fields None)) (core_record_fits (term_reading_by same) w.core (record { fields = fields; key = None })) f.1) h) h
+  came_holds w (Between to fields (Some key)) a f h = absurd (no_key_comes to key.key w a f.0)
+
+  core_record_holds : (w : TheWorld) (came : Option (Outgoing Term ℕ)) → CameOk w CoreS1 came → Holders sites w → Holders sites (core_turn m w (CoreRecord (content_in m came)) came).0
+  core_record_holds w None c h = core_turn_holds w (CoreRecord (Err RecFault.Short)) None tt (read_kept w (Err RecFault.Short) tt h) h
+  core_record_holds w (Some x) c h = came_holds w x c.0 c.1 h
+
+  -- AN EVENT
+
+  authenticated_holds : (w : TheWorld) (ksi : ℕ) (key : List ℕ) (caps : Caps) → Holders sites w → Holders sites (authenticated m w ksi (Root (next_root w) key) caps).0
+  authenticated_holds w ksi key caps h = record {
+    phone = (phone_kept same w.phone (OfAuth (Authenticated ksi)) (Some (Root (next_root w) key)) tt h.phone).ok;
+    core = subst (λ n. CoreOk n (GivenTo w.sent) (core_step (term_reading_by same) w.core (CoreAuth ksi (Root (next_root w) key) caps) (Opened [])).0) (sym (roots_rise w.history (Root (next_root w) key)))
+        (auth_kept (next_root w) (GivenTo w.sent) w.core ksi caps (Root (next_root w) key) tt refl h.core);
+    stations = h.stations;
+    flying = h.flying;
+    held = all_append (HoldOk (GivenTo w.sent) sites) w.held _ h.held (tt, (tt, tt));
+    once = h.once;
+    tried = h.tried;
+    made = h.made;
+  }
+
+  auth_holds : (w : TheWorld) (ksi : ℕ) (key : List ℕ) (caps : Caps) (o : Option ℕ) → Holders sites w → Holders sites (auth_unless m w ksi (Root (next_root w) key) caps o).0
+  auth_holds w ksi key caps None h = authenticated_holds w ksi key caps h
+  auth_holds w ksi key caps (Some row) h = by_world_holds w (RepeatedRoot row) h
+
+  arrives_holds : (w : TheWorld) (to : Address) (pdu : List ℕ) (came : Option (Outgoing Term ℕ)) → CameOk w to came → Holders sites w → Holders sites (arrives m w to pdu came).0
+  arrives_holds w Address.PhoneNas pdu came c h = phone_turn_holds w (PhoneNasPdu pdu) came tt h
+  arrives_holds w (Address.Phone station air bearer) pdu came c h = phone_turn_holds w (PhoneAirPdu station air bearer pdu) came tt h
+  arrives_holds w Address.CoreNas pdu came c h = core_nas_holds w pdu came h
+  arrives_holds w Address.CoreS1 pdu came c h = core_record_holds w came c h
+  arrives_holds w (Address.StationAir station air bearer) pdu came c h = station_air_holds w station air bearer pdu came h
+  arrives_holds w (Address.StationS1 station) pdu came c h = station_record_holds w OnS1 station came c h
+  arrives_holds w (Address.StationX2 station) pdu came c h = station_record_holds w OnX2 station came c h
+
+  -- a record of those that were sent
+  delivered_holds : (w : TheWorld) (o : Option (Outgoing Term ℕ)) → OfSome (FlyOk (GivenTo w.sent) sites w.tried) o → Holders sites w → Holders sites (delivered m w o).0
+  delivered_holds w None f h = by_world_holds w NoRecord h
+  delivered_holds w (Some x) f h = arrives_holds w (address_of x) (octets x) (Some x) (refl, f) h
+
+  injected_holds : (w : TheWorld) (to : Address) (pdu : List ℕ) (o : Option ℕ) → Holders sites w → Holders sites (injected m w to pdu o).0
+  injected_holds w to pdu None h = arrives_holds w to pdu None tt h
+  injected_holds w to pdu (Some number) h = by_world_holds w (Sent number) h
+
+  -- every event keeps it
+  pub happens_holds : (w : TheWorld) (e : Event) → Holders sites w → Holders sites (happens m w e).0
+  happens_holds w (Event.Auth ksi key caps) h = auth_holds w ksi key caps (known_root m w (Root (next_root w) key)) h
+  happens_holds w (Event.Phone act) h = phone_turn_holds w (PhoneActs act) None tt h
+  happens_holds w (Event.Station id act) h = station_acts_holds w id act None h
+  happens_holds w (Event.Core act) h = core_acts_holds w act None h
+  happens_holds w (Event.Deliver i) h = delivered_holds w (chosen i w.sent) (all_chosen (FlyOk (GivenTo w.sent) sites w.tried) i w.sent h.flying) h
+  happens_holds w (Event.Inject to pdu) h = injected_holds w to pdu (position_from (is_sent m (class_of to) pdu) 0 w.sent) h
+
+  -- every run keeps it
+  pub run_holds : (w : TheWorld) (es : List Event) → Holders sites w → Holders sites (run m w es)
+  run_holds w [] h = h
+  run_holds w (e ∷ es) h = run_holds (happens m w e).0 es (happens_holds w e h)
+
+-- THE FIRST WORLD
+
+stations_first : (G : Gifts) (sites : List Site) (ss : List StationSetup) → AllOf (StationOk G sites) (stations_of sites ss)
+stations_first G sites [] = tt
+stations_first G sites (s ∷ ss) = (record { cells = refl; keys = record { context = tt; preps = tt } }, stations_first G sites ss)
+
+-- before the first event nobody holds a key
+pub first_holds : (setup : Setup) → Holders setup.cells (first_world setup)
+first_holds setup = record {
+  phone = record { partial = tt; context = tt; radio = tt };
+  core = record { partial = tt; context = tt; trigger = tt; link = tt; given = λ t id g. absurd g };
+  stations = stations_first (GivenTo []) setup.cells setup.stations;
+  flying = tt;
+  held = tt;
+  once = λ t a b g h. absurd g;
+  tried = tt;
+  made = tt;
+}

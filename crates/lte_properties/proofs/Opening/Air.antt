@@ -1,0 +1,378 @@
+-- The keys of packets on the air: those that the phone takes at the packet's station and air address.
+use Rattle.std.proofs.Common.{◌≡◌, ℕ, ◌≤◌, ◌<◌, Bool, List, length, drop, Option, Some, None, refl, ap, sym, subst, ◌∙◌, arith}
+use Rattle.std.specs.Prelude.{⊤, slice_index}
+use Rattle.rec_base.specs.declared.uses.Dir.{Dir}
+use Rattle.alg_choice.specs.declared.algs.Algs.{Algs}
+use Rattle.alg_choice.specs.declared.caps.Caps.{Caps}
+use Rattle.annex_a_keys.specs.Cell.{Place}
+use Rattle.lte_events.specs.declared.answers.Answer.{Answer}
+use Rattle.key_model.specs.HandoverTable.{NumberedKey}
+use Rattle.key_model.specs.Term.{Term}
+use Rattle.key_model.specs.Reading.{Reading, term_reading_by}
+use Rattle.pdcp_guard.specs.declared.counting.TheConstants.{LIMIT}
+use Rattle.pdcp_guard.specs.AsKeys.{AsKeys}
+use Rattle.rrc_rec.specs.declared.records.RrcRecord.{RrcRecord}
+use Rattle.rrc_rec.specs.declared.records.RrcRecord.TheVariants.{SecurityModeCommand, SecurityModeComplete, Reconfiguration, ReconfigurationComplete, RrcData}
+use Rattle.rrc_rec.specs.Spelling.{spelling_of}
+use Rattle.ho_prep.specs.Prep.{Prep, at_air}
+use Rattle.x2_handover.specs.declared.orders.Order.{Order}
+use Rattle.lte_machine.specs.Bearers.{Srb, Drb, Which, srb_counts, drb_counts}
+use Rattle.lte_machine.specs.Wire.{KeyUse, Ciphering, Outgoing, SealedNas, PlainNas, SealedRrc, UserPacket, Between}
+use Rattle.lte_machine.specs.Reply.{Origin, Made}
+use Rattle.lte_machine.specs.PhoneState.{Partial, NasContext, Radio, Idle, Connecting, Connected, Phone}
+use Rattle.lte_machine.specs.PhoneRows as phone
+use Rattle.lte_machine.specs.PhoneRows.{PhoneRow}
+use Rattle.lte_machine.specs.PhoneKeys as phone_keys
+use Rattle.lte_machine.specs.PhoneKeys.{phone_does}
+use Rattle.lte_machine.specs.StationState.{Station, Context}
+use Rattle.lte_machine.specs.StationRows as station
+use Rattle.lte_machine.specs.StationRows.{StationRow, Wanted}
+use Rattle.lte_machine.specs.StationKeys as station_keys
+use Rattle.lte_machine.specs.StationKeys.{station_does}
+use Rattle.lte_properties.specs.Agreement.{made_at}
+use Rattle.lte_properties.proofs.Agreement.Ghost.{Ghost, keys_of, FromIs, RadioOk, CtxOk}
+use Rattle.lte_properties.proofs.Agreement.Later.{Later, same_found, from_later}
+use Rattle.lte_properties.proofs.Agreement.Holds.{one_here}
+use Rattle.lte_properties.proofs.Opening.Delivered.{RrcUnder, PacketUnder}
+
+-- these are the AS keys of what the phone takes at a station and air address, for the algorithms of what was made there
+abbrev pub KeysAre : Ghost → ℕ → ℕ → AsKeys Term → Type 0
+KeysAre g id air keys =
+    (m : Made Term ℕ) × (t : Term) × (made_at g.made id air ≡ Some m) × FromIs g m t m.from_attempt × (keys ≡ keys_of t m.algs)
+
+-- at one address they are the same
+pub one_keys : (g : Ghost) (id air : ℕ) (a b : AsKeys Term) → KeysAre g id air a → KeysAre g id air b → a ≡ b
+one_keys g id air a b h k =
+    let made : h.0 ≡ k.0 = same_found _ h.0 k.0 h.2 k.2 in
+    let term : h.1 ≡ k.1 = one_here g id air h.1 k.1 (h.0, h.2, h.3) (k.0, k.2, k.3) in
+    h.4 ∙ (λ j. keys_of (term j) (made j).algs) ∙ sym k.4
+
+pub keys_later : (g h : Ghost) → Later g h → (id air : ℕ) (keys : AsKeys Term) → KeysAre g id air keys → KeysAre h id air keys
+keys_later g h l id air keys k = (k.0, k.1, l.made id air k.0 k.2, from_later g h l k.0 k.1 k.0.from_attempt k.3, k.4)
+
+-- an RRC text of data, and a user packet
+abbrev pub RrcSealed : Ghost → Dir → ℕ → ℕ → Srb → KeyUse Term → Option (Ciphering Term) → List ℕ → Type 0
+RrcSealed g dir id air srb u e text =
+    (sent : List ℕ) → text ≡ spelling_of (RrcData sent)
+    → (length sent ≤ 200) × (u.count < LIMIT) × (u.dir ≡ dir) × (keys : AsKeys Term) × KeysAre g id air keys × RrcUnder keys srb u e
+
+abbrev pub PacketSealed : Ghost → Dir → ℕ → ℕ → Drb → Ciphering Term → List ℕ → Type 0
+PacketSealed g dir id air drb e text =
+    (length text ≤ 1500) × (e.under.count < LIMIT) × (e.under.dir ≡ dir) × (keys : AsKeys Term) × KeysAre g id air keys × PacketUnder keys drb e
+
+abbrev pub AirOk : Ghost → Outgoing Term ℕ → Type 0
+AirOk g (SealedRrc dir id air srb u e text) = RrcSealed g dir id air srb u e text
+AirOk g (UserPacket dir id air drb e text) = PacketSealed g dir id air drb e text
+AirOk g other = ⊤
+
+pub air_later : (g h : Ghost) → Later g h → (x : Outgoing Term ℕ) → AirOk g x → AirOk h x
+air_later g h l (SealedNas dir header u e text) k = tt
+air_later g h l (PlainNas octets) k = tt
+air_later g h l (SealedRrc dir id air srb u e text) k = λ sent is.
+    let f = k sent is in (f.0, f.1, f.2, f.3, keys_later g h l id air f.3 f.4, f.5)
+air_later g h l (UserPacket dir id air drb e text) k = (k.0, k.1, k.2, k.3, keys_later g h l id air k.3 k.4, k.5)
+air_later g h l (Between to fields key) k = tt
+
+-- the keys of a connected phone, and of a context
+abbrev pub RadioKeys : Ghost → Radio Term ℕ → Type 0
+RadioKeys g Idle = ⊤
+RadioKeys g (Connecting w) = ⊤
+RadioKeys g (Connected l) = KeysAre g l.station l.air l.keys
+
+abbrev pub ContextKeys : Ghost → ℕ → Option (Context Term ℕ) → Type 0
+ContextKeys g id None = ⊤
+ContextKeys g id (Some c) = KeysAre g id c.air c.keys
+
+pub radio_keys : (g : Ghost) (radio : Radio Term ℕ) → RadioOk g radio → RadioKeys g radio
+radio_keys g Idle h = tt
+radio_keys g (Connecting w) h = tt
+radio_keys g (Connected l) h = (h.2, l.kenb, h.3, h.5, h.1 ∙ ap (keys_of l.kenb) h.4)
+
+pub context_keys : (g : Ghost) (id : ℕ) (o : Option (Context Term ℕ)) → CtxOk g id o → ContextKeys g id o
+context_keys g id None h = tt
+context_keys g id (Some c) h = let e = h.3 in (e.0, c.key.kenb, e.1, e.3, h.2 ∙ ap (keys_of c.key.kenb) e.2.2)
+
+-- TEXTS
+
+-- a text of data is no other text, and has its data
+data_in : (a b : List ℕ) → spelling_of (RrcData a) ≡ spelling_of (RrcData b) → a ≡ b
+unfolding spelling_of
+data_in a b e = ap (drop 1) e
+
+abbrev first : List ℕ → ℕ
+first t = slice_index t 0
+
+differ : (kind : ℕ) → kind < 5 → kind ≡ 5 → ⊥
+differ kind low e = absurd (omega arith)
+
+abbrev NoData : RrcRecord → Type 0
+NoData (RrcData text) = ⊥
+NoData other = ⊤
+
+no_data : (x : RrcRecord) → NoData x → (sent : List ℕ) → spelling_of x ≡ spelling_of (RrcData sent) → ⊥
+unfolding spelling_of
+no_data (SecurityModeCommand algs id air) h sent e = differ 1 (omega arith) (ap first e)
+no_data SecurityModeComplete h sent e = differ 2 (omega arith) (ap first e)
+no_data (Reconfiguration cell ncc algs id air) h sent e = differ 3 (omega arith) (ap first e)
+no_data ReconfigurationComplete h sent e = differ 4 (omega arith) (ap first e)
+no_data (RrcData text) h sent e = absurd h
+
+-- WHAT A STATION SENDS
+
+-- nothing on NAS, and on the air what is sealed under the keys of its context
+abbrev pub FromStation : Ghost → Option (Outgoing Term ℕ) → Type 0
+FromStation g None = ⊤
+FromStation g (Some (SealedNas dir header u e text)) = ⊥
+FromStation g (Some x) = AirOk g x
+
+-- what a row needs: a COUNT that is left, and data in their range
+abbrev pub SendNeeds : station.ActRow → Type 0
+SendNeeds (station.PacketSent drb count text) = (count < LIMIT) × (length text ≤ 1500)
+SendNeeds (station.RrcSent srb count text) = (count < LIMIT) × (length text ≤ 200)
+SendNeeds other = ⊤
+
+abbrev pub StationNeeds : StationRow → Type 0
+StationNeeds (station.OfAct row) = SendNeeds row
+StationNeeds other = ⊤
+
+module _ (same : Term → Term → Bool) (g : Ghost) where
+  abbrev r : Reading Term ℕ
+  r = term_reading_by same
+
+  given_sends : (conn : ℕ) (cell : Place) (caps : Caps) (algs : Algs) (air : ℕ) (key : Option (NumberedKey Term ℕ)) (s : Station Term ℕ)
+      → FromStation g (station_keys.context_given r conn cell caps algs air key s).1.sent
+  given_sends conn cell caps algs air None s = tt
+  given_sends conn cell caps algs air (Some received) s = λ sent e. absurd (no_data (SecurityModeCommand algs s.id air) tt sent e)
+
+  source_sends : (conn : ℕ) (origin : Option Origin) → FromStation g (station_keys.source_release conn origin)
+  source_sends conn None = tt
+  source_sends conn (Some o) = tt
+
+  pair_sends : (conn : ℕ) (origin : Option Origin) (key : Option (NumberedKey Term ℕ)) (s : Station Term ℕ)
+      → FromStation g (station_keys.pair_taken conn origin key s).1.sent
+  pair_sends conn origin None s = tt
+  pair_sends conn origin (Some pair) s = source_sends conn origin
+
+  s1_sends : (w : Wanted) (key : Option (NumberedKey Term ℕ)) (s : Station Term ℕ) → FromStation g (station_keys.prepared_by_s1 r w key s).1.sent
+  s1_sends w None s = tt
+  s1_sends w (Some pair) s = tt
+
+  x2_sends : (w : Wanted) (key : Option (NumberedKey Term ℕ)) (s : Station Term ℕ) → FromStation g (station_keys.prepared_by_x2 r w key s).1.sent
+  x2_sends w None s = tt
+  x2_sends w (Some star) s = tt
+
+  record_sends : (row : station.RecordRow) (key : Option (NumberedKey Term ℕ)) (s : Station Term ℕ) → FromStation g (station_keys.record_does r row key s).1.sent
+  record_sends (station.RecordRefused answer) key s = tt
+  record_sends (station.ContextGiven conn cell caps algs air) key s = given_sends conn cell caps algs air key s
+  record_sends station.ContextReleased key s = tt
+  record_sends (station.PairTaken conn origin) key s = pair_sends conn origin key s
+  record_sends (station.PreparedByS1 w) key s = s1_sends w key s
+  record_sends (station.PreparedByX2 w) key s = x2_sends w key s
+  record_sends (station.AckedByS1 ncc algs air) key s = tt
+  record_sends (station.AckedByX2 algs air) key s = tt
+  record_sends (station.PreparationCancelled from) key s = tt
+  record_sends station.SourceReleased key s = tt
+
+  by_s1_sends : (count : ℕ) (p : Option (Prep Term ℕ)) (s : Station Term ℕ) → FromStation g (station_keys.completed_by_s1 r count p s).1.sent
+  by_s1_sends count None s = tt
+  by_s1_sends count (Some p) s = tt
+
+  within_sends : (count : ℕ) (origin : Option Origin) (p : Option (Prep Term ℕ)) (s : Station Term ℕ) → FromStation g (station_keys.completed_within r count origin p s).1.sent
+  within_sends count origin None s = tt
+  within_sends count origin (Some p) s = tt
+
+  by_x2_sends : (count number : ℕ) (p : Option (Prep Term ℕ)) (s : Station Term ℕ) → FromStation g (station_keys.completed_by_x2 r count number p s).1.sent
+  by_x2_sends count number None s = tt
+  by_x2_sends count number (Some p) s = tt
+
+  air_sends : (row : station.AirRow) (s : Station Term ℕ) → FromStation g (station_keys.air_does r row s).1.sent
+  air_sends (station.AirRefused answer) s = tt
+  air_sends (station.SecurityStarted count) s = tt
+  air_sends (station.RrcOpened srb count text) s = tt
+  air_sends (station.PacketOpened drb count text) s = tt
+  air_sends (station.CompletedByS1 air count) s = by_s1_sends count (at_air air s.preps) s
+  air_sends (station.CompletedWithin air count origin) s = within_sends count origin (at_air air s.preps) s
+  air_sends (station.CompletedByX2 air count number) s = by_x2_sends count number (at_air air s.preps) s
+
+  started_x2_sends : (number target : ℕ) (cell : Place) (o : Option (Context Term ℕ)) (s : Station Term ℕ) → FromStation g (station_keys.started_by_x2 r number target cell o s).1.sent
+  started_x2_sends number target cell None s = tt
+  started_x2_sends number target cell (Some c) s = tt
+
+  started_s1_sends : (number target : ℕ) (cell : Place) (o : Option (Context Term ℕ)) (s : Station Term ℕ) → FromStation g (station_keys.started_by_s1 number target cell o s).1.sent
+  started_s1_sends number target cell None s = tt
+  started_s1_sends number target cell (Some c) s = tt
+
+  started_within_sends : (number air : ℕ) (cell : Place) (o : Option (Context Term ℕ)) (s : Station Term ℕ) → FromStation g (station_keys.started_within r number air cell o s).1.sent
+  started_within_sends number air cell None s = tt
+  started_within_sends number air cell (Some c) s = tt
+
+  commands_sends : (order : Order) (count : ℕ) (o : Option (Context Term ℕ)) (s : Station Term ℕ) → FromStation g (station_keys.commands order count o s).1.sent
+  commands_sends order count None s = tt
+  commands_sends order count (Some c) s = λ sent e. absurd (no_data (Reconfiguration order.cell order.ncc order.algs order.station order.air) tt sent e)
+
+  asks_sends : (number : ℕ) (o : Option (Context Term ℕ)) (s : Station Term ℕ) → FromStation g (station_keys.asks_again number o s).1.sent
+  asks_sends number None s = tt
+  asks_sends number (Some c) s = tt
+
+  packet_sends : (drb : Drb) (count : ℕ) (text : List ℕ) (o : Option (Context Term ℕ)) (s : Station Term ℕ) → ContextKeys g s.id o → (count < LIMIT) × (length text ≤ 1500)
+      → FromStation g (station_keys.sends_packet drb count text o s).1.sent
+  packet_sends drb count text None s keys needs = tt
+  packet_sends drb count text (Some c) s keys needs = (needs.1, needs.0, refl, c.keys, keys, refl)
+
+  rrc_sends : (srb : Srb) (count : ℕ) (text : List ℕ) (o : Option (Context Term ℕ)) (s : Station Term ℕ) → ContextKeys g s.id o → (count < LIMIT) × (length text ≤ 200)
+      → FromStation g (station_keys.sends_rrc srb count text o s).1.sent
+  rrc_sends srb count text None s keys needs = tt
+  rrc_sends srb count text (Some c) s keys needs = λ sent e.
+      (subst (λ t. length t ≤ 200) (data_in text sent e) needs.1, needs.0, refl, c.keys, keys, (refl, refl))
+
+  act_sends : (row : station.ActRow) (s : Station Term ℕ) → ContextKeys g s.id s.context → SendNeeds row → FromStation g (station_keys.act_does r row s).1.sent
+  act_sends (station.ActRefused answer) s keys needs = tt
+  act_sends (station.StartedByX2 number target cell) s keys needs = started_x2_sends number target cell s.context s
+  act_sends (station.StartedByS1 number target cell) s keys needs = started_s1_sends number target cell s.context s
+  act_sends (station.StartedWithin number air cell) s keys needs = started_within_sends number air cell s.context s
+  act_sends (station.HandoverCommanded order count) s keys needs = commands_sends order count s.context s
+  act_sends (station.CancelledByX2 conn number target) s keys needs = tt
+  act_sends (station.CancelledByS1 conn number cell) s keys needs = tt
+  act_sends (station.CancelledWithin number) s keys needs = tt
+  act_sends (station.PathSwitchAsked number) s keys needs = asks_sends number s.context s
+  act_sends (station.PacketSent drb count text) s keys needs = packet_sends drb count text s.context s keys needs
+  act_sends (station.RrcSent srb count text) s keys needs = rrc_sends srb count text s.context s keys needs
+  act_sends (station.BearerSkipped on n) s keys needs = tt
+
+  -- any row of a station
+  pub station_sends : (row : StationRow) (key : Option (NumberedKey Term ℕ)) (s : Station Term ℕ) → ContextKeys g s.id s.context → StationNeeds row
+      → FromStation g (station_does r row key s).1.sent
+  station_sends (station.OfRecord row) key s keys needs = record_sends row key s
+  station_sends (station.OfAir row) key s keys needs = air_sends row s
+  station_sends (station.OfAct row) key s keys needs = act_sends row s keys needs
+
+  -- WHAT THE PHONE SENDS
+
+  abbrev pub FromPhone : Option (Outgoing Term ℕ) → Type 0
+  FromPhone None = ⊤
+  FromPhone (Some x) = AirOk g x
+
+  abbrev pub PacketNeeds : Drb → List ℕ → Radio Term ℕ → Type 0
+  PacketNeeds drb text Idle = ⊤
+  PacketNeeds drb text (Connecting w) = ⊤
+  PacketNeeds drb text (Connected l) = ((drb_counts drb l.bearers).send < LIMIT) × (length text ≤ 1500)
+
+  abbrev pub RrcNeeds : Srb → List ℕ → Radio Term ℕ → Type 0
+  RrcNeeds srb text Idle = ⊤
+  RrcNeeds srb text (Connecting w) = ⊤
+  RrcNeeds srb text (Connected l) = ((srb_counts srb l.bearers).send < LIMIT) × (length text ≤ 200)
+
+  abbrev pub ActNeeds : Radio Term ℕ → phone.ActRow → Type 0
+  ActNeeds radio (phone.PacketSent drb text) = PacketNeeds drb text radio
+  ActNeeds radio (phone.RrcSent srb text) = RrcNeeds srb text radio
+  ActNeeds radio other = ⊤
+
+  abbrev pub PhoneNeeds : Radio Term ℕ → PhoneRow → Type 0
+  PhoneNeeds radio (phone.OfAct row) = ActNeeds radio row
+  PhoneNeeds radio other = ⊤
+
+  auth_from : (row : phone.AuthRow) (root : Option Term) (s : Phone Term ℕ) → FromPhone (phone_keys.auth_does row root s).1.sent
+  auth_from (phone.Authenticated ksi) None s = tt
+  auth_from (phone.Authenticated ksi) (Some root) s = tt
+
+  rejected_from : (answer : Answer) (cause : ℕ) (s : Phone Term ℕ) (o : Option (NasContext Term)) → FromPhone (phone_keys.rejected_under answer cause s o).1.sent
+  rejected_from answer cause s None = tt
+  rejected_from answer cause s (Some c) = tt
+
+  taken_from : (algs : Algs) (count : ℕ) (s : Phone Term ℕ) (o : Option (Partial Term)) → FromPhone (phone_keys.context_taken r algs count s o).1.sent
+  taken_from algs count s None = tt
+  taken_from algs count s (Some p) = tt
+
+  connected_from : (algs : Algs) (count : ℕ) (s : Phone Term ℕ) (o : Option (Partial Term)) → FromPhone (phone_keys.context_taken_connected r algs count s o).1.sent
+  connected_from algs count s None = tt
+  connected_from algs count s (Some p) = tt
+
+  opened_from : (count : ℕ) (text : List ℕ) (s : Phone Term ℕ) (o : Option (NasContext Term)) → FromPhone (phone_keys.nas_opened count text s o).1.sent
+  opened_from count text s None = tt
+  opened_from count text s (Some c) = tt
+
+  nas_from : (row : phone.NasRow) (s : Phone Term ℕ) → FromPhone (phone_keys.nas_does r row s).1.sent
+  nas_from (phone.NasRefused answer) s = tt
+  nas_from (phone.RejectedPlain answer cause) s = tt
+  nas_from (phone.RejectedUnder answer cause) s = rejected_from answer cause s s.context
+  nas_from (phone.ContextTaken algs count) s = taken_from algs count s s.partial
+  nas_from (phone.ContextTakenConnected algs count) s = connected_from algs count s s.partial
+  nas_from (phone.NasOpened count text) s = opened_from count text s s.context
+
+  secured_from : (id air : ℕ) (algs : Algs) (count : ℕ) (s : Phone Term ℕ) (radio : Radio Term ℕ) → FromPhone (phone_keys.link_secured r id air algs count s radio).1.sent
+  secured_from id air algs count s Idle = tt
+  secured_from id air algs count s (Connecting w) = λ sent e. absurd (no_data SecurityModeComplete tt sent e)
+  secured_from id air algs count s (Connected l) = tt
+
+  handed_from : (cell : Place) (steps : ℕ) (algs : Algs) (id air : ℕ) (s : Phone Term ℕ) (radio : Radio Term ℕ) → FromPhone (phone_keys.handed_over r cell steps algs id air s radio).1.sent
+  handed_from cell steps algs id air s Idle = tt
+  handed_from cell steps algs id air s (Connecting w) = tt
+  handed_from cell steps algs id air s (Connected l) = λ sent e. absurd (no_data ReconfigurationComplete tt sent e)
+
+  rrc_opened_from : (srb : Srb) (count : ℕ) (text : List ℕ) (s : Phone Term ℕ) (radio : Radio Term ℕ) → FromPhone (phone_keys.rrc_opened srb count text s radio).1.sent
+  rrc_opened_from srb count text s Idle = tt
+  rrc_opened_from srb count text s (Connecting w) = tt
+  rrc_opened_from srb count text s (Connected l) = tt
+
+  packet_opened_from : (drb : Drb) (count : ℕ) (text : List ℕ) (s : Phone Term ℕ) (radio : Radio Term ℕ) → FromPhone (phone_keys.packet_opened drb count text s radio).1.sent
+  packet_opened_from drb count text s Idle = tt
+  packet_opened_from drb count text s (Connecting w) = tt
+  packet_opened_from drb count text s (Connected l) = tt
+
+  air_from : (row : phone.AirRow) (s : Phone Term ℕ) → FromPhone (phone_keys.air_does r row s).1.sent
+  air_from (phone.AirRefused answer) s = tt
+  air_from (phone.LinkSecured id air algs count) s = secured_from id air algs count s s.radio
+  air_from (phone.HandedOver cell steps algs id air) s = handed_from cell steps algs id air s s.radio
+  air_from (phone.RrcOpened srb count text) s = rrc_opened_from srb count text s s.radio
+  air_from (phone.PacketOpened drb count text) s = packet_opened_from drb count text s s.radio
+
+  requested_from : (s : Phone Term ℕ) (o : Option (NasContext Term)) → FromPhone (phone_keys.service_requested r s o).1.sent
+  requested_from s None = tt
+  requested_from s (Some c) = tt
+
+  resent_from : (s : Phone Term ℕ) (radio : Radio Term ℕ) → FromPhone (phone_keys.complete_resent s radio).1.sent
+  resent_from s Idle = tt
+  resent_from s (Connecting w) = tt
+  resent_from s (Connected l) = λ sent e. absurd (no_data ReconfigurationComplete tt sent e)
+
+  packet_from : (drb : Drb) (text : List ℕ) (s : Phone Term ℕ) (radio : Radio Term ℕ) → RadioKeys g radio → PacketNeeds drb text radio → FromPhone (phone_keys.packet_sent drb text s radio).1.sent
+  packet_from drb text s Idle keys needs = tt
+  packet_from drb text s (Connecting w) keys needs = tt
+  packet_from drb text s (Connected l) keys needs = (needs.1, needs.0, refl, l.keys, keys, refl)
+
+  rrc_from : (srb : Srb) (text : List ℕ) (s : Phone Term ℕ) (radio : Radio Term ℕ) → RadioKeys g radio → RrcNeeds srb text radio → FromPhone (phone_keys.rrc_sent srb text s radio).1.sent
+  rrc_from srb text s Idle keys needs = tt
+  rrc_from srb text s (Connecting w) keys needs = tt
+  rrc_from srb text s (Connected l) keys needs = λ sent e.
+      (subst (λ t. length t ≤ 200) (data_in text sent e) needs.1, needs.0, refl, l.keys, keys, (refl, refl))
+
+  sent_from : (text : List ℕ) (s : Phone Term ℕ) (o : Option (NasContext Term)) → FromPhone (phone_keys.nas_sent text s o).1.sent
+  sent_from text s None = tt
+  sent_from text s (Some c) = tt
+
+  left_from : (n : ℕ) (s : Phone Term ℕ) (o : Option (NasContext Term)) → FromPhone (phone_keys.nas_skipped n s o).1.sent
+  left_from n s None = tt
+  left_from n s (Some c) = tt
+
+  bearer_from : (on : Which) (n : ℕ) (s : Phone Term ℕ) (radio : Radio Term ℕ) → FromPhone (phone_keys.bearer_skipped on n s radio).1.sent
+  bearer_from on n s Idle = tt
+  bearer_from on n s (Connecting w) = tt
+  bearer_from on n s (Connected l) = tt
+
+  act_from : (row : phone.ActRow) (s : Phone Term ℕ) → RadioKeys g s.radio → ActNeeds s.radio row → FromPhone (phone_keys.act_does r row s).1.sent
+  act_from (phone.ActRefused answer) s keys needs = tt
+  act_from phone.ServiceRequested s keys needs = requested_from s s.context
+  act_from phone.CompleteResent s keys needs = resent_from s s.radio
+  act_from phone.WentIdle s keys needs = tt
+  act_from (phone.PacketSent drb text) s keys needs = packet_from drb text s s.radio keys needs
+  act_from (phone.RrcSent srb text) s keys needs = rrc_from srb text s s.radio keys needs
+  act_from (phone.NasSent text) s keys needs = sent_from text s s.context
+  act_from (phone.NasSkipped n) s keys needs = left_from n s s.context
+  act_from (phone.BearerSkipped on n) s keys needs = bearer_from on n s s.radio
+
+  -- any row of the phone
+  pub phone_sends : (row : PhoneRow) (root : Option Term) (s : Phone Term ℕ) → RadioKeys g s.radio → PhoneNeeds s.radio row → FromPhone (phone_does r row root s).1.sent
+  phone_sends (phone.OfAuth row) root s keys needs = auth_from row root s
+  phone_sends (phone.OfNas row) root s keys needs = nas_from row s
+  phone_sends (phone.OfAir row) root s keys needs = air_from row s
+  phone_sends (phone.OfAct row) root s keys needs = act_from row s keys needs

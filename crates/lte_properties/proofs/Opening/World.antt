@@ -1,0 +1,373 @@
+-- Every event keeps what is known of the keys of packets.
+use Rattle.std.proofs.Common.{◌≡◌, refl, sym, ap, ℕ, suc, ◌+◌, ◌<◌, ◌==◌, Bool, true, false, if◌then◌else◌, List, [], ◌∷◌, ◌++◌, length, map, Option, Some, None, Result, le_of_eq, arith}
+use Rattle.std.specs.Prelude.{⊤, filter}
+use Rattle.std.proofs.lemmas.Bool.Decides.{nat_tests}
+use Rattle.alg_choice.specs.declared.algs.Algs.{Algs}
+use Rattle.alg_choice.specs.declared.caps.Caps.{Caps}
+use Rattle.alg_choice.specs.declared.choices.NoAlgorithm.{NoAlgorithm as NoneChosen}
+use Rattle.rec_base.specs.declared.bearers.Bearer.{Bearer}
+use Rattle.lte_events.specs.declared.addresses.Address.{Address}
+use Rattle.lte_events.specs.declared.answers.Answer.{Answer}
+use Rattle.lte_events.specs.declared.answers.Answer.TheVariants.{Done, NoUe}
+use Rattle.lte_events.specs.Site.{Site}
+use Rattle.annex_a_keys.specs.Cell.{Place}
+use Rattle.nas_guard.specs.Keys.{Keys}
+use Rattle.key_model.specs.Derivation.{Derivation}
+use Rattle.key_model.specs.Term.{Term, Root}
+use Rattle.key_model.specs.HandoverTable.{NumberedKey}
+use Rattle.key_model.specs.Reading.{Reading, term_reading_by}
+use Rattle.s1x2_rec.specs.Fields.{Fields}
+use Rattle.lte_machine.specs.Wire.{KeyUse, Outgoing, SealedNas, PlainNas, SealedRrc, UserPacket, Between}
+use Rattle.lte_machine.specs.Ciphers.{Ciphers, AreCiphers, octets_of}
+use Rattle.lte_machine.specs.Opening.{Opening, Outcome}
+use Rattle.lte_machine.specs.Ladder.{RowOrigin, OfRoot, Of}
+use Rattle.lte_machine.specs.Reply.{Reply}
+use Rattle.lte_machine.specs.PhoneState.{PhoneInput, PhoneNasPdu, PhoneAirPdu}
+use Rattle.lte_machine.specs.PhoneRows.{PhoneRow}
+use Rattle.lte_machine.specs.PhoneChoice.{phone_row}
+use Rattle.lte_machine.specs.PhoneKeys.{PhoneDone}
+use Rattle.lte_machine.specs.PhoneStep.{plain_phone, front_of, phone_root, phone_opens, phone_pdu_in, phone_step}
+use Rattle.lte_machine.specs.StationState.{Station, StationInput, AirPdu, StationRecord, OnS1, OnX2}
+use Rattle.lte_machine.specs.StationStep.{station_opens, station_pdu_in, station_step, station_row_of, station_key}
+use Rattle.lte_machine.specs.CoreState.{Core, CorePartial, CoreContext, CoreLink, CoreInput, CoreNasPdu, CoreRecord}
+use Rattle.lte_machine.specs.CoreRows as core
+use Rattle.lte_machine.specs.CoreRows.{CoreRow}
+use Rattle.lte_machine.specs.CoreChoice.{core_row}
+use Rattle.lte_machine.specs.CoreKeys as core_keys
+use Rattle.lte_machine.specs.CoreKeys.{CoreDone, core_does}
+use Rattle.lte_machine.specs.CoreStep.{plain_core, core_root, core_front_of, core_opens, core_pdu_in, core_step}
+use Rattle.lte_machine.specs.World.{Machine, phone_after, core_after, station_after, by_world, phone_turn, core_turn, station_of_id, turn_of, station_turn, is_root_row, next_root, content_in, arrives}
+use Rattle.lte_machine.specs.Step.{arrival_attempts}
+use Rattle.lte_machine.specs.Machines.{sender_of}
+use Rattle.lte_machine.specs.Distinct.{keys_of}
+use Rattle.lte_properties.specs.ChainBelow.{AllOf}
+use Rattle.lte_properties.specs.ChainHolds.{machine_by}
+use Rattle.lte_properties.specs.PacketOpenings.{SenderIs}
+use Rattle.lte_properties.proofs.ChainNumbers.Lists.{OfSome, all_one, all_find, all_map}
+use Rattle.lte_properties.proofs.Agreement.Ghost.{Ghost, StationOk}
+use Rattle.lte_properties.proofs.Agreement.Later.{Later}
+use Rattle.lte_properties.proofs.Agreement.World.{TheWorld, Conns, ghost, WorldOk}
+use Rattle.lte_properties.proofs.Opening.Nas.{Choices, PhoneOk, CoreOk, SentOk, OutOk, More, phone_more, core_more, sent_more}
+use Rattle.lte_properties.proofs.Opening.NasRows.{RowNeeds, CoreRowNeeds, NoAuth, phone_goes, core_goes}
+use Rattle.lte_properties.proofs.Opening.NasWalk.{CameDown, nas_pdu_needs}
+use Rattle.lte_properties.proofs.Opening.Air.{AirOk, FromStation, StationNeeds, FromPhone, PhoneNeeds, air_later, radio_keys, context_keys, station_sends, phone_sends}
+
+-- what is known of packets in a world: the NAS keys of core and phone, and how each record that was sent is sealed
+pub record PacketsOk (g : Choices) (k : Conns) (w : TheWorld) : Type 0 where
+  pub core : CoreOk g (next_root w) w.core
+  pub phone : PhoneOk g (next_root w) w.phone
+  pub nas : AllOf (SentOk g (next_root w)) w.sent
+  pub air : AllOf (AirOk (ghost k w)) w.sent
+
+-- after an event, with the choices of one authentication more
+abbrev pub Keeps : Conns → TheWorld → Type 0
+Keeps k u = (g : Choices) × PacketsOk g k u
+
+-- derivations are no authentications
+none_among : (ds : List (Derivation Term)) → length (filter is_root_row (map Of ds)) ≡ 0
+none_among [] = refl
+none_among (d ∷ ds) = none_among ds
+
+roots_kept : (rows : List (RowOrigin Term)) (ds : List (Derivation Term)) → length (filter is_root_row rows) ≡ length (filter is_root_row (rows ++ map Of ds))
+roots_kept [] ds = sym (none_among ds)
+roots_kept (OfRoot key ∷ rows) ds = ap suc (roots_kept rows ds)
+roots_kept (Of d ∷ rows) ds = roots_kept rows ds
+
+pub one_root_more : (rows : List (RowOrigin Term)) (key : Term) → length (filter is_root_row (rows ++ OfRoot key ∷ [])) ≡ length (filter is_root_row rows) + 1
+one_root_more [] key = refl
+one_root_more (OfRoot other ∷ rows) key = let h = one_root_more rows key in omega arith
+one_root_more (Of d ∷ rows) key = one_root_more rows key
+
+-- the choices with that of one authentication more
+abbrev pub chosen_at : Choices → ℕ → Result Algs NoneChosen → Choices
+chosen_at g n algs k = if k == n then algs else g k
+
+pub chosen_below : (g : Choices) (n : ℕ) (algs : Result Algs NoneChosen) (k : ℕ) → k < n → g k ≡ chosen_at g n algs k
+chosen_below g n algs k low =
+    let other : (k == n) ≡ false = grind (arith, nat_tests) in
+    ap (λ b. if b then algs else g k) (sym other)
+
+pub chosen_there : (g : Choices) (n : ℕ) (algs : Result Algs NoneChosen) → algs ≡ chosen_at g n algs n
+chosen_there g n algs =
+    let one : (n == n) ≡ true = grind (arith, nat_tests) in
+    ap (λ b. if b then algs else g n) (sym one)
+
+-- the record of a step
+out_nas : (g : Choices) (next : ℕ) (o : Option (Outgoing Term ℕ)) → OutOk g next o → OfSome (SentOk g next) o
+out_nas g next None h = tt
+out_nas g next (Some x) h = h
+
+some_more : (g h : Choices) (next later : ℕ) → More g next h later → (o : Option (Outgoing Term ℕ)) → OfSome (SentOk g next) o → OfSome (SentOk h later) o
+some_more g h next later more None k = tt
+some_more g h next later more (Some x) k = sent_more g h next later more x k
+
+some_later : (g h : Ghost) → Later g h → (o : Option (Outgoing Term ℕ)) → OfSome (AirOk g) o → OfSome (AirOk h) o
+some_later g h l None k = tt
+some_later g h l (Some x) k = air_later g h l x k
+
+station_nas : (g : Choices) (next : ℕ) (k : Ghost) (o : Option (Outgoing Term ℕ)) → FromStation k o → OfSome (SentOk g next) o
+station_nas g next k None h = tt
+station_nas g next k (Some (SealedNas dir header u e text)) h = absurd h
+station_nas g next k (Some (PlainNas octets)) h = tt
+station_nas g next k (Some (SealedRrc dir station air srb u e text)) h = tt
+station_nas g next k (Some (UserPacket dir station air drb e text)) h = tt
+station_nas g next k (Some (Between to fields key)) h = tt
+
+station_air : (k : Ghost) (o : Option (Outgoing Term ℕ)) → FromStation k o → OfSome (AirOk k) o
+station_air k None h = tt
+station_air k (Some (SealedNas dir header u e text)) h = absurd h
+station_air k (Some (PlainNas octets)) h = tt
+station_air k (Some (SealedRrc dir station air srb u e text)) h = h
+station_air k (Some (UserPacket dir station air drb e text)) h = h
+station_air k (Some (Between to fields key)) h = tt
+
+phone_air : (same : Term → Term → Bool) (k : Ghost) (o : Option (Outgoing Term ℕ)) → FromPhone same k o → OfSome (AirOk k) o
+phone_air same k None h = tt
+phone_air same k (Some x) h = h
+
+-- the core sends nothing on the air
+abbrev FromCore : Option (Outgoing Term ℕ) → Type 0
+FromCore None = ⊤
+FromCore (Some (SealedRrc dir station air srb u e text)) = ⊥
+FromCore (Some (UserPacket dir station air drb e text)) = ⊥
+FromCore (Some x) = ⊤
+
+core_air : (k : Ghost) (o : Option (Outgoing Term ℕ)) → FromCore o → OfSome (AirOk k) o
+core_air k None h = tt
+core_air k (Some (SealedNas dir header u e text)) h = tt
+core_air k (Some (PlainNas octets)) h = tt
+core_air k (Some (SealedRrc dir station air srb u e text)) h = absurd h
+core_air k (Some (UserPacket dir station air drb e text)) h = absurd h
+core_air k (Some (Between to fields key)) h = tt
+
+module _ (same : Term → Term → Bool) where
+  abbrev r : Reading Term ℕ
+  r = term_reading_by same
+
+  smc_air : (ksi : ℕ) (algs : Algs) (caps : Caps) (count : ℕ) (o : Option (CorePartial Term)) (s : Core Term ℕ) → FromCore (core_keys.smc_started r ksi algs caps count o s).1.sent
+  smc_air ksi algs caps count None s = tt
+  smc_air ksi algs caps count (Some p) s = tt
+
+  complete_air : (count : ℕ) (o : Option (CorePartial Term)) (keys : Option (Keys Term)) (s : Core Term ℕ) → FromCore (core_keys.smc_complete count o keys s).1.sent
+  complete_air count None keys s = tt
+  complete_air count (Some p) None s = tt
+  complete_air count (Some p) (Some keys) s = tt
+
+  service_air : (count : ℕ) (o : Option (CoreContext Term)) (s : Core Term ℕ) → FromCore (core_keys.service_asked count o s).1.sent
+  service_air count None s = tt
+  service_air count (Some c) s = tt
+
+  opened_air : (count : ℕ) (text : List ℕ) (o : Option (CoreContext Term)) (s : Core Term ℕ) → FromCore (core_keys.nas_opened count text o s).1.sent
+  opened_air count text None s = tt
+  opened_air count text (Some c) s = tt
+
+  reject_air : (count : ℕ) (o : Option (CoreContext Term)) (s : Core Term ℕ) → FromCore (core_keys.sealed_reject count o s).1.sent
+  reject_air count None s = tt
+  reject_air count (Some c) s = tt
+
+  sent_air : (count : ℕ) (text : List ℕ) (o : Option (CoreContext Term)) (s : Core Term ℕ) → FromCore (core_keys.nas_sent count text o s).1.sent
+  sent_air count text None s = tt
+  sent_air count text (Some c) s = tt
+
+  skipped_air : (n : ℕ) (o : Option (CoreContext Term)) (s : Core Term ℕ) → FromCore (core_keys.nas_skipped n o s).1.sent
+  skipped_air n None s = tt
+  skipped_air n (Some c) s = tt
+
+  set_up_air : (conn : ℕ) (cell : Place) (target : ℕ) (caps : Caps) (count : ℕ) (o : Option (CoreContext Term)) (s : Core Term ℕ) → FromCore (core_keys.context_set_up r conn cell target caps count o s).1.sent
+  set_up_air conn cell target caps count None s = tt
+  set_up_air conn cell target caps count (Some c) s = tt
+
+  switched_air : (conn station number : ℕ) (alarm : Bool) (o : Option (CoreLink Term ℕ)) (s : Core Term ℕ) → FromCore (core_keys.path_switched r conn station number alarm o s).1.sent
+  switched_air conn station number alarm None s = tt
+  switched_air conn station number alarm (Some link) s = tt
+
+  asked_air : (conn source attempt : ℕ) (cell : Place) (target : ℕ) (caps : Caps) (o : Option (CoreLink Term ℕ)) (s : Core Term ℕ) → FromCore (core_keys.handover_asked r conn source attempt cell target caps o s).1.sent
+  asked_air conn source attempt cell target caps None s = tt
+  asked_air conn source attempt cell target caps (Some link) s = tt
+
+  notified_air : (station : ℕ) (o : Option (CoreLink Term ℕ)) (s : Core Term ℕ) → FromCore (core_keys.handover_notified station o s).1.sent
+  notified_air station None s = tt
+  notified_air station (Some link) s = tt
+
+  -- any row of the core
+  core_sends : (row : CoreRow) (root : Option Term) (s : Core Term ℕ) → FromCore (core_does r row root s).1.sent
+  core_sends (core.OfNas (core.NasRefused answer)) root s = tt
+  core_sends (core.OfNas core.PlainReject) root s = tt
+  core_sends (core.OfNas (core.SmcComplete count)) root s = complete_air count s.partial s.procedure s
+  core_sends (core.OfNas (core.ServiceAsked count)) root s = service_air count s.context s
+  core_sends (core.OfNas (core.NasOpened count text)) root s = opened_air count text s.context s
+  core_sends (core.OfNas (core.SealedReject count)) root s = reject_air count s.context s
+  core_sends (core.OfRecord (core.RecordRefused answer)) root s = tt
+  core_sends (core.OfRecord (core.PathSwitched conn station number alarm)) root s = switched_air conn station number alarm s.link s
+  core_sends (core.OfRecord (core.HandoverAsked conn source attempt cell target caps)) root s = asked_air conn source attempt cell target caps s.link s
+  core_sends (core.OfRecord (core.HandoverOrdered conn source attempt cell ncc algs air)) root s = tt
+  core_sends (core.OfRecord (core.HandoverNotified station)) root s = notified_air station s.link s
+  core_sends (core.OfRecord (core.HandoverCancelled conn source attempt cell target)) root s = tt
+  core_sends (core.OfAct (core.ActRefused answer)) root s = tt
+  core_sends (core.OfAct (core.SmcStarted ksi algs caps count)) root s = smc_air ksi algs caps count s.partial s
+  core_sends (core.OfAct (core.ContextSetUp conn cell target caps count)) root s = set_up_air conn cell target caps count s.context s
+  core_sends (core.OfAct (core.ContextReleased conn station)) root s = tt
+  core_sends (core.OfAct (core.NasSent count text)) root s = sent_air count text s.context s
+  core_sends (core.OfAct (core.NasSkipped n)) root s = skipped_air n s.context s
+  core_sends (core.OfAuth ksi caps) None s = tt
+  core_sends (core.OfAuth ksi caps) (Some root) s = tt
+
+-- THE STEP OF EACH ACTOR
+
+module _ (same : Term → Term → Bool) (sender : Option (Outgoing Term ℕ) → Option (KeyUse Term)) (opener : Opening Term → List ℕ → Option (Outgoing Term ℕ) → Outcome) (c : Ciphers Term) (good : AreCiphers c) (between : Fields → Option (NumberedKey Term ℕ) → List ℕ) (cells : List Site) where
+  abbrev q : Reading Term ℕ
+  q = term_reading_by same
+
+  abbrev m : Machine Term ℕ (Outgoing Term ℕ)
+  m = machine_by same Root (octets_of c between) sender opener
+
+  -- the rows of a step that is no authentication
+  roots_after : (w : TheWorld) (ds : List (Derivation Term)) → next_root w ≡ length (filter is_root_row (w.history ++ map Of ds))
+  roots_after w ds = roots_kept w.history ds
+
+  abbrev MoreAs : Choices → ℕ → ℕ → Type 0
+  MoreAs g n l = More g n g l
+
+  no_more : (g : Choices) (n l : ℕ) → n ≡ l → More g n g l
+  no_more g n l e = (le_of_eq e, λ k low. refl)
+
+  phone_after_keeps : (g : Choices) (k d : Conns) (w : TheWorld) (done : PhoneDone Term ℕ) → PacketsOk g k w
+      → PhoneOk g (next_root w) done.0 → OutOk g (next_root w) done.1.sent → OfSome (AirOk (ghost k w)) done.1.sent
+      → Later (ghost k w) (ghost d (phone_after m w done).0) → Keeps d (phone_after m w done).0
+  phone_after_keeps g k d w done h own out air later =
+      let u = (phone_after m w done).0 in
+      let more = no_more g (next_root w) (next_root u) (roots_after w done.1.derived) in (
+        g,
+        record {
+          core = core_more g g (next_root w) (next_root u) more w.core h.core;
+          phone = phone_more g g (next_root w) (next_root u) more done.0 own;
+          nas = all_one (SentOk g (next_root u)) done.1.sent w.sent (all_map (SentOk g (next_root w)) (SentOk g (next_root u)) (sent_more g g (next_root w) (next_root u) more) w.sent h.nas)
+              (some_more g g (next_root w) (next_root u) more done.1.sent (out_nas g (next_root w) done.1.sent out));
+          air = all_one (AirOk (ghost d u)) done.1.sent w.sent (all_map (AirOk (ghost k w)) (AirOk (ghost d u)) (air_later (ghost k w) (ghost d u) later) w.sent h.air)
+              (some_later (ghost k w) (ghost d u) later done.1.sent air);
+        },
+      )
+
+  core_after_keeps : (g : Choices) (k d : Conns) (w : TheWorld) (done : CoreDone Term ℕ) → PacketsOk g k w
+      → CoreOk g (next_root w) done.0 → OutOk g (next_root w) done.1.sent → OfSome (AirOk (ghost k w)) done.1.sent
+      → Later (ghost k w) (ghost d (core_after m w done).0) → Keeps d (core_after m w done).0
+  core_after_keeps g k d w done h own out air later =
+      let u = (core_after m w done).0 in
+      let more = no_more g (next_root w) (next_root u) (roots_after w done.1.derived) in (
+        g,
+        record {
+          core = core_more g g (next_root w) (next_root u) more done.0 own;
+          phone = phone_more g g (next_root w) (next_root u) more w.phone h.phone;
+          nas = all_one (SentOk g (next_root u)) done.1.sent w.sent (all_map (SentOk g (next_root w)) (SentOk g (next_root u)) (sent_more g g (next_root w) (next_root u) more) w.sent h.nas)
+              (some_more g g (next_root w) (next_root u) more done.1.sent (out_nas g (next_root w) done.1.sent out));
+          air = all_one (AirOk (ghost d u)) done.1.sent w.sent (all_map (AirOk (ghost k w)) (AirOk (ghost d u)) (air_later (ghost k w) (ghost d u) later) w.sent h.air)
+              (some_later (ghost k w) (ghost d u) later done.1.sent air);
+        },
+      )
+
+  station_after_keeps : (g : Choices) (k d : Conns) (w : TheWorld) (id : ℕ) (done : Station Term ℕ × Reply Term ℕ) → PacketsOk g k w
+      → FromStation (ghost k w) done.1.sent
+      → Later (ghost k w) (ghost d (station_after m w id done).0) → Keeps d (station_after m w id done).0
+  station_after_keeps g k d w id done h from later =
+      let u = (station_after m w id done).0 in
+      let more = no_more g (next_root w) (next_root u) (roots_after w done.1.derived) in (
+        g,
+        record {
+          core = core_more g g (next_root w) (next_root u) more w.core h.core;
+          phone = phone_more g g (next_root w) (next_root u) more w.phone h.phone;
+          nas = all_one (SentOk g (next_root u)) done.1.sent w.sent (all_map (SentOk g (next_root w)) (SentOk g (next_root u)) (sent_more g g (next_root w) (next_root u) more) w.sent h.nas)
+              (station_nas g (next_root u) (ghost k w) done.1.sent from);
+          air = all_one (AirOk (ghost d u)) done.1.sent w.sent (all_map (AirOk (ghost k w)) (AirOk (ghost d u)) (air_later (ghost k w) (ghost d u) later) w.sent h.air)
+              (some_later (ghost k w) (ghost d u) later done.1.sent (station_air (ghost k w) done.1.sent from));
+        },
+      )
+
+  pub by_world_keeps : (g : Choices) (k d : Conns) (w : TheWorld) (answer : Answer) → PacketsOk g k w
+      → Later (ghost k w) (ghost d (by_world m w answer).0) → Keeps d (by_world m w answer).0
+  by_world_keeps g k d w answer h later = (
+    g,
+    record {
+      core = h.core;
+      phone = h.phone;
+      nas = h.nas;
+      air = all_map (AirOk (ghost k w)) (AirOk (ghost d (by_world m w answer).0)) (air_later (ghost k w) (ghost d (by_world m w answer).0) later) w.sent h.air;
+    },
+  )
+
+  -- THE TURN OF EACH ACTOR
+
+  abbrev row_at_phone : TheWorld → PhoneInput Term → Option (Outgoing Term ℕ) → PhoneRow
+  row_at_phone w input came =
+      phone_row (plain_phone q w.phone) (front_of q w.phone input) (opener (phone_opens q w.phone input) (phone_pdu_in input) came)
+
+  pub phone_turn_keeps : (g : Choices) (k d : Conns) (w : TheWorld) (input : PhoneInput Term) (came : Option (Outgoing Term ℕ)) → WorldOk cells k w → PacketsOk g k w
+      → RowNeeds same g (next_root w) w.phone (phone_root input) (row_at_phone w input came) → PhoneNeeds same (ghost k w) w.phone.radio (row_at_phone w input came)
+      → Later (ghost k w) (ghost d (phone_turn m w input came).0) → Keeps d (phone_turn m w input came).0
+  phone_turn_keeps g k d w input came ok h needs sends later =
+      let row = row_at_phone w input came in
+      let goes = phone_goes same g (next_root w) row (phone_root input) w.phone h.phone needs in
+      phone_after_keeps g k d w (phone_step q w.phone input (opener (phone_opens q w.phone input) (phone_pdu_in input) came)) h goes.0 goes.1
+      (phone_air same (ghost k w) _ (phone_sends same (ghost k w) row (phone_root input) w.phone (radio_keys (ghost k w) w.phone.radio ok.radio) sends)) later
+
+  abbrev row_at_core : TheWorld → CoreInput Term ℕ → Option (Outgoing Term ℕ) → CoreRow
+  row_at_core w input came =
+      core_row (plain_core q w.core) (core_front_of q w.core input) (opener (core_opens q w.core input) (core_pdu_in input) came)
+
+  pub core_turn_keeps : (g : Choices) (k d : Conns) (w : TheWorld) (input : CoreInput Term ℕ) (came : Option (Outgoing Term ℕ)) → PacketsOk g k w
+      → NoAuth same g (next_root w) (row_at_core w input came) → CoreRowNeeds w.core (row_at_core w input came)
+      → Later (ghost k w) (ghost d (core_turn m w input came).0) → Keeps d (core_turn m w input came).0
+  core_turn_keeps g k d w input came h other needs later =
+      let row = row_at_core w input came in
+      let goes = core_goes same g (next_root w) row (core_root input) w.core other h.core needs in
+      core_after_keeps g k d w (core_step q w.core input (opener (core_opens q w.core input) (core_pdu_in input) came)) h goes.0 goes.1
+      (core_air (ghost k w) _ (core_sends same row (core_root input) w.core)) later
+
+  turn_keeps : (g : Choices) (k d : Conns) (w : TheWorld) (id : ℕ) (input : StationInput Term ℕ) (came : Option (Outgoing Term ℕ)) → PacketsOk g k w
+      → ((s : Station Term ℕ) (outcome : Outcome) → StationNeeds (station_row_of q s input outcome))
+      → (o : Option (Station Term ℕ)) → OfSome (λ s. StationOk cells (ghost k w) s × ((s.id == id) ≡ true)) o
+      → Later (ghost k w) (ghost d (turn_of m w id input came o).0) → Keeps d (turn_of m w id input came o).0
+  turn_keeps g k d w id input came h needs None ok later = by_world_keeps g k d w NoUe h later
+  turn_keeps g k d w id input came h needs (Some s) ok later =
+      let outcome = opener (station_opens q s input) (station_pdu_in input) came in
+      station_after_keeps g k d w id (station_step q s input outcome) h
+      (station_sends same (ghost k w) (station_row_of q s input outcome) (station_key input) s (context_keys (ghost k w) s.id s.context ok.0.0) (needs s outcome)) later
+
+  pub station_turn_keeps : (g : Choices) (k d : Conns) (w : TheWorld) (id : ℕ) (input : StationInput Term ℕ) (came : Option (Outgoing Term ℕ)) → WorldOk cells k w → PacketsOk g k w
+      → ((s : Station Term ℕ) (outcome : Outcome) → StationNeeds (station_row_of q s input outcome))
+      → Later (ghost k w) (ghost d (station_turn m w id input came).0) → Keeps d (station_turn m w id input came).0
+  station_turn_keeps g k d w id input came ok h needs later =
+      turn_keeps g k d w id input came h needs (station_of_id id w.stations) (all_find (StationOk cells (ghost k w)) (λ s. s.id == id) w.stations ok.stations) later
+
+  -- WHAT COMES TO AN ADDRESS
+
+  phone_nas_keeps : (g : Choices) (k d : Conns) (w : TheWorld) (pdu : List ℕ) (came : Option (Outgoing Term ℕ)) → WorldOk cells k w → PacketsOk g k w
+      → CameDown same g (next_root w) c good pdu came
+      → ((phone_turn m w (PhoneNasPdu pdu) came).1.answer ≡ Done → SenderIs (keys_of (phone_turn m w (PhoneNasPdu pdu) came).0.history) (phone_opens q w.phone (PhoneNasPdu pdu)) (sender_of came) (opener (phone_opens q w.phone (PhoneNasPdu pdu)) pdu came))
+      → Later (ghost k w) (ghost d (phone_turn m w (PhoneNasPdu pdu) came).0) → Keeps d (phone_turn m w (PhoneNasPdu pdu) came).0
+  phone_nas_keeps g k d w pdu came ok h is one later =
+      phone_turn_keeps g k d w (PhoneNasPdu pdu) came ok h (nas_pdu_needs same g (next_root w) c good w.phone pdu came is opener w.history one) tt later
+
+  phone_air_keeps : (g : Choices) (k d : Conns) (w : TheWorld) (station air : ℕ) (bearer : Bearer) (pdu : List ℕ) (came : Option (Outgoing Term ℕ)) → WorldOk cells k w → PacketsOk g k w
+      → Later (ghost k w) (ghost d (phone_turn m w (PhoneAirPdu station air bearer pdu) came).0) → Keeps d (phone_turn m w (PhoneAirPdu station air bearer pdu) came).0
+  phone_air_keeps g k d w station air bearer pdu came ok h later = phone_turn_keeps g k d w (PhoneAirPdu station air bearer pdu) came ok h tt tt later
+
+  abbrev pub OneSender : TheWorld → Address → List ℕ → Option (Outgoing Term ℕ) → Type 0
+  OneSender w to pdu came =
+      let a = arrival_attempts m w to pdu came in
+      (arrives m w to pdu came).1.answer ≡ Done → SenderIs (keys_of (arrives m w to pdu came).0.history) a.opening (sender_of a.came) (opener a.opening a.octets a.came)
+
+  -- what comes to the phone on NAS
+  abbrev pub CameTo : Choices → TheWorld → Address → List ℕ → Option (Outgoing Term ℕ) → Type 0
+  CameTo g w Address.PhoneNas pdu came = CameDown same g (next_root w) c good pdu came
+  CameTo g w other pdu came = ⊤
+
+  pub arrives_keeps : (g : Choices) (k d : Conns) (w : TheWorld) (to : Address) (pdu : List ℕ) (came : Option (Outgoing Term ℕ)) → WorldOk cells k w → PacketsOk g k w
+      → CameTo g w to pdu came → OneSender w to pdu came
+      → Later (ghost k w) (ghost d (arrives m w to pdu came).0) → Keeps d (arrives m w to pdu came).0
+  arrives_keeps g k d w Address.PhoneNas pdu came ok h is one later = phone_nas_keeps g k d w pdu came ok h is one later
+  arrives_keeps g k d w (Address.Phone station air bearer) pdu came ok h is one later = phone_air_keeps g k d w station air bearer pdu came ok h later
+  arrives_keeps g k d w Address.CoreNas pdu came ok h is one later = core_turn_keeps g k d w (CoreNasPdu pdu) came h tt tt later
+  arrives_keeps g k d w Address.CoreS1 pdu came ok h is one later = core_turn_keeps g k d w (CoreRecord (content_in m came)) came h tt tt later
+  arrives_keeps g k d w (Address.StationAir station air bearer) pdu came ok h is one later = station_turn_keeps g k d w station (AirPdu air bearer pdu) came ok h (λ s o. tt) later
+  arrives_keeps g k d w (Address.StationS1 station) pdu came ok h is one later = station_turn_keeps g k d w station (StationRecord OnS1 (content_in m came)) came ok h (λ s o. tt) later
+  arrives_keeps g k d w (Address.StationX2 station) pdu came ok h is one later = station_turn_keeps g k d w station (StationRecord OnX2 (content_in m came)) came ok h (λ s o. tt) later
