@@ -1,12 +1,14 @@
 ghost use Rattle.std.specs.Prelude.{◌≡◌, ◌<◌, ◌≤◌, ◌↔◌, IfOk, IsErrOf};
+ghost use Rattle.hmac_kdf.specs.Kdf.{greatest_earfcn};
+ghost use Rattle.annex_a_keys.specs.Cell.{greatest_pci};
 
 use std::marker::Model;
 
-/// The greatest physical cell identity (TS 36.331, PhysCellId).
+/// The greatest physical cell identity (TS 36.331 6.3.4, PhysCellId).
 pub const GREATEST_PCI: u16 = 503;
 
-/// The greatest downlink EARFCN that KeNB* takes in two octets (TS 33.401 A.5).
-pub const GREATEST_EARFCN: u32 = 65535;
+/// The greatest downlink EARFCN, of 18 bits (TS 36.331 6.4, maxEARFCN2).
+pub const GREATEST_EARFCN: u32 = 262143;
 
 /// A cell as the derivation of KeNB* sees it (TS 33.401 A.5): its PCI and its EARFCN-DL, both in
 /// range.
@@ -17,15 +19,13 @@ pub struct Cell {
 }
 
 impl Model for Cell {
-    ghost use Rattle.std.specs.Prelude.{◌≤◌};
-    ghost use Rattle.annex_a_keys.specs.Cell.{Place};
-    ghost use Rattle.annex_a_keys.specs.declared.cell.TheConstants.{GREATEST_PCI, GREATEST_EARFCN};
+    ghost use Rattle.annex_a_keys.specs.Cell.{Place, IsCell};
 
     ghost Value = { Place };
 
     ghost view = { λ c. record { pci = c.pci; earfcn = c.earfcn } };
 
-    ghost invariant = { λ c. (c.pci ≤ GREATEST_PCI) × (c.earfcn ≤ GREATEST_EARFCN) };
+    ghost invariant = { λ c. IsCell (record { pci = c.pci; earfcn = c.earfcn }) };
 
     ghost inverse = { λ p. record { pci = p.pci; earfcn = p.earfcn } };
 }
@@ -35,7 +35,7 @@ impl Model for Cell {
 pub enum CellFault {
     /// The PCI is above 503.
     PciTooLarge,
-    /// The EARFCN-DL is above 65535, the PCI being good.
+    /// The EARFCN-DL is above 262143, the PCI being good.
     EarfcnWide,
 }
 
@@ -43,8 +43,8 @@ impl Cell {
     /// The cell with this PCI and this EARFCN-DL.
     pub fn new(pci: u16, earfcn: u32) -> Result<Cell, CellFault>
         ensures cell { IfOk result (λ cell. cell ≡ record { pci = pci; earfcn = earfcn }) }
-        ensures pci_too_large { IsErrOf result CellFault.PciTooLarge ↔ (GREATEST_PCI < pci) }
-        ensures earfcn_wide { IsErrOf result CellFault.EarfcnWide ↔ ((pci ≤ GREATEST_PCI) × (GREATEST_EARFCN < earfcn)) }
+        ensures pci_too_large { IsErrOf result CellFault.PciTooLarge ↔ (greatest_pci < pci) }
+        ensures earfcn_wide { IsErrOf result CellFault.EarfcnWide ↔ ((pci ≤ greatest_pci) × (greatest_earfcn < earfcn)) }
     {
         if pci > GREATEST_PCI {
             return Err(CellFault::PciTooLarge);
@@ -58,15 +58,15 @@ impl Cell {
     /// The physical cell identity, 0 to 503.
     pub fn pci(&self) -> u16
         ensures value { result ≡ self.now.pci }
-        ensures in_range { result ≤ GREATEST_PCI }
+        ensures in_range { result ≤ greatest_pci }
     {
         self.pci
     }
 
-    /// The downlink EARFCN, 0 to 65535.
+    /// The downlink EARFCN, 0 to 262143.
     pub fn earfcn(&self) -> u32
         ensures value { result ≡ self.now.earfcn }
-        ensures in_range { result ≤ GREATEST_EARFCN }
+        ensures in_range { result ≤ greatest_earfcn }
     {
         self.earfcn
     }

@@ -89,10 +89,11 @@ fn algorithm_keys_of_a_kasme_and_a_kenb(rt: HostRuntime) {
 #[test]
 fn cells_out_of_range_are_refused(rt: HostRuntime) {
     let table = [
-        (503, 65535, None),
+        (503, 262143, None),
+        (0, 65536, None),
         (504, 100, Some(CellFault::PciTooLarge)),
-        (0, 65536, Some(CellFault::EarfcnWide)),
-        (504, 65536, Some(CellFault::PciTooLarge)),
+        (0, 262144, Some(CellFault::EarfcnWide)),
+        (504, 262144, Some(CellFault::PciTooLarge)),
     ];
     for (pci, earfcn, fault) in table {
         assert_eq!(rt; Cell::new(pci, earfcn).err(), fault, "at {pci} {earfcn}");

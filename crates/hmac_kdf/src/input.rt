@@ -1,6 +1,6 @@
 ghost use Rattle.std.specs.Prelude.{◌≡◌, ◌+◌, ◌≤◌, ◌++◌, length};
 ghost use Rattle.arrayvec.specs.ArrayVec.{array_vec_len};
-ghost use Rattle.hmac_kdf.specs.Kdf.{parameter};
+ghost use Rattle.hmac_kdf.specs.Kdf.{parameter, earfcn_octets, greatest_earfcn};
 
 use arrayvec::ArrayVec;
 
@@ -34,7 +34,7 @@ impl KdfInput {
     ghost use Rattle.hmac_kdf.specs.Kdf.{kdf_string, IsKdfInput};
 
     /// The string S of TS 33.220 B.2, of at most 35 octets: FC, and then each parameter and its
-    /// length. An EARFCN-DL is at most 65535.
+    /// length. An EARFCN-DL is at most 262143.
     #[tactic(auto, unfolding(crate::specs::Kdf::kdf_string))]
     pub fn string(&self) -> ArrayVec<u8, 35>
         requires { IsKdfInput self.now }
@@ -53,7 +53,7 @@ impl KdfInput {
             KdfInput::Star(pci, earfcn) => {
                 string.push(0x13);
                 push_parameter(&mut string, &pci.to_be_bytes());
-                push_parameter(&mut string, &(*earfcn as u16).to_be_bytes());
+                push_earfcn(&mut string, *earfcn);
             }
             KdfInput::Alg(kind, identity) => {
                 string.push(0x15);
@@ -75,4 +75,17 @@ fn push_parameter(string: &mut ArrayVec<u8, 35>, octets: &[u8])
     string
         .try_extend_from_slice(&(octets.len() as u16).to_be_bytes())
         .unwrap();
+}
+
+// Puts an EARFCN-DL at the end of a string: in two octets up to 65535, in three above.
+fn push_earfcn(string: &mut ArrayVec<u8, 35>, earfcn: u32)
+    requires fits { earfcn ≤ greatest_earfcn }
+    requires room { array_vec_len string.old + 5 ≤ 35 }
+    ensures { string.new.items ≡ string.old.items ++ parameter (earfcn_octets earfcn) }
+{
+    if earfcn > 65535 {
+        push_parameter(string, &earfcn.to_be_bytes()[1..]);
+    } else {
+        push_parameter(string, &(earfcn as u16).to_be_bytes());
+    }
 }

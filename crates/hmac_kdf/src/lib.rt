@@ -73,7 +73,7 @@ fn digest_of(first: &[u8], second: &[u8]) -> [u8; 32]
 }
 
 /// The key derived from a key of 32 octets and an input: HMAC-SHA-256 of the input's string S
-/// (TS 33.220 B.2). An EARFCN-DL is at most 65535.
+/// (TS 33.220 B.2). An EARFCN-DL is at most 262143.
 #[tactic(auto, unfolding(crate::specs::Kdf::kdf))]
 pub fn kdf(key: &[u8; 32], input: &KdfInput) -> [u8; 32]
     requires { IsKdfInput input.now }

@@ -79,6 +79,18 @@ fn each_input_has_its_key(rt: HostRuntime) {
         ),
         (
             kenb,
+            KdfInput::Star(0, 65536),
+            0x99b8d085ec4201335e225b2077c6f247,
+            0x19c68005564f4aae2e7d6ae6f057e20c,
+        ),
+        (
+            kenb,
+            KdfInput::Star(503, 262143),
+            0xee8a0346ac0962cfce383b8dc59c5ae3,
+            0x750e0120881dabb0537a26e48714214d,
+        ),
+        (
+            kenb,
             KdfInput::Alg(3, 2),
             0x9bf10551417d3b3128705dd54a20f8f1,
             0xae14c26e3ba014f8e4279841fb8ade28,

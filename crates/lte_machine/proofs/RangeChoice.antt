@@ -6,7 +6,7 @@ use Rattle.alg_choice.specs.declared.algs.Algs.{Algs}
 use Rattle.alg_choice.specs.declared.caps.Caps.{Caps}
 use Rattle.alg_choice.specs.declared.choices.NoAlgorithm.{NoAlgorithm as Unmatched}
 use Rattle.alg_choice.specs.Choice.{choice_of}
-use Rattle.annex_a_keys.specs.Cell.{Place}
+use Rattle.annex_a_keys.specs.Cell.{Place, IsCell}
 use Rattle.rec_base.specs.declared.faults.RecFault.{RecFault}
 use Rattle.lte_events.specs.declared.acts.StationAct.{StationAct}
 use Rattle.lte_events.specs.declared.acts.StationAct.TheVariants.{Start, Command, Cancel, Ask, SendUser, SendRrc, Skip}
@@ -18,7 +18,7 @@ use Rattle.rrc_rec.specs.declared.records.RrcRecord.TheVariants.{SecurityModeCom
 use Rattle.rrc_rec.specs.Reading.{read_rrc}
 use Rattle.s1x2_rec.specs.Content.{Content}
 use Rattle.s1x2_rec.specs.Fields.{Fields, InitialContext, ContextRelease, PathSwitchRequest, PathSwitchAnswer, HandoverRequired, HandoverRequest, HandoverRequestAck, HandoverCommand, HandoverNotify, HandoverCancel, X2Request, X2Ack, X2Cancel, X2Release}
-use Rattle.s1x2_rec.specs.Spelling.{IsNumber, IsCell, IsCaps, FieldsInRange}
+use Rattle.s1x2_rec.specs.Spelling.{IsNumber, IsCaps, FieldsInRange}
 use Rattle.ho_prep.specs.declared.origins.By.{By}
 use Rattle.ho_prep.specs.Prep.{Prep, at_air, has_attempt, is_at}
 use Rattle.lte_machine.specs.Bearers.{Srb, Signalling1, Signalling2, Which, OnSrb, OnDrb, which, Bearers, srb_counts, drb_counts, is_spent}

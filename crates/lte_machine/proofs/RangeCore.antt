@@ -6,7 +6,7 @@ use Rattle.alg_choice.specs.declared.algs.Eea.{Eea}
 use Rattle.alg_choice.specs.declared.caps.Caps.{Caps}
 use Rattle.alg_choice.specs.declared.choices.NoAlgorithm.{NoAlgorithm as NoneChosen}
 use Rattle.alg_choice.specs.Choice.{choice_of}
-use Rattle.annex_a_keys.specs.Cell.{Place}
+use Rattle.annex_a_keys.specs.Cell.{Place, IsCell}
 use Rattle.rec_base.specs.declared.faults.RecFault.{RecFault}
 use Rattle.lte_events.specs.declared.acts.CoreAct.{CoreAct}
 use Rattle.lte_events.specs.declared.acts.CoreAct.TheVariants.{StartSmc, Connect, Release, SendNas, Skip}
@@ -16,7 +16,7 @@ use Rattle.key_model.specs.Reading.{Reading, term_reading_by}
 use Rattle.key_model.specs.Term.{Term}
 use Rattle.s1x2_rec.specs.Content.{Content}
 use Rattle.s1x2_rec.specs.Fields.{Fields, InitialContext, ContextRelease, PathSwitchRequest, PathSwitchAnswer, HandoverRequired, HandoverRequest, HandoverRequestAck, HandoverCommand, HandoverNotify, HandoverCancel, X2Request, X2Ack, X2Cancel, X2Release}
-use Rattle.s1x2_rec.specs.Spelling.{IsNumber, IsCell, IsCaps, FieldsInRange}
+use Rattle.s1x2_rec.specs.Spelling.{IsNumber, IsCaps, FieldsInRange}
 use Rattle.lte_machine.specs.Opening.{Outcome}
 use Rattle.lte_machine.specs.Ranges.{IsCoreAct}
 use Rattle.lte_machine.specs.Reply.{unseen}

@@ -1,7 +1,7 @@
 -- The premises of the whole run hold of the ordinary scenario.
 use Rattle.std.proofs.Common.{refl, ℕ, zero, suc, ◌<◌, inl, inr, arith}
 use Rattle.std.specs.Prelude.{[], ◌∷◌, replicate}
-use Rattle.s1x2_rec.specs.Spelling.{IsCell}
+use Rattle.annex_a_keys.specs.Cell.{IsCell}
 use Rattle.lte_machine.specs.Ranges.{AllOf, AreOctets, IsText, IsEvent, IsSetup}
 use Rattle.lte_machine.proofs.Ordinary.{ordinary}
 use Rattle.lte_machine.proofs.Scenario.{place, setup, auth}

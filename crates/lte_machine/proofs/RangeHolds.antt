@@ -6,7 +6,8 @@ use Rattle.key_model.specs.HandoverTable.{NumberedKey}
 use Rattle.key_model.specs.Term.{Term}
 use Rattle.s1x2_rec.specs.Content.{Content}
 use Rattle.s1x2_rec.specs.Fields.{Fields, InitialContext, PathSwitchAnswer, HandoverRequest, X2Request}
-use Rattle.s1x2_rec.specs.Spelling.{IsNumber, IsCell, IsCaps, FieldsInRange}
+use Rattle.annex_a_keys.specs.Cell.{IsCell}
+use Rattle.s1x2_rec.specs.Spelling.{IsNumber, IsCaps, FieldsInRange}
 use Rattle.ho_prep.specs.declared.origins.By.{By}
 use Rattle.ho_prep.specs.Prep.{Prep}
 use Rattle.lte_machine.specs.Ranges.{AllOf, IsStationAct, IsCoreAct}

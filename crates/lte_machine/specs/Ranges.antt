@@ -8,7 +8,8 @@ use Rattle.lte_events.specs.declared.events.Event.{Event}
 use Rattle.lte_events.specs.declared.setups.Setup.{Setup}
 use Rattle.lte_events.specs.declared.setups.StationSetup.{StationSetup}
 use Rattle.lte_events.specs.Site.{Site}
-use Rattle.s1x2_rec.specs.Spelling.{IsNumber, IsCell, IsCaps}
+use Rattle.annex_a_keys.specs.Cell.{IsCell}
+use Rattle.s1x2_rec.specs.Spelling.{IsNumber, IsCaps}
 
 -- of each element of a list
 abbrev pub AllOf : {A : Type 0} → (A → Type 0) → List A → Type 0

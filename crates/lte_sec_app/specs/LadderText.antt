@@ -7,7 +7,7 @@ use Rattle.std.specs.Result.{result_ok}
 use Rattle.std.specs.Str.{bytes_eq}
 use Rattle.std.specs.Str.Parse.{digits_value}
 use Rattle.hex.specs.Hex.{decode_sized}
-use Rattle.annex_a_keys.specs.Cell.{Place}
+use Rattle.annex_a_keys.specs.Cell.{Place, greatest_pci, greatest_earfcn}
 use Rattle.annex_a_keys.specs.AlgType.{distinguisher}
 use Rattle.annex_a_keys.specs.declared.alg_type.AlgType.{AlgType}
 use Rattle.annex_a_keys.specs.declared.alg_type.AlgType.TheVariants.{NasEnc, NasInt, RrcEnc, RrcInt, UpEnc}
@@ -53,10 +53,10 @@ row_of word = option_map row (number_of word)
 abbrev pub count_of : List ℕ → Option ℕ
 count_of word = option_and_then (λ count. if nat_lt count (2 ^ 24) then Some count else None) (number_of word)
 
--- a cell: a PCI up to 503 and an EARFCN-DL up to 65535
+-- a cell: a PCI up to 503 and an EARFCN-DL up to 262143 (TS 36.331 6.3.4 and 6.4)
 abbrev pub cell_of : List ℕ → List ℕ → Option Place
 cell_of pci earfcn = option_and_then (λ p. option_and_then (λ e.
-    if nat_le p 503 && nat_le e 65535 then Some (record { pci = p; earfcn = e }) else None) (number_of earfcn)) (number_of pci)
+    if nat_le p greatest_pci && nat_le e greatest_earfcn then Some (record { pci = p; earfcn = e }) else None) (number_of earfcn)) (number_of pci)
 
 -- an algorithm type, by its distinguisher (TS 33.401 table A.7-1)
 abbrev pub type_numbered : ℕ → Option AlgType

@@ -83,8 +83,14 @@ const CASES: [Case; 24] = [
         "refused line 2\n",
     ),
     (
-        "an EARFCN of 17 bits",
-        "root 000102030405060708090a0b0c0d0e0f101112131415161718191a1b1c1d1e1f\nkenb 0 0\nstar 1 0 65536\n",
+        "an EARFCN in three octets",
+        "root 000102030405060708090a0b0c0d0e0f101112131415161718191a1b1c1d1e1f\nkenb 0 0\nstar 1 0 65535\nstar 1 0 65536\nstar 1 503 262143\n",
+        Status::Done,
+        "0 root 000102030405060708090a0b0c0d0e0f101112131415161718191a1b1c1d1e1f\n1 kenb e6267359de012d9bda173d1b6fae57dec0e04e01cfcf57cb33a7573f142b8b95\n2 star 5867a8501c756da83cf9a0fbc155e29200d65aaf5ee56f002c038cc7df1d15e0\n3 star 99b8d085ec4201335e225b2077c6f24719c68005564f4aae2e7d6ae6f057e20c\n4 star ee8a0346ac0962cfce383b8dc59c5ae3750e0120881dabb0537a26e48714214d\n",
+    ),
+    (
+        "an EARFCN of 19 bits",
+        "root 000102030405060708090a0b0c0d0e0f101112131415161718191a1b1c1d1e1f\nkenb 0 0\nstar 1 0 262144\n",
         Status::Refused,
         "refused line 3\n",
     ),

@@ -12,7 +12,7 @@ use Rattle.alg_choice.specs.Algs.{identity_of, eia2_identity}
 use Rattle.alg_choice.specs.declared.algs.Eea.{Eea}
 use Rattle.alg_choice.specs.declared.algs.Eea.TheVariants.{Eea0, Eea2}
 use Rattle.alg_choice.specs.declared.caps.Caps.{Caps}
-use Rattle.annex_a_keys.specs.Cell.{Place}
+use Rattle.annex_a_keys.specs.Cell.{Place, greatest_pci, greatest_earfcn, IsCell}
 use Rattle.rec_fields.specs.Field.{◌>>=◌, of_size, number_in, algs_at, caps_at, cell_at, text_of}
 use Rattle.rec_fields.specs.Spelled.{algs_octet, cell_octets}
 
@@ -175,26 +175,26 @@ caps_read octets place caps e f = λ j. record { eea = e j; eia = f j }
 
 -- a cell
 pub cell_takes : (octets : List ℕ) (place : ℕ) (cell : Place) → AreOctets octets → place + 6 ≤ length octets → cell_at octets place ≡ Ok cell
-    → (drop place octets ≡ cell_octets cell ++ drop (place + 6) octets) × (cell.pci ≤ 503) × (cell.earfcn ≤ 65535)
+    → (drop place octets ≡ cell_octets cell ++ drop (place + 6) octets) × IsCell cell
 unfolding cell_at
 cell_takes octets place cell fit h e =
-    let a = bind_ok (number_in 0 503 octets place 2) (λ pci. number_in 0 65535 octets (place + 2) 4 >>= λ earfcn. Ok (record { pci = pci; earfcn = earfcn })) cell e in
-    let b = bind_ok (number_in 0 65535 octets (place + 2) 4) (λ earfcn. Ok (record { pci = a.0; earfcn = earfcn })) cell a.2 in
-    let p = number_in_takes 0 503 octets place 2 a.0 fit (omega arith) a.1 in
-    let q = number_in_takes 0 65535 octets (place + 2) 4 b.0 fit (omega arith) b.1 in
+    let a = bind_ok (number_in 0 greatest_pci octets place 2) (λ pci. number_in 0 greatest_earfcn octets (place + 2) 4 >>= λ earfcn. Ok (record { pci = pci; earfcn = earfcn })) cell e in
+    let b = bind_ok (number_in 0 greatest_earfcn octets (place + 2) 4) (λ earfcn. Ok (record { pci = a.0; earfcn = earfcn })) cell a.2 in
+    let p = number_in_takes 0 greatest_pci octets place 2 a.0 fit (omega arith) a.1 in
+    let q = number_in_takes 0 greatest_earfcn octets (place + 2) 4 b.0 fit (omega arith) b.1 in
     let six : place + 2 + 4 ≡ place + 6 = omega arith in
     let made : Place = record { pci = a.0; earfcn = b.0 } in
     let parts : drop place octets ≡ cell_octets made ++ drop (place + 6) octets =
     p.0 ∙ ap (λ rest. octets_of 2 a.0 ++ rest) (q.0 ∙ ap (λ n. octets_of 4 b.0 ++ drop n octets) six)
     ∙ sym (append_assoc (octets_of 2 a.0) (octets_of 4 b.0) (drop (place + 6) octets)) in
-    subst (λ (c : Place). (drop place octets ≡ cell_octets c ++ drop (place + 6) octets) × (c.pci ≤ 503) × (c.earfcn ≤ 65535)) (ok_is made cell b.2) (parts, p.2, q.2)
+    subst (λ (c : Place). (drop place octets ≡ cell_octets c ++ drop (place + 6) octets) × IsCell c) (ok_is made cell b.2) (parts, (p.2, q.2))
 
 pub cell_read : (octets : List ℕ) (place : ℕ) (cell : Place) → number_at octets place 2 ≡ cell.pci → number_at octets (place + 2) 4 ≡ cell.earfcn
-    → cell.pci ≤ 503 → cell.earfcn ≤ 65535 → cell_at octets place ≡ Ok cell
+    → IsCell cell → cell_at octets place ≡ Ok cell
 unfolding cell_at
-cell_read octets place cell e f p q =
-    let pci = in_range_read 0 503 octets place 2 cell.pci e (omega arith) p in
-    let earfcn = in_range_read 0 65535 octets (place + 2) 4 cell.earfcn f (omega arith) q in
+cell_read octets place cell e f in_range =
+    let pci = in_range_read 0 greatest_pci octets place 2 cell.pci e (omega arith) in_range.0 in
+    let earfcn = in_range_read 0 greatest_earfcn octets (place + 2) 4 cell.earfcn f (omega arith) in_range.1 in
     λ j. pci j >>= λ pci. earfcn j >>= λ earfcn. Ok (record { pci = pci; earfcn = earfcn })
 
 -- a text

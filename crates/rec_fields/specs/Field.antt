@@ -6,7 +6,7 @@ use Rattle.rec_base.specs.declared.faults.RecFault.TheVariants.{Short, Long, Bad
 use Rattle.alg_choice.specs.declared.algs.Eea.TheVariants.{Eea0, Eea2}
 use Rattle.alg_choice.specs.declared.algs.Algs.{Algs}
 use Rattle.alg_choice.specs.declared.caps.Caps.{Caps}
-use Rattle.annex_a_keys.specs.Cell.{Place}
+use Rattle.annex_a_keys.specs.Cell.{Place, greatest_pci, greatest_earfcn}
 
 -- the first fault, from left to right
 infixl 10 ◌>>=◌
@@ -47,11 +47,11 @@ algs_at octets place =
 unfoldable pub caps_at : List ℕ → ℕ → Caps
 caps_at octets place = record { eea = number_at octets place 1; eia = number_at octets (place + 1) 1 }
 
--- PCI, 0 to 503, and EARFCN-DL, 0 to 65535 (TS 36.331 6.3.4, TS 33.401 A.5)
+-- PCI in two octets and EARFCN-DL in four, each in its range (TS 36.331 6.3.4 and 6.4)
 unfoldable pub cell_at : List ℕ → ℕ → Result Place RecFault
 cell_at octets place = do
-  pci ← number_in 0 503 octets place 2
-  earfcn ← number_in 0 65535 octets (place + 2) 4
+  pci ← number_in 0 greatest_pci octets place 2
+  earfcn ← number_in 0 greatest_earfcn octets (place + 2) 4
   Ok (record { pci = pci; earfcn = earfcn })
 
 -- the text behind the kind, of at most 200 octets

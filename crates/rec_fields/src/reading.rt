@@ -96,7 +96,7 @@ pub fn caps_at(octets: &[u8], place: u8) -> Caps
     }
 }
 
-/// A cell: PCI in two octets, 0 to 503, and EARFCN-DL in four, 0 to 65535. The first that is out of
+/// A cell: PCI in two octets, 0 to 503, and EARFCN-DL in four, 0 to 262143. The first that is out of
 /// range is `BadField`.
 #[tactic(auto, unfolding(crate::specs::Field::cell_at, crate::specs::Field::number_in))]
 pub fn cell_at(octets: &[u8], place: u8) -> Result<Cell, RecFault>

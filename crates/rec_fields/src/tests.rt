@@ -3,16 +3,16 @@ use rec_base::{Octets, RecFault};
 
 #[test]
 fn cell_is_two_fields(rt: HostRuntime) {
-    let octets = [0, 0x01, 0xf7, 0, 0, 0xff, 0xff, 0x01, 0xf8, 0, 1, 0, 0];
+    let octets = [0, 0x01, 0xf7, 0, 3, 0xff, 0xff, 0x01, 0xf8, 0, 4, 0, 0];
     let cell = cell_at(&octets, 1);
     assert!(rt; cell.is_ok());
     if let Ok(cell) = cell {
-        assert_eq!(rt; (cell.pci(), cell.earfcn()), (503, 65535));
+        assert_eq!(rt; (cell.pci(), cell.earfcn()), (503, 262143));
         let mut out: Octets = list_of(&[7]);
         put_cell(&mut out, &cell);
         assert_eq!(rt;
             out.as_slice(),
-            [7, 0x01, 0xf7, 0, 0, 0xff, 0xff].as_slice()
+            [7, 0x01, 0xf7, 0, 3, 0xff, 0xff].as_slice()
         );
     }
     assert_eq!(rt; cell_at(&octets, 7), Err(RecFault::BadField(7)));

@@ -7,7 +7,7 @@ use Rattle.rec_base.specs.declared.faults.RecFault.{RecFault}
 use Rattle.rec_base.specs.declared.faults.RecFault.TheVariants.{Short, BadKind}
 use Rattle.rec_base.proofs.Numbers.{AreOctets, number_of-octets_of}
 use Rattle.alg_choice.specs.declared.algs.Algs.{Algs}
-use Rattle.annex_a_keys.specs.Cell.{Place}
+use Rattle.annex_a_keys.specs.Cell.{Place, IsCell}
 use Rattle.rec_fields.specs.Field.{◌>>=◌, of_size, station_at, ncc_at, from_one_at, algs_at, cell_at, text_of}
 use Rattle.rec_fields.specs.Spelled.{algs_octet, cell_octets}
 use Rattle.rec_fields.proofs.Fields.{bind_ok, ok_is, size_is, size_read, ends, kind_takes, octet_in_takes, octet_is, in_range_read, algs_takes, algs_read, number_in_takes, cell_takes, cell_read, text_takes, text_read}
@@ -57,7 +57,7 @@ reconfiguration_takes octets r fit kind e =
     ncc.0 ∙ ap (λ t. n.0 ∷ t) (algs ∙ ap (λ t. algs_octet a.0 ∷ t) (station.0 ∙ ap (λ t. b.0 ∷ t) last)) in
     let whole : octets ≡ 0x03 ∷ cell_octets p.0 ++ n.0 ∷ algs_octet a.0 ∷ b.0 ∷ octets_of 4 c.0 =
     first ∙ ap (λ t. 3 ∷ t) (cell.0 ∙ ap (λ t. cell_octets p.0 ++ t) behind) in
-    subst (Spelled octets) (ok_is (Reconfiguration p.0 n.0 a.0 b.0 c.0) r c.2) ((cell.1, cell.2, ncc.2, station.2, air.1, omega arith), whole)
+    subst (Spelled octets) (ok_is (Reconfiguration p.0 n.0 a.0 b.0 c.0) r c.2) ((cell.1, ncc.2, station.2, air.1, omega arith), whole)
 
 bare_takes : (octets : List ℕ) (kind : ℕ) (fixed r : RrcRecord) → InRange fixed → spelling_of fixed ≡ kind ∷ []
     → number_at octets 0 1 ≡ kind → bare octets fixed ≡ Ok r → Spelled octets r
@@ -130,15 +130,15 @@ command_again algs station air h low high =
     let third = in_range_read 1 (2 ^ 32 - 1) octets 3 4 air (number_of-octets_of 4 air high) low (omega arith) in
     λ j. size j >>= λ size. first j >>= λ algs. second j >>= λ station. third j >>= λ air. Ok (SecurityModeCommand algs station air)
 
-reconfiguration_again : (cell : Place) (ncc : ℕ) (algs : Algs) (station air : ℕ) → cell.pci ≤ 503 → cell.earfcn ≤ 65535 → ncc ≤ 7 → station ≤ 7 → 1 ≤ air → air < 2 ^ 32
+reconfiguration_again : (cell : Place) (ncc : ℕ) (algs : Algs) (station air : ℕ) → IsCell cell → ncc ≤ 7 → station ≤ 7 → 1 ≤ air → air < 2 ^ 32
     → reconfiguration_of (0x03 ∷ cell_octets cell ++ ncc ∷ algs_octet algs ∷ station ∷ octets_of 4 air) ≡ Ok (Reconfiguration cell ncc algs station air)
 unfolding reconfiguration_of octets_of number_at field_at
-reconfiguration_again cell ncc algs station air p q n h low high =
+reconfiguration_again cell ncc algs station air is_cell n h low high =
     let octets : List ℕ = 0x03 ∷ cell_octets cell ++ ncc ∷ algs_octet algs ∷ station ∷ octets_of 4 air in
-    let small : cell.pci < 65536 = omega arith in
-    let wide : cell.earfcn < 4294967296 = omega arith in
+    let small : cell.pci < 65536 = omega (arith, is_cell.0) in
+    let wide : cell.earfcn < 4294967296 = omega (arith, is_cell.1) in
     let size = size_read 14 octets refl in
-    let first = cell_read octets 1 cell (number_of-octets_of 2 cell.pci small) (number_of-octets_of 4 cell.earfcn wide) p q in
+    let first = cell_read octets 1 cell (number_of-octets_of 2 cell.pci small) (number_of-octets_of 4 cell.earfcn wide) is_cell in
     let second = in_range_read 0 7 octets 7 1 ncc (octet_is octets 7 (lit< tt)) (omega arith) n in
     let third = algs_read octets 8 algs (octet_is octets 8 (lit< tt)) in
     let fourth = in_range_read 0 7 octets 9 1 station (octet_is octets 9 (lit< tt)) (omega arith) h in
@@ -163,7 +163,7 @@ spelled_is_read SecurityModeComplete h =
     by_kind (0x02 ∷ []) 2 (lit< tt) (octet_is (0x02 ∷ []) 0 (lit< tt)) ∙ bare_again 2 SecurityModeComplete
 spelled_is_read (Reconfiguration cell ncc algs station air) h =
     let octets : List ℕ = 0x03 ∷ cell_octets cell ++ ncc ∷ algs_octet algs ∷ station ∷ octets_of 4 air in
-    by_kind octets 3 (omega arith) (octet_is octets 0 (omega arith)) ∙ reconfiguration_again cell ncc algs station air h.0 h.1 h.2 h.3 h.4 h.5
+    by_kind octets 3 (omega arith) (octet_is octets 0 (omega arith)) ∙ reconfiguration_again cell ncc algs station air h.0 h.1 h.2 h.3 h.4
 spelled_is_read ReconfigurationComplete h =
     by_kind (0x04 ∷ []) 4 (lit< tt) (octet_is (0x04 ∷ []) 0 (lit< tt)) ∙ bare_again 4 ReconfigurationComplete
 spelled_is_read (RrcData text) h =

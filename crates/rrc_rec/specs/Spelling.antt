@@ -2,6 +2,7 @@
 use Rattle.std.specs.Prelude.{ℕ, ◌<◌, ◌≤◌, ◌^◌, List, [], ◌∷◌, ◌++◌, length}
 use Rattle.rec_base.specs.BigEndian.{octets_of}
 use Rattle.rec_fields.specs.Spelled.{algs_octet, cell_octets}
+use Rattle.annex_a_keys.specs.Cell.{IsCell}
 use Rattle.rrc_rec.specs.declared.records.RrcRecord.{RrcRecord}
 use Rattle.rrc_rec.specs.declared.records.RrcRecord.TheVariants.{SecurityModeCommand, SecurityModeComplete, Reconfiguration, ReconfigurationComplete, RrcData}
 
@@ -17,6 +18,6 @@ spelling_of (RrcData text) = 0x05 ∷ text
 abbrev pub InRange : RrcRecord → Type 0
 InRange (SecurityModeCommand algs station air) = (station ≤ 7) × (1 ≤ air) × (air < 2 ^ 32)
 InRange SecurityModeComplete = Unit {0}
-InRange (Reconfiguration cell ncc algs station air) = (cell.pci ≤ 503) × (cell.earfcn ≤ 65535) × (ncc ≤ 7) × (station ≤ 7) × (1 ≤ air) × (air < 2 ^ 32)
+InRange (Reconfiguration cell ncc algs station air) = IsCell cell × (ncc ≤ 7) × (station ≤ 7) × (1 ≤ air) × (air < 2 ^ 32)
 InRange ReconfigurationComplete = Unit {0}
 InRange (RrcData text) = length text ≤ 200

@@ -7,11 +7,11 @@ use Rattle.rec_base.specs.declared.faults.RecFault.{RecFault}
 use Rattle.rec_base.proofs.Numbers.{AreOctets, number_of-octets_of, number_of-one, length-octets_of}
 use Rattle.alg_choice.specs.declared.algs.Algs.{Algs}
 use Rattle.alg_choice.specs.declared.caps.Caps.{Caps}
-use Rattle.annex_a_keys.specs.Cell.{Place}
+use Rattle.annex_a_keys.specs.Cell.{Place, IsCell}
 use Rattle.rec_fields.specs.Field.{◌>>=◌, of_size, station_at, from_one_at, algs_at, caps_at, cell_at}
 use Rattle.rec_fields.specs.Spelled.{algs_octet, cell_octets}
 use Rattle.rec_fields.proofs.Fields.{bind_ok, ok_is, size_is, size_read, ends, kind_takes, octet_in_takes, octet_is, in_range_read, algs_takes, algs_read, number_in_takes, cell_takes, cell_read, caps_takes, caps_read}
-use Rattle.s1x2_rec.specs.Spelling.{IsNumber, IsCell, IsCaps}
+use Rattle.s1x2_rec.specs.Spelling.{IsNumber, IsCaps}
 
 -- the fields behind the kind, from left to right; a key is the last
 pub data Layout : Type 0 where
@@ -113,7 +113,7 @@ found (Cell rest) octets place f y fit h e =
     let b = bind_ok (cell_at octets place) (λ cell. read_by rest octets (place + 6) (λ vs. f (cell, vs))) y e in
     let cell = cell_takes octets place b.0 fit (omega arith) b.1 in
     let t = found rest octets (place + 6) (λ vs. f (b.0, vs)) y fit (omega arith) b.2 in
-    ((b.0, t.0), t.1, cell.0 ∙ ap (λ r. cell_octets b.0 ++ r) t.2, ((cell.1, cell.2), t.3))
+    ((b.0, t.0), t.1, cell.0 ∙ ap (λ r. cell_octets b.0 ++ r) t.2, (cell.1, t.3))
 found (Algorithms rest) octets place f y fit h e =
     let b = bind_ok (algs_at octets place) (λ algs. read_by rest octets (place + 1) (λ vs. f (algs, vs))) y e in
     let algs = algs_takes octets place b.0 (omega arith) b.1 in
@@ -169,7 +169,7 @@ again (Cell rest) octets place f vs fit e =
     let p = number_front octets (octets_of 4 cell.earfcn ++ spelled_by rest vs.1) place 2 cell.pci small (e ∙ append_assoc (octets_of 2 cell.pci) (octets_of 4 cell.earfcn) (spelled_by rest vs.1)) in
     let q = number_front octets (spelled_by rest vs.1) (place + 2) 4 cell.earfcn wide p.1 in
     let six : place + 2 + 4 ≡ place + 6 = omega arith in
-    let read = cell_read octets place cell p.0 q.0 fit.0.0 fit.0.1 in
+    let read = cell_read octets place cell p.0 q.0 fit.0 in
     (λ j. read j >>= λ cell. read_by rest octets (place + 6) (λ vs. f (cell, vs)))
     ∙ again rest octets (place + 6) (λ ws. f (vs.0, ws)) vs.1 fit.1 (ap (λ n. drop n octets) (sym six) ∙ q.1)
 again (Algorithms rest) octets place f vs fit e =

@@ -4,7 +4,7 @@ use Rattle.key_model.specs.HandoverTable.{NumberedKey}
 use Rattle.rec_base.specs.BigEndian.{octets_of}
 use Rattle.rec_fields.specs.Spelled.{algs_octet, cell_octets}
 use Rattle.alg_choice.specs.declared.caps.Caps.{Caps}
-use Rattle.annex_a_keys.specs.Cell.{Place}
+use Rattle.annex_a_keys.specs.Cell.{IsCell}
 use Rattle.s1x2_rec.specs.Fields.{Fields, kind_of, InitialContext, ContextRelease, PathSwitchRequest, PathSwitchAnswer, HandoverRequired, HandoverRequest, HandoverRequestAck, HandoverCommand, HandoverNotify, HandoverCancel, X2Request, X2Ack, X2Cancel, X2Release}
 use Rattle.s1x2_rec.specs.Content.{Content}
 
@@ -48,10 +48,6 @@ spelling_of content = kind_of content.fields ∷ fields_octets content.fields co
 -- a number of 32 bits, at least 1
 abbrev pub IsNumber : ℕ → Type 0
 IsNumber n = (1 ≤ n) × (n < 2 ^ 32)
-
--- PCI and EARFCN-DL of a cell
-abbrev pub IsCell : Place → Type 0
-IsCell cell = (cell.pci ≤ 503) × (cell.earfcn ≤ 65535)
 
 -- capabilities, two octets
 abbrev pub IsCaps : Caps → Type 0

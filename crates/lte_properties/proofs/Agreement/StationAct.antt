@@ -2,7 +2,7 @@
 use Rattle.std.proofs.Common.{◌≡◌, ℕ, ◌+◌, ◌-◌, ◌%◌, ◌<◌, ◌≤◌, refl, ◌∙◌, ap, subst, arith, Bool, true, false, List, [], ◌∷◌, ◌++◌, Option, Some, None, option_map}
 use Rattle.std.specs.Prelude.{⊤, length}
 use Rattle.rec_base.specs.declared.uses.Dir.TheVariants.{Down}
-use Rattle.annex_a_keys.specs.Cell.{Place}
+use Rattle.annex_a_keys.specs.Cell.{Place, IsCell}
 use Rattle.lte_events.specs.Site.{Site}
 use Rattle.key_model.specs.Term.{Term}
 use Rattle.key_model.specs.Number.{chain_number}
@@ -26,7 +26,6 @@ use Rattle.lte_machine.specs.Wire.{srb_use, ciphering_by}
 use Rattle.lte_machine.specs.StationKeys.{signalling_sent, order_text, started_by_x2_with, started_by_x2, started_by_s1, started_within_with, started_within, x2_commanded, s1_commanded, commanded, commands, spent_in, given_up, asks_again, sends_packet, sends_rrc, with_skipped, act_does}
 use Rattle.lte_machine.specs.StationChoice.{station_of}
 use Rattle.rrc_rec.specs.Spelling.{spelling_of}
-use Rattle.s1x2_rec.specs.Spelling.{IsCell}
 use Rattle.lte_properties.specs.ChainBelow.{OfPair, IsAbove}
 use Rattle.lte_properties.specs.ChainAbove.{ContextAbove}
 use Rattle.lte_properties.proofs.Agreement.Ghost.{TextOk}

@@ -5,7 +5,7 @@ use Rattle.std.specs.Option.{option_or}
 use Rattle.std.proofs.lemmas.List.Folds.{find-append}
 use Rattle.std.proofs.lemmas.Bool.Decides.{nat_tests}
 use Rattle.rec_base.specs.declared.faults.RecFault.{RecFault}
-use Rattle.annex_a_keys.specs.Cell.{Place}
+use Rattle.annex_a_keys.specs.Cell.{Place, IsCell}
 use Rattle.lte_events.specs.Site.{Site, is_site}
 use Rattle.key_model.specs.Term.{Term, Star}
 use Rattle.key_model.specs.Chain.{nh}
@@ -16,7 +16,6 @@ use Rattle.rrc_rec.specs.declared.records.RrcRecord.{RrcRecord}
 use Rattle.rrc_rec.specs.Reading.{read_rrc}
 use Rattle.rrc_rec.specs.Spelling.{spelling_of, InRange}
 use Rattle.rrc_rec.proofs.Laws.{spelled_is_read}
-use Rattle.s1x2_rec.specs.Spelling.{IsCell}
 use Rattle.lte_machine.specs.Reply.{Origin, Made, Tried, Took}
 use Rattle.lte_machine.specs.StationChoice.{station_of}
 use Rattle.lte_machine.specs.World.{with_one}
