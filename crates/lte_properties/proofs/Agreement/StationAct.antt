@@ -293,7 +293,7 @@ module _ (same : Term → Term → Bool) (cells : List Site) (cells_ok : AllOf S
       let is_station = there.0 in
       let is_air = there.1 in
       reads_as (SaysOk g t) (Reconfiguration order.cell order.ncc order.algs order.station order.air)
-      (is_cell.0, is_cell.1, omega arith, omega arith, omega arith, omega arith) h
+      (is_cell, omega arith, omega arith, omega arith, omega arith) h
 
   commands_goes : (order : Order) (count : ℕ) (o : Option (Context Term ℕ)) (s : Station Term ℕ) → StationOk cells g s → CtxOk g s.id o → OrderNeeds g s.id order o
       → StationGoes cells g s (commands order count o s)
