@@ -77,31 +77,31 @@ fn fault_is_the_first_in_order(rt: HostRuntime) {
         (&[0x02, 0], RecFault::Long),
         (&[0x04, 0], RecFault::Long),
         (
-            &[0x03, 1, 0xf8, 0, 1, 0, 0, 8, 0, 8, 0, 0, 0],
+            &[0x03, 1, 0xf8, 0, 4, 0, 0, 8, 0, 8, 0, 0, 0],
             RecFault::Short,
         ),
         (
-            &[0x03, 1, 0xf8, 0, 1, 0, 0, 8, 0, 8, 0, 0, 0, 0],
+            &[0x03, 1, 0xf8, 0, 4, 0, 0, 8, 0, 8, 0, 0, 0, 0],
             RecFault::BadField(1),
         ),
         (
-            &[0x03, 1, 0xf7, 0, 1, 0, 0, 8, 0, 8, 0, 0, 0, 0],
+            &[0x03, 1, 0xf7, 0, 4, 0, 0, 8, 0, 8, 0, 0, 0, 0],
             RecFault::BadField(3),
         ),
         (
-            &[0x03, 1, 0xf7, 0, 0, 0xff, 0xff, 8, 0, 8, 0, 0, 0, 0],
+            &[0x03, 1, 0xf7, 0, 3, 0xff, 0xff, 8, 0, 8, 0, 0, 0, 0],
             RecFault::BadField(7),
         ),
         (
-            &[0x03, 1, 0xf7, 0, 0, 0xff, 0xff, 7, 0, 8, 0, 0, 0, 0],
+            &[0x03, 1, 0xf7, 0, 3, 0xff, 0xff, 7, 0, 8, 0, 0, 0, 0],
             RecFault::BadField(8),
         ),
         (
-            &[0x03, 1, 0xf7, 0, 0, 0xff, 0xff, 7, 2, 8, 0, 0, 0, 0],
+            &[0x03, 1, 0xf7, 0, 3, 0xff, 0xff, 7, 2, 8, 0, 0, 0, 0],
             RecFault::BadField(9),
         ),
         (
-            &[0x03, 1, 0xf7, 0, 0, 0xff, 0xff, 7, 2, 7, 0, 0, 0, 0],
+            &[0x03, 1, 0xf7, 0, 3, 0xff, 0xff, 7, 2, 7, 0, 0, 0, 0],
             RecFault::BadField(10),
         ),
     ];
