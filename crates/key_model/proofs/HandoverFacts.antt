@@ -8,7 +8,7 @@ use Rattle.key_model.specs.Chain.{nh, ncc_of}
 use Rattle.key_model.specs.Number.{chain_number}
 use Rattle.key_model.specs.Reading.{Reading, term_reading_by, Carries}
 use Rattle.key_model.specs.HandoverTable.{NumberedKey, key_from_pair, key_from_active, phone_number, key_by_number, key_at_phone}
-use Rattle.key_model.specs.HandoverLines.{map_numbered, initial_line, pair_line, star_line, PhoneKeys, map_phone, phone_keys, nh_after, steps_to, key_after, phone_line, CarriesLines}
+use Rattle.key_model.specs.HandoverLines.{map_numbered, initial_line, pair_line, star_line, change_line, PhoneKeys, map_phone, phone_keys, nh_after, steps_to, key_after, phone_line, CarriesLines}
 use Rattle.key_model.proofs.LeastFacts.{least_from_remainder, eight_ahead}
 use Rattle.key_model.proofs.TermFacts.{chain_number_nh, same_number}
 
@@ -75,6 +75,9 @@ module _ {K C L D : Type 0} (r : Reading K C) (q : Reading L D) (f : K → L) (g
   pub star_line-map : (base : NumberedKey K C) (pci earfcn : ℕ) → map_numbered f g (star_line r base pci earfcn) ≡ star_line q (map_numbered f g base) pci earfcn
   star_line-map base pci earfcn = λ k. record { key = c.star base.key pci earfcn k; number = g base.number }
 
+  pub change_line-map : (kenb : K) (pci earfcn : ℕ) → map_numbered f g (change_line r kenb pci earfcn) ≡ change_line q (f kenb) pci earfcn
+  change_line-map kenb pci earfcn = λ k. record { key = c.star kenb pci earfcn k; number = c.first k }
+
   pub nh_after-map : (root sync : K) (steps : ℕ) → f (nh_after r root sync steps) ≡ nh_after q (f root) (f sync) steps
   nh_after-map root sync zero = refl
   nh_after-map root sync (suc steps) = c.nh root (nh_after r root sync steps) ∙ ap (q.nh (f root)) (nh_after-map root sync steps)
@@ -91,4 +94,4 @@ module _ {K C L D : Type 0} (r : Reading K C) (q : Reading L D) (f : K → L) (g
       ∙ ap (λ own. key_after q (map_phone f g phone) (steps_to own ncc) pci earfcn) (sym (c.ncc phone.number))
 
   pub carries_lines : CarriesLines r q f g
-  carries_lines = record { initial = initial_line-map; pair = pair_line-map; star = star_line-map; phone = phone_line-map }
+  carries_lines = record { initial = initial_line-map; pair = pair_line-map; star = star_line-map; change = change_line-map; phone = phone_line-map }

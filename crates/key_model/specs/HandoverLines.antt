@@ -22,6 +22,10 @@ pair_line r root kept = record { key = r.nh root kept.key; number = r.plus kept.
 abbrev pub star_line : {K C : Type 0} → Reading K C → NumberedKey K C → ℕ → ℕ → NumberedKey K C
 star_line r base pci earfcn = record { key = r.star base.key pci earfcn; number = base.number }
 
+-- KeNB* for a cell, of a KeNB that a change of the key begins with: the chain starts again (7.2.9.2)
+abbrev pub change_line : {K C : Type 0} → Reading K C → K → ℕ → ℕ → NumberedKey K C
+change_line r kenb pci earfcn = record { key = r.star kenb pci earfcn; number = r.first }
+
 -- what a phone keeps: KASME, its chain number, the key of that number as SYNC-input, the active KeNB (7.2.8.4.4)
 pub record PhoneKeys (K C : Type 0) : Type 0 where
   pub root : K
@@ -66,5 +70,7 @@ pub record CarriesLines {K C L D : Type 0} (r : Reading K C) (q : Reading L D) (
       map_numbered f g (pair_line r root kept) ≡ pair_line q (f root) (map_numbered f g kept)
   pub star : (base : NumberedKey K C) (pci earfcn : ℕ) →
       map_numbered f g (star_line r base pci earfcn) ≡ star_line q (map_numbered f g base) pci earfcn
+  pub change : (kenb : K) (pci earfcn : ℕ) →
+      map_numbered f g (change_line r kenb pci earfcn) ≡ change_line q (f kenb) pci earfcn
   pub phone : (phone : PhoneKeys K C) (ncc pci earfcn : ℕ) →
       map_numbered f g (phone_line r phone ncc pci earfcn) ≡ phone_line q (map_phone f g phone) ncc pci earfcn

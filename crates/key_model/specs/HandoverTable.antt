@@ -19,7 +19,8 @@ chain_key r n i = record { key = nh r n i; number = i }
 abbrev pub active_key : Term → NumberedKey Term ℕ
 active_key t = record { key = t; number = chain_number t }
 
--- the phone on its own trigger with COUNT n, and the core when it connects for that trigger (7.2.8.1.1)
+-- the phone on its own trigger with COUNT n, and the core when it connects for that trigger (7.2.8.1.1); the core on a
+-- Security Mode Complete with COUNT n while a connection stands, r being the new KASME (7.2.9.2)
 abbrev pub initial_key : Term → ℕ → NumberedKey Term ℕ
 initial_key r n = record { key = Kenb r n; number = 0 }
 
@@ -42,6 +43,14 @@ key_at_s1_target r n i pci earfcn = record { key = Star (nh r n i) pci earfcn; n
 -- a target on an X2 Handover Request: what it received (7.2.8.4.2)
 abbrev pub key_at_x2_target : NumberedKey Term ℕ → NumberedKey Term ℕ
 key_at_x2_target received = received
+
+-- a station on a change of its key, for the KeNB t that the core sent (7.2.9.2)
+abbrev pub changed_key : Term → ℕ → ℕ → NumberedKey Term ℕ
+changed_key t pci earfcn = record { key = Star t pci earfcn; number = 0 }
+
+-- the phone on a change of its key, r being the KASME of its NAS context in use (7.2.9.2)
+abbrev pub changed_at_phone : Term → ℕ → ℕ → NumberedKey Term ℕ
+changed_at_phone r pci earfcn = changed_key (Kenb r 0) pci earfcn
 
 -- the chain number that a phone with number p reaches from an NCC (7.2.8.4.4)
 abbrev pub phone_number : ℕ → ℕ → ℕ

@@ -1,5 +1,5 @@
 -- A cell and the station that has it.
-use Rattle.std.specs.Prelude.{ℕ, Bool, ◌==◌, ◌&&◌, ◌≤◌, List, length, All}
+use Rattle.std.specs.Prelude.{ℕ, Bool, ◌==◌, ◌&&◌, ◌≤◌, List, length, All, Option, option_map, find}
 use Rattle.std.specs.List.{IsDistinct}
 use Rattle.annex_a_keys.specs.Cell.{Place}
 
@@ -11,6 +11,10 @@ pub record Site : Type 0 where
 -- whether the site has this cell
 abbrev pub is_site : Place → Site → Bool
 is_site place site = (site.cell.pci == place.pci) && (site.cell.earfcn == place.earfcn)
+
+-- the station that has a cell, if the cell is in the table
+abbrev pub station_of : Place → List Site → Option ℕ
+station_of cell sites = option_map (λ site. site.station) (find (is_site cell) sites)
 
 -- no cell stands twice
 abbrev pub NoneTwice : List Site → Type 0

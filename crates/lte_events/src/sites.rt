@@ -1,7 +1,7 @@
 ghost use Rattle.std.specs.Prelude.{◌≡◌, ◌≤◌, ◌<◌, ◌↔◌, [], ◌∷◌, ◌++◌, length, false, find, IsTrue, IsErrOf, IfSome, IsSome, OnOk, OnErr, slice_get};
 ghost use Rattle.std.specs.Option.{option_map};
 ghost use Rattle.std.specs.List.{list_any};
-ghost use Rattle.lte_events.specs.Site.{is_site, NoneTwice};
+ghost use Rattle.lte_events.specs.Site.{is_site, station_of, NoneTwice};
 
 use annex_a_keys::Cell;
 use arrayvec::ArrayVec;
@@ -84,7 +84,7 @@ impl Cells {
 
     /// The station that has this cell, or `None` where the cell does not stand.
     pub fn station_of(&self, cell: &Cell) -> Option<u8>
-        ensures value { result ≡ option_map (λ s. s.station) (find (is_site cell.now) self.now) }
+        ensures value { result ≡ station_of cell.now self.now }
         ensures stands { IsSome result ↔ IsTrue (list_any (is_site cell.now) self.now) }
         ensures station { IfSome result (λ station. station ≤ 7) }
     {
@@ -114,7 +114,7 @@ impl Cells {
 
     // The station of the first entry with this cell.
     fn first_station(&self, cell: &Cell) -> Option<u8>
-        ensures { result ≡ option_map (λ s. s.station) (find (is_site cell.now) self.now) }
+        ensures { result ≡ station_of cell.now self.now }
     {
         self.entries
             .as_slice()

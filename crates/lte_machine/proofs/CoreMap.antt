@@ -15,14 +15,14 @@ use Rattle.s1x2_rec.specs.Content.{Content}
 use Rattle.rec_base.specs.declared.faults.RecFault.{RecFault}
 use Rattle.rec_base.specs.declared.uses.Dir.TheVariants.{Up}
 use Rattle.lte_machine.specs.CoreChoice.{CoreFront, Settled, FromNas, NasSettled, OpensComplete, OpensProtected, core_front, core_row}
-use Rattle.lte_machine.specs.CoreKeys.{uplink_ciphering, opens_by_procedure, opens_by_context, core_expects, authenticated, smc_started, smc_complete, service_asked, nas_opened, sealed_reject, nas_sent, nas_skipped, context_set_up, path_switched, handover_asked, handover_notified, core_does_nas, core_does_record, core_does_act, core_does}
-use Rattle.lte_machine.specs.CoreRows.{CoreNasRow, NasRefused, PlainReject, SmcComplete, ServiceAsked, NasOpened, SealedReject, CoreRecordRow, RecordRefused, PathSwitched, HandoverAsked, HandoverOrdered, HandoverNotified, HandoverCancelled, CoreActRow, ActRefused, SmcStarted, ContextSetUp, ContextReleased, NasSent, NasSkipped, CoreRow, OfNas, OfRecord, OfAct, OfAuth}
+use Rattle.lte_machine.specs.CoreKeys.{opens_by_procedure, opens_by_context, core_expects, authenticated, smc_started, smc_complete, key_changed, service_asked, nas_opened, sealed_reject, nas_sent, nas_skipped, context_set_up, path_switched, handover_asked, handover_notified, core_does_nas, core_does_record, core_does_act, core_does}
+use Rattle.lte_machine.specs.CoreRows.{CoreNasRow, NasRefused, PlainReject, SmcComplete, SmcChange, ServiceAsked, NasOpened, SealedReject, CoreRecordRow, RecordRefused, PathSwitched, HandoverAsked, HandoverOrdered, HandoverNotified, HandoverCancelled, CoreActRow, ActRefused, SmcStarted, ContextSetUp, ContextReleased, NasSent, NasSkipped, CoreRow, OfNas, OfRecord, OfAct, OfAuth}
 use Rattle.lte_machine.specs.CoreState.{Core, CorePartial, CoreContext, CoreLink, CoreInput, CoreAuth, CoreActs, CoreNasPdu, CoreRecord, map_core_partial, map_core_context, map_core_link, map_core, map_core_input}
 use Rattle.lte_machine.specs.CoreStep.{plain_core, plain_core_input, core_front_of, core_root, core_received, core_opens, core_ends, core_step, map_core_done}
 use Rattle.lte_machine.specs.Opening.{Opening, OpensNothing, OpensNas, OpensSrb, OpensDrb, Outcome, Opened, Differs, map_opening, accepted_of}
 use Rattle.lte_machine.specs.Reply.{unseen}
 use Rattle.lte_machine.specs.StationState.{map_read}
-use Rattle.lte_machine.specs.Wire.{Ciphering, map_ciphering, nas_use, ciphering_if}
+use Rattle.lte_machine.specs.Wire.{Ciphering, map_ciphering, nas_use, ciphering_if, nas_ciphering}
 
 -- what the choice sees is the same in both readings
 
@@ -85,7 +85,7 @@ by_context-map : {K L : Type 0} (f : K → L) (o : Option (CoreContext K)) (head
 by_context-map f None header count = refl
 by_context-map f (Some context) header count =
     λ j. OpensNas (map_use f (nas_use Up context.nas.keys.int count))
-    (ciphering_if-map f (is_ciphered header) (uplink_ciphering context.nas.keys count) j)
+    (ciphering_if-map f (is_ciphered header) (nas_ciphering Up context.nas.keys count) j)
 
 core_expects-map : {K C L D : Type 0} (f : K → L) (g : C → D) (front : CoreFront) (s : Core K C) → map_opening f (core_expects front s) ≡ core_expects front (map_core f g s)
 core_expects-map f g (Settled row) s = refl
@@ -120,6 +120,11 @@ smc_complete-map : {K C L D : Type 0} (f : K → L) (g : C → D) → (count : �
 smc_complete-map f g count None keys s = refl
 smc_complete-map f g count (Some partial) None s = refl
 smc_complete-map f g count (Some partial) (Some keys) s = refl
+
+key_changed-map : {K C L D : Type 0} (r : Reading K C) (q : Reading L D) (f : K → L) (g : C → D) → Carries r q f g → (count conn next station : ℕ) (partial : Option (CorePartial K)) (keys : Option (Keys K)) (s : Core K C) → map_core_done f g (key_changed r count conn next station partial keys s) ≡ key_changed q count conn next station (option_map (map_core_partial f) partial) (option_map (map_keys f) keys) (map_core f g s)
+key_changed-map r q f g c count conn next station None keys s = refl
+key_changed-map r q f g c count conn next station (Some partial) None s = refl
+key_changed-map r q f g c count conn next station (Some partial) (Some keys) s = rw (c.kenb partial.root count, sym c.first, c.ncc r.first) refl
 
 service_asked-map : {K C L D : Type 0} (f : K → L) (g : C → D) → (count : ℕ) (context : Option (CoreContext K)) (s : Core K C) → map_core_done f g (service_asked count context s) ≡ service_asked count (option_map (map_core_context f) context) (map_core f g s)
 service_asked-map f g count None s = refl
@@ -157,13 +162,15 @@ handover_notified-map : {K C L D : Type 0} (f : K → L) (g : C → D) → (stat
 handover_notified-map f g station None s = refl
 handover_notified-map f g station (Some link) s = refl
 
-core_does_nas-map : {K C L D : Type 0} (f : K → L) (g : C → D) → (row : CoreNasRow) (s : Core K C) → map_core_done f g (core_does_nas row s) ≡ core_does_nas row (map_core f g s)
-core_does_nas-map f g (NasRefused answer) s = refl
-core_does_nas-map f g PlainReject s = refl
-core_does_nas-map f g (SmcComplete count) s = smc_complete-map f g count s.partial s.procedure s
-core_does_nas-map f g (ServiceAsked count) s = service_asked-map f g count s.context s
-core_does_nas-map f g (NasOpened count text) s = nas_opened-map f g count text s.context s
-core_does_nas-map f g (SealedReject count) s = sealed_reject-map f g count s.context s
+core_does_nas-map : {K C L D : Type 0} (r : Reading K C) (q : Reading L D) (f : K → L) (g : C → D) → Carries r q f g → (row : CoreNasRow) (s : Core K C) → map_core_done f g (core_does_nas r row s) ≡ core_does_nas q row (map_core f g s)
+core_does_nas-map r q f g c (NasRefused answer) s = refl
+core_does_nas-map r q f g c PlainReject s = refl
+core_does_nas-map r q f g c (SmcComplete count) s = smc_complete-map f g count s.partial s.procedure s
+core_does_nas-map r q f g c (SmcChange count conn next station) s =
+    key_changed-map r q f g c count conn next station s.partial s.procedure s
+core_does_nas-map r q f g c (ServiceAsked count) s = service_asked-map f g count s.context s
+core_does_nas-map r q f g c (NasOpened count text) s = nas_opened-map f g count text s.context s
+core_does_nas-map r q f g c (SealedReject count) s = sealed_reject-map f g count s.context s
 
 core_does_record-map : {K C L D : Type 0} (r : Reading K C) (q : Reading L D) (f : K → L) (g : C → D) → Carries r q f g → (row : CoreRecordRow) (s : Core K C) → map_core_done f g (core_does_record r row s) ≡ core_does_record q row (map_core f g s)
 core_does_record-map r q f g c (RecordRefused answer) s = refl
@@ -184,7 +191,7 @@ core_does_act-map r q f g c (NasSent count text) s = nas_sent-map f g count text
 core_does_act-map r q f g c (NasSkipped n) s = nas_skipped-map f g n s.context s
 
 core_does-map : {K C L D : Type 0} (r : Reading K C) (q : Reading L D) (f : K → L) (g : C → D) → Carries r q f g → (row : CoreRow) (root : Option K) (s : Core K C) → map_core_done f g (core_does r row root s) ≡ core_does q row (option_map f root) (map_core f g s)
-core_does-map r q f g c (OfNas row) root s = core_does_nas-map f g row s
+core_does-map r q f g c (OfNas row) root s = core_does_nas-map r q f g c row s
 core_does-map r q f g c (OfRecord row) root s = core_does_record-map r q f g c row s
 core_does-map r q f g c (OfAct row) root s = core_does_act-map r q f g c row s
 core_does-map r q f g c (OfAuth ksi caps) root s = authenticated-map f g ksi caps root s

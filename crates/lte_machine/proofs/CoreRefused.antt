@@ -8,8 +8,8 @@ use Rattle.lte_events.specs.declared.answers.Answer.TheVariants.{Done}
 use Rattle.key_model.specs.Reading.{Reading}
 use Rattle.nas_guard.specs.Keys.{Keys}
 use Rattle.lte_machine.specs.CoreChoice.{core_row}
-use Rattle.lte_machine.specs.CoreKeys.{CoreDone, authenticated, smc_started, smc_complete, service_asked, nas_opened, sealed_reject, nas_sent, nas_skipped, context_set_up, path_switched, handover_asked, handover_notified, core_does}
-use Rattle.lte_machine.specs.CoreRows.{NasRefused, PlainReject, SmcComplete, ServiceAsked, NasOpened, SealedReject, RecordRefused, PathSwitched, HandoverAsked, HandoverOrdered, HandoverNotified, HandoverCancelled, ActRefused, SmcStarted, ContextSetUp, ContextReleased, NasSent, NasSkipped, CoreRow, OfNas, OfRecord, OfAct, OfAuth}
+use Rattle.lte_machine.specs.CoreKeys.{CoreDone, authenticated, smc_started, smc_complete, key_changed, service_asked, nas_opened, sealed_reject, nas_sent, nas_skipped, context_set_up, path_switched, handover_asked, handover_notified, core_does}
+use Rattle.lte_machine.specs.CoreRows.{NasRefused, PlainReject, SmcComplete, SmcChange, ServiceAsked, NasOpened, SealedReject, RecordRefused, PathSwitched, HandoverAsked, HandoverOrdered, HandoverNotified, HandoverCancelled, ActRefused, SmcStarted, ContextSetUp, ContextReleased, NasSent, NasSkipped, CoreRow, OfNas, OfRecord, OfAct, OfAuth}
 use Rattle.lte_machine.specs.CoreState.{Core, CorePartial, CoreContext, CoreLink, CoreInput}
 use Rattle.lte_machine.specs.CoreStep.{plain_core, core_front_of, core_root, core_received, core_opens, core_step}
 use Rattle.lte_machine.specs.Opening.{Outcome, accepted_of}
@@ -29,6 +29,11 @@ smc_complete-done : {K C : Type 0} (count : ℕ) (partial : Option (CorePartial 
 smc_complete-done count None keys s = refl
 smc_complete-done count (Some partial) None s = refl
 smc_complete-done count (Some partial) (Some keys) s = refl
+
+key_changed-done : {K C : Type 0} (r : Reading K C) (count conn next station : ℕ) (partial : Option (CorePartial K)) (keys : Option (Keys K)) (s : Core K C) → (key_changed r count conn next station partial keys s).1.answer ≡ Done
+key_changed-done r count conn next station None keys s = refl
+key_changed-done r count conn next station (Some partial) None s = refl
+key_changed-done r count conn next station (Some partial) (Some keys) s = refl
 
 service_asked-done : {K C : Type 0} (count : ℕ) (context : Option (CoreContext K)) (s : Core K C) → (service_asked count context s).1.answer ≡ Done
 service_asked-done count None s = refl
@@ -75,6 +80,8 @@ does_leaves : {K C : Type 0} (r : Reading K C) (row : CoreRow) (root : Option K)
 does_leaves r (OfNas (NasRefused answer)) root s = IsLeft refl refl
 does_leaves r (OfNas PlainReject) root s = IsDone refl
 does_leaves r (OfNas (SmcComplete count)) root s = IsDone (smc_complete-done count s.partial s.procedure s)
+does_leaves r (OfNas (SmcChange count conn next station)) root s =
+    IsDone (key_changed-done r count conn next station s.partial s.procedure s)
 does_leaves r (OfNas (ServiceAsked count)) root s = IsDone (service_asked-done count s.context s)
 does_leaves r (OfNas (NasOpened count text)) root s = IsDone (nas_opened-done count text s.context s)
 does_leaves r (OfNas (SealedReject count)) root s = IsDone (sealed_reject-done count s.context s)

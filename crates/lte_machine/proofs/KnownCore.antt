@@ -8,8 +8,8 @@ use Rattle.key_model.specs.Reading.{term_reading_by}
 use Rattle.nas_guard.specs.Keys.{Keys}
 use Rattle.lte_machine.specs.Reply.{Reply}
 use Rattle.lte_machine.specs.CoreState.{Core, CorePartial, CoreContext, CoreLink}
-use Rattle.lte_machine.specs.CoreRows.{CoreNasRow, NasRefused, PlainReject, SmcComplete, ServiceAsked, NasOpened, SealedReject, CoreRecordRow, RecordRefused, PathSwitched, HandoverAsked, HandoverOrdered, HandoverNotified, HandoverCancelled, CoreActRow, ActRefused, SmcStarted, ContextSetUp, ContextReleased, NasSent, NasSkipped, CoreRow, OfNas, OfRecord, OfAct, OfAuth}
-use Rattle.lte_machine.specs.CoreKeys.{authenticated, smc_started, smc_complete, service_asked, nas_opened, sealed_reject, nas_sent, nas_skipped, context_set_up, path_switched, handover_asked, handover_notified, core_does_nas, core_does_record, core_does_act, core_does}
+use Rattle.lte_machine.specs.CoreRows.{CoreNasRow, NasRefused, PlainReject, SmcComplete, ServiceAsked, NasOpened, SealedReject, CoreRecordRow, RecordRefused, PathSwitched, HandoverAsked, HandoverOrdered, HandoverNotified, HandoverCancelled, CoreActRow, ActRefused, SmcStarted, ContextSetUp, ContextReleased, NasSent, NasSkipped, CoreRow, OfNas, OfRecord, OfAct, OfAuth, SmcChange}
+use Rattle.lte_machine.specs.CoreKeys.{authenticated, smc_started, smc_complete, service_asked, nas_opened, sealed_reject, nas_sent, nas_skipped, context_set_up, path_switched, handover_asked, handover_notified, core_does_nas, core_does_record, core_does_act, core_does, key_changed}
 use Rattle.lte_machine.specs.Known.{CorePartialKnown, ProcedureKnown, CoreContextKnown, LinkKnown, CoreKnown, SentKnown}
 use Rattle.lte_machine.proofs.KnownLists.{OfSome, Chain, AllOut, core_more}
 
@@ -41,13 +41,20 @@ module _ (same : Term → Term → Bool) (P Q : Term → Type 0) (s : Core Term 
   sealed_reject_keeps count None h = (tt, λ o. (q, tt))
   sealed_reject_keeps count (Some c) h = (tt, λ o. ((q.0, tt, h, q.3), tt))
 
-  nas_keeps : (row : CoreNasRow) → CoreKeeps P Q (core_does_nas row s)
-  nas_keeps (NasRefused answer) = (tt, λ o. (q, tt))
-  nas_keeps PlainReject = (tt, λ o. ((q.0, tt, q.2, q.3), tt))
-  nas_keeps (SmcComplete count) = smc_complete_keeps count s.partial s.procedure q.0 q.1
-  nas_keeps (ServiceAsked count) = service_asked_keeps count s.context q.2
-  nas_keeps (NasOpened count text) = nas_opened_keeps count text s.context q.2
-  nas_keeps (SealedReject count) = sealed_reject_keeps count s.context q.2
+  key_changed_keeps : (count conn next station : ℕ) (p : Option (CorePartial Term)) (k : Option (Keys Term)) → CorePartialKnown P p → CorePartialKnown Q p → ProcedureKnown Q k →
+      CoreKeeps P Q (key_changed (term_reading_by same) count conn next station p k s)
+  key_changed_keeps count conn next station None k p h g = (tt, λ o. (q, tt))
+  key_changed_keeps count conn next station (Some x) None p h g = (tt, λ o. (q, tt))
+  key_changed_keeps count conn next station (Some x) (Some keys) p h g = (((p, tt, refl), tt), λ o. ((tt, tt, (h, g), (h, o.0)), o.0))
+
+  nas_keeps : (row : CoreNasRow) → CoreKnown P s → CoreKeeps P Q (core_does_nas (term_reading_by same) row s)
+  nas_keeps (NasRefused answer) p = (tt, λ o. (q, tt))
+  nas_keeps PlainReject p = (tt, λ o. ((q.0, tt, q.2, q.3), tt))
+  nas_keeps (SmcComplete count) p = smc_complete_keeps count s.partial s.procedure q.0 q.1
+  nas_keeps (SmcChange count conn next station) p = key_changed_keeps count conn next station s.partial s.procedure p.0 q.0 q.1
+  nas_keeps (ServiceAsked count) p = service_asked_keeps count s.context q.2
+  nas_keeps (NasOpened count text) p = nas_opened_keeps count text s.context q.2
+  nas_keeps (SealedReject count) p = sealed_reject_keeps count s.context q.2
 
   -- records on S1
   path_switched_keeps : (conn station number : ℕ) (alarm : Bool) (l : Option (CoreLink Term ℕ)) → LinkKnown P l → LinkKnown Q l →
@@ -103,7 +110,7 @@ module _ (same : Term → Term → Bool) (P Q : Term → Type 0) (s : Core Term 
 -- each row of the core
 pub core_does_keeps : (same : Term → Term → Bool) (P Q : Term → Type 0) → ((t : Term) → P t → Q t) → (row : CoreRow) (root : Option Term) (s : Core Term ℕ) →
     OfSome Q root → CoreKnown P s → CoreKeeps P Q (core_does (term_reading_by same) row root s)
-core_does_keeps same P Q f (OfNas row) root s k p = nas_keeps same P Q s (core_more P Q f s p) row
+core_does_keeps same P Q f (OfNas row) root s k p = nas_keeps same P Q s (core_more P Q f s p) row p
 core_does_keeps same P Q f (OfRecord row) root s k p = record_keeps same P Q s (core_more P Q f s p) row p
 core_does_keeps same P Q f (OfAct row) root s k p = act_keeps same P Q s (core_more P Q f s p) row p
 core_does_keeps same P Q f (OfAuth ksi caps) root s k p = auth_keeps same P Q s (core_more P Q f s p) ksi caps root k

@@ -11,7 +11,7 @@ use Rattle.pdcp_guard.specs.AsKeys.{AsKeys, as_derivations}
 use Rattle.ho_prep.specs.Prep.{Prep}
 use Rattle.lte_machine.specs.Wire.{Ciphering, Outgoing, SealedNas, PlainNas, SealedRrc, UserPacket, Between, ciphering_use, uses_of}
 use Rattle.lte_machine.specs.PhoneState.{Partial, NasContext, Radio, Idle, Connecting, Connected, Phone}
-use Rattle.lte_machine.specs.StationState.{Station, Context, Attempt, OverX2, OverS1, Within, X2State, X2Open, X2Ready, X2Commanded}
+use Rattle.lte_machine.specs.StationState.{Station, Context, Attempt, OverX2, OverS1, Within, X2State, X2Open, X2Ready, X2Commanded, Renewing}
 use Rattle.lte_machine.specs.CoreState.{Core, CorePartial, CoreContext, CoreLink}
 use Rattle.lte_machine.specs.World.{with_one, put_if, put_station, newest_if, chosen, uses_in}
 use Rattle.lte_machine.specs.Ranges.{AllOf}
@@ -176,6 +176,7 @@ module _ (P Q : Term → Type 0) (f : (t : Term) → P t → Q t) where
   attempt_more (Some (OverX2 state)) h = x2_more state h
   attempt_more (Some (OverS1 state)) h = tt
   attempt_more (Some (Within state)) h = x2_more state h
+  attempt_more (Some (Renewing renewal)) h = tt
 
   context_more : (o : Option (Context Term ℕ)) → ContextKnown P o → ContextKnown Q o
   context_more None h = tt

@@ -1,9 +1,9 @@
 -- Each row of the phone derives from keys that are known, and leaves keys that are.
-use Rattle.std.proofs.Common.{◌≡◌, refl, subst, ℕ, zero, suc, Bool, List, Option, Some, None, inl}
+use Rattle.std.proofs.Common.{◌≡◌, refl, subst, ℕ, zero, suc, Bool, List, Option, Some, None, inl, ◌++◌, true, false, inr}
 use Rattle.alg_choice.specs.declared.algs.Algs.{Algs}
 use Rattle.annex_a_keys.specs.Cell.{Place}
 use Rattle.lte_events.specs.declared.answers.Answer.{Answer}
-use Rattle.key_model.specs.Term.{Term, Star}
+use Rattle.key_model.specs.Term.{Term, Star, Kenb}
 use Rattle.key_model.specs.Derivation.{Derivation, nh_made}
 use Rattle.key_model.specs.HandoverLines.{nh_after, key_after}
 use Rattle.key_model.specs.Reading.{Reading, term_reading_by}
@@ -11,12 +11,12 @@ use Rattle.nh_chain.specs.Chain.{nhs_made}
 use Rattle.nh_chain.specs.Reach.{phone_of, base_after, handover_made}
 use Rattle.pdcp_guard.specs.AsKeys.{as_derivations}
 use Rattle.lte_machine.specs.Bearers.{Srb, Drb, Which}
-use Rattle.lte_machine.specs.Reply.{Reply}
+use Rattle.lte_machine.specs.Reply.{Reply, Before}
 use Rattle.lte_machine.specs.PhoneState.{Partial, NasContext, Link, Radio, Idle, Connecting, Connected, Phone, nas_derivations}
-use Rattle.lte_machine.specs.PhoneRows.{Authenticated, NasRow, NasRefused, RejectedPlain, RejectedUnder, ContextTaken, ContextTakenConnected, NasOpened, AirRow, AirRefused, LinkSecured, HandedOver, RrcOpened, PacketOpened, ActRow, ActRefused, ServiceRequested, CompleteResent, WentIdle, PacketSent, RrcSent, NasSent, NasSkipped, BearerSkipped, PhoneRow, OfAuth, OfNas, OfAir, OfAct}
-use Rattle.lte_machine.specs.PhoneKeys.{authenticated, rejected_under, context_taken, context_taken_connected, nas_opened, nas_does, link_secured, handed_over, rrc_opened, packet_opened, air_does, service_requested, complete_resent, packet_sent, rrc_sent, nas_sent, nas_skipped, bearer_skipped, act_does, phone_does}
+use Rattle.lte_machine.specs.PhoneRows.{Authenticated, NasRow, NasRefused, RejectedPlain, RejectedUnder, ContextTaken, ContextTakenConnected, NasOpened, AirRow, AirRefused, LinkSecured, HandedOver, RrcOpened, PacketOpened, ActRow, ActRefused, ServiceRequested, CompleteResent, WentIdle, PacketSent, RrcSent, NasSent, NasSkipped, BearerSkipped, PhoneRow, OfAuth, OfNas, OfAir, OfAct, KeyChanged}
+use Rattle.lte_machine.specs.PhoneKeys.{authenticated, rejected_under, context_taken, context_taken_connected, nas_opened, nas_does, link_secured, handed_over, rrc_opened, packet_opened, air_does, service_requested, complete_resent, packet_sent, rrc_sent, nas_sent, nas_skipped, bearer_skipped, act_does, phone_does, key_changed, changed_unless, before_of, reached_anew}
 use Rattle.lte_machine.specs.Known.{PartialKnown, NasContextKnown, RadioKnown, PhoneKnown, SentKnown}
-use Rattle.lte_machine.proofs.KnownLists.{OfSome, Chain, AllOut, PlusAll, still_known, last_known, chain_append, outs_left, outs_right, as_chain, phone_more}
+use Rattle.lte_machine.proofs.KnownLists.{OfSome, Chain, AllOut, PlusAll, still_known, last_known, chain_append, outs_left, outs_right, as_chain, phone_more, star_chain, Plus}
 
 -- THE STEPS OF A CHAIN
 
@@ -136,6 +136,27 @@ module _ (same : Term → Term → Bool) (P Q : Term → Type 0) (s : Phone Term
             ),
       )
 
+  -- KeNB, KeNB* of it, and the keys of that
+  anew_chain : (root : Term) (cell : Place) (algs : Algs) → P root →
+      Chain P ((reached_anew (term_reading_by same) root cell).made ++ as_derivations (term_reading_by same) (reached_anew (term_reading_by same) root cell).star.key algs)
+  anew_chain root cell algs p = ((p, tt, refl), star_chain same (Plus P (Kenb root 0)) (Kenb root 0) cell.pci cell.earfcn algs (inr refl))
+
+  changed_unless_keeps : (cell : Place) (algs : Algs) (station air : ℕ) (before : Before Term ℕ) (root : Term) (b : Bool) → P root → Q root →
+      PhoneKeeps P Q (changed_unless (term_reading_by same) cell algs station air s before root b)
+  changed_unless_keeps cell algs station air before root true p h = (tt, λ o. (q, tt))
+  changed_unless_keeps cell algs station air before root false p h = (
+    anew_chain root cell algs p,
+    λ o. ((q.0, q.1, ((h, o.0), o.1.0, (o.1.1.0, o.1.1.1.0, o.1.1.1.1.0))), (o.1.1.1.0, o.1.1.0)),
+  )
+
+  key_changed_keeps : (cell : Place) (algs : Algs) (station air : ℕ) (radio : Radio Term ℕ) (o : Option (NasContext Term)) → NasContextKnown P o → NasContextKnown Q o →
+      PhoneKeeps P Q (key_changed (term_reading_by same) cell algs station air s radio o)
+  key_changed_keeps cell algs station air Idle c p h = (tt, λ o. (q, tt))
+  key_changed_keeps cell algs station air (Connecting w) c p h = (tt, λ o. (q, tt))
+  key_changed_keeps cell algs station air (Connected l) None p h = (tt, λ o. (q, tt))
+  key_changed_keeps cell algs station air (Connected l) (Some c) p h =
+      changed_unless_keeps cell algs station air (before_of l) c.root (same c.root l.chain.root) p.0 h.0
+
   rrc_opened_keeps : (srb : Srb) (count : ℕ) (text : List ℕ) (radio : Radio Term ℕ) → RadioKnown Q radio → PhoneKeeps P Q (rrc_opened srb count text s radio)
   rrc_opened_keeps srb count text Idle h = (tt, λ o. (q, tt))
   rrc_opened_keeps srb count text (Connecting w) h = (tt, λ o. (q, tt))
@@ -150,6 +171,7 @@ module _ (same : Term → Term → Bool) (P Q : Term → Type 0) (s : Phone Term
   air_does_keeps (AirRefused answer) p = (tt, λ o. (q, tt))
   air_does_keeps (LinkSecured station air algs count) p = link_secured_keeps station air algs count s.radio p.2 q.2
   air_does_keeps (HandedOver cell steps algs station air) p = handed_over_keeps cell steps algs station air s.radio p.2 q.2
+  air_does_keeps (KeyChanged cell algs station air) p = key_changed_keeps cell algs station air s.radio s.context p.1 q.1
   air_does_keeps (RrcOpened srb count text) p = rrc_opened_keeps srb count text s.radio q.2
   air_does_keeps (PacketOpened drb count text) p = packet_opened_keeps drb count text s.radio q.2
 

@@ -12,9 +12,9 @@ use Rattle.ho_prep.specs.Prep.{Prep, at_air, drop_below, is_of, is_at}
 use Rattle.x2_handover.specs.declared.orders.Order.{Order}
 use Rattle.lte_machine.specs.Bearers.{Srb, Drb}
 use Rattle.lte_machine.specs.Reply.{Origin, Reply}
-use Rattle.lte_machine.specs.StationState.{Station, Context, Attempt, OverX2, OverS1, Within, X2State, X2Open, X2Ready, X2Commanded, S1Open, S1Ready, S1Commanded}
-use Rattle.lte_machine.specs.StationRows.{Wanted, RecordRow, RecordRefused, ContextGiven, ContextReleased, PairTaken, PreparedByS1, PreparedByX2, AckedByS1, AckedByX2, PreparationCancelled, SourceReleased, AirRow, AirRefused, SecurityStarted, RrcOpened, PacketOpened, CompletedByS1, CompletedWithin, CompletedByX2, ActRow, ActRefused, StartedByX2, StartedByS1, StartedWithin, HandoverCommanded, CancelledByX2, CancelledByS1, CancelledWithin, PathSwitchAsked, PacketSent, RrcSent, BearerSkipped, StationRow, OfRecord, OfAir, OfAct}
-use Rattle.lte_machine.specs.StationKeys.{x2_spent, spent_in, s1_acked, x2_acked, x2_commanded, commanded, given_up, with_pair, with_s1_ack, with_x2_ack, with_security, with_rrc_taken, with_packet_taken, with_skipped, source_release, context_given, pair_taken, prepared_by_s1, prepared_by_x2, completed_by_s1, completed_within, completed_by_x2, started_by_x2, started_by_s1, started_within, commands, asks_again, sends_packet, sends_rrc, record_does, air_does, act_does, station_does}
+use Rattle.lte_machine.specs.StationState.{Station, Context, Attempt, OverX2, OverS1, Within, X2State, X2Open, X2Ready, X2Commanded, S1Open, S1Ready, S1Commanded, Renewal, Renewing}
+use Rattle.lte_machine.specs.StationRows.{Wanted, RecordRow, RecordRefused, ContextGiven, ContextReleased, PairTaken, PreparedByS1, PreparedByX2, AckedByS1, AckedByX2, PreparationCancelled, SourceReleased, AirRow, AirRefused, SecurityStarted, RrcOpened, PacketOpened, CompletedByS1, CompletedWithin, CompletedByX2, ActRow, ActRefused, StartedByX2, StartedByS1, StartedWithin, HandoverCommanded, CancelledByX2, CancelledByS1, CancelledWithin, PathSwitchAsked, PacketSent, RrcSent, BearerSkipped, StationRow, OfRecord, OfAir, OfAct, KeyRenewed, ChangeCommanded}
+use Rattle.lte_machine.specs.StationKeys.{x2_spent, spent_in, s1_acked, x2_acked, x2_commanded, commanded, given_up, with_pair, with_s1_ack, with_x2_ack, with_security, with_rrc_taken, with_packet_taken, with_skipped, source_release, context_given, pair_taken, prepared_by_s1, prepared_by_x2, completed_by_s1, completed_within, completed_by_x2, started_by_x2, started_by_s1, started_within, commands, asks_again, sends_packet, sends_rrc, record_does, air_does, act_does, station_does, key_renewed, commands_change}
 use Rattle.lte_machine.specs.Ranges.{AllOf}
 use Rattle.lte_machine.specs.Known.{PairKnown, StationKeyKnown, X2Known, AttemptKnown, ContextKnown, PrepKnown, StationKnown, SentKnown}
 use Rattle.lte_machine.proofs.KnownLists.{OfSome, all_append, all_filter, all_find, Chain, AllOut, as_chain, star_chain, pair_more, station_more}
@@ -34,6 +34,7 @@ module _ (Q : Term → Type 0) where
   s1_acked_known ncc algs air (Some (OverS1 (S1Ready acked))) h = tt
   s1_acked_known ncc algs air (Some (OverS1 (S1Commanded sent))) h = tt
   s1_acked_known ncc algs air (Some (Within state)) h = h
+  s1_acked_known ncc algs air (Some (Renewing renewal)) h = tt
 
   x2_acked_known : (algs : Algs) (air : ℕ) (o : Option (Attempt Term ℕ)) → AttemptKnown Q o → AttemptKnown Q (option_map (x2_acked algs air) o)
   x2_acked_known algs air None h = tt
@@ -42,6 +43,7 @@ module _ (Q : Term → Type 0) where
   x2_acked_known algs air (Some (OverX2 (X2Commanded sent))) h = tt
   x2_acked_known algs air (Some (OverS1 state)) h = tt
   x2_acked_known algs air (Some (Within state)) h = h
+  x2_acked_known algs air (Some (Renewing renewal)) h = tt
 
   x2_commanded_known : (order : Order) (state : X2State Term ℕ) → X2Known Q state → X2Known Q (x2_commanded order state)
   x2_commanded_known order (X2Open start) h = h
@@ -53,6 +55,7 @@ module _ (Q : Term → Type 0) where
   commanded_known order (Some (OverX2 state)) h = x2_commanded_known order state h
   commanded_known order (Some (OverS1 state)) h = tt
   commanded_known order (Some (Within state)) h = x2_commanded_known order state h
+  commanded_known order (Some (Renewing renewal)) h = tt
 
   x2_spent_known : (state : X2State Term ℕ) → X2Known Q state → PairKnown Q (x2_spent state)
   x2_spent_known (X2Open start) h = h.1
@@ -64,6 +67,7 @@ module _ (Q : Term → Type 0) where
   spent_known (Some (OverX2 state)) h = x2_spent_known state h
   spent_known (Some (OverS1 state)) h = tt
   spent_known (Some (Within state)) h = x2_spent_known state h
+  spent_known (Some (Renewing renewal)) h = tt
 
   pair_after_known : (o : Option (NumberedKey Term ℕ)) (back : NumberedKey Term ℕ) → PairKnown Q o → Q back.key → PairKnown Q (pair_after o back)
   pair_after_known None back h b = b
@@ -123,6 +127,15 @@ module _ (same : Term → Term → Bool) (P Q : Term → Type 0) (s : Station Te
   prepared_by_x2_keeps w (Some star) p k =
       (as_chain same P star.key w.algs p, λ o. ((q.0, wanted_known w.conn _ ((k, tt), (o.0, o.1.0, o.1.1.0))), tt))
 
+  key_renewed_keeps : (conn number air count : ℕ) (c : Option (Context Term ℕ)) (key : Option (NumberedKey Term ℕ)) → ContextKnown Q c → PairKnown P key →
+      StationKeeps P Q (key_renewed (term_reading_by same) conn number air count c key s)
+  key_renewed_keeps conn number air count None key h p = (tt, λ o. (q, tt))
+  key_renewed_keeps conn number air count (Some c) None h p = (tt, λ o. (q, tt))
+  key_renewed_keeps conn number air count (Some c) (Some kenb) h p = (
+    star_chain same P kenb.key c.cell.pci c.cell.earfcn c.algs p,
+    λ o. (((h.0, h.1, tt), (((o.0, tt), (o.1.0, o.1.1.0, o.1.1.1.0)), tt)), (h.1.1, h.1.0)),
+  )
+
   record_keeps : (row : RecordRow) (key : Option (NumberedKey Term ℕ)) → PairKnown P key → PairKnown Q key → StationKeeps P Q (record_does (term_reading_by same) row key s)
   record_keeps (RecordRefused answer) key p k = (tt, λ o. (q, tt))
   record_keeps (ContextGiven conn cell caps algs air) key p k = context_given_keeps conn cell caps algs air key p k
@@ -137,6 +150,7 @@ module _ (same : Term → Term → Bool) (P Q : Term → Type 0) (s : Station Te
   record_keeps (PreparationCancelled from) key p k =
       (tt, λ o. ((q.0, all_filter (PrepKnown Q) (λ x. not (is_of from.source from.attempt x)) s.preps q.1), tt))
   record_keeps SourceReleased key p k = (tt, λ o. ((tt, q.1), tt))
+  record_keeps (KeyRenewed conn number air count) key p k = key_renewed_keeps conn number air count s.context key q.0 p
 
   -- by a PDU
   completed_by_s1_keeps : (count : ℕ) (p : Option (Prep Term ℕ)) → OfSome (PrepKnown Q) p → StationKeeps P Q (completed_by_s1 (term_reading_by same) count p s)
@@ -186,6 +200,10 @@ module _ (same : Term → Term → Bool) (P Q : Term → Type 0) (s : Station Te
   commands_keeps order count None h = (tt, λ o. (q, tt))
   commands_keeps order count (Some c) h = (tt, λ o. (((h.0, h.1, commanded_known Q order c.attempt h.2), q.1), (h.1.1, h.1.0)))
 
+  commands_change_keeps : (renewal : Renewal) (count : ℕ) (c : Option (Context Term ℕ)) → ContextKnown Q c → StationKeeps P Q (commands_change renewal count c s)
+  commands_change_keeps renewal count None h = (tt, λ o. (q, tt))
+  commands_change_keeps renewal count (Some c) h = (tt, λ o. ((h, q.1), (h.1.1, h.1.0)))
+
   asks_again_keeps : (number : ℕ) (c : Option (Context Term ℕ)) → ContextKnown Q c → StationKeeps P Q (asks_again number c s)
   asks_again_keeps number None h = (tt, λ o. (q, tt))
   asks_again_keeps number (Some c) h = (tt, λ o. ((h, q.1), tt))
@@ -204,6 +222,7 @@ module _ (same : Term → Term → Bool) (P Q : Term → Type 0) (s : Station Te
   act_keeps (StartedByS1 number target cell) p = started_by_s1_keeps number target cell s.context q.0
   act_keeps (StartedWithin number air cell) p = started_within_keeps number air cell s.context p.0 q.0
   act_keeps (HandoverCommanded order count) p = commands_keeps order count s.context q.0
+  act_keeps (ChangeCommanded renewal count) p = commands_change_keeps renewal count s.context q.0
   act_keeps (CancelledByX2 conn number target) p = (tt, λ o. ((mapped_known Q given_up (given_up_known Q) s.context q.0, q.1), tt))
   act_keeps (CancelledByS1 conn number cell) p = (tt, λ o. ((mapped_known Q given_up (given_up_known Q) s.context q.0, q.1), tt))
   act_keeps (CancelledWithin number) p =

@@ -4,10 +4,9 @@ use Rattle.std.proofs.Common.{refl}
 use Rattle.rec_base.specs.declared.ways.Way.TheVariants.{Horizontal, Vertical, Given, Completed, Chained}
 use Rattle.lte_events.specs.declared.answers.Answer.TheVariants.{MacFails, NoUe, Stale}
 use Rattle.lte_events.specs.declared.events.Event.{Event}
-use Rattle.key_model.specs.HandoverTable.{NumberedKey}
 use Rattle.key_model.specs.Term.{Term, same_term}
 use Rattle.lte_machine.specs.Opening.{open_octets}
-use Rattle.lte_machine.specs.Reply.{Made, Took}
+use Rattle.lte_machine.specs.Reply.{Made, Took, Came, Commanded}
 use Rattle.lte_machine.specs.Run.{RunState, Running, Stopped, replay}
 use Rattle.lte_machine.specs.Wire.{Outgoing}
 use Rattle.lte_machine.proofs.Scenario.{ask, computing, done, from_step, machine, newest, notes, number, refuses, start, toy, x2_to}
@@ -67,13 +66,13 @@ eight_steps = refl
 abbrev made_for : Took Term ℕ → List (Made Term ℕ) → Option (Made Term ℕ)
 made_for t made = find (λ m. (m.station == t.station) && (m.air == t.air)) made
 
-abbrev compared : Took Term ℕ → Option (NumberedKey Term ℕ) → Option (Made Term ℕ) → Option (ℕ × Bool)
-compared t (Some before) (Some m) = Some (m.number - before.number, same_term m.key t.key)
-compared t before made = None
+abbrev compared : Took Term ℕ → Came Term ℕ → Option (Made Term ℕ) → Option (ℕ × Bool)
+compared t (Commanded before) (Some m) = Some (m.number - before.number, same_term m.key t.key)
+compared t came made = None
 
 abbrev last_of : List (Took Term ℕ) → List (Made Term ℕ) → Option (ℕ × Bool)
 last_of [] made = None
-last_of (t ∷ took) made = compared t t.before (made_for t made)
+last_of (t ∷ took) made = compared t t.came (made_for t made)
 
 abbrev at_end : RunState Term ℕ (Outgoing Term ℕ) → Option (ℕ × Bool)
 at_end (Running w) = last_of (reverse w.took) w.made

@@ -15,13 +15,14 @@ pub mod WorldMap
 pub mod NextSame
 pub mod ReplayMap
 mod PhoneExamples
-pub mod CoreBeside
 mod CoreExamples
 pub mod InOctets
 pub mod Scenario
 pub mod Ordinary
 pub mod LateAnswers
 mod Turns
+pub mod KeyChanges
+mod WideCell
 mod Edges
 pub mod Rows
 pub mod History

@@ -18,24 +18,28 @@ ordinary =
     ∷ x2 1 0 ∷ newest ∷ newest ∷ command 1 ∷ newest ∷ newest
     ∷ Event.Station 0 (StationAct.SendUser Drb1 (0x6f ∷ 0x6b ∷ [])) ∷ newest ∷ []
 
-abbrev done : Option Brief
+abbrev pub done : Option Brief
 done = Some (Done, None, None, None)
 
-abbrev sends : ℕ → Class → Option Brief
+abbrev pub sends : ℕ → Class → Option Brief
 sends number class = Some (Done, Some (number, class), None, None)
 
-abbrev notes : ℕ → Class → ℕ → Way → Option Brief
+abbrev pub notes : ℕ → Class → ℕ → Way → Option Brief
 notes number class ncc way = Some (Done, Some (number, class), Some (ncc, way), None)
 
-abbrev opens : List ℕ → Option Brief
+abbrev pub opens : List ℕ → Option Brief
 opens text = Some (Done, None, None, Some text)
 
-ordinary_scenario : told ordinary ≡ (
+-- what is told of it
+abbrev pub ordinary_report : List (Option Brief)
+ordinary_report =
     done ∷ sends 0 Class.Nas ∷ sends 1 Class.Nas ∷ done ∷ notes 2 Class.S1 0 Initial ∷ notes 3 Class.Air 0 Given
     ∷ notes 4 Class.Air 0 Initial ∷ done ∷ sends 5 Class.Air ∷ opens (0x68 ∷ 0x69 ∷ [])
     ∷ notes 6 Class.X2 0 Horizontal ∷ notes 7 Class.X2 0 Given ∷ done ∷ sends 8 Class.Air ∷ notes 9 Class.Air 0 Horizontal
     ∷ notes 10 Class.S1 0 Completed ∷ notes 11 Class.S1 1 Chained ∷ sends 12 Class.X2 ∷ done
     ∷ notes 13 Class.X2 1 Vertical ∷ notes 14 Class.X2 1 Given ∷ done ∷ sends 15 Class.Air ∷ notes 16 Class.Air 1 Vertical
-    ∷ notes 17 Class.S1 1 Completed ∷ sends 18 Class.Air ∷ opens (0x6f ∷ 0x6b ∷ []) ∷ [])
+    ∷ notes 17 Class.S1 1 Completed ∷ sends 18 Class.Air ∷ opens (0x6f ∷ 0x6b ∷ []) ∷ []
+
+ordinary_scenario : told ordinary ≡ ordinary_report
 unfolding computing
 ordinary_scenario = refl

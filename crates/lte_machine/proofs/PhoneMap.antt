@@ -14,11 +14,11 @@ use Rattle.pdcp_guard.specs.AsKeys.{as_derivations}
 use Rattle.lte_machine.specs.Bearers.{Srb, Drb, Which}
 use Rattle.lte_machine.specs.Wire.{Ciphering, map_ciphering, ciphering_if}
 use Rattle.lte_machine.specs.Opening.{Opening, OpensNothing, OpensNas, OpensSrb, OpensDrb, map_opening, Outcome, Opened, Differs, accepted_of}
-use Rattle.lte_machine.specs.Reply.{finished, unseen}
-use Rattle.lte_machine.specs.PhoneState.{Partial, map_partial, NasContext, map_context, Link, map_link, Radio, Idle, Connecting, Connected, map_radio, Phone, map_phone, PhoneInput, PhoneAuth, PhoneActs, PhoneNasPdu, PhoneAirPdu, map_phone_input}
-use Rattle.lte_machine.specs.PhoneRows.{Authenticated, NasRow, NasRefused, RejectedPlain, RejectedUnder, ContextTaken, ContextTakenConnected, NasOpened, AirRow, AirRefused, LinkSecured, HandedOver, RrcOpened, PacketOpened, ActRow, ActRefused, ServiceRequested, CompleteResent, WentIdle, PacketSent, RrcSent, NasSent, NasSkipped, BearerSkipped, PhoneRow, OfAuth, OfNas, OfAir, OfAct}
+use Rattle.lte_machine.specs.Reply.{finished, unseen, Before, map_before, Came, Commanded, Changed, map_came}
+use Rattle.lte_machine.specs.PhoneState.{Partial, map_partial, NasContext, map_context, map_link, Radio, Idle, Connecting, Connected, map_radio, Phone, map_phone, PhoneInput, PhoneAuth, PhoneActs, PhoneNasPdu, PhoneAirPdu, map_phone_input}
+use Rattle.lte_machine.specs.PhoneRows.{Authenticated, NasRow, NasRefused, RejectedPlain, RejectedUnder, ContextTaken, ContextTakenConnected, NasOpened, AirRow, AirRefused, LinkSecured, HandedOver, RrcOpened, PacketOpened, ActRow, ActRefused, ServiceRequested, CompleteResent, WentIdle, PacketSent, RrcSent, NasSent, NasSkipped, BearerSkipped, PhoneRow, OfAuth, OfNas, OfAir, OfAct, KeyChanged}
 use Rattle.lte_machine.specs.PhoneChoice.{NasFront, NasSettled, AtCommand, AtMessage, AirFront, AirSettled, AtStart, AtSignalling, AtPacket, PhoneFront, Settled, FromNas, FromAir, phone_front, phone_row}
-use Rattle.lte_machine.specs.PhoneKeys.{command_expects, message_expects, nas_expects, start_expects, signalling_expects, packet_expects, air_expects, phone_expects, authenticated, rejected_under, context_taken, context_taken_connected, nas_opened, nas_does, link_secured, arrived, handed_over, rrc_opened, packet_opened, air_does, service_requested, complete_resent, packet_sent, rrc_sent, nas_sent, nas_skipped, bearer_skipped, act_does, phone_does}
+use Rattle.lte_machine.specs.PhoneKeys.{command_expects, message_expects, nas_expects, start_expects, signalling_expects, packet_expects, air_expects, phone_expects, authenticated, rejected_under, context_taken, context_taken_connected, nas_opened, nas_does, link_secured, arrived, handed_over, rrc_opened, packet_opened, air_does, service_requested, complete_resent, packet_sent, rrc_sent, nas_sent, nas_skipped, bearer_skipped, act_does, phone_does, before_of, reached_anew, changed_unless, key_changed}
 use Rattle.lte_machine.specs.PhoneStep.{phone_root, plain_phone, plain_input, front_of, phone_opens, phone_step, map_phone_step}
 use Rattle.lte_machine.proofs.ReachMap.{map_reached, reached_after-map}
 
@@ -159,16 +159,33 @@ module _ {K C L D : Type 0} (r : Reading K C) (q : Reading L D) (f : K → L) (g
   as_derivations-map kenb algs =
       rw (c.alg kenb 3 (identity_of algs.eea), c.alg kenb 4 eia2_identity, c.alg kenb 5 (identity_of algs.eea)) refl
 
-  arrived-map : (algs : Algs) (station air : ℕ) (s : Phone K C) (l : Link K C) (x : Reached K C) → map_phone_step f g (arrived r algs station air s l x) ≡ arrived q algs station air (map_phone f g s) (map_link f g l) (map_reached f g x)
-  arrived-map algs station air s l x =
+  arrived-map : (algs : Algs) (station air : ℕ) (s : Phone K C) (came : Came K C) (x : Reached K C) → map_phone_step f g (arrived r algs station air s came x) ≡ arrived q algs station air (map_phone f g s) (map_came f g came) (map_reached f g x)
+  arrived-map algs station air s came x =
       rw (map-append (map_derivation f) x.made (as_derivations r x.star.key algs), c.alg x.star.key 3 (identity_of algs.eea), c.alg x.star.key 4 eia2_identity, c.alg x.star.key 5 (identity_of algs.eea), ← c.ncc x.star.number) refl
 
   handed_over-map : (cell : Place) (steps : ℕ) (algs : Algs) (station air : ℕ) (s : Phone K C) (radio : Radio K C) → map_phone_step f g (handed_over r cell steps algs station air s radio) ≡ handed_over q cell steps algs station air (map_phone f g s) (map_radio f g radio)
   handed_over-map cell steps algs station air s Idle = refl
   handed_over-map cell steps algs station air s (Connecting w) = refl
   handed_over-map cell steps algs station air s (Connected l) =
-      arrived-map algs station air s l (reached_after r l.chain l.kenb steps cell)
-      ∙ ap (arrived q algs station air (map_phone f g s) (map_link f g l)) (reached_after-map r q f g c l.chain l.kenb steps cell)
+      arrived-map algs station air s (Commanded (before_of l)) (reached_after r l.chain l.kenb steps cell)
+      ∙ ap (arrived q algs station air (map_phone f g s) (Commanded (before_of (map_link f g l)))) (reached_after-map r q f g c l.chain l.kenb steps cell)
+
+  reached_anew-map : (root : K) (cell : Place) → map_reached f g (reached_anew r root cell) ≡ reached_anew q (f root) cell
+  reached_anew-map root cell = rw (c.star (r.kenb root 0) cell.pci cell.earfcn, c.kenb root 0, c.first) refl
+
+  changed_unless-map : (cell : Place) (algs : Algs) (station air : ℕ) (s : Phone K C) (before : Before K C) (root : K) (same : Bool) → map_phone_step f g (changed_unless r cell algs station air s before root same) ≡ changed_unless q cell algs station air (map_phone f g s) (map_before f g before) (f root) same
+  changed_unless-map cell algs station air s before root true = refl
+  changed_unless-map cell algs station air s before root false =
+      arrived-map algs station air s (Changed before root) (reached_anew r root cell)
+      ∙ ap (arrived q algs station air (map_phone f g s) (Changed (map_before f g before) (f root))) (reached_anew-map root cell)
+
+  key_changed-map : (cell : Place) (algs : Algs) (station air : ℕ) (s : Phone K C) (radio : Radio K C) (o : Option (NasContext K)) → map_phone_step f g (key_changed r cell algs station air s radio o) ≡ key_changed q cell algs station air (map_phone f g s) (map_radio f g radio) (option_map (map_context f) o)
+  key_changed-map cell algs station air s Idle o = refl
+  key_changed-map cell algs station air s (Connecting w) o = refl
+  key_changed-map cell algs station air s (Connected l) None = refl
+  key_changed-map cell algs station air s (Connected l) (Some n) =
+      changed_unless-map cell algs station air s (before_of l) n.root (r.same n.root l.chain.root)
+      ∙ ap (changed_unless q cell algs station air (map_phone f g s) (before_of (map_link f g l)) (f n.root)) (sym (c.same n.root l.chain.root))
 
   rrc_opened-map : (srb : Srb) (count : ℕ) (text : List ℕ) (s : Phone K C) (radio : Radio K C) → map_phone_step f g (rrc_opened srb count text s radio) ≡ rrc_opened srb count text (map_phone f g s) (map_radio f g radio)
   rrc_opened-map srb count text s Idle = refl
@@ -184,6 +201,7 @@ module _ {K C L D : Type 0} (r : Reading K C) (q : Reading L D) (f : K → L) (g
   air_does-map (AirRefused answer) s = refl
   air_does-map (LinkSecured station air algs count) s = link_secured-map station air algs count s s.radio
   air_does-map (HandedOver cell steps algs station air) s = handed_over-map cell steps algs station air s s.radio
+  air_does-map (KeyChanged cell algs station air) s = key_changed-map cell algs station air s s.radio s.context
   air_does-map (RrcOpened srb count text) s = rrc_opened-map srb count text s s.radio
   air_does-map (PacketOpened drb count text) s = packet_opened-map drb count text s s.radio
 

@@ -1,5 +1,5 @@
 -- A refused step of the phone leaves it as it was, but for the COUNT of a SECURITY MODE REJECT, and gives out nothing else.
-use Rattle.std.proofs.Common.{◌≡◌, ℕ, List, Option, Some, None, refl, sym}
+use Rattle.std.proofs.Common.{◌≡◌, ℕ, List, Option, Some, None, refl, sym, Bool, true, false}
 use Rattle.std.specs.Prelude.{option_map, ◌≢◌}
 use Rattle.alg_choice.specs.declared.algs.Algs.{Algs}
 use Rattle.annex_a_keys.specs.Cell.{Place}
@@ -10,9 +10,9 @@ use Rattle.lte_machine.specs.Bearers.{Srb, Drb, Which}
 use Rattle.lte_machine.specs.Opening.{Outcome, accepted_of}
 use Rattle.lte_machine.specs.Reply.{finished}
 use Rattle.lte_machine.specs.PhoneState.{Partial, NasContext, Radio, Idle, Connecting, Connected, Phone, PhoneInput}
-use Rattle.lte_machine.specs.PhoneRows.{Authenticated, NasRow, NasRefused, RejectedPlain, RejectedUnder, ContextTaken, ContextTakenConnected, NasOpened, AirRow, AirRefused, LinkSecured, HandedOver, RrcOpened, PacketOpened, ActRow, ActRefused, ServiceRequested, CompleteResent, WentIdle, PacketSent, RrcSent, NasSent, NasSkipped, BearerSkipped, PhoneRow, OfAuth, OfNas, OfAir, OfAct}
+use Rattle.lte_machine.specs.PhoneRows.{Authenticated, NasRow, NasRefused, RejectedPlain, RejectedUnder, ContextTaken, ContextTakenConnected, NasOpened, AirRow, AirRefused, LinkSecured, HandedOver, RrcOpened, PacketOpened, ActRow, ActRefused, ServiceRequested, CompleteResent, WentIdle, PacketSent, RrcSent, NasSent, NasSkipped, BearerSkipped, PhoneRow, OfAuth, OfNas, OfAir, OfAct, KeyChanged}
 use Rattle.lte_machine.specs.PhoneChoice.{phone_row}
-use Rattle.lte_machine.specs.PhoneKeys.{authenticated, rejected_under, context_taken, context_taken_connected, nas_opened, nas_does, link_secured, handed_over, rrc_opened, packet_opened, air_does, service_requested, complete_resent, packet_sent, rrc_sent, nas_sent, nas_skipped, bearer_skipped, act_does, phone_does, one_nas_sent}
+use Rattle.lte_machine.specs.PhoneKeys.{authenticated, rejected_under, context_taken, context_taken_connected, nas_opened, nas_does, link_secured, handed_over, rrc_opened, packet_opened, air_does, service_requested, complete_resent, packet_sent, rrc_sent, nas_sent, nas_skipped, bearer_skipped, act_does, phone_does, one_nas_sent, before_of, changed_unless, key_changed}
 use Rattle.lte_machine.specs.PhoneStep.{phone_root, plain_phone, front_of, phone_opens, phone_step, after_refusal, refusal_of, IsReject, Refused}
 
 module _ {K C : Type 0} (r : Reading K C) where
@@ -48,6 +48,16 @@ module _ {K C : Type 0} (r : Reading K C) where
   handed_over-refused cell steps algs station air s Idle refused = absurd (refused refl)
   handed_over-refused cell steps algs station air s (Connecting x) refused = absurd (refused refl)
   handed_over-refused cell steps algs station air s (Connected l) refused = absurd (refused refl)
+
+  key_changed-refused : (cell : Place) (algs : Algs) (station air : ℕ) (s : Phone K C) (radio : Radio K C) (o : Option (NasContext K)) → Refused s (key_changed r cell algs station air s radio o)
+  key_changed-refused cell algs station air s Idle o refused = absurd (refused refl)
+  key_changed-refused cell algs station air s (Connecting x) o refused = absurd (refused refl)
+  key_changed-refused cell algs station air s (Connected l) None refused = absurd (refused refl)
+  key_changed-refused cell algs station air s (Connected l) (Some n) refused = by_same (r.same n.root l.chain.root) refused
+    where
+      by_same : (same : Bool) → Refused s (changed_unless r cell algs station air s (before_of l) n.root same)
+      by_same true refused = (refl, refl, tt)
+      by_same false refused = absurd (refused refl)
 
   rrc_opened-refused : (srb : Srb) (count : ℕ) (text : List ℕ) (s : Phone K C) (radio : Radio K C) → Refused s (rrc_opened srb count text s radio)
   rrc_opened-refused srb count text s Idle refused = absurd (refused refl)
@@ -103,6 +113,7 @@ module _ {K C : Type 0} (r : Reading K C) where
   air_does-refused (AirRefused answer) s = λ refused. (refl, refl, tt)
   air_does-refused (LinkSecured station air algs count) s = link_secured-refused station air algs count s s.radio
   air_does-refused (HandedOver cell steps algs station air) s = handed_over-refused cell steps algs station air s s.radio
+  air_does-refused (KeyChanged cell algs station air) s = key_changed-refused cell algs station air s s.radio s.context
   air_does-refused (RrcOpened srb count text) s = rrc_opened-refused srb count text s s.radio
   air_does-refused (PacketOpened drb count text) s = packet_opened-refused drb count text s s.radio
 

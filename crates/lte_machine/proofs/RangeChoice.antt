@@ -1,5 +1,6 @@
 -- What a station's choice of a row establishes of ranges: the walk through the refusals of its table.
 use Rattle.std.proofs.Common.{◌≡◌, refl, ℕ, ◌≤◌, Bool, true, false, not, ◌&&◌, if◌then◌else◌, ◌==◌, nat_le, nat_lt, List, [], ◌∷◌, Option, Some, None, Result, Ok, Err, arith}
+use Rattle.lte_events.specs.Site.{station_of}
 use Rattle.std.proofs.lemmas.Bool.Decides.{nat_tests}
 use Rattle.std.specs.Prelude.{cond}
 use Rattle.alg_choice.specs.declared.algs.Algs.{Algs}
@@ -14,10 +15,10 @@ use Rattle.lte_events.specs.declared.acts.HoKind.{HoKind}
 use Rattle.pdcp_guard.specs.declared.pdus.PdcpFault.{PdcpFault}
 use Rattle.pdcp_guard.specs.Counts.{Counts}
 use Rattle.rrc_rec.specs.declared.records.RrcRecord.{RrcRecord}
-use Rattle.rrc_rec.specs.declared.records.RrcRecord.TheVariants.{SecurityModeCommand, SecurityModeComplete, Reconfiguration, ReconfigurationComplete, RrcData}
+use Rattle.rrc_rec.specs.declared.records.RrcRecord.TheVariants.{SecurityModeCommand, SecurityModeComplete, Reconfiguration, ReconfigurationComplete, RrcData, KeyChange}
 use Rattle.rrc_rec.specs.Reading.{read_rrc}
 use Rattle.s1x2_rec.specs.Content.{Content}
-use Rattle.s1x2_rec.specs.Fields.{Fields, InitialContext, ContextRelease, PathSwitchRequest, PathSwitchAnswer, HandoverRequired, HandoverRequest, HandoverRequestAck, HandoverCommand, HandoverNotify, HandoverCancel, X2Request, X2Ack, X2Cancel, X2Release}
+use Rattle.s1x2_rec.specs.Fields.{Fields, InitialContext, ContextRelease, PathSwitchRequest, PathSwitchAnswer, HandoverRequired, HandoverRequest, HandoverRequestAck, HandoverCommand, HandoverNotify, HandoverCancel, X2Request, X2Ack, X2Cancel, X2Release, ContextModification}
 use Rattle.s1x2_rec.specs.Spelling.{IsNumber, IsCaps, FieldsInRange}
 use Rattle.ho_prep.specs.declared.origins.By.{By}
 use Rattle.ho_prep.specs.Prep.{Prep, at_air, has_attempt, is_at}
@@ -25,9 +26,9 @@ use Rattle.lte_machine.specs.Bearers.{Srb, Signalling1, Signalling2, Which, OnSr
 use Rattle.lte_machine.specs.Opening.{Outcome, Opened, Differs}
 use Rattle.lte_machine.specs.Ranges.{AllOf, IsStationAct}
 use Rattle.lte_machine.specs.Reply.{Origin}
-use Rattle.lte_machine.specs.StationState.{OverX2, OverS1, Within, X2State, X2Open, X2Ready, X2Commanded, S1State, S1Open, S1Ready, S1Commanded, Interface, OnS1, OnX2, StationInput, StationActs, AirPdu, StationRecord}
-use Rattle.lte_machine.specs.StationRows.{Wanted, RecordRow, ContextGiven, PairTaken, PreparedByS1, PreparedByX2, AckedByS1, AckedByX2, AirRow, CompletedByX2, CompletedWithin, ActRow, StartedByX2, StartedByS1, StartedWithin, CancelledByX2, CancelledByS1, PathSwitchAsked, StationRow, OfRecord, OfAir, OfAct}
-use Rattle.lte_machine.specs.StationChoice.{PlainStation, PlainContext, PlainAttempt, runs_out, station_of, is_own, is_full, is_misplaced, greatest, initial_chosen, initial_row, release_row, answer_row_by, answer_row, wanted_chosen, wanted_row, acked_open, s1_acked_row, s1_ack_row, x2_acked_row, x2_ack_row, cancel_row, x2_released_row, x2_release_row, s1_row, x2_row, record_row, AirFront, AirSettled, OnStarting, OnSignalling, OnUser, OnPrepared, counted, starting_front, active_front, context_front, prepared_front, air_front_by, air_front, starting_row, rrc_row, completed_row, prepared_row, air_row, active_row, unless_spent, begun_row, alone_row, target_row, start_row, x2_command_row, s1_command_row, attempt_command_row, command_row, x2_cancel_row, s1_cancel_row, within_cancel_row, attempt_cancel_row, give_up_row, came_row, ask_row, packet_row, send_rrc_row, skip_row, act_row, station_front, station_row}
+use Rattle.lte_machine.specs.StationState.{OverX2, OverS1, Within, X2State, X2Open, X2Ready, X2Commanded, S1State, S1Open, S1Ready, S1Commanded, Interface, OnS1, OnX2, StationInput, StationActs, AirPdu, StationRecord, Renewing}
+use Rattle.lte_machine.specs.StationRows.{Wanted, RecordRow, ContextGiven, PairTaken, PreparedByS1, PreparedByX2, AckedByS1, AckedByX2, AirRow, CompletedByX2, CompletedWithin, ActRow, StartedByX2, StartedByS1, StartedWithin, CancelledByX2, CancelledByS1, PathSwitchAsked, StationRow, OfRecord, OfAir, OfAct, KeyRenewed}
+use Rattle.lte_machine.specs.StationChoice.{PlainStation, PlainContext, PlainAttempt, runs_out, is_own, is_full, is_misplaced, greatest, initial_chosen, initial_row, release_row, answer_row_by, answer_row, wanted_chosen, wanted_row, acked_open, s1_acked_row, s1_ack_row, x2_acked_row, x2_ack_row, cancel_row, x2_released_row, x2_release_row, s1_row, x2_row, record_row, AirFront, AirSettled, OnStarting, OnSignalling, OnUser, OnPrepared, counted, starting_front, active_front, context_front, prepared_front, air_front_by, air_front, starting_row, rrc_row, completed_row, prepared_row, air_row, active_row, unless_spent, begun_row, alone_row, target_row, start_row, x2_command_row, s1_command_row, attempt_command_row, command_row, x2_cancel_row, s1_cancel_row, within_cancel_row, attempt_cancel_row, give_up_row, came_row, ask_row, packet_row, send_rrc_row, skip_row, act_row, station_front, station_row, renewed_row, renewed_alone, modification_row}
 use Rattle.lte_machine.proofs.RangeHolds.{OriginRanged, ByRanged, X2Ranged, S1Ranged, AttemptRanged, ContextRanged, PrepRanged, PrepIs, StationRanged, ReadRanged, StationInputRanged}
 
 -- what a row tells is in range
@@ -39,6 +40,7 @@ RecordRowRanged (ContextGiven conn cell caps algs air) = IsNumber conn × IsCell
 RecordRowRanged (PairTaken conn origin) = IsNumber conn × OriginRanged origin
 RecordRowRanged (PreparedByS1 w) = WantedRanged w
 RecordRowRanged (PreparedByX2 w) = WantedRanged w
+RecordRowRanged (KeyRenewed conn number air count) = IsNumber conn × IsNumber number
 RecordRowRanged other = Unit {0}
 
 abbrev pub AirRowRanged : AirRow → Type 0
@@ -121,6 +123,7 @@ s1_acked_ranged : (number : ℕ) (row : RecordRow) (o : Option PlainAttempt) →
 s1_acked_ranged number row None h = tt
 s1_acked_ranged number row (Some (OverX2 state)) h = tt
 s1_acked_ranged number row (Some (Within state)) h = tt
+s1_acked_ranged number row (Some (Renewing renewal)) h = tt
 s1_acked_ranged number row (Some (OverS1 (S1Open start))) h = acked_ranged number start.number row h
 s1_acked_ranged number row (Some (OverS1 (S1Ready acked))) h = acked_ranged number acked.start.number _ tt
 s1_acked_ranged number row (Some (OverS1 (S1Commanded sent))) h = acked_ranged number sent.number _ tt
@@ -133,6 +136,7 @@ x2_acked_ranged : (number : ℕ) (row : RecordRow) (o : Option PlainAttempt) →
 x2_acked_ranged number row None h = tt
 x2_acked_ranged number row (Some (OverS1 state)) h = tt
 x2_acked_ranged number row (Some (Within state)) h = tt
+x2_acked_ranged number row (Some (Renewing renewal)) h = tt
 x2_acked_ranged number row (Some (OverX2 (X2Open start))) h = acked_ranged number start.number row h
 x2_acked_ranged number row (Some (OverX2 (X2Ready acked))) h = acked_ranged number acked.start.number _ tt
 x2_acked_ranged number row (Some (OverX2 (X2Commanded sent))) h = acked_ranged number sent.number _ tt
@@ -148,6 +152,7 @@ x2_released_ranged : (number : ℕ) (o : Option PlainAttempt) → RecordRowRange
 x2_released_ranged number None = tt
 x2_released_ranged number (Some (OverS1 state)) = tt
 x2_released_ranged number (Some (Within state)) = tt
+x2_released_ranged number (Some (Renewing renewal)) = tt
 x2_released_ranged number (Some (OverX2 (X2Open start))) = tt
 x2_released_ranged number (Some (OverX2 (X2Ready acked))) = tt
 x2_released_ranged number (Some (OverX2 (X2Commanded sent))) = by_test RecordRowRanged (sent.number == number) _ _ (λ e. tt) (λ e. tt)
@@ -155,6 +160,23 @@ x2_released_ranged number (Some (OverX2 (X2Commanded sent))) = by_test RecordRow
 x2_release_ranged : (number : ℕ) (o : Option PlainContext) → RecordRowRanged (x2_release_row number o)
 x2_release_ranged number None = tt
 x2_release_ranged number (Some c) = x2_released_ranged number c.attempt
+
+-- a key change draws two numbers
+renewed_ranged : (conn next : ℕ) (counts : Counts) → 1 ≤ next → IsNumber conn → RecordRowRanged (renewed_row conn next counts)
+renewed_ranged conn next counts n f =
+    by_test RecordRowRanged (runs_out 2 next) _ _ (λ e. tt) (λ e.
+    by_test RecordRowRanged (is_spent counts) _ _ (λ g. tt) (λ g. (f, drawn_first next n e)))
+
+renewed_alone_ranged : (conn next : ℕ) (counts : Counts) (o : Option PlainAttempt) → 1 ≤ next → IsNumber conn → RecordRowRanged (renewed_alone conn next counts o)
+renewed_alone_ranged conn next counts (Some attempt) n f = tt
+renewed_alone_ranged conn next counts None n f = renewed_ranged conn next counts n f
+
+modification_ranged : (s : PlainStation) (conn next_conn : ℕ) (o : Option PlainContext) → 1 ≤ s.next → IsNumber next_conn → RecordRowRanged (modification_row s conn next_conn o)
+modification_ranged s conn next_conn None n f = tt
+modification_ranged s conn next_conn (Some c) n f =
+    by_test RecordRowRanged (not (c.conn == conn)) _ _ (λ e. tt) (λ e.
+    by_test RecordRowRanged (nat_le next_conn s.last) _ _ (λ e. tt) (λ e.
+    by_test RecordRowRanged c.starting _ _ (λ e. tt) (λ e. renewed_alone_ranged next_conn s.next c.bearers.srb1 c.attempt n f)))
 
 s1_row_ranged : (s : PlainStation) (fields : Fields) → StationRanged s → FieldsInRange fields → RecordRowRanged (s1_row s fields)
 s1_row_ranged s (InitialContext conn cell caps) h f = initial_ranged s conn cell caps f
@@ -172,6 +194,7 @@ s1_row_ranged s (X2Request conn source attempt cell caps) h f = tt
 s1_row_ranged s (X2Ack conn attempt cell algs air) h f = tt
 s1_row_ranged s (X2Cancel conn source attempt) h f = tt
 s1_row_ranged s (X2Release conn attempt) h f = tt
+s1_row_ranged s (ContextModification conn next_conn) h f = modification_ranged s conn next_conn s.context h.1 f.1
 
 x2_row_ranged : (s : PlainStation) (fields : Fields) → StationRanged s → FieldsInRange fields → RecordRowRanged (x2_row s fields)
 x2_row_ranged s (InitialContext conn cell caps) h f = tt
@@ -189,6 +212,7 @@ x2_row_ranged s (X2Request conn source attempt cell caps) h f =
 x2_row_ranged s (X2Ack conn attempt cell algs air) h f = x2_ack_ranged attempt algs air s.context
 x2_row_ranged s (X2Cancel conn source attempt) h f = cancel_ranged s (record { source = source; attempt = attempt })
 x2_row_ranged s (X2Release conn attempt) h f = x2_release_ranged attempt s.context
+x2_row_ranged s (ContextModification conn next_conn) h f = tt
 
 record_row_ranged : (s : PlainStation) (interface : Interface) (read : Result (Content (Unit {0}) ℕ) RecFault) → StationRanged s → ReadRanged read → RecordRowRanged (record_row s interface read)
 record_row_ranged s interface (Err fault) h f = tt
@@ -246,6 +270,7 @@ starting_row_ranged count (Ok SecurityModeComplete) = tt
 starting_row_ranged count (Ok (Reconfiguration cell ncc algs station air)) = tt
 starting_row_ranged count (Ok ReconfigurationComplete) = tt
 starting_row_ranged count (Ok (RrcData text)) = tt
+starting_row_ranged count (Ok (KeyChange cell algs station air)) = tt
 
 rrc_row_ranged : (srb : Srb) (count : ℕ) (read : Result RrcRecord RecFault) → AirRowRanged (rrc_row srb count read)
 rrc_row_ranged srb count (Err fault) = tt
@@ -254,6 +279,7 @@ rrc_row_ranged srb count (Ok SecurityModeComplete) = tt
 rrc_row_ranged srb count (Ok (Reconfiguration cell ncc algs station air)) = tt
 rrc_row_ranged srb count (Ok ReconfigurationComplete) = tt
 rrc_row_ranged srb count (Ok (RrcData text)) = tt
+rrc_row_ranged srb count (Ok (KeyChange cell algs station air)) = tt
 
 -- a Path Switch Request draws a number
 completed_row_ranged : (next air count : ℕ) (by : By) → 1 ≤ next → ByRanged by → AirRowRanged (completed_row next air count by)
@@ -268,6 +294,7 @@ prepared_row_ranged next air count by (Ok SecurityModeComplete) n h = tt
 prepared_row_ranged next air count by (Ok (Reconfiguration cell ncc algs station air')) n h = tt
 prepared_row_ranged next air count by (Ok ReconfigurationComplete) n h = completed_row_ranged next air count by n h
 prepared_row_ranged next air count by (Ok (RrcData text)) n h = tt
+prepared_row_ranged next air count by (Ok (KeyChange cell algs station air')) n h = tt
 
 air_row_ranged : (s : PlainStation) (front : AirFront) (outcome : Outcome) → 1 ≤ s.next → FrontRanged front → AirRowRanged (air_row s front outcome)
 air_row_ranged s (AirSettled row) outcome n h = h
@@ -325,6 +352,7 @@ attempt_command_ranged None counts = tt
 attempt_command_ranged (Some (OverX2 state)) counts = x2_command_ranged state counts
 attempt_command_ranged (Some (OverS1 state)) counts = s1_command_ranged state counts
 attempt_command_ranged (Some (Within state)) counts = x2_command_ranged state counts
+attempt_command_ranged (Some (Renewing renewal)) counts = unspent_ranged counts _ tt
 
 command_ranged : (o : Option PlainContext) → ActRowRanged (command_row o)
 command_ranged None = tt
@@ -350,6 +378,7 @@ attempt_cancel_ranged conn None n h = tt
 attempt_cancel_ranged conn (Some (OverX2 state)) n h = x2_cancel_ranged conn state n h
 attempt_cancel_ranged conn (Some (OverS1 state)) n h = s1_cancel_ranged conn state n h
 attempt_cancel_ranged conn (Some (Within state)) n h = within_cancel_ranged state
+attempt_cancel_ranged conn (Some (Renewing renewal)) n h = tt
 
 give_up_ranged : (o : Option PlainContext) → ContextRanged o → ActRowRanged (give_up_row o)
 give_up_ranged None h = tt

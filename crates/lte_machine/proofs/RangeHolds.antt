@@ -5,15 +5,15 @@ use Rattle.key_model.specs.Chain.{ncc_of}
 use Rattle.key_model.specs.HandoverTable.{NumberedKey}
 use Rattle.key_model.specs.Term.{Term}
 use Rattle.s1x2_rec.specs.Content.{Content}
-use Rattle.s1x2_rec.specs.Fields.{Fields, InitialContext, PathSwitchAnswer, HandoverRequest, X2Request}
-use Rattle.annex_a_keys.specs.Cell.{IsCell}
+use Rattle.s1x2_rec.specs.Fields.{Fields, InitialContext, PathSwitchAnswer, HandoverRequest, X2Request, ContextModification}
 use Rattle.s1x2_rec.specs.Spelling.{IsNumber, IsCaps, FieldsInRange}
+use Rattle.annex_a_keys.specs.Cell.{IsCell}
 use Rattle.ho_prep.specs.declared.origins.By.{By}
 use Rattle.ho_prep.specs.Prep.{Prep}
 use Rattle.lte_machine.specs.Ranges.{AllOf, IsStationAct, IsCoreAct}
 use Rattle.lte_machine.specs.Reply.{Origin}
 use Rattle.lte_machine.specs.Wire.{Outgoing, Between}
-use Rattle.lte_machine.specs.StationState.{Station, Context, Attempt, OverX2, OverS1, Within, X2State, X2Open, X2Ready, X2Commanded, S1State, S1Open, S1Ready, S1Commanded, StationInput, StationActs, AirPdu, StationRecord}
+use Rattle.lte_machine.specs.StationState.{Station, Context, Attempt, OverX2, OverS1, Within, X2State, X2Open, X2Ready, X2Commanded, S1State, S1Open, S1Ready, S1Commanded, StationInput, StationActs, AirPdu, StationRecord, Renewing}
 use Rattle.lte_machine.specs.CoreState.{Core, CorePartial, CoreContext, CoreLink, CoreInput, CoreAuth, CoreActs, CoreNasPdu, CoreRecord}
 use Rattle.lte_machine.specs.World.{World}
 use Rattle.lte_machine.proofs.RangeKeys.{IsDerived}
@@ -33,6 +33,7 @@ KeyRanged (InitialContext conn cell caps) key = HasKey 0 key
 KeyRanged (PathSwitchAnswer conn number) key = HasKey 7 key
 KeyRanged (HandoverRequest conn source attempt cell caps) key = HasKey 7 key
 KeyRanged (X2Request conn source attempt cell caps) key = HasKey 7 key
+KeyRanged (ContextModification conn next) key = HasKey 0 key
 KeyRanged other key = HasNoKey key
 
 -- a record of S1 or X2 has its fields and its key in range
@@ -72,6 +73,7 @@ AttemptRanged None = Unit {0}
 AttemptRanged (Some (OverX2 state)) = X2Ranged state
 AttemptRanged (Some (OverS1 state)) = S1Ranged state
 AttemptRanged (Some (Within state)) = X2Ranged state
+AttemptRanged (Some (Renewing renewal)) = Unit {0}
 
 abbrev pub ContextRanged : {K C : Type 0} → Option (Context K C) → Type 0
 ContextRanged None = Unit {0}

@@ -1,5 +1,5 @@
 -- The phone sends nothing on S1 or X2.
-use Rattle.std.proofs.Common.{ℕ, Bool, List, Option, Some, None}
+use Rattle.std.proofs.Common.{ℕ, Bool, List, Option, Some, None, true, false}
 use Rattle.alg_choice.specs.declared.algs.Algs.{Algs}
 use Rattle.annex_a_keys.specs.Cell.{Place}
 use Rattle.lte_events.specs.declared.answers.Answer.{Answer}
@@ -7,8 +7,8 @@ use Rattle.key_model.specs.Reading.{term_reading_by}
 use Rattle.key_model.specs.Term.{Term}
 use Rattle.lte_machine.specs.Bearers.{Srb, Drb, Which}
 use Rattle.lte_machine.specs.PhoneState.{Partial, NasContext, Radio, Idle, Connecting, Connected, Phone}
-use Rattle.lte_machine.specs.PhoneRows.{Authenticated, NasRow, NasRefused, RejectedPlain, RejectedUnder, ContextTaken, ContextTakenConnected, NasOpened, AirRow, AirRefused, LinkSecured, HandedOver, RrcOpened, PacketOpened, ActRow, ActRefused, ServiceRequested, CompleteResent, WentIdle, PacketSent, RrcSent, NasSent, NasSkipped, BearerSkipped, PhoneRow, OfAuth, OfNas, OfAir, OfAct}
-use Rattle.lte_machine.specs.PhoneKeys.{authenticated, rejected_under, context_taken, context_taken_connected, nas_opened, link_secured, handed_over, rrc_opened, packet_opened, service_requested, complete_resent, packet_sent, rrc_sent, nas_sent, nas_skipped, bearer_skipped, nas_does, air_does, act_does, phone_does}
+use Rattle.lte_machine.specs.PhoneRows.{Authenticated, NasRow, NasRefused, RejectedPlain, RejectedUnder, ContextTaken, ContextTakenConnected, NasOpened, AirRow, AirRefused, LinkSecured, HandedOver, RrcOpened, PacketOpened, ActRow, ActRefused, ServiceRequested, CompleteResent, WentIdle, PacketSent, RrcSent, NasSent, NasSkipped, BearerSkipped, PhoneRow, OfAuth, OfNas, OfAir, OfAct, KeyChanged}
+use Rattle.lte_machine.specs.PhoneKeys.{authenticated, rejected_under, context_taken, context_taken_connected, nas_opened, link_secured, handed_over, rrc_opened, packet_opened, service_requested, complete_resent, packet_sent, rrc_sent, nas_sent, nas_skipped, bearer_skipped, nas_does, air_does, act_does, phone_does, key_changed, changed_unless, before_of}
 use Rattle.lte_machine.proofs.RangeHolds.{SentRanged}
 
 -- each row, by the context or the radio that it looks into: NAS messages, RRC texts and user packets alone
@@ -43,6 +43,16 @@ handed_over_sends same cell steps algs station air s Idle = tt
 handed_over_sends same cell steps algs station air s (Connecting x) = tt
 handed_over_sends same cell steps algs station air s (Connected l) = tt
 
+key_changed_sends : (same : Term → Term → Bool) (cell : Place) (algs : Algs) (station air : ℕ) (s : Phone Term ℕ) (radio : Radio Term ℕ) (o : Option (NasContext Term)) → SentRanged (key_changed (term_reading_by same) cell algs station air s radio o).1.sent
+key_changed_sends same cell algs station air s Idle o = tt
+key_changed_sends same cell algs station air s (Connecting x) o = tt
+key_changed_sends same cell algs station air s (Connected l) None = tt
+key_changed_sends same cell algs station air s (Connected l) (Some c) = by_same (same c.root l.chain.root)
+  where
+    by_same : (b : Bool) → SentRanged (changed_unless (term_reading_by same) cell algs station air s (before_of l) c.root b).1.sent
+    by_same true = tt
+    by_same false = tt
+
 rrc_opened_sends : (srb : Srb) (count : ℕ) (text : List ℕ) (s : Phone Term ℕ) (radio : Radio Term ℕ) → SentRanged (rrc_opened srb count text s radio).1.sent
 rrc_opened_sends srb count text s Idle = tt
 rrc_opened_sends srb count text s (Connecting x) = tt
@@ -76,14 +86,14 @@ nas_sent_sends : (text : List ℕ) (s : Phone Term ℕ) (o : Option (NasContext 
 nas_sent_sends text s None = tt
 nas_sent_sends text s (Some x) = tt
 
-nas_left_out_sends : (n : ℕ) (s : Phone Term ℕ) (o : Option (NasContext Term)) → SentRanged (nas_skipped n s o).1.sent
-nas_left_out_sends n s None = tt
-nas_left_out_sends n s (Some x) = tt
+nas_skipped_sends : (n : ℕ) (s : Phone Term ℕ) (o : Option (NasContext Term)) → SentRanged (nas_skipped n s o).1.sent
+nas_skipped_sends n s None = tt
+nas_skipped_sends n s (Some x) = tt
 
-bearer_left_out_sends : (bearer : Which) (n : ℕ) (s : Phone Term ℕ) (radio : Radio Term ℕ) → SentRanged (bearer_skipped bearer n s radio).1.sent
-bearer_left_out_sends bearer n s Idle = tt
-bearer_left_out_sends bearer n s (Connecting x) = tt
-bearer_left_out_sends bearer n s (Connected l) = tt
+bearer_skipped_sends : (bearer : Which) (n : ℕ) (s : Phone Term ℕ) (radio : Radio Term ℕ) → SentRanged (bearer_skipped bearer n s radio).1.sent
+bearer_skipped_sends bearer n s Idle = tt
+bearer_skipped_sends bearer n s (Connecting x) = tt
+bearer_skipped_sends bearer n s (Connected l) = tt
 
 -- the rows by what brings them
 
@@ -99,6 +109,7 @@ air_does_sends : (same : Term → Term → Bool) (row : AirRow) (s : Phone Term 
 air_does_sends same (AirRefused answer) s = tt
 air_does_sends same (LinkSecured station air algs count) s = link_secured_sends same station air algs count s s.radio
 air_does_sends same (HandedOver cell steps algs station air) s = handed_over_sends same cell steps algs station air s s.radio
+air_does_sends same (KeyChanged cell algs station air) s = key_changed_sends same cell algs station air s s.radio s.context
 air_does_sends same (RrcOpened srb count text) s = rrc_opened_sends srb count text s s.radio
 air_does_sends same (PacketOpened drb count text) s = packet_opened_sends drb count text s s.radio
 
@@ -110,8 +121,8 @@ act_does_sends same WentIdle s = tt
 act_does_sends same (PacketSent drb text) s = packet_sent_sends drb text s s.radio
 act_does_sends same (RrcSent srb text) s = rrc_sent_sends srb text s s.radio
 act_does_sends same (NasSent text) s = nas_sent_sends text s s.context
-act_does_sends same (NasSkipped n) s = nas_left_out_sends n s s.context
-act_does_sends same (BearerSkipped bearer n) s = bearer_left_out_sends bearer n s s.radio
+act_does_sends same (NasSkipped n) s = nas_skipped_sends n s s.context
+act_does_sends same (BearerSkipped bearer n) s = bearer_skipped_sends bearer n s s.radio
 
 -- a row of the phone sends no record of S1 or X2
 pub phone_does_sends : (same : Term → Term → Bool) (row : PhoneRow) (root : Option Term) (s : Phone Term ℕ) → SentRanged (phone_does (term_reading_by same) row root s).1.sent

@@ -15,9 +15,9 @@ use Rattle.lte_machine.specs.Bearers.{Srb, Drb}
 use Rattle.lte_machine.specs.Opening.{Outcome}
 use Rattle.lte_machine.specs.Ranges.{AllOf}
 use Rattle.lte_machine.specs.Reply.{Origin, Reply, unseen}
-use Rattle.lte_machine.specs.StationState.{Station, Context, Attempt, OverX2, OverS1, Within, X2Open, X2Ready, X2Commanded, S1Open, S1Ready, S1Commanded, StationInput, StationActs, AirPdu, StationRecord, map_context, map_attempt, map_preps, map_station_input}
-use Rattle.lte_machine.specs.StationRows.{Wanted, RecordRow, RecordRefused, ContextGiven, ContextReleased, PairTaken, PreparedByS1, PreparedByX2, AckedByS1, AckedByX2, PreparationCancelled, SourceReleased, AirRow, AirRefused, SecurityStarted, RrcOpened, PacketOpened, CompletedByS1, CompletedWithin, CompletedByX2, ActRow, ActRefused, StartedByX2, StartedByS1, StartedWithin, HandoverCommanded, CancelledByX2, CancelledByS1, CancelledWithin, PathSwitchAsked, PacketSent, RrcSent, BearerSkipped, StationRow, OfRecord, OfAir, OfAct}
-use Rattle.lte_machine.specs.StationKeys.{s1_acked, x2_acked, commanded, given_up, with_pair, with_s1_ack, with_x2_ack, with_security, with_rrc_taken, with_packet_taken, with_skipped, source_release, context_given, pair_taken, prepared_by_s1, prepared_by_x2, completed_by_s1, completed_within, completed_by_x2, started_by_x2, started_by_s1, started_within, commands, asks_again, sends_packet, sends_rrc, record_does, air_does, act_does, station_does}
+use Rattle.lte_machine.specs.StationState.{Station, Context, Attempt, OverX2, OverS1, Within, X2Open, X2Ready, X2Commanded, S1Open, S1Ready, S1Commanded, StationInput, StationActs, AirPdu, StationRecord, map_context, map_attempt, map_preps, map_station_input, Renewal, Renewing}
+use Rattle.lte_machine.specs.StationRows.{Wanted, RecordRow, RecordRefused, ContextGiven, ContextReleased, PairTaken, PreparedByS1, PreparedByX2, AckedByS1, AckedByX2, PreparationCancelled, SourceReleased, AirRow, AirRefused, SecurityStarted, RrcOpened, PacketOpened, CompletedByS1, CompletedWithin, CompletedByX2, ActRow, ActRefused, StartedByX2, StartedByS1, StartedWithin, HandoverCommanded, CancelledByX2, CancelledByS1, CancelledWithin, PathSwitchAsked, PacketSent, RrcSent, BearerSkipped, StationRow, OfRecord, OfAir, OfAct, KeyRenewed, ChangeCommanded}
+use Rattle.lte_machine.specs.StationKeys.{s1_acked, x2_acked, commanded, given_up, with_pair, with_s1_ack, with_x2_ack, with_security, with_rrc_taken, with_packet_taken, with_skipped, source_release, context_given, pair_taken, prepared_by_s1, prepared_by_x2, completed_by_s1, completed_within, completed_by_x2, started_by_x2, started_by_s1, started_within, commands, asks_again, sends_packet, sends_rrc, record_does, air_does, act_does, station_does, key_renewed, commands_change}
 use Rattle.lte_machine.specs.StationStep.{plain_station, station_row_of, station_key, station_step}
 use Rattle.lte_machine.proofs.RangeHolds.{SentRanged, OriginRanged, AttemptRanged, ContextRanged, PrepRanged, PrepIs, StationRanged, StationInputRanged}
 use Rattle.lte_machine.proofs.RangeChoice.{WantedRanged, RecordRowRanged, AirRowRanged, ActRowRanged, RowRanged, found_ranged, row_ranged}
@@ -56,6 +56,7 @@ attempt_plain r (Some (OverS1 state)) h = h
 attempt_plain r (Some (Within (X2Open start))) h = h
 attempt_plain r (Some (Within (X2Ready acked))) h = h
 attempt_plain r (Some (Within (X2Commanded sent))) h = tt
+attempt_plain r (Some (Renewing renewal)) h = tt
 
 context_plain : {K C : Type 0} (r : Reading K C) (o : Option (Context K C)) → ContextRanged o → ContextRanged (option_map (map_context unseen r.ncc) o)
 context_plain r None h = tt
@@ -87,6 +88,7 @@ s1_acked_ranged : (ncc : ℕ) (algs : Algs) (air : ℕ) (o : Option (Attempt Ter
 s1_acked_ranged ncc algs air None h = h
 s1_acked_ranged ncc algs air (Some (OverX2 state)) h = h
 s1_acked_ranged ncc algs air (Some (Within state)) h = h
+s1_acked_ranged ncc algs air (Some (Renewing renewal)) h = h
 s1_acked_ranged ncc algs air (Some (OverS1 (S1Open start))) h = h
 s1_acked_ranged ncc algs air (Some (OverS1 (S1Ready acked))) h = h
 s1_acked_ranged ncc algs air (Some (OverS1 (S1Commanded sent))) h = h
@@ -95,6 +97,7 @@ x2_acked_ranged : (algs : Algs) (air : ℕ) (o : Option (Attempt Term ℕ)) → 
 x2_acked_ranged algs air None h = h
 x2_acked_ranged algs air (Some (OverS1 state)) h = h
 x2_acked_ranged algs air (Some (Within state)) h = h
+x2_acked_ranged algs air (Some (Renewing renewal)) h = h
 x2_acked_ranged algs air (Some (OverX2 (X2Open start))) h = h
 x2_acked_ranged algs air (Some (OverX2 (X2Ready acked))) h = h
 x2_acked_ranged algs air (Some (OverX2 (X2Commanded sent))) h = h
@@ -110,6 +113,7 @@ commanded_ranged order (Some (OverS1 (S1Commanded sent))) h = tt
 commanded_ranged order (Some (Within (X2Open start))) h = h
 commanded_ranged order (Some (Within (X2Ready acked))) h = tt
 commanded_ranged order (Some (Within (X2Commanded sent))) h = tt
+commanded_ranged order (Some (Renewing renewal)) h = tt
 
 origin_within : (o : Option Origin) → OriginRanged o →
     OriginRanged (option_map (λ (p : ℕ × ℕ). record { source = p.0; attempt = p.1 }) (option_map (λ a. (a.source, a.attempt)) o))
@@ -162,6 +166,13 @@ module _ (same : Term → Term → Bool) where
     ((f.0, f.2, f.3, f.5), tt),
   )
 
+  key_renewed_ranged : (conn number air count : ℕ) (o : Option (Context Term ℕ)) (key : Option (NumberedKey Term ℕ)) (s : Station Term ℕ) → IsNumber conn × IsNumber number →
+      ContextRanged o → StationRanged s → StationDone (key_renewed r conn number air count o key s)
+  key_renewed_ranged conn number air count None key s f c h = (h, tt)
+  key_renewed_ranged conn number air count (Some d) None s f c h = (h, tt)
+  key_renewed_ranged conn number air count (Some d) (Some kenb) s f c h =
+      ((h.0, next_up air, (c.0, c.1, c.2, tt, c.4), ((f.0, h.0, f.1, c.1, c.2, origin_within d.origin c.4), tt)), tt)
+
   record_does_ranged : (row : RecordRow) (key : Option (NumberedKey Term ℕ)) (s : Station Term ℕ) → RecordRowRanged row → StationRanged s → StationDone (record_does r row key s)
   record_does_ranged (RecordRefused answer) key s f h = (h, tt)
   record_does_ranged (ContextGiven conn cell caps algs air) key s f h = context_given_ranged conn cell caps algs air key s f h
@@ -176,6 +187,7 @@ module _ (same : Term → Term → Bool) where
   record_does_ranged (PreparationCancelled from) key s f h =
       ((h.0, h.1, h.2, all_filter PrepRanged (λ p. not (is_of from.source from.attempt p)) s.preps h.3), tt)
   record_does_ranged SourceReleased key s f h = ((h.0, h.1, tt, h.3), tt)
+  record_does_ranged (KeyRenewed conn number air count) key s f h = key_renewed_ranged conn number air count s.context key s f h.2 h
 
   -- by a PDU
 
@@ -234,6 +246,10 @@ module _ (same : Term → Term → Bool) where
   commands_ranged order count None s c h = (h, tt)
   commands_ranged order count (Some d) s c h = ((h.0, h.1, (c.0, c.1, c.2, commanded_ranged order d.attempt c.3, c.4), h.3), tt)
 
+  commands_change_ranged : (renewal : Renewal) (count : ℕ) (o : Option (Context Term ℕ)) (s : Station Term ℕ) → ContextRanged o → StationRanged s → StationDone (commands_change renewal count o s)
+  commands_change_ranged renewal count None s c h = (h, tt)
+  commands_change_ranged renewal count (Some d) s c h = ((h.0, h.1, c, h.3), tt)
+
   asks_again_ranged : (number : ℕ) (o : Option (Context Term ℕ)) (s : Station Term ℕ) → IsNumber number → ContextRanged o → StationRanged s → StationDone (asks_again number o s)
   asks_again_ranged number None s f c h = (h, tt)
   asks_again_ranged number (Some d) s f c h = ((h.0, next_up number, c, h.3), ((c.0, h.0, f, c.1, c.2), tt))
@@ -255,6 +271,7 @@ module _ (same : Term → Term → Bool) where
   act_does_ranged (StartedByS1 number target cell) s f h = started_by_s1_ranged number target cell s.context s f h.2 h
   act_does_ranged (StartedWithin number air cell) s f h = started_within_ranged number air cell s.context s f h.2 h
   act_does_ranged (HandoverCommanded order count) s f h = commands_ranged order count s.context s h.2 h
+  act_does_ranged (ChangeCommanded renewal count) s f h = commands_change_ranged renewal count s.context s h.2 h
   act_does_ranged (CancelledByX2 conn number target) s f h = ((h.0, h.1, given_up_ranged s.context h.2, h.3), ((f.0, h.0, f.1), tt))
   act_does_ranged (CancelledByS1 conn number cell) s f h = ((h.0, h.1, given_up_ranged s.context h.2, h.3), ((f.0, h.0, f.1, f.2), tt))
   act_does_ranged (CancelledWithin number) s f h =

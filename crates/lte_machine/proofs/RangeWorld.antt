@@ -13,7 +13,7 @@ use Rattle.key_model.specs.HandoverLines.{map_numbered}
 use Rattle.key_model.specs.HandoverTable.{NumberedKey}
 use Rattle.key_model.specs.Term.{Term}
 use Rattle.key_model.specs.Value.{value_of}
-use Rattle.s1x2_rec.specs.Fields.{Fields, InitialContext, ContextRelease, PathSwitchRequest, PathSwitchAnswer, HandoverRequired, HandoverRequest, HandoverRequestAck, HandoverCommand, HandoverNotify, HandoverCancel, X2Request, X2Ack, X2Cancel, X2Release}
+use Rattle.s1x2_rec.specs.Fields.{Fields, InitialContext, ContextRelease, PathSwitchRequest, PathSwitchAnswer, HandoverRequired, HandoverRequest, HandoverRequestAck, HandoverCommand, HandoverNotify, HandoverCancel, X2Request, X2Ack, X2Cancel, X2Release, ContextModification}
 use Rattle.s1x2_rec.specs.Reading.{read_core}
 use Rattle.s1x2_rec.specs.Spelling.{IsCaps, FieldsInRange, IsKey, IsNoKey, KeyInRange}
 use Rattle.s1x2_rec.proofs.Contents.{content_again}
@@ -195,6 +195,7 @@ key_in_range (X2Request conn source attempt cell caps) key h = key_back 7 key h
 key_in_range (X2Ack conn attempt cell algs air) key h = no_key_back key h
 key_in_range (X2Cancel conn source attempt) key h = no_key_back key h
 key_in_range (X2Release conn attempt) key h = no_key_back key h
+key_in_range (ContextModification conn next) key h = key_back 0 key h
 
 -- the octets of a record in range are read as the record
 pub reads_back : (fields : Fields) (key : Option (NumberedKey Term ℕ)) → FieldsInRange fields → KeyRanged fields key →

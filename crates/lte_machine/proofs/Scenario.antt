@@ -99,8 +99,11 @@ smc = Event.Core CoreAct.StartSmc
 abbrev pub connect : ℕ → Event
 connect s = Event.Core (CoreAct.Connect (place s))
 
+abbrev pub x2_at : ℕ → Place → Event
+x2_at s cell = Event.Station s (StationAct.Start HoKind.X2 cell)
+
 abbrev pub x2 : ℕ → ℕ → Event
-x2 s target = Event.Station s (StationAct.Start HoKind.X2 (place target))
+x2 s target = x2_at s (place target)
 
 abbrev pub s1 : ℕ → ℕ → Event
 s1 s target = Event.Station s (StationAct.Start HoKind.S1 (place target))
@@ -148,7 +151,7 @@ told events = briefs (report (open_octets toy) machine start events)
 
 -- what a run computes with
 unfoldable pub computing : Unit {0}
-unfolding least estimate_of has_bit choice_of are_supported number_of field_at number_at octets_of of_size number_in algs_at caps_at cell_at text_of nas_reading.command_of nas_reading.reject_of nas_reading.bare nas_reading.data_of nas_reading.read_nas nas_texts.spelling_of rrc_reading.command_of rrc_reading.reconfiguration_of rrc_reading.bare rrc_reading.data_of rrc_reading.read_rrc rrc_texts.spelling_of in_32_bits srb_count drb_count header_for_phone core_header open_octets open_foreign nas_octets srb_octets drb_octets
+unfolding least estimate_of has_bit choice_of are_supported number_of field_at number_at octets_of of_size number_in algs_at caps_at cell_at text_of nas_reading.command_of nas_reading.reject_of nas_reading.bare nas_reading.data_of nas_reading.read_nas nas_texts.spelling_of rrc_reading.command_of rrc_reading.reconfiguration_of rrc_reading.key_change_of rrc_reading.bare rrc_reading.data_of rrc_reading.read_rrc rrc_texts.spelling_of in_32_bits srb_count drb_count header_for_phone core_header open_octets open_foreign nas_octets srb_octets drb_octets
 computing = tt
 
 -- the answer, with NCC and way of the note

@@ -8,7 +8,7 @@ use Rattle.annex_a_keys.specs.Cell.{Place}
 use Rattle.rec_base.specs.declared.faults.RecFault.{RecFault}
 use Rattle.key_model.specs.Reading.{Reading, Carries}
 use Rattle.key_model.specs.HandoverTable.{NumberedKey}
-use Rattle.key_model.specs.HandoverLines.{map_numbered, star_line}
+use Rattle.key_model.specs.HandoverLines.{map_numbered, star_line, change_line}
 use Rattle.key_model.specs.Derivation.{Derivation, map_derivation, star_made}
 use Rattle.nh_chain.specs.Station.{StationKey, map_station_key, map_pair, restored_if, Opened, opened}
 use Rattle.s1x2_rec.specs.Content.{Content}
@@ -20,8 +20,8 @@ use Rattle.lte_machine.specs.Wire.{map_outgoing}
 use Rattle.lte_machine.specs.Opening.{Opening, OpensNothing, OpensNas, OpensSrb, OpensDrb, Outcome, Opened as Came, Differs, map_opening, accepted_of}
 use Rattle.key_model.specs.Use.{map_use}
 use Rattle.lte_machine.specs.Reply.{Origin, finished}
-use Rattle.lte_machine.specs.StationState.{Station, Context, Attempt, OverX2, OverS1, Within, X2State, X2Open, X2Ready, X2Commanded, S1Open, S1Ready, S1Commanded, StationInput, StationActs, AirPdu, StationRecord, map_x2_state, map_attempt, map_context, map_station, map_read, map_station_input}
-use Rattle.lte_machine.specs.StationRows.{Wanted, RecordRow, RecordRefused, ContextGiven, ContextReleased, PairTaken, PreparedByS1, PreparedByX2, AckedByS1, AckedByX2, PreparationCancelled, SourceReleased, AirRow, AirRefused, SecurityStarted, RrcOpened, PacketOpened, CompletedByS1, CompletedWithin, CompletedByX2, ActRow, ActRefused, StartedByX2, StartedByS1, StartedWithin, HandoverCommanded, CancelledByX2, CancelledByS1, CancelledWithin, PathSwitchAsked, PacketSent, RrcSent, BearerSkipped, StationRow, OfRecord, OfAir, OfAct}
+use Rattle.lte_machine.specs.StationState.{Station, Context, Attempt, OverX2, OverS1, Within, X2State, X2Open, X2Ready, X2Commanded, S1Open, S1Ready, S1Commanded, StationInput, StationActs, AirPdu, StationRecord, map_x2_state, map_attempt, map_context, map_station, map_read, map_station_input, Renewal, Renewing}
+use Rattle.lte_machine.specs.StationRows.{Wanted, RecordRow, RecordRefused, ContextGiven, ContextReleased, PairTaken, PreparedByS1, PreparedByX2, AckedByS1, AckedByX2, PreparationCancelled, SourceReleased, AirRow, AirRefused, SecurityStarted, RrcOpened, PacketOpened, CompletedByS1, CompletedWithin, CompletedByX2, ActRow, ActRefused, StartedByX2, StartedByS1, StartedWithin, HandoverCommanded, CancelledByX2, CancelledByS1, CancelledWithin, PathSwitchAsked, PacketSent, RrcSent, BearerSkipped, StationRow, OfRecord, OfAir, OfAct, KeyRenewed, ChangeCommanded}
 use Rattle.lte_machine.specs.StationChoice.{AirFront, AirSettled, OnStarting, OnSignalling, OnUser, OnPrepared, StationFront, Settled, FromAir, station_front, station_row}
 use Rattle.lte_machine.specs.StationKeys as keys
 use Rattle.lte_machine.specs.StationStep.{key_read, station_key, station_front_of, station_opens, station_row_of, station_step, map_station_done}
@@ -163,6 +163,7 @@ module _ {K C L D : Type 0} {r : Reading K C} {q : Reading L D} {f : K → L} {g
   s1_acked_map ncc algs air (Some (OverS1 (S1Ready acked))) = refl
   s1_acked_map ncc algs air (Some (OverS1 (S1Commanded sent))) = refl
   s1_acked_map ncc algs air (Some (Within state)) = refl
+  s1_acked_map ncc algs air (Some (Renewing renewal)) = refl
 
   x2_acked_map : (algs : Algs) (air : ℕ) (o : Option (Attempt K C)) →
       option_map (map_attempt f g) (option_map (keys.x2_acked algs air) o)
@@ -173,6 +174,7 @@ module _ {K C L D : Type 0} {r : Reading K C} {q : Reading L D} {f : K → L} {g
   x2_acked_map algs air (Some (OverX2 (X2Commanded sent))) = refl
   x2_acked_map algs air (Some (OverS1 state)) = refl
   x2_acked_map algs air (Some (Within state)) = refl
+  x2_acked_map algs air (Some (Renewing renewal)) = refl
 
   with_s1_ack_map : (ncc : ℕ) (algs : Algs) (air : ℕ) (o : Option (Context K C)) →
       option_map (map_context f g) (option_map (keys.with_s1_ack ncc algs air) o)
@@ -185,6 +187,33 @@ module _ {K C L D : Type 0} {r : Reading K C} {q : Reading L D} {f : K → L} {g
       ≡ option_map (keys.with_x2_ack algs air) (option_map (map_context f g) o)
   with_x2_ack_map algs air None = refl
   with_x2_ack_map algs air (Some x) = rw (x2_acked_map algs air x.attempt) refl
+
+  own_prep_map : (conn id number air : ℕ) (cell : Place) (x : Context K C) (star : NumberedKey K C) →
+      map_prep f g (keys.own_prep r conn id number air cell x star)
+      ≡ keys.own_prep q conn id number air cell (map_context f g x) (map_numbered f g star)
+  own_prep_map conn id number air cell x star =
+      rw (c.alg star.key 3 (identity_of x.algs.eea), c.alg star.key 4 eia2_identity, c.alg star.key 5 (identity_of x.algs.eea)) refl
+
+  change_line_map : (kenb : K) (cell : Place) →
+      map_numbered f g (change_line r kenb cell.pci cell.earfcn) ≡ change_line q (f kenb) cell.pci cell.earfcn
+  change_line_map kenb cell = rw (c.star kenb cell.pci cell.earfcn, c.first) refl
+
+  key_renewed_with_map : (conn number air count : ℕ) (x : Context K C) (made : Derivation K) (star : NumberedKey K C) (s : Station K C) →
+      map_station_done f g (keys.key_renewed_with r conn number air count x made star s)
+      ≡ keys.key_renewed_with q conn number air count (map_context f g x) (map_derivation f made) (map_numbered f g star) (map_station f g s)
+  key_renewed_with_map conn number air count x made star s =
+      rw (own_prep_map conn s.id number air x.cell x star, c.alg star.key 3 (identity_of x.algs.eea), c.alg star.key 4 eia2_identity, c.alg star.key 5 (identity_of x.algs.eea), c.ncc star.number) refl
+
+  key_renewed_map : (conn number air count : ℕ) (o : Option (Context K C)) (key : Option (NumberedKey K C)) (s : Station K C) →
+      map_station_done f g (keys.key_renewed r conn number air count o key s)
+      ≡ keys.key_renewed q conn number air count (option_map (map_context f g) o) (option_map (map_numbered f g) key) (map_station f g s)
+  key_renewed_map conn number air count None key s = refl
+  key_renewed_map conn number air count (Some x) None s = refl
+  key_renewed_map conn number air count (Some x) (Some kenb) s =
+      key_renewed_with_map conn number air count x (star_made r kenb.key x.cell.pci x.cell.earfcn)
+      (change_line r kenb.key x.cell.pci x.cell.earfcn) s
+      ∙ (λ j. keys.key_renewed_with q conn number air count (map_context f g x) (star_made_map kenb.key x.cell j)
+      (change_line_map kenb.key x.cell j) (map_station f g s))
 
   record_does_map : (row : RecordRow) (key : Option (NumberedKey K C)) (s : Station K C) →
       map_station_done f g (keys.record_does r row key s)
@@ -199,6 +228,7 @@ module _ {K C L D : Type 0} {r : Reading K C} {q : Reading L D} {f : K → L} {g
   record_does_map (AckedByX2 algs air) key s = rw (with_x2_ack_map algs air s.context) refl
   record_does_map (PreparationCancelled from) key s = rw (← without_map f g from.source from.attempt s.preps) refl
   record_does_map SourceReleased key s = refl
+  record_does_map (KeyRenewed conn number air count) key s = key_renewed_map conn number air count s.context key s
 
   -- PDUS OF RADIO BEARERS
 
@@ -281,17 +311,11 @@ module _ {K C L D : Type 0} {r : Reading K C} {q : Reading L D} {f : K → L} {g
   started_by_s1_map number target cell None s = refl
   started_by_s1_map number target cell (Some x) s = refl
 
-  own_prep_map : (id number air : ℕ) (cell : Place) (x : Context K C) (star : NumberedKey K C) →
-      map_prep f g (keys.own_prep r id number air cell x star)
-      ≡ keys.own_prep q id number air cell (map_context f g x) (map_numbered f g star)
-  own_prep_map id number air cell x star =
-      rw (c.alg star.key 3 (identity_of x.algs.eea), c.alg star.key 4 eia2_identity, c.alg star.key 5 (identity_of x.algs.eea)) refl
-
   started_within_with_map : (number air : ℕ) (cell : Place) (x : Context K C) (o : Opened K C) (s : Station K C) →
       map_station_done f g (keys.started_within_with r number air cell x o s)
       ≡ keys.started_within_with q number air cell (map_context f g x) (map_opened f g o) (map_station f g s)
   started_within_with_map number air cell x o s =
-      rw (push_map f g s.preps (keys.own_prep r s.id number air cell x o.star), c.alg o.star.key 3 (identity_of x.algs.eea), c.alg o.star.key 4 eia2_identity, c.alg o.star.key 5 (identity_of x.algs.eea), c.ncc o.star.number) refl
+      rw (push_map f g s.preps (keys.own_prep r x.conn s.id number air cell x o.star), c.alg o.star.key 3 (identity_of x.algs.eea), c.alg o.star.key 4 eia2_identity, c.alg o.star.key 5 (identity_of x.algs.eea), c.ncc o.star.number) refl
 
   started_within_map : (number air : ℕ) (cell : Place) (o : Option (Context K C)) (s : Station K C) →
       map_station_done f g (keys.started_within r number air cell o s)
@@ -314,12 +338,19 @@ module _ {K C L D : Type 0} {r : Reading K C} {q : Reading L D} {f : K → L} {g
   commanded_map order (Some (OverX2 state)) = λ j. Some (OverX2 (x2_commanded_map order state j))
   commanded_map order (Some (OverS1 state)) = refl
   commanded_map order (Some (Within state)) = λ j. Some (Within (x2_commanded_map order state j))
+  commanded_map order (Some (Renewing renewal)) = refl
 
   commands_map : (order : Order) (count : ℕ) (o : Option (Context K C)) (s : Station K C) →
       map_station_done f g (keys.commands order count o s)
       ≡ keys.commands order count (option_map (map_context f g) o) (map_station f g s)
   commands_map order count None s = refl
   commands_map order count (Some x) s = rw (commanded_map order x.attempt) refl
+
+  commands_change_map : (renewal : Renewal) (count : ℕ) (o : Option (Context K C)) (s : Station K C) →
+      map_station_done f g (keys.commands_change renewal count o s)
+      ≡ keys.commands_change renewal count (option_map (map_context f g) o) (map_station f g s)
+  commands_change_map renewal count None s = refl
+  commands_change_map renewal count (Some x) s = refl
 
   x2_spent_map : (state : X2State K C) → map_pair f g (keys.x2_spent state) ≡ keys.x2_spent (map_x2_state f g state)
   x2_spent_map (X2Open start) = refl
@@ -332,6 +363,7 @@ module _ {K C L D : Type 0} {r : Reading K C} {q : Reading L D} {f : K → L} {g
   spent_in_map (Some (OverX2 state)) = x2_spent_map state
   spent_in_map (Some (OverS1 state)) = refl
   spent_in_map (Some (Within state)) = x2_spent_map state
+  spent_in_map (Some (Renewing renewal)) = refl
 
   restored_map : (kenb : K) (number : C) (pair back : Option (NumberedKey K C)) →
       map_station_key f g (restored_if (record { kenb = kenb; number = number; pair = pair }) back)
@@ -364,11 +396,11 @@ module _ {K C L D : Type 0} {r : Reading K C} {q : Reading L D} {f : K → L} {g
   sends_rrc_map srb count text None s = refl
   sends_rrc_map srb count text (Some x) s = refl
 
-  with_left_out_map : (on : Which) (n : ℕ) (o : Option (Context K C)) →
+  with_skipped_map : (on : Which) (n : ℕ) (o : Option (Context K C)) →
       option_map (map_context f g) (option_map (keys.with_skipped on n) o)
       ≡ option_map (keys.with_skipped on n) (option_map (map_context f g) o)
-  with_left_out_map on n None = refl
-  with_left_out_map on n (Some x) = refl
+  with_skipped_map on n None = refl
+  with_skipped_map on n (Some x) = refl
 
   act_does_map : (row : ActRow) (s : Station K C) →
       map_station_done f g (keys.act_does r row s) ≡ keys.act_does q row (map_station f g s)
@@ -377,6 +409,7 @@ module _ {K C L D : Type 0} {r : Reading K C} {q : Reading L D} {f : K → L} {g
   act_does_map (StartedByS1 number target cell) s = started_by_s1_map number target cell s.context s
   act_does_map (StartedWithin number air cell) s = started_within_map number air cell s.context s
   act_does_map (HandoverCommanded order count) s = commands_map order count s.context s
+  act_does_map (ChangeCommanded renewal count) s = commands_change_map renewal count s.context s
   act_does_map (CancelledByX2 conn number target) s = rw (given_up_map s.context) refl
   act_does_map (CancelledByS1 conn number cell) s = rw (given_up_map s.context) refl
   act_does_map (CancelledWithin number) s =
@@ -384,7 +417,7 @@ module _ {K C L D : Type 0} {r : Reading K C} {q : Reading L D} {f : K → L} {g
   act_does_map (PathSwitchAsked number) s = asks_again_map number s.context s
   act_does_map (PacketSent drb count text) s = sends_packet_map drb count text s.context s
   act_does_map (RrcSent srb count text) s = sends_rrc_map srb count text s.context s
-  act_does_map (BearerSkipped on n) s = rw (with_left_out_map on n s.context) refl
+  act_does_map (BearerSkipped on n) s = rw (with_skipped_map on n s.context) refl
 
   -- THE STEP
 

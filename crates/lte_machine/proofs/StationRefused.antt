@@ -10,8 +10,8 @@ use Rattle.x2_handover.specs.declared.orders.Order.{Order}
 use Rattle.lte_machine.specs.Bearers.{Srb, Drb}
 use Rattle.lte_machine.specs.Opening.{Outcome}
 use Rattle.lte_machine.specs.Reply.{Origin, Reply, only, finished}
-use Rattle.lte_machine.specs.StationState.{Station, Context, StationInput}
-use Rattle.lte_machine.specs.StationRows.{RecordRow, RecordRefused, ContextGiven, ContextReleased, PairTaken, PreparedByS1, PreparedByX2, AckedByS1, AckedByX2, PreparationCancelled, SourceReleased, AirRow, AirRefused, SecurityStarted, RrcOpened, PacketOpened, CompletedByS1, CompletedWithin, CompletedByX2, ActRow, ActRefused, StartedByX2, StartedByS1, StartedWithin, HandoverCommanded, CancelledByX2, CancelledByS1, CancelledWithin, PathSwitchAsked, PacketSent, RrcSent, BearerSkipped, StationRow, OfRecord, OfAir, OfAct}
+use Rattle.lte_machine.specs.StationState.{Station, Context, StationInput, Renewal}
+use Rattle.lte_machine.specs.StationRows.{RecordRow, RecordRefused, ContextGiven, ContextReleased, PairTaken, PreparedByS1, PreparedByX2, AckedByS1, AckedByX2, PreparationCancelled, SourceReleased, AirRow, AirRefused, SecurityStarted, RrcOpened, PacketOpened, CompletedByS1, CompletedWithin, CompletedByX2, ActRow, ActRefused, StartedByX2, StartedByS1, StartedWithin, HandoverCommanded, CancelledByX2, CancelledByS1, CancelledWithin, PathSwitchAsked, PacketSent, RrcSent, BearerSkipped, StationRow, OfRecord, OfAir, OfAct, KeyRenewed, ChangeCommanded}
 use Rattle.lte_machine.specs.StationKeys as keys
 use Rattle.lte_machine.specs.StationStep.{station_key, station_row_of, station_step}
 
@@ -40,6 +40,12 @@ module _ {K C : Type 0} (r : Reading K C) where
   record_unchanged (AckedByX2 algs air) key s = done s _
   record_unchanged (PreparationCancelled from) key s = done s _
   record_unchanged SourceReleased key s = done s _
+  record_unchanged (KeyRenewed conn number air count) key s = renewed s.context key
+    where
+      renewed : (o : Option (Context K C)) (key : Option (NumberedKey K C)) → Unchanged s (keys.key_renewed r conn number air count o key s)
+      renewed None key = λ h. refl
+      renewed (Some c) None = λ h. refl
+      renewed (Some c) (Some x) = done s _
 
   completed_by_s1_unchanged : (count : ℕ) (o : Option (Prep K C)) (s : Station K C) →
       Unchanged s (keys.completed_by_s1 r count o s)
@@ -85,6 +91,11 @@ module _ {K C : Type 0} (r : Reading K C) where
   commands_unchanged order count None s = λ h. refl
   commands_unchanged order count (Some c) s = done s _
 
+  commands_change_unchanged : (renewal : Renewal) (count : ℕ) (o : Option (Context K C)) (s : Station K C) →
+      Unchanged s (keys.commands_change renewal count o s)
+  commands_change_unchanged renewal count None s = λ h. refl
+  commands_change_unchanged renewal count (Some c) s = done s _
+
   asks_again_unchanged : (number : ℕ) (o : Option (Context K C)) (s : Station K C) →
       Unchanged s (keys.asks_again number o s)
   asks_again_unchanged number None s = λ h. refl
@@ -106,6 +117,7 @@ module _ {K C : Type 0} (r : Reading K C) where
   act_unchanged (StartedByS1 number target cell) s = started_by_s1_unchanged number target cell s.context s
   act_unchanged (StartedWithin number air cell) s = started_within_unchanged number air cell s.context s
   act_unchanged (HandoverCommanded order count) s = commands_unchanged order count s.context s
+  act_unchanged (ChangeCommanded renewal count) s = commands_change_unchanged renewal count s.context s
   act_unchanged (CancelledByX2 conn number target) s = done s _
   act_unchanged (CancelledByS1 conn number cell) s = done s _
   act_unchanged (CancelledWithin number) s = done s _

@@ -1,6 +1,6 @@
 -- The choice of the core's row: what it refuses, in the order of its table, and what it does. The state and the input
 -- are seen without keys and chain numbers, so that the choice is one in each reading of them.
-use Rattle.std.specs.Prelude.{ℕ, ◌/◌, ◌%◌, Bool, not, ◌==◌, ◌&&◌, ◌||◌, nat_lt, nat_le, if◌then◌else◌, List, drop, length, slice_index, find, Option, Some, None, option_map, Result, Ok, Err}
+use Rattle.std.specs.Prelude.{ℕ, ◌/◌, ◌%◌, Bool, not, ◌==◌, ◌&&◌, ◌||◌, nat_lt, nat_le, if◌then◌else◌, List, drop, length, slice_index, Option, Some, None, Result, Ok, Err}
 use Rattle.alg_choice.specs.Choice.{choice_of}
 use Rattle.alg_choice.specs.declared.algs.Algs.{Algs}
 use Rattle.alg_choice.specs.declared.algs.Eea.{Eea}
@@ -12,7 +12,7 @@ use Rattle.lte_events.specs.declared.acts.CoreAct.{CoreAct}
 use Rattle.lte_events.specs.declared.acts.CoreAct.TheVariants.{StartSmc, Connect, Release, SendNas, Skip}
 use Rattle.lte_events.specs.declared.answers.Answer.{Answer}
 use Rattle.lte_events.specs.declared.answers.Answer.TheVariants.{NoContext, MacFails, CountSpent, SmcOpen, NoAlgorithm, BadRecord, Short, BadHeader, WrongKind, NoUe, OldConnection, UnknownCell, Repeated, NumberSpent, NoTrigger, NoSmc}
-use Rattle.lte_events.specs.Site.{Site, is_site}
+use Rattle.lte_events.specs.Site.{station_of}
 use Rattle.nas_count.specs.Estimate.{estimate_of}
 use Rattle.nas_count.specs.declared.sending.CountSpent.{CountSpent as NoneLeft}
 use Rattle.nas_count.specs.declared.sending.TheConstants.{LIMIT}
@@ -24,8 +24,8 @@ use Rattle.nas_rec.specs.declared.records.NasRecord.TheVariants.{SecurityModeCom
 use Rattle.s1x2_rec.specs.Content.{Content}
 use Rattle.s1x2_rec.specs.Fields.{Fields, PathSwitchRequest, HandoverRequired, HandoverRequestAck, HandoverNotify, HandoverCancel, kind_of}
 use Rattle.lte_machine.specs.CoreState.{Core, CorePartial, CoreContext, CoreLink, CoreInput, CoreAuth, CoreActs, CoreNasPdu, CoreRecord}
-use Rattle.lte_machine.specs.CoreRows.{CoreNasRow, NasRefused, PlainReject, SmcComplete, ServiceAsked, NasOpened, SealedReject, CoreRecordRow, RecordRefused, PathSwitched, HandoverAsked, HandoverOrdered, HandoverNotified, HandoverCancelled, CoreActRow, ActRefused, SmcStarted, ContextSetUp, ContextReleased, NasSent, NasSkipped, CoreRow, OfNas, OfRecord, OfAct, OfAuth}
-use Rattle.lte_machine.specs.Kinds.{nas_kind}
+use Rattle.lte_machine.specs.CoreRows.{CoreNasRow, NasRefused, PlainReject, SmcComplete, SmcChange, ServiceAsked, NasOpened, SealedReject, CoreRecordRow, RecordRefused, PathSwitched, HandoverAsked, HandoverOrdered, HandoverNotified, HandoverCancelled, CoreActRow, ActRefused, SmcStarted, ContextSetUp, ContextReleased, NasSent, NasSkipped, CoreRow, OfNas, OfRecord, OfAct, OfAuth}
+use Rattle.lte_machine.specs.Kinds.{nas_kind, same_caps}
 use Rattle.lte_machine.specs.Opening.{Outcome, Opened, Differs}
 
 -- the core, and what it gets, with keys out of sight and chain numbers seen by their NCCs
@@ -96,18 +96,29 @@ protected_front None header pdu = NasSettled (NasRefused NoContext)
 protected_front (Some context) header pdu = opens_protected header (estimate_of context.nas.receive (sn_in pdu))
 
 -- a message by its header type
-abbrev pub core_nas_front : PlainCore → List ℕ → Result ℕ Answer → CoreNasFront
-core_nas_front s pdu (Err answer) = NasSettled (NasRefused answer)
-core_nas_front s pdu (Ok header) =
-    if header == 0 then NasSettled (plain_row s.procedure s.context pdu)
+abbrev pub core_nas_front : Option (Keys (Unit {0})) → Option (CoreContext (Unit {0})) → List ℕ → Result ℕ Answer → CoreNasFront
+core_nas_front procedure context pdu (Err answer) = NasSettled (NasRefused answer)
+core_nas_front procedure context pdu (Ok header) =
+    if header == 0 then NasSettled (plain_row procedure context pdu)
     else (if nat_lt (length pdu) 6 then NasSettled (NasRefused Short)
-    else (if header == 4 then complete_front s.procedure pdu else protected_front s.context header pdu))
+    else (if header == 4 then complete_front procedure pdu else protected_front context header pdu))
 
--- the text of a message of header type 4 (TS 24.301 5.4.3.4)
-abbrev pub complete_row : ℕ → Result NasRecord RecFault → CoreNasRow
-complete_row count (Err fault) = NasRefused (BadRecord fault)
-complete_row count (Ok SecurityModeComplete) = SmcComplete count
-complete_row count (Ok other) = NasRefused (WrongKind (nas_kind other))
+-- this project's own rule: connections are numbered, by a counter that ends at 2^32 - 1 and never goes back
+abbrev pub NUMBERS : ℕ
+NUMBERS = 4294967296
+
+-- the end of a procedure (TS 24.301 5.4.3.4). This project's own rule: where a connection stands and a number is left, its key
+-- changes at once, under the next number; where none is left it stays as it is (TS 33.401 7.2.9.2)
+abbrev pub completed_row : ℕ → ℕ → Option (CoreLink (Unit {0}) ℕ) → CoreNasRow
+completed_row count next None = SmcComplete count
+completed_row count next (Some link) =
+    if nat_le NUMBERS next then SmcComplete count else SmcChange count link.conn next link.station
+
+-- the text of a message of header type 4 (TS 24.301 5.4.3.4), by the next connection number and the connection
+abbrev pub complete_row : ℕ → ℕ → Option (CoreLink (Unit {0}) ℕ) → Result NasRecord RecFault → CoreNasRow
+complete_row count next link (Err fault) = NasRefused (BadRecord fault)
+complete_row count next link (Ok SecurityModeComplete) = completed_row count next link
+complete_row count next link (Ok other) = NasRefused (WrongKind (nas_kind other))
 
 -- a protected Reject, by the procedure (TS 24.301 5.4.3.5)
 abbrev pub reject_row : Option (Keys (Unit {0})) → ℕ → CoreNasRow
@@ -123,22 +134,15 @@ protected_row procedure count (Ok (SecurityModeReject cause)) = reject_row proce
 protected_row procedure count (Ok other) = NasRefused (WrongKind (nas_kind other))
 
 -- a message as it opened, or with a MAC that differs (TS 24.301 4.4.4.3)
-abbrev pub core_nas_row : PlainCore → CoreNasFront → Outcome → CoreNasRow
-core_nas_row s (NasSettled row) outcome = row
-core_nas_row s (OpensComplete count) (Differs wanted got) = NasRefused (MacFails count wanted got)
-core_nas_row s (OpensComplete count) (Opened text) = complete_row count (read_nas text)
-core_nas_row s (OpensProtected header count) (Differs wanted got) = NasRefused (MacFails count wanted got)
-core_nas_row s (OpensProtected header count) (Opened text) = protected_row s.procedure count (read_nas text)
+abbrev pub core_nas_row :
+    Option (Keys (Unit {0})) → ℕ → Option (CoreLink (Unit {0}) ℕ) → CoreNasFront → Outcome → CoreNasRow
+core_nas_row procedure next link (NasSettled row) outcome = row
+core_nas_row procedure next link (OpensComplete count) (Differs wanted got) = NasRefused (MacFails count wanted got)
+core_nas_row procedure next link (OpensComplete count) (Opened text) = complete_row count next link (read_nas text)
+core_nas_row procedure next link (OpensProtected header count) (Differs wanted got) = NasRefused (MacFails count wanted got)
+core_nas_row procedure next link (OpensProtected header count) (Opened text) = protected_row procedure count (read_nas text)
 
 -- records on S1 (TS 36.413 8.3, 8.4 and 9.1, TS 33.401 7.2.8.4)
-
--- the station that has a cell
-abbrev pub station_at_cell : Place → List Site → Option ℕ
-station_at_cell cell sites = option_map (λ site. site.station) (find (is_site cell) sites)
-
--- whether two capabilities differ
-abbrev pub caps_differ : Caps → Caps → Bool
-caps_differ a b = not ((a.eea == b.eea) && (a.eia == b.eia))
 
 -- a Path Switch Request (TS 36.413 8.4.4). This project's own rule: a number of a station is taken once. Capabilities
 -- that differ from those of the latest authentication raise an alarm and change nothing else (TS 33.401 7.2.4.2.2)
@@ -146,7 +150,7 @@ abbrev pub path_switch_row : PlainCore → ℕ → ℕ → ℕ → Caps → Core
 path_switch_row s conn station number caps =
     let seen = slice_index s.requests station in
     if nat_le number seen then RecordRefused (Repeated seen number)
-    else PathSwitched conn station number (caps_differ caps s.latest)
+    else PathSwitched conn station number (not (same_caps caps s.latest))
 
 -- the capabilities of the context in use; a connection never stands without one
 abbrev pub caps_in_use : Option (CoreContext (Unit {0})) → Caps
@@ -162,7 +166,7 @@ abbrev pub required_row : PlainCore → ℕ → ℕ → ℕ → Place → CoreRe
 required_row s conn source attempt cell =
     let seen = slice_index s.attempts source in
     if nat_le attempt seen then RecordRefused (Repeated seen attempt)
-    else asked_at conn source attempt cell (caps_in_use s.context) (station_at_cell cell s.cells)
+    else asked_at conn source attempt cell (caps_in_use s.context) (station_of cell s.cells)
 
 abbrev pub cancelled_at : ℕ → ℕ → ℕ → Place → Option ℕ → CoreRecordRow
 cancelled_at conn source attempt cell None = RecordRefused UnknownCell
@@ -183,7 +187,7 @@ core_fields_row s (HandoverRequestAck conn source attempt cell ncc algs air) =
     of_link s.link conn (HandoverOrdered conn source attempt cell ncc algs air)
 core_fields_row s (HandoverNotify conn station cell) = of_link s.link conn (HandoverNotified station)
 core_fields_row s (HandoverCancel conn source attempt cell) =
-    of_link s.link conn (cancelled_at conn source attempt cell (station_at_cell cell s.cells))
+    of_link s.link conn (cancelled_at conn source attempt cell (station_of cell s.cells))
 core_fields_row s other = RecordRefused (WrongKind (kind_of other))
 
 abbrev pub core_record_row : PlainCore → Result (Content (Unit {0}) ℕ) RecFault → CoreRecordRow
@@ -203,10 +207,6 @@ abbrev pub start_smc_row : List Eea → Option (CorePartial (Unit {0})) → Opti
 start_smc_row priority None procedure = ActRefused NoContext
 start_smc_row priority (Some partial) (Some keys) = ActRefused SmcOpen
 start_smc_row priority (Some partial) None = smc_row partial (choice_of priority partial.caps)
-
--- this project's own rule: connections are numbered, by a counter that ends at 2^32 - 1 and never goes back
-abbrev pub NUMBERS : ℕ
-NUMBERS = 4294967296
 
 abbrev pub set_up_row : ℕ → Place → ℕ → Caps → ℕ → CoreActRow
 set_up_row next cell target caps count =
@@ -238,7 +238,7 @@ skip_nas_row (Some context) n = NasSkipped n
 
 abbrev pub core_act_row : PlainCore → CoreAct → CoreActRow
 core_act_row s StartSmc = start_smc_row s.priority s.partial s.procedure
-core_act_row s (Connect cell) = connect_row s.next cell (station_at_cell cell s.cells) s.context s.trigger
+core_act_row s (Connect cell) = connect_row s.next cell (station_of cell s.cells) s.context s.trigger
 core_act_row s Release = release_row s.link
 core_act_row s (SendNas text) = send_nas_row s.context text
 core_act_row s (Skip n) = skip_nas_row s.context n
@@ -248,9 +248,9 @@ core_act_row s (Skip n) = skip_nas_row s.context n
 abbrev pub core_front : PlainCore → PlainCoreInput → CoreFront
 core_front s (CoreAuth ksi root caps) = Settled (OfAuth ksi caps)
 core_front s (CoreActs act) = Settled (OfAct (core_act_row s act))
-core_front s (CoreNasPdu pdu) = FromNas (core_nas_front s pdu (core_header pdu))
+core_front s (CoreNasPdu pdu) = FromNas (core_nas_front s.procedure s.context pdu (core_header pdu))
 core_front s (CoreRecord read) = Settled (OfRecord (core_record_row s read))
 
 abbrev pub core_row : PlainCore → CoreFront → Outcome → CoreRow
 core_row s (Settled row) outcome = row
-core_row s (FromNas front) outcome = OfNas (core_nas_row s front outcome)
+core_row s (FromNas front) outcome = OfNas (core_nas_row s.procedure s.next s.link front outcome)

@@ -18,34 +18,30 @@ use Rattle.nas_guard.specs.Seal.{is_ciphered}
 use Rattle.nas_rec.specs.Spelling.{spelling_of}
 use Rattle.nas_rec.specs.declared.records.NasRecord.TheVariants.{SecurityModeCommand, NasData}
 use Rattle.nh_chain.specs.Chain.{ChainState, begun, stepped, present_pair}
-use Rattle.s1x2_rec.specs.Fields.{Fields, InitialContext, ContextRelease, PathSwitchAnswer, HandoverRequest, HandoverCommand, HandoverCancel}
+use Rattle.s1x2_rec.specs.Fields.{Fields, InitialContext, ContextRelease, PathSwitchAnswer, HandoverRequest, HandoverCommand, HandoverCancel, ContextModification}
 use Rattle.key_model.specs.HandoverTable.{NumberedKey}
 use Rattle.lte_machine.specs.Bearers.{skipped}
 use Rattle.lte_machine.specs.CoreChoice.{CoreFront, Settled, FromNas, CoreNasFront, NasSettled, OpensComplete, OpensProtected}
-use Rattle.lte_machine.specs.CoreRows.{CoreNasRow, NasRefused, PlainReject, SmcComplete, ServiceAsked, NasOpened, SealedReject, CoreRecordRow, RecordRefused, PathSwitched, HandoverAsked, HandoverOrdered, HandoverNotified, HandoverCancelled, CoreActRow, ActRefused, SmcStarted, ContextSetUp, ContextReleased, NasSent, NasSkipped, CoreRow, OfNas, OfRecord, OfAct, OfAuth}
+use Rattle.lte_machine.specs.CoreRows.{CoreNasRow, NasRefused, PlainReject, SmcComplete, SmcChange, ServiceAsked, NasOpened, SealedReject, CoreRecordRow, RecordRefused, PathSwitched, HandoverAsked, HandoverOrdered, HandoverNotified, HandoverCancelled, CoreActRow, ActRefused, SmcStarted, ContextSetUp, ContextReleased, NasSent, NasSkipped, CoreRow, OfNas, OfRecord, OfAct, OfAuth}
 use Rattle.lte_machine.specs.CoreState.{Core, CorePartial, CoreContext, CoreLink}
 use Rattle.lte_machine.specs.Opening.{Opening, OpensNothing, OpensNas}
 use Rattle.lte_machine.specs.PhoneState.{nas_keys_of, nas_derivations}
 use Rattle.lte_machine.specs.Reply.{Note, Reply, only}
-use Rattle.lte_machine.specs.Wire.{Ciphering, Outgoing, SealedNas, Between, nas_use, ciphering_by, ciphering_if}
+use Rattle.lte_machine.specs.Wire.{Outgoing, SealedNas, Between, nas_use, nas_ciphering, ciphering_if}
 
 -- which uses an opening needs
-
--- the ciphering of an uplink message, with the key of encryption also where the algorithm is EEA0 (TS 24.301 4.4.5)
-abbrev pub uplink_ciphering : {K : Type 0} → Keys K → ℕ → Ciphering K
-uplink_ciphering keys count = ciphering_by keys.algs.eea (nas_use Up keys.enc count)
 
 -- a Security Mode Complete is ciphered (TS 24.301 9.3.1, header type 4)
 abbrev pub opens_by_procedure : {K : Type 0} → Option (Keys K) → ℕ → Opening K
 opens_by_procedure None count = OpensNothing
-opens_by_procedure (Some keys) count = OpensNas (nas_use Up keys.int count) (Some (uplink_ciphering keys count))
+opens_by_procedure (Some keys) count = OpensNas (nas_use Up keys.int count) (Some (nas_ciphering Up keys count))
 
 -- another message, by its header type
 abbrev pub opens_by_context : {K : Type 0} → Option (CoreContext K) → ℕ → ℕ → Opening K
 opens_by_context None header count = OpensNothing
 opens_by_context (Some context) header count =
     OpensNas (nas_use Up context.nas.keys.int count)
-    (ciphering_if (is_ciphered header) (uplink_ciphering context.nas.keys count))
+    (ciphering_if (is_ciphered header) (nas_ciphering Up context.nas.keys count))
 
 abbrev pub core_nas_expects : {K C : Type 0} → CoreNasFront → Core K C → Opening K
 core_nas_expects (NasSettled row) s = OpensNothing
@@ -109,7 +105,7 @@ new_context partial keys count = record {
 }
 
 -- the new context is in use, and the Complete is the trigger for a connection (TS 33.401 7.2.6.2). A connection that stands
--- stays, with the keys that it has
+-- stays, with the keys that it has: no number is left for it
 abbrev pub smc_complete : {K C : Type 0} → ℕ → Option (CorePartial K) → Option (Keys K) → Core K C → CoreDone K C
 smc_complete count None procedure s = silent s
 smc_complete count (Some partial) None s = silent s
@@ -119,6 +115,30 @@ smc_complete count (Some partial) (Some keys) s = silent (record s {
   partial = None;
   procedure = None;
 })
+
+-- a record on S1 to a station, with a key of its number or with none
+abbrev pub to_station : {K C : Type 0} → ℕ → Fields → Option (NumberedKey K C) → Outgoing K C
+to_station station fields key = Between (StationS1 station) fields key
+
+-- the new context is in use, and the key of the connection changes at once: its station gets the KeNB of the Complete's COUNT,
+-- and the connection goes on under the next number with a chain that begins anew (TS 33.401 7.2.9.2 and A.3)
+abbrev pub key_changed : {K C : Type 0} →
+    Reading K C → ℕ → ℕ → ℕ → ℕ → Option (CorePartial K) → Option (Keys K) → Core K C → CoreDone K C
+key_changed r count conn next station (Some partial) (Some keys) s =
+    let kenb = r.kenb partial.root count in
+    sending_noted (to_station station (ContextModification conn next) (Some (record { key = kenb; number = r.first })))
+    (kenb_made r partial.root count ∷ [])
+    (record { ncc = r.ncc r.first; way = Initial; key = kenb })
+    false
+    (record s {
+      context = Some (new_context partial keys count);
+      trigger = None;
+      partial = None;
+      procedure = None;
+      next = next + 1;
+      link = Some (record { conn = next; chain = begun r partial.root kenb; station = station });
+    })
+key_changed r count conn next station partial procedure s = silent s
 
 -- messages under the context in use
 
@@ -146,7 +166,7 @@ sealed_reject count (Some c) s = silent (record s { context = Some (nas_taken co
 abbrev pub nas_text : {K C : Type 0} → Keys K → ℕ → List ℕ → Outgoing K C
 nas_text keys count text =
     SealedNas Down 2 (nas_use Down keys.int count)
-    (Some (ciphering_by keys.algs.eea (nas_use Down keys.enc count)))
+    (Some (nas_ciphering Down keys count))
     (spelling_of (NasData text))
 
 abbrev pub nas_sent : {K C : Type 0} → ℕ → List ℕ → Option (CoreContext K) → Core K C → CoreDone K C
@@ -159,10 +179,6 @@ nas_skipped n None s = silent s
 nas_skipped n (Some c) s = silent (record s { context = Some (nas_sent_to (skipped n c.nas.send LIMIT) c) })
 
 -- connections and their chains
-
--- a record on S1 to a station, with a key of its number or with none
-abbrev pub to_station : {K C : Type 0} → ℕ → Fields → Option (NumberedKey K C) → Outgoing K C
-to_station station fields key = Between (StationS1 station) fields key
 
 -- the initial KeNB, of chain number 0, with no NH beside it (TS 33.401 7.2.8.1.1 and A.3). This project's own rule: a
 -- connection that stands is replaced without a release
@@ -233,13 +249,14 @@ handover_cancelled conn source attempt cell target s =
 
 -- each row
 
-abbrev pub core_does_nas : {K C : Type 0} → CoreNasRow → Core K C → CoreDone K C
-core_does_nas (NasRefused answer) s = refused answer s
-core_does_nas PlainReject s = silent (record s { procedure = None })
-core_does_nas (SmcComplete count) s = smc_complete count s.partial s.procedure s
-core_does_nas (ServiceAsked count) s = service_asked count s.context s
-core_does_nas (NasOpened count text) s = nas_opened count text s.context s
-core_does_nas (SealedReject count) s = sealed_reject count s.context s
+abbrev pub core_does_nas : {K C : Type 0} → Reading K C → CoreNasRow → Core K C → CoreDone K C
+core_does_nas r (NasRefused answer) s = refused answer s
+core_does_nas r PlainReject s = silent (record s { procedure = None })
+core_does_nas r (SmcComplete count) s = smc_complete count s.partial s.procedure s
+core_does_nas r (SmcChange count conn next station) s = key_changed r count conn next station s.partial s.procedure s
+core_does_nas r (ServiceAsked count) s = service_asked count s.context s
+core_does_nas r (NasOpened count text) s = nas_opened count text s.context s
+core_does_nas r (SealedReject count) s = sealed_reject count s.context s
 
 abbrev pub core_does_record : {K C : Type 0} → Reading K C → CoreRecordRow → Core K C → CoreDone K C
 core_does_record r (RecordRefused answer) s = refused answer s
@@ -262,7 +279,7 @@ core_does_act r (NasSkipped n) s = nas_skipped n s.context s
 
 -- a row; the key is the KASME of an authentication
 abbrev pub core_does : {K C : Type 0} → Reading K C → CoreRow → Option K → Core K C → CoreDone K C
-core_does r (OfNas row) root s = core_does_nas row s
+core_does r (OfNas row) root s = core_does_nas r row s
 core_does r (OfRecord row) root s = core_does_record r row s
 core_does r (OfAct row) root s = core_does_act r row s
 core_does r (OfAuth ksi caps) root s = authenticated ksi caps root s

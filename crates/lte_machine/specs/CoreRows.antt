@@ -11,8 +11,12 @@ pub data CoreNasRow : Type 0 where
   NasRefused : Answer → CoreNasRow
   -- a plain Security Mode Reject, of a phone with no context, ends the procedure (TS 24.301 4.4.4.3 and 5.4.3.5)
   PlainReject : CoreNasRow
-  -- a Security Mode Complete ends it, and takes the new context into use: COUNT (TS 24.301 5.4.3.4)
+  -- a Security Mode Complete ends it, takes the new context into use, and triggers a connection: COUNT (TS 24.301
+  -- 5.4.3.4)
   SmcComplete : ℕ → CoreNasRow
+  -- the same while a connection stands: its key changes at once, and it gets a new number: COUNT, the number of the
+  -- connection, the next number, and its station (TS 33.401 7.2.9.2, TS 36.413 8.3.4)
+  SmcChange : ℕ → ℕ → ℕ → ℕ → CoreNasRow
   -- a Service Request asks for a connection: COUNT (TS 24.301 5.6.1.4)
   ServiceAsked : ℕ → CoreNasRow
   -- another NAS text: COUNT, text (TS 24.301 4.4.4.3)

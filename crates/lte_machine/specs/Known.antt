@@ -11,7 +11,7 @@ use Rattle.x2_handover.specs.Attempt.{X2Start}
 use Rattle.lte_machine.specs.Wire.{Ciphering, Outgoing, SealedNas, PlainNas, SealedRrc, UserPacket, Between}
 use Rattle.lte_machine.specs.Opening.{Opening, OpensNothing, OpensNas, OpensSrb, OpensDrb}
 use Rattle.lte_machine.specs.PhoneState.{Partial, NasContext, Radio, Idle, Connecting, Connected, Phone}
-use Rattle.lte_machine.specs.StationState.{Station, Context, Attempt, OverX2, OverS1, Within, X2State, X2Open, X2Ready, X2Commanded}
+use Rattle.lte_machine.specs.StationState.{Station, Context, Attempt, OverX2, OverS1, Within, Renewing, X2State, X2Open, X2Ready, X2Commanded}
 use Rattle.lte_machine.specs.CoreState.{Core, CorePartial, CoreContext, CoreLink}
 use Rattle.lte_machine.specs.World.{World}
 use Rattle.lte_machine.specs.Ranges.{AllOf}
@@ -67,6 +67,7 @@ AttemptKnown P None = Unit {0}
 AttemptKnown P (Some (OverX2 state)) = X2Known P state
 AttemptKnown P (Some (OverS1 state)) = Unit {0}
 AttemptKnown P (Some (Within state)) = X2Known P state
+AttemptKnown P (Some (Renewing renewal)) = Unit {0}
 
 abbrev pub ContextKnown : (Term → Type 0) → Option (Context Term ℕ) → Type 0
 ContextKnown P None = Unit {0}

@@ -33,3 +33,4 @@ pub mod Distinct
 pub mod Mixed
 pub mod Known
 pub mod Standing
+pub mod Calls

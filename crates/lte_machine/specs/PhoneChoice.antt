@@ -26,10 +26,10 @@ use Rattle.pdcp_guard.specs.Srb.{srb_count}
 use Rattle.pdcp_guard.specs.Drb.{drb_count}
 use Rattle.lte_machine.specs.Bearers.{Srb, Signalling1, Signalling2, Drb, Which, OnSrb, OnDrb, which, srb_counts, drb_counts, is_spent}
 use Rattle.lte_machine.specs.Opening.{Outcome, Opened, Differs}
-use Rattle.lte_machine.specs.Kinds.{nas_kind, rrc_kind}
+use Rattle.lte_machine.specs.Kinds.{nas_kind, rrc_kind, same_caps}
 use Rattle.lte_machine.specs.Refusals.{of_pdcp}
 use Rattle.lte_machine.specs.PhoneState.{Partial, NasContext, Link, Radio, Idle, Connecting, Connected, Phone, PhoneInput, PhoneAuth, PhoneActs, PhoneNasPdu, PhoneAirPdu}
-use Rattle.lte_machine.specs.PhoneRows.{Authenticated, NasRow, NasRefused, RejectedPlain, RejectedUnder, ContextTaken, ContextTakenConnected, NasOpened, AirRow, AirRefused, LinkSecured, HandedOver, RrcOpened, PacketOpened, ActRow, ActRefused, ServiceRequested, CompleteResent, WentIdle, PacketSent, RrcSent, NasSent, NasSkipped, BearerSkipped, PhoneRow, OfAuth, OfNas, OfAir, OfAct}
+use Rattle.lte_machine.specs.PhoneRows.{Authenticated, NasRow, NasRefused, RejectedPlain, RejectedUnder, ContextTaken, ContextTakenConnected, NasOpened, AirRow, AirRefused, LinkSecured, HandedOver, KeyChanged, RrcOpened, PacketOpened, ActRow, ActRefused, ServiceRequested, CompleteResent, WentIdle, PacketSent, RrcSent, NasSent, NasSkipped, BearerSkipped, PhoneRow, OfAuth, OfNas, OfAir, OfAct}
 
 -- the phone without keys, and an input without its key
 abbrev pub PlainPhone : Type 0
@@ -95,19 +95,19 @@ command_at algs caps (Err none_left) = NasSettled (NasRefused CountSpent)
 
 -- a command for the partial context (5.4.3.3). This project's own rules: KSI and algorithms are looked at before the MAC,
 -- and a text that does not read is not answered
-abbrev pub command_read : PlainPhone → ℕ → List ℕ → Result NasRecord RecFault → NasFront
-command_read s held pdu (Err fault) = NasSettled (NasRefused (BadRecord fault))
-command_read s held pdu (Ok (nas.TheVariants.SecurityModeCommand ksi algs caps)) =
+abbrev pub command_read : Caps → Option (NasContext (Unit {0})) → ℕ → List ℕ → Result NasRecord RecFault → NasFront
+command_read own context held pdu (Err fault) = NasSettled (NasRefused (BadRecord fault))
+command_read own context held pdu (Ok (nas.TheVariants.SecurityModeCommand ksi algs caps)) =
     if ksi == held then
-    (if are_supported s.caps algs then command_at algs caps (estimate_of 0 (sn_in pdu))
-    else NasSettled (rejected (AlgUnsupported algs) rejected_unspecified s.context))
-    else NasSettled (rejected (WrongKsi held ksi) rejected_unspecified s.context)
-command_read s held pdu (Ok other) = NasSettled (NasRefused (WrongKind (nas_kind other)))
+    (if are_supported own algs then command_at algs caps (estimate_of 0 (sn_in pdu))
+    else NasSettled (rejected (AlgUnsupported algs) rejected_unspecified context))
+    else NasSettled (rejected (WrongKsi held ksi) rejected_unspecified context)
+command_read own context held pdu (Ok other) = NasSettled (NasRefused (WrongKind (nas_kind other)))
 
 -- header type 3: integrity protected with a new security context, and not ciphered (9.3.1)
-abbrev pub command_front : PlainPhone → List ℕ → Option (Partial (Unit {0})) → NasFront
-command_front s pdu None = NasSettled (NasRefused NoContext)
-command_front s pdu (Some p) = command_read s p.ksi pdu (read_nas (sent_in pdu))
+abbrev pub command_front : Caps → Option (NasContext (Unit {0})) → List ℕ → Option (Partial (Unit {0})) → NasFront
+command_front own context pdu None = NasSettled (NasRefused NoContext)
+command_front own context pdu (Some p) = command_read own context p.ksi pdu (read_nas (sent_in pdu))
 
 abbrev pub message_at : ℕ → Result ℕ spent.CountSpent → NasFront
 message_at header (Ok count) = AtMessage count header
@@ -118,26 +118,26 @@ abbrev pub message_front : ℕ → List ℕ → Option (NasContext (Unit {0})) �
 message_front header pdu None = NasSettled (NasRefused NoContext)
 message_front header pdu (Some c) = message_at header (estimate_of c.receive (sn_in pdu))
 
-abbrev pub nas_by_header : PlainPhone → List ℕ → Result ℕ Answer → NasFront
-nas_by_header s pdu (Err answer) = NasSettled (NasRefused answer)
-nas_by_header s pdu (Ok header) =
-    if header == 3 then command_front s pdu s.partial else message_front header pdu s.context
+-- by the phone's capabilities, its partial context and the context in use
+abbrev pub nas_by_header :
+    Caps → Option (Partial (Unit {0})) → Option (NasContext (Unit {0})) → List ℕ → Result ℕ Answer → NasFront
+nas_by_header own partial context pdu (Err answer) = NasSettled (NasRefused answer)
+nas_by_header own partial context pdu (Ok header) =
+    if header == 3 then command_front own context pdu partial else message_front header pdu context
 
 -- a context is taken, and the phone waits for its connection unless it has one (TS 33.401 7.2.8.1.1)
 abbrev pub context_row : Algs → ℕ → Radio (Unit {0}) ℕ → NasRow
 context_row algs count (Connected link) = ContextTakenConnected algs count
 context_row algs count other = ContextTaken algs count
 
-abbrev pub same_caps : Caps → Caps → Bool
-same_caps a b = (a.eea == b.eea) && (a.eia == b.eia)
-
 -- the MAC of a command, and then its replayed capabilities (TS 24.301 5.4.3.3, TS 33.401 7.2.4.4)
-abbrev pub command_row : PlainPhone → ℕ → Algs → Caps → Outcome → NasRow
-command_row s count algs caps (Differs wanted got) =
-    rejected (MacFails count wanted got) rejected_unspecified s.context
-command_row s count algs caps (Opened text) =
-    if same_caps s.caps caps then context_row algs count s.radio
-    else rejected (CapsMismatch s.caps caps) capabilities_mismatch s.context
+abbrev pub command_row :
+    Caps → Option (NasContext (Unit {0})) → Radio (Unit {0}) ℕ → ℕ → Algs → Caps → Outcome → NasRow
+command_row own context radio count algs caps (Differs wanted got) =
+    rejected (MacFails count wanted got) rejected_unspecified context
+command_row own context radio count algs caps (Opened text) =
+    if same_caps own caps then context_row algs count radio
+    else rejected (CapsMismatch own caps) capabilities_mismatch context
 
 -- the text of another message
 abbrev pub message_read : ℕ → Result NasRecord RecFault → NasRow
@@ -149,10 +149,11 @@ abbrev pub message_row : ℕ → Outcome → NasRow
 message_row count (Differs wanted got) = NasRefused (MacFails count wanted got)
 message_row count (Opened text) = message_read count (read_nas text)
 
-abbrev pub nas_row : PlainPhone → NasFront → Outcome → NasRow
-nas_row s (NasSettled row) outcome = row
-nas_row s (AtCommand count algs caps) outcome = command_row s count algs caps outcome
-nas_row s (AtMessage count header) outcome = message_row count outcome
+abbrev pub nas_row :
+    Caps → Option (NasContext (Unit {0})) → Radio (Unit {0}) ℕ → NasFront → Outcome → NasRow
+nas_row own context radio (NasSettled row) outcome = row
+nas_row own context radio (AtCommand count algs caps) outcome = command_row own context radio count algs caps outcome
+nas_row own context radio (AtMessage count header) outcome = message_row count outcome
 
 -- PDUs of radio bearers (TS 36.323 5.1.2, 5.6 and 5.7, TS 36.331 5.3.4 and 5.3.5)
 
@@ -214,11 +215,20 @@ command_taken caps Signalling1 own cell ncc algs station air =
 command_taken caps Signalling2 own cell ncc algs station air =
     AirRefused (WrongKind (rrc_kind (rrc.TheVariants.Reconfiguration cell ncc algs station air)))
 
+-- a key change: the same tests. Whether the phone has another KASME to derive from is looked at with its keys
+abbrev pub change_taken : Caps → Srb → Place → Algs → ℕ → ℕ → AirRow
+change_taken caps Signalling1 cell algs station air =
+    if are_supported caps algs then KeyChanged cell algs station air else AirRefused (AlgUnsupported algs)
+change_taken caps Signalling2 cell algs station air =
+    AirRefused (WrongKind (rrc_kind (rrc.TheVariants.KeyChange cell algs station air)))
+
 abbrev pub signalling_read : Caps → Srb → ℕ → ℕ → Result RrcRecord RecFault → AirRow
 signalling_read caps srb count own (Err fault) = AirRefused (BadRecord fault)
 signalling_read caps srb count own (Ok (rrc.TheVariants.RrcData text)) = RrcOpened srb count text
 signalling_read caps srb count own (Ok (rrc.TheVariants.Reconfiguration cell ncc algs station air)) =
     command_taken caps srb own cell ncc algs station air
+signalling_read caps srb count own (Ok (rrc.TheVariants.KeyChange cell algs station air)) =
+    change_taken caps srb cell algs station air
 signalling_read caps srb count own (Ok other) = AirRefused (WrongKind (rrc_kind other))
 
 abbrev pub signalling_row : Caps → Srb → ℕ → ℕ → Outcome → AirRow
@@ -301,11 +311,11 @@ act_row s (acts.TheVariants.Skip (Some bearer) n) = bearer_skipped_row (which be
 abbrev pub phone_front : PlainPhone → PlainInput → PhoneFront
 phone_front s (PhoneAuth ksi root) = Settled (OfAuth (Authenticated ksi))
 phone_front s (PhoneActs act) = Settled (OfAct (act_row s act))
-phone_front s (PhoneNasPdu pdu) = FromNas (nas_by_header s pdu (header_for_phone pdu))
+phone_front s (PhoneNasPdu pdu) = FromNas (nas_by_header s.caps s.partial s.context pdu (header_for_phone pdu))
 phone_front s (PhoneAirPdu station air bearer pdu) = FromAir (air_front s.caps station air pdu (which bearer) s.radio)
 
 -- all refusals after it
 abbrev pub phone_row : PlainPhone → PhoneFront → Outcome → PhoneRow
 phone_row s (Settled row) outcome = row
-phone_row s (FromNas front) outcome = OfNas (nas_row s front outcome)
+phone_row s (FromNas front) outcome = OfNas (nas_row s.caps s.context s.radio front outcome)
 phone_row s (FromAir front) outcome = OfAir (air_row s.caps front outcome)

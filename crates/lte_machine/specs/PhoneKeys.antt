@@ -1,14 +1,15 @@
 -- The phone's keys: which uses an opening needs, and what a row does, each new key a derivation of a key that the phone
 -- holds (TS 33.401 6.2, 7.2.4.4, 7.2.4.5 and 7.2.8).
-use Rattle.std.specs.Prelude.{ℕ, ◌+◌, true, false, List, [], ◌∷◌, ◌++◌, Option, Some, None}
+use Rattle.std.specs.Prelude.{ℕ, ◌+◌, Bool, true, false, List, [], ◌∷◌, ◌++◌, Option, Some, None}
 use Rattle.alg_choice.specs.declared.algs.Algs.{Algs}
 use Rattle.annex_a_keys.specs.Cell.{Place}
 use Rattle.rec_base.specs.declared.uses.Dir.TheVariants.{Up, Down}
 use Rattle.rec_base.specs.declared.ways.Way.TheVariants.{Initial}
 use Rattle.lte_events.specs.declared.answers.Answer.{Answer}
-use Rattle.lte_events.specs.declared.answers.Answer.TheVariants.{Done}
+use Rattle.lte_events.specs.declared.answers.Answer.TheVariants.{Done, NoTrigger}
 use Rattle.key_model.specs.Reading.{Reading}
-use Rattle.key_model.specs.Derivation.{kenb_made}
+use Rattle.key_model.specs.Derivation.{kenb_made, star_made}
+use Rattle.key_model.specs.HandoverLines.{change_line}
 use Rattle.nas_count.specs.declared.sending.TheConstants.{LIMIT as NAS_LIMIT}
 use Rattle.nas_guard.specs.Keys.{Keys}
 use Rattle.nas_guard.specs.Seal.{is_ciphered, first_octet}
@@ -22,11 +23,11 @@ use Rattle.nh_chain.specs.Chain.{begun}
 use Rattle.nh_chain.specs.Reach.{Reached, reached_after}
 use Rattle.pdcp_guard.specs.AsKeys.{AsKeys, as_keys_of, as_derivations}
 use Rattle.lte_machine.specs.Bearers.{Srb, Signalling1, Drb, Which, Bearers, new_bearers, srb_counts, drb_counts, srb_sent, drb_sent, srb_taken, drb_taken, skipped_on, skipped}
-use Rattle.lte_machine.specs.Wire.{Ciphering, ciphering_by, nas_use, srb_use, drb_use, Outgoing, SealedNas, PlainNas, SealedRrc, UserPacket, ciphering_if}
+use Rattle.lte_machine.specs.Wire.{nas_use, srb_use, nas_ciphering, srb_ciphering, drb_ciphering, Outgoing, SealedNas, PlainNas, SealedRrc, UserPacket, ciphering_if}
 use Rattle.lte_machine.specs.Opening.{Opening, OpensNothing, OpensNas, OpensSrb, OpensDrb}
-use Rattle.lte_machine.specs.Reply.{Reply, only}
+use Rattle.lte_machine.specs.Reply.{Reply, only, Before, Came, Secured, Commanded, Changed}
 use Rattle.lte_machine.specs.PhoneState.{nas_keys_of, Partial, NasContext, Link, Radio, Idle, Connecting, Connected, Phone, nas_derivations}
-use Rattle.lte_machine.specs.PhoneRows.{AuthRow, Authenticated, NasRow, NasRefused, RejectedPlain, RejectedUnder, ContextTaken, ContextTakenConnected, NasOpened, AirRow, AirRefused, LinkSecured, HandedOver, RrcOpened, PacketOpened, ActRow, ActRefused, ServiceRequested, CompleteResent, WentIdle, PacketSent, RrcSent, NasSent, NasSkipped, BearerSkipped, PhoneRow, OfAuth, OfNas, OfAir, OfAct}
+use Rattle.lte_machine.specs.PhoneRows.{AuthRow, Authenticated, NasRow, NasRefused, RejectedPlain, RejectedUnder, ContextTaken, ContextTakenConnected, NasOpened, AirRow, AirRefused, LinkSecured, HandedOver, KeyChanged, RrcOpened, PacketOpened, ActRow, ActRefused, ServiceRequested, CompleteResent, WentIdle, PacketSent, RrcSent, NasSent, NasSkipped, BearerSkipped, PhoneRow, OfAuth, OfNas, OfAir, OfAct}
 use Rattle.lte_machine.specs.PhoneChoice.{NasFront, NasSettled, AtCommand, AtMessage, AirFront, AirSettled, AtStart, AtSignalling, AtPacket, PhoneFront, Settled, FromNas, FromAir}
 
 -- the phone after a step, and what it gives out
@@ -34,25 +35,6 @@ abbrev pub PhoneDone : Type 0 → Type 0 → Type 0
 PhoneDone K C = Phone K C × Reply K C
 
 -- the uses that an opening needs
-
--- the ciphering of a NAS message (TS 24.301 4.4.5), of a PDU of an SRB, and of one of a DRB (TS 36.323 5.6)
-abbrev pub nas_ciphering_up : {K : Type 0} → Keys K → ℕ → Ciphering K
-nas_ciphering_up keys count = ciphering_by keys.algs.eea (nas_use Up keys.enc count)
-
-abbrev pub nas_ciphering_down : {K : Type 0} → Keys K → ℕ → Ciphering K
-nas_ciphering_down keys count = ciphering_by keys.algs.eea (nas_use Down keys.enc count)
-
-abbrev pub srb_ciphering_up : {K : Type 0} → AsKeys K → Srb → ℕ → Ciphering K
-srb_ciphering_up keys srb count = ciphering_by keys.algs.eea (srb_use Up keys.rrc_enc srb count)
-
-abbrev pub srb_ciphering_down : {K : Type 0} → AsKeys K → Srb → ℕ → Ciphering K
-srb_ciphering_down keys srb count = ciphering_by keys.algs.eea (srb_use Down keys.rrc_enc srb count)
-
-abbrev pub drb_ciphering_up : {K : Type 0} → AsKeys K → Drb → ℕ → Ciphering K
-drb_ciphering_up keys drb count = ciphering_by keys.algs.eea (drb_use Up keys.up_enc drb count)
-
-abbrev pub drb_ciphering_down : {K : Type 0} → AsKeys K → Drb → ℕ → Ciphering K
-drb_ciphering_down keys drb count = ciphering_by keys.algs.eea (drb_use Down keys.up_enc drb count)
 
 -- a SECURITY MODE COMMAND, under KNASint of the partial context and not ciphered (TS 33.401 7.2.4.4)
 abbrev pub command_expects : {K C : Type 0} → Reading K C → ℕ → Algs → Option (Partial K) → Opening K
@@ -63,7 +45,7 @@ command_expects r count algs (Some p) = OpensNas (nas_use Down (nas_keys_of r p.
 abbrev pub message_expects : {K : Type 0} → ℕ → ℕ → Option (NasContext K) → Opening K
 message_expects count header None = OpensNothing
 message_expects count header (Some c) =
-    OpensNas (nas_use Down c.keys.int count) (ciphering_if (is_ciphered header) (nas_ciphering_down c.keys count))
+    OpensNas (nas_use Down c.keys.int count) (ciphering_if (is_ciphered header) (nas_ciphering Down c.keys count))
 
 abbrev pub nas_expects : {K C : Type 0} → Reading K C → NasFront → Phone K C → Opening K
 nas_expects r (NasSettled row) s = OpensNothing
@@ -79,11 +61,11 @@ start_expects r count algs other = OpensNothing
 -- a PDU of a connection, under its keys and ciphered (TS 36.331 5.3.1.2)
 abbrev pub signalling_expects : {K C : Type 0} → Srb → ℕ → Radio K C → Opening K
 signalling_expects srb count (Connected l) =
-    OpensSrb (srb_use Down l.keys.rrc_int srb count) (Some (srb_ciphering_down l.keys srb count))
+    OpensSrb (srb_use Down l.keys.rrc_int srb count) (Some (srb_ciphering Down l.keys srb count))
 signalling_expects srb count other = OpensNothing
 
 abbrev pub packet_expects : {K C : Type 0} → Drb → ℕ → Radio K C → Opening K
-packet_expects drb count (Connected l) = OpensDrb (drb_ciphering_down l.keys drb count)
+packet_expects drb count (Connected l) = OpensDrb (drb_ciphering Down l.keys drb count)
 packet_expects drb count other = OpensNothing
 
 abbrev pub air_expects : {K C : Type 0} → Reading K C → AirFront → Phone K C → Opening K
@@ -102,12 +84,12 @@ phone_expects r (FromAir front) s = air_expects r front s
 -- a NAS text under these keys, ciphered: header type 2, or 4 of a new context (TS 24.301 9.3.1)
 abbrev pub nas_sealed : {K C : Type 0} → Keys K → ℕ → ℕ → NasRecord → Outgoing K C
 nas_sealed keys header count record_sent =
-    SealedNas Up header (nas_use Up keys.int count) (Some (nas_ciphering_up keys count)) (nas_spelling record_sent)
+    SealedNas Up header (nas_use Up keys.int count) (Some (nas_ciphering Up keys count)) (nas_spelling record_sent)
 
 -- an RRC text of a connection, ciphered (TS 36.331 5.3.1.2)
 abbrev pub rrc_sealed : {K C : Type 0} → AsKeys K → ℕ → ℕ → Srb → ℕ → RrcRecord → Outgoing K C
 rrc_sealed keys station air srb count record_sent =
-    SealedRrc Up station air srb (srb_use Up keys.rrc_int srb count) (Some (srb_ciphering_up keys srb count))
+    SealedRrc Up station air srb (srb_use Up keys.rrc_int srb count) (Some (srb_ciphering Up keys srb count))
     (rrc_spelling record_sent)
 
 -- the NAS context after its next uplink COUNT was taken
@@ -217,7 +199,7 @@ link_secured r station air algs count s (Connecting w) =
           key = w.kenb;
           number = r.first;
           algs = algs;
-          before = None;
+          came = Secured;
         });
       },
     )
@@ -225,8 +207,8 @@ link_secured r station air algs count s other = (s, only Done)
 
 -- a handover command is obeyed: KeNB* of what the chain reached, new keys, all bearers anew, and
 -- RRCConnectionReconfigurationComplete to the target (TS 33.401 7.2.8.4.4, TS 36.331 5.3.5.4, TS 36.323 5.2)
-abbrev pub arrived : {K C : Type 0} → Reading K C → Algs → ℕ → ℕ → Phone K C → Link K C → Reached K C → PhoneDone K C
-arrived r algs station air s l reached =
+abbrev pub arrived : {K C : Type 0} → Reading K C → Algs → ℕ → ℕ → Phone K C → Came K C → Reached K C → PhoneDone K C
+arrived r algs station air s came reached =
     let keys = as_keys_of r reached.star.key algs in (
       record s {
         radio = Connected (record {
@@ -249,15 +231,44 @@ arrived r algs station air s l reached =
           key = reached.star.key;
           number = reached.star.number;
           algs = algs;
-          before = Some (record { key = l.kenb; number = l.chain.number });
+          came = came;
         });
       },
     )
 
+-- a connection before an order
+abbrev pub before_of : {K C : Type 0} → Link K C → Before K C
+before_of l = record { station = l.station; key = l.kenb; number = l.chain.number }
+
 abbrev pub handed_over : {K C : Type 0} → Reading K C → Place → ℕ → Algs → ℕ → ℕ → Phone K C → Radio K C → PhoneDone K C
 handed_over r cell steps algs station air s (Connected l) =
-    arrived r algs station air s l (reached_after r l.chain l.kenb steps cell)
+    arrived r algs station air s (Commanded (before_of l)) (reached_after r l.chain l.kenb steps cell)
 handed_over r cell steps algs station air s other = (s, only Done)
+
+-- what a key change leads to: a new chain that begins with the KeNB of the KASME in use and COUNT 0, that of the SECURITY
+-- MODE COMPLETE, and KeNB* of it for the cell (TS 33.401 7.2.9.2, A.3 and A.5)
+abbrev pub reached_anew : {K C : Type 0} → Reading K C → K → Place → Reached K C
+reached_anew r root cell = record {
+  chain = begun r root (r.kenb root 0);
+  star = change_line r (r.kenb root 0) cell.pci cell.earfcn;
+  way = Initial;
+  made = kenb_made r root 0 ∷ star_made r (r.kenb root 0) cell.pci cell.earfcn ∷ [];
+}
+
+-- a key change is refused where the KASME in use is that of the connection: nothing new was agreed
+abbrev pub changed_unless : {K C : Type 0} →
+    Reading K C → Place → Algs → ℕ → ℕ → Phone K C → Before K C → K → Bool → PhoneDone K C
+changed_unless r cell algs station air s before root true = (s, only NoTrigger)
+changed_unless r cell algs station air s before root false =
+    arrived r algs station air s (Changed before root) (reached_anew r root cell)
+
+-- this project's own rule: the key is changed by a command of its own, which names no NCC (TS 33.401 7.2.9.2 has an
+-- intra-cell handover with a key change indicator)
+abbrev pub key_changed : {K C : Type 0} →
+    Reading K C → Place → Algs → ℕ → ℕ → Phone K C → Radio K C → Option (NasContext K) → PhoneDone K C
+key_changed r cell algs station air s (Connected l) (Some c) =
+    changed_unless r cell algs station air s (before_of l) c.root (r.same c.root l.chain.root)
+key_changed r cell algs station air s radio context = (s, only Done)
 
 -- a PDU was taken at a COUNT (TS 36.323 5.1.2)
 abbrev pub rrc_opened : {K C : Type 0} → Srb → ℕ → List ℕ → Phone K C → Radio K C → PhoneDone K C
@@ -272,6 +283,7 @@ abbrev pub air_does : {K C : Type 0} → Reading K C → AirRow → Phone K C �
 air_does r (AirRefused answer) s = (s, only answer)
 air_does r (LinkSecured station air algs count) s = link_secured r station air algs count s s.radio
 air_does r (HandedOver cell steps algs station air) s = handed_over r cell steps algs station air s s.radio
+air_does r (KeyChanged cell algs station air) s = key_changed r cell algs station air s s.radio s.context
 air_does r (RrcOpened srb count text) s = rrc_opened srb count text s s.radio
 air_does r (PacketOpened drb count text) s = packet_opened drb count text s s.radio
 
@@ -301,7 +313,7 @@ complete_resent s other = (s, only Done)
 abbrev pub packet_sent : {K C : Type 0} → Drb → List ℕ → Phone K C → Radio K C → PhoneDone K C
 packet_sent drb text s (Connected l) = (
   record s { radio = with_bearers l (drb_sent drb l.bearers) },
-  sends (UserPacket Up l.station l.air drb (drb_ciphering_up l.keys drb (drb_counts drb l.bearers).send) text),
+  sends (UserPacket Up l.station l.air drb (drb_ciphering Up l.keys drb (drb_counts drb l.bearers).send) text),
 )
 packet_sent drb text s other = (s, only Done)
 

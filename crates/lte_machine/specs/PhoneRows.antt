@@ -32,6 +32,8 @@ pub data AirRow : Type 0 where
   LinkSecured : ℕ → ℕ → Algs → ℕ → AirRow
   -- a handover command: the target cell, the NH steps to its NCC, algorithms, station, air address (5.3.5.4)
   HandedOver : Place → ℕ → Algs → ℕ → ℕ → AirRow
+  -- a key change: the cell, algorithms, station, air address (TS 33.401 7.2.9.2)
+  KeyChanged : Place → Algs → ℕ → ℕ → AirRow
   -- an RRC text: bearer, COUNT and text
   RrcOpened : Srb → ℕ → List ℕ → AirRow
   -- a user packet: bearer, COUNT and text

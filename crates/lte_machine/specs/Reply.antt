@@ -21,37 +21,85 @@ pub record Origin : Type 0 where
   pub source : ℕ
   pub attempt : ℕ
 
--- what a station made for an air address: the context or preparation that it drew the address for, and the attempt from
--- which that came, if it came by one
-pub record Made (K C : Type 0) : Type 0 where
-  pub station : ℕ
-  pub air : ℕ
-  pub conn : ℕ
-  pub cell : Place
-  pub key : K
-  pub number : C
-  pub algs : Algs
-  pub from_attempt : Option Origin
+-- how a station came to make a key for an air address
+pub data From (K : Type 0) : Type 0 where
+  -- by the setup of a context
+  BySetup : From K
+  -- by an attempt of a handover
+  ByAttempt : Origin → From K
+  -- by a change of the key of its context, which is this KeNB
+  ByChange : K → From K
 
--- an attempt of a handover: the key of the context that it was opened under, its target, and KeNB* if the source made it
-pub record Tried (K C : Type 0) : Type 0 where
+-- what a station made when it drew an air address, for a context or for a preparation
+pub record Made (K C : Type 0) : Type 0 where
+  -- the station
   pub station : ℕ
-  pub attempt : ℕ
-  pub target : ℕ
+  -- the air address drawn
+  pub air : ℕ
+  -- the connection
   pub conn : ℕ
+  -- the cell
   pub cell : Place
+  -- the KeNB or KeNB*
   pub key : K
+  -- its chain number
   pub number : C
+  -- the algorithms chosen
+  pub algs : Algs
+  -- how it came to it
+  pub from : From K
+
+-- an attempt of a handover, as its source opened it
+pub record Tried (K C : Type 0) : Type 0 where
+  -- the source
+  pub station : ℕ
+  -- the number of the attempt
+  pub attempt : ℕ
+  -- the target station
+  pub target : ℕ
+  -- the connection
+  pub conn : ℕ
+  -- the target cell
+  pub cell : Place
+  -- the KeNB of the context under which it was opened
+  pub key : K
+  -- its chain number
+  pub number : C
+  -- KeNB* with its number, if the source made it
   pub given : Option (NumberedKey K C)
 
--- a key that the phone took at a station and air address, and its key before, where it obeyed a handover command
-pub record Took (K C : Type 0) : Type 0 where
+-- a connection of the phone as it was before an order
+pub record Before (K C : Type 0) : Type 0 where
+  -- the station where the phone was connected
   pub station : ℕ
-  pub air : ℕ
+  -- its KeNB
   pub key : K
+  -- its chain number
   pub number : C
+
+-- how the phone came to take a key
+pub data Came (K C : Type 0) : Type 0 where
+  -- the security of a connection started
+  Secured : Came K C
+  -- it obeyed a handover command
+  Commanded : Before K C → Came K C
+  -- it obeyed a key change: the KASME of its NAS context in use
+  Changed : Before K C → K → Came K C
+
+-- a key that the phone took
+pub record Took (K C : Type 0) : Type 0 where
+  -- the station
+  pub station : ℕ
+  -- the air address there
+  pub air : ℕ
+  -- the KeNB or KeNB*
+  pub key : K
+  -- its chain number
+  pub number : C
+  -- the algorithms
   pub algs : Algs
-  pub before : Option (NumberedKey K C)
+  -- how it came to it
+  pub came : Came K C
 
 -- what a step gives out
 pub record Reply (K C : Type 0) : Type 0 where
@@ -93,6 +141,11 @@ finished received accepted reply = record reply { received = received; accepted 
 abbrev pub map_note : {K L : Type 0} → (K → L) → Note K → Note L
 map_note f n = record { ncc = n.ncc; way = n.way; key = f n.key }
 
+abbrev pub map_from : {K L : Type 0} → (K → L) → From K → From L
+map_from f BySetup = BySetup
+map_from f (ByAttempt origin) = ByAttempt origin
+map_from f (ByChange key) = ByChange (f key)
+
 abbrev pub map_made : {K C L D : Type 0} → (K → L) → (C → D) → Made K C → Made L D
 map_made f g m = record {
   station = m.station;
@@ -102,7 +155,7 @@ map_made f g m = record {
   key = f m.key;
   number = g m.number;
   algs = m.algs;
-  from_attempt = m.from_attempt;
+  from = map_from f m.from;
 }
 
 abbrev pub map_tried : {K C L D : Type 0} → (K → L) → (C → D) → Tried K C → Tried L D
@@ -117,6 +170,14 @@ map_tried f g t = record {
   given = option_map (map_numbered f g) t.given;
 }
 
+abbrev pub map_before : {K C L D : Type 0} → (K → L) → (C → D) → Before K C → Before L D
+map_before f g b = record { station = b.station; key = f b.key; number = g b.number }
+
+abbrev pub map_came : {K C L D : Type 0} → (K → L) → (C → D) → Came K C → Came L D
+map_came f g Secured = Secured
+map_came f g (Commanded before) = Commanded (map_before f g before)
+map_came f g (Changed before root) = Changed (map_before f g before) (f root)
+
 abbrev pub map_took : {K C L D : Type 0} → (K → L) → (C → D) → Took K C → Took L D
 map_took f g t = record {
   station = t.station;
@@ -124,7 +185,7 @@ map_took f g t = record {
   key = f t.key;
   number = g t.number;
   algs = t.algs;
-  before = option_map (map_numbered f g) t.before;
+  came = map_came f g t.came;
 }
 
 abbrev pub map_reply : {K C L D : Type 0} → (K → L) → (C → D) → Reply K C → Reply L D

@@ -1,6 +1,6 @@
 -- The choice of a station's row: refusals in their order, the first that applies. It sees no key, and of a chain number
 -- its NCC. Where a PDU is to be opened, the choice stops, and goes on with the outcome.
-use Rattle.std.specs.Prelude.{ℕ, ◌+◌, ◌==◌, nat_le, nat_lt, Bool, true, false, not, ◌&&◌, if◌then◌else◌, List, length, take, slice_index, Option, Some, None, option_map, Result, Ok, Err, find}
+use Rattle.std.specs.Prelude.{ℕ, ◌+◌, ◌==◌, nat_le, nat_lt, Bool, true, false, not, ◌&&◌, if◌then◌else◌, List, length, take, slice_index, Option, Some, None, option_map, Result, Ok, Err}
 use Rattle.alg_choice.specs.declared.algs.Algs.{Algs}
 use Rattle.alg_choice.specs.declared.caps.Caps.{Caps}
 use Rattle.alg_choice.specs.declared.choices.NoAlgorithm.{NoAlgorithm as Unmatched}
@@ -11,7 +11,7 @@ use Rattle.lte_events.specs.declared.answers.Answer.TheVariants.{Done, MacFails,
 use Rattle.lte_events.specs.declared.acts.StationAct.{StationAct}
 use Rattle.lte_events.specs.declared.acts.StationAct.TheVariants.{Start, Command, Cancel, Ask, SendUser, SendRrc, Skip}
 use Rattle.lte_events.specs.declared.acts.HoKind.{HoKind}
-use Rattle.lte_events.specs.Site.{Site, is_site}
+use Rattle.lte_events.specs.Site.{station_of}
 use Rattle.pdcp_guard.specs.declared.pdus.PdcpFault.{PdcpFault}
 use Rattle.pdcp_guard.specs.Counts.{Counts}
 use Rattle.pdcp_guard.specs.Srb.{srb_count}
@@ -19,7 +19,7 @@ use Rattle.pdcp_guard.specs.Drb.{drb_count}
 use Rattle.rrc_rec.specs.declared.records.RrcRecord.{RrcRecord}
 use Rattle.rrc_rec.specs.declared.records.RrcRecord.TheVariants.{SecurityModeComplete, ReconfigurationComplete, RrcData}
 use Rattle.rrc_rec.specs.Reading.{read_rrc}
-use Rattle.s1x2_rec.specs.Fields.{Fields, kind_of, InitialContext, ContextRelease, PathSwitchAnswer, HandoverRequest, HandoverCommand, HandoverCancel, X2Request, X2Ack, X2Cancel, X2Release}
+use Rattle.s1x2_rec.specs.Fields.{Fields, kind_of, InitialContext, ContextRelease, PathSwitchAnswer, HandoverRequest, HandoverCommand, HandoverCancel, X2Request, X2Ack, X2Cancel, X2Release, ContextModification}
 use Rattle.s1x2_rec.specs.Content.{Content}
 use Rattle.ho_prep.specs.declared.origins.By.{By}
 use Rattle.ho_prep.specs.Prep.{Prep, at_air, has_attempt, most}
@@ -31,8 +31,8 @@ use Rattle.lte_machine.specs.Opening.{Outcome, Opened, Differs}
 use Rattle.lte_machine.specs.Refusals.{of_pdcp}
 use Rattle.lte_machine.specs.Kinds.{rrc_kind}
 use Rattle.lte_machine.specs.Reply.{Origin}
-use Rattle.lte_machine.specs.StationState.{Station, Context, Attempt, OverX2, OverS1, Within, X2State, X2Open, X2Ready, X2Commanded, S1State, S1Open, S1Ready, S1Commanded, Interface, OnS1, OnX2, StationInput, StationActs, AirPdu, StationRecord}
-use Rattle.lte_machine.specs.StationRows.{Wanted, RecordRow, RecordRefused, ContextGiven, ContextReleased, PairTaken, PreparedByS1, PreparedByX2, AckedByS1, AckedByX2, PreparationCancelled, SourceReleased, AirRow, AirRefused, SecurityStarted, RrcOpened, PacketOpened, CompletedByS1, CompletedWithin, CompletedByX2, ActRow, ActRefused, StartedByX2, StartedByS1, StartedWithin, HandoverCommanded, CancelledByX2, CancelledByS1, CancelledWithin, PathSwitchAsked, PacketSent, RrcSent, BearerSkipped, StationRow, OfRecord, OfAir, OfAct}
+use Rattle.lte_machine.specs.StationState.{Station, Context, Attempt, OverX2, OverS1, Within, Renewing, X2State, X2Open, X2Ready, X2Commanded, S1State, S1Open, S1Ready, S1Commanded, Interface, OnS1, OnX2, StationInput, StationActs, AirPdu, StationRecord}
+use Rattle.lte_machine.specs.StationRows.{Wanted, RecordRow, RecordRefused, ContextGiven, ContextReleased, PairTaken, PreparedByS1, PreparedByX2, AckedByS1, AckedByX2, PreparationCancelled, SourceReleased, KeyRenewed, AirRow, AirRefused, SecurityStarted, RrcOpened, PacketOpened, CompletedByS1, CompletedWithin, CompletedByX2, ActRow, ActRefused, StartedByX2, StartedByS1, StartedWithin, HandoverCommanded, ChangeCommanded, CancelledByX2, CancelledByS1, CancelledWithin, PathSwitchAsked, PacketSent, RrcSent, BearerSkipped, StationRow, OfRecord, OfAir, OfAct}
 
 -- a station without its keys
 abbrev pub PlainStation : Type 0
@@ -48,10 +48,6 @@ PlainAttempt = Attempt (Unit {0}) ℕ
 -- own rule: it never goes back): whether fewer are left than are to be drawn
 abbrev pub runs_out : ℕ → ℕ → Bool
 runs_out draws next = nat_lt 4294967296 (next + draws)
-
--- the station that has a cell, if the cell is in the table
-abbrev pub station_of : Place → List Site → Option ℕ
-station_of cell sites = option_map (λ site. site.station) (find (is_site cell) sites)
 
 abbrev pub is_station : ℕ → Option ℕ → Bool
 is_station id None = false
@@ -76,6 +72,7 @@ abbrev pub attempt_number : PlainAttempt → ℕ
 attempt_number (OverX2 state) = x2_number state
 attempt_number (OverS1 state) = s1_number state
 attempt_number (Within state) = x2_number state
+attempt_number (Renewing renewal) = renewal.number
 
 -- RECORDS
 
@@ -180,6 +177,26 @@ abbrev pub x2_release_row : ℕ → Option PlainContext → RecordRow
 x2_release_row number None = RecordRefused NoUe
 x2_release_row number (Some c) = x2_released_row number c.attempt
 
+-- two numbers are drawn for a key change, the attempt and then the air address, and its order needs a COUNT
+abbrev pub renewed_row : ℕ → ℕ → Counts → RecordRow
+renewed_row next_conn next counts =
+    if runs_out 2 next then RecordRefused NumberSpent
+    else (if is_spent counts then RecordRefused CountSpent else KeyRenewed next_conn next (next + 1) counts.send)
+
+abbrev pub renewed_alone : ℕ → ℕ → Counts → Option PlainAttempt → RecordRow
+renewed_alone next_conn next counts (Some attempt) = RecordRefused (AttemptOpen (attempt_number attempt))
+renewed_alone next_conn next counts None = renewed_row next_conn next counts
+
+-- UE Context Modification Request (TS 36.413 8.3.4). This project's own rules: it is of the context's connection, which gets
+-- a new number above the last, and it waits for no attempt
+abbrev pub modification_row : PlainStation → ℕ → ℕ → Option PlainContext → RecordRow
+modification_row s conn next_conn None = RecordRefused NoUe
+modification_row s conn next_conn (Some c) =
+    if not (c.conn == conn) then RecordRefused (OldConnection c.conn conn)
+    else (if nat_le next_conn s.last then RecordRefused (OldConnection s.last next_conn)
+    else (if c.starting then RecordRefused NotActive
+    else renewed_alone next_conn s.next c.bearers.srb1 c.attempt))
+
 -- by the kinds that a station takes on S1, and on X2
 abbrev pub s1_row : PlainStation → Fields → RecordRow
 s1_row s (InitialContext conn cell caps) = initial_row s conn cell caps
@@ -189,6 +206,7 @@ s1_row s (HandoverRequest conn source attempt cell caps) =
     wanted_row s conn (record { source = source; attempt = attempt }) cell caps PreparedByS1
 s1_row s (HandoverCommand conn attempt cell ncc algs air) = s1_ack_row attempt ncc algs air s.context
 s1_row s (HandoverCancel conn source attempt cell) = cancel_row s (record { source = source; attempt = attempt })
+s1_row s (ContextModification conn next_conn) = modification_row s conn next_conn s.context
 s1_row s other = RecordRefused (WrongKind (kind_of other))
 
 abbrev pub x2_row : PlainStation → Fields → RecordRow
@@ -352,6 +370,7 @@ attempt_command_row None counts = ActRefused NoAttempt
 attempt_command_row (Some (OverX2 state)) counts = x2_command_row state counts
 attempt_command_row (Some (OverS1 state)) counts = s1_command_row state counts
 attempt_command_row (Some (Within state)) counts = x2_command_row state counts
+attempt_command_row (Some (Renewing renewal)) counts = unless_spent counts (ChangeCommanded renewal counts.send)
 
 abbrev pub command_row : Option PlainContext → ActRow
 command_row None = ActRefused NoUe
@@ -378,6 +397,7 @@ attempt_cancel_row conn None = ActRefused NoAttempt
 attempt_cancel_row conn (Some (OverX2 state)) = x2_cancel_row conn state
 attempt_cancel_row conn (Some (OverS1 state)) = s1_cancel_row conn state
 attempt_cancel_row conn (Some (Within state)) = within_cancel_row state
+attempt_cancel_row conn (Some (Renewing renewal)) = ActRefused CommandSent
 
 abbrev pub give_up_row : Option PlainContext → ActRow
 give_up_row None = ActRefused NoUe

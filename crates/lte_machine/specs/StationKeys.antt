@@ -11,11 +11,11 @@ use Rattle.lte_events.specs.declared.addresses.Address.TheVariants.{CoreS1, Stat
 use Rattle.lte_events.specs.declared.answers.Answer.TheVariants.{Done}
 use Rattle.key_model.specs.Reading.{Reading}
 use Rattle.key_model.specs.HandoverTable.{NumberedKey}
-use Rattle.key_model.specs.HandoverLines.{star_line}
+use Rattle.key_model.specs.HandoverLines.{star_line, change_line}
 use Rattle.key_model.specs.Derivation.{Derivation, star_made}
 use Rattle.nh_chain.specs.Station.{StationKey, initial_key, given_key, stored, restored_if, Opened, opened}
 use Rattle.pdcp_guard.specs.AsKeys.{AsKeys, as_keys_of, as_derivations}
-use Rattle.rrc_rec.specs.declared.records.RrcRecord.TheVariants.{SecurityModeCommand, Reconfiguration, RrcData}
+use Rattle.rrc_rec.specs.declared.records.RrcRecord.TheVariants.{SecurityModeCommand, Reconfiguration, RrcData, KeyChange}
 use Rattle.rrc_rec.specs.Spelling.{spelling_of}
 use Rattle.s1x2_rec.specs.Fields.{Fields, PathSwitchRequest, HandoverRequired, HandoverRequestAck, HandoverNotify, HandoverCancel, X2Request, X2Ack, X2Cancel, X2Release}
 use Rattle.ho_prep.specs.declared.origins.By.{By}
@@ -23,11 +23,11 @@ use Rattle.ho_prep.specs.Prep.{Prep, at_air, without, drop_below}
 use Rattle.x2_handover.specs.declared.orders.Order.{Order}
 use Rattle.x2_handover.specs.Attempt.{X2Start}
 use Rattle.lte_machine.specs.Bearers.{Srb, Signalling1, Drb, Which, new_bearers, srb_sent, drb_sent, srb_taken, drb_taken, skipped_on}
-use Rattle.lte_machine.specs.Wire.{Outgoing, SealedRrc, UserPacket, Between, srb_use, drb_use, ciphering_by}
+use Rattle.lte_machine.specs.Wire.{Outgoing, SealedRrc, UserPacket, Between, srb_use, srb_ciphering, drb_ciphering}
 use Rattle.lte_machine.specs.Opening.{Opening, OpensNothing, OpensSrb, OpensDrb}
-use Rattle.lte_machine.specs.Reply.{Note, Origin, Made, Reply, only}
-use Rattle.lte_machine.specs.StationState.{Station, Context, Attempt, OverX2, OverS1, Within, X2State, X2Open, X2Ready, X2Commanded, S1State, S1Open, S1Ready, S1Commanded}
-use Rattle.lte_machine.specs.StationRows.{Wanted, RecordRow, RecordRefused, ContextGiven, ContextReleased, PairTaken, PreparedByS1, PreparedByX2, AckedByS1, AckedByX2, PreparationCancelled, SourceReleased, AirRow, AirRefused, SecurityStarted, RrcOpened, PacketOpened, CompletedByS1, CompletedWithin, CompletedByX2, ActRow, ActRefused, StartedByX2, StartedByS1, StartedWithin, HandoverCommanded, CancelledByX2, CancelledByS1, CancelledWithin, PathSwitchAsked, PacketSent, RrcSent, BearerSkipped, StationRow, OfRecord, OfAir, OfAct}
+use Rattle.lte_machine.specs.Reply.{Note, Origin, BySetup, ByAttempt, ByChange, Made, Reply, only}
+use Rattle.lte_machine.specs.StationState.{Station, Context, Attempt, OverX2, OverS1, Within, Renewal, Renewing, X2State, X2Open, X2Ready, X2Commanded, S1State, S1Open, S1Ready, S1Commanded}
+use Rattle.lte_machine.specs.StationRows.{Wanted, RecordRow, RecordRefused, ContextGiven, ContextReleased, PairTaken, PreparedByS1, PreparedByX2, AckedByS1, AckedByX2, PreparationCancelled, SourceReleased, KeyRenewed, AirRow, AirRefused, SecurityStarted, RrcOpened, PacketOpened, CompletedByS1, CompletedWithin, CompletedByX2, ActRow, ActRefused, StartedByX2, StartedByS1, StartedWithin, HandoverCommanded, ChangeCommanded, CancelledByX2, CancelledByS1, CancelledWithin, PathSwitchAsked, PacketSent, RrcSent, BearerSkipped, StationRow, OfRecord, OfAir, OfAct}
 use Rattle.lte_machine.specs.StationChoice.{AirFront, AirSettled, OnStarting, OnSignalling, OnUser, OnPrepared, StationFront, Settled, FromAir}
 
 -- OPENING: WHICH USES A STATION EXPECTS (TS 36.323 5.6 and 5.7)
@@ -35,10 +35,10 @@ use Rattle.lte_machine.specs.StationChoice.{AirFront, AirSettled, OnStarting, On
 -- on an SRB: ciphered from the Security Mode Complete on (TS 36.331 5.3.4.3)
 abbrev pub signalling_opening : {K : Type 0} → AsKeys K → Srb → ℕ → Opening K
 signalling_opening keys srb count =
-    OpensSrb (srb_use Up keys.rrc_int srb count) (Some (ciphering_by keys.algs.eea (srb_use Up keys.rrc_enc srb count)))
+    OpensSrb (srb_use Up keys.rrc_int srb count) (Some (srb_ciphering Up keys srb count))
 
 abbrev pub user_opening : {K : Type 0} → AsKeys K → Drb → ℕ → Opening K
-user_opening keys drb count = OpensDrb (ciphering_by keys.algs.eea (drb_use Up keys.up_enc drb count))
+user_opening keys drb count = OpensDrb (drb_ciphering Up keys drb count)
 
 abbrev pub starting_expects : {K C : Type 0} → ℕ → Option (Context K C) → Opening K
 starting_expects count None = OpensNothing
@@ -79,11 +79,11 @@ security_command id air keys =
 abbrev pub signalling_sent : {K C : Type 0} → ℕ → ℕ → AsKeys K → Srb → ℕ → List ℕ → Outgoing K C
 signalling_sent id air keys srb count text =
     SealedRrc Down id air srb (srb_use Down keys.rrc_int srb count)
-    (Some (ciphering_by keys.algs.eea (srb_use Down keys.rrc_enc srb count))) text
+    (Some (srb_ciphering Down keys srb count)) text
 
 abbrev pub packet_sent : {K C : Type 0} → ℕ → ℕ → AsKeys K → Drb → ℕ → List ℕ → Outgoing K C
 packet_sent id air keys drb count text =
-    UserPacket Down id air drb (ciphering_by keys.algs.eea (drb_use Down keys.up_enc drb count)) text
+    UserPacket Down id air drb (drb_ciphering Down keys drb count) text
 
 -- the handover command (TS 36.331 5.3.5.4)
 abbrev pub order_text : Order → List ℕ
@@ -137,7 +137,7 @@ context_given r conn cell caps algs air (Some received) s =
           key = kenb;
           number = r.first;
           algs = algs;
-          from_attempt = None;
+          from = BySetup;
         });
       },
     )
@@ -190,7 +190,7 @@ wanted_made id w star = record {
   key = star.key;
   number = star.number;
   algs = w.algs;
-  from_attempt = Some w.from;
+  from = ByAttempt w.from;
 }
 
 -- on S1 the target derives KeNB* of the NH received: vertical (TS 33.401 7.2.8.4.3)
@@ -242,6 +242,63 @@ with_s1_ack ncc algs air c = record c { attempt = option_map (s1_acked ncc algs 
 abbrev pub with_x2_ack : {K C : Type 0} → Algs → ℕ → Context K C → Context K C
 with_x2_ack algs air c = record c { attempt = option_map (x2_acked algs air) c.attempt }
 
+-- the order of a key change (TS 36.331 5.3.5.4, TS 33.401 7.2.9.2)
+abbrev pub change_text : ℕ → Renewal → List ℕ
+change_text id a = spelling_of (KeyChange a.cell a.algs id a.air)
+
+-- a preparation within the station, for a phone that comes at an air address with a key; cell, algorithms and capabilities
+-- are given, and so is the X2 handover that the context came by
+abbrev pub own_prep : {K C : Type 0} →
+    Reading K C → ℕ → ℕ → ℕ → ℕ → Place → Context K C → NumberedKey K C → Prep K C
+own_prep r conn id number air cell c star = record {
+  conn = conn;
+  source = id;
+  attempt = number;
+  by = By.Intra (option_map (λ o. (o.source, o.attempt)) c.origin);
+  cell = cell;
+  air = air;
+  key = given_key star;
+  algs = c.algs;
+  keys = as_keys_of r star.key c.algs;
+  caps = c.caps;
+}
+
+-- the key of the context is to change: KeNB* of the new KeNB for the same cell, a preparation for it in place of all others,
+-- and the order to the phone under the present keys (TS 33.401 7.2.9.2 and A.5)
+abbrev pub key_renewed_with : {K C : Type 0} →
+    Reading K C → ℕ → ℕ → ℕ → ℕ → Context K C → Derivation K → NumberedKey K C → Station K C → Station K C × Reply K C
+key_renewed_with r conn number air count c made star s =
+    let renewal : Renewal = record { number = number; cell = c.cell; algs = c.algs; air = air } in (
+      record s {
+        next = air + 1;
+        last = conn;
+        context = Some (record c { bearers = srb_sent Signalling1 c.bearers; attempt = Some (Renewing renewal) });
+        preps = own_prep r conn s.id number air c.cell c star ∷ [];
+      },
+      record (only Done) {
+        sent = Some (signalling_sent s.id c.air c.keys Signalling1 count (change_text s.id renewal));
+        derived = made ∷ as_derivations r star.key c.algs;
+        note = Some (note_of r Given star);
+        made = Some (record {
+          station = s.id;
+          air = air;
+          conn = conn;
+          cell = c.cell;
+          key = star.key;
+          number = star.number;
+          algs = c.algs;
+          from = ByChange c.key.kenb;
+        });
+      },
+    )
+
+abbrev pub key_renewed : {K C : Type 0} →
+    Reading K C → ℕ → ℕ → ℕ → ℕ → Option (Context K C) → Option (NumberedKey K C) → Station K C → Station K C × Reply K C
+key_renewed r conn number air count (Some c) (Some kenb) s =
+    key_renewed_with r conn number air count c (star_made r kenb.key c.cell.pci c.cell.earfcn)
+    (change_line r kenb.key c.cell.pci c.cell.earfcn) s
+key_renewed r conn number air count context key s = (s, only Done)
+
 abbrev pub record_does : {K C : Type 0} →
     Reading K C → RecordRow → Option (NumberedKey K C) → Station K C → Station K C × Reply K C
 record_does r (RecordRefused answer) key s = (s, only answer)
@@ -256,6 +313,7 @@ record_does r (AckedByX2 algs air) key s = (record s { context = option_map (wit
 record_does r (PreparationCancelled from) key s =
     (record s { preps = without from.source from.attempt s.preps }, only Done)
 record_does r SourceReleased key s = (record s { context = None }, only Done)
+record_does r (KeyRenewed conn number air count) key s = key_renewed r conn number air count s.context key s
 
 -- ROWS BY A PDU
 
@@ -397,20 +455,6 @@ started_by_s1 number target cell (Some c) s = (
 
 -- within the station the preparation is added, and the attempt is ready at once; the algorithms stay (TS 33.401 7.2.8.4.1,
 -- 7.2.4.2.4)
-abbrev pub own_prep : {K C : Type 0} → Reading K C → ℕ → ℕ → ℕ → Place → Context K C → NumberedKey K C → Prep K C
-own_prep r id number air cell c star = record {
-  conn = c.conn;
-  source = id;
-  attempt = number;
-  by = By.Intra (option_map (λ o. (o.source, o.attempt)) c.origin);
-  cell = cell;
-  air = air;
-  key = given_key star;
-  algs = c.algs;
-  keys = as_keys_of r star.key c.algs;
-  caps = c.caps;
-}
-
 abbrev pub started_within_with : {K C : Type 0} →
     Reading K C → ℕ → ℕ → Place → Context K C → Opened K C → Station K C → Station K C × Reply K C
 started_within_with r number air cell c o s = (
@@ -420,7 +464,7 @@ started_within_with r number air cell c o s = (
       key = o.key;
       attempt = Some (Within (X2Ready (record { start = x2_start number s.id cell o; algs = c.algs; air = air })));
     });
-    preps = s.preps ++ own_prep r s.id number air cell c o.star ∷ [];
+    preps = s.preps ++ own_prep r c.conn s.id number air cell c o.star ∷ [];
   },
   record (only Done) {
     derived = o.made ∷ as_derivations r o.star.key c.algs;
@@ -433,7 +477,7 @@ started_within_with r number air cell c o s = (
       key = o.star.key;
       number = o.star.number;
       algs = c.algs;
-      from_attempt = Some (record { source = s.id; attempt = number });
+      from = ByAttempt (record { source = s.id; attempt = number });
     });
     tried = Some (record {
       station = s.id;
@@ -476,6 +520,7 @@ abbrev pub commanded : {K C : Type 0} → Order → Attempt K C → Attempt K C
 commanded order (OverX2 state) = OverX2 (x2_commanded order state)
 commanded order (OverS1 state) = OverS1 (s1_commanded order state)
 commanded order (Within state) = Within (x2_commanded order state)
+commanded order (Renewing renewal) = Renewing renewal
 
 abbrev pub commands : {K C : Type 0} → Order → ℕ → Option (Context K C) → Station K C → Station K C × Reply K C
 commands order count None s = (s, only Done)
@@ -489,6 +534,14 @@ commands order count (Some c) s = (
   record (only Done) { sent = Some (signalling_sent s.id c.air c.keys Signalling1 count (order_text order)) },
 )
 
+-- the order of a key change once more
+abbrev pub commands_change : {K C : Type 0} → Renewal → ℕ → Option (Context K C) → Station K C → Station K C × Reply K C
+commands_change renewal count None s = (s, only Done)
+commands_change renewal count (Some c) s = (
+  record s { context = Some (record c { bearers = srb_sent Signalling1 c.bearers }) },
+  record (only Done) { sent = Some (signalling_sent s.id c.air c.keys Signalling1 count (change_text s.id renewal)) },
+)
+
 -- the pair that an attempt used
 abbrev pub x2_spent : {K C : Type 0} → X2State K C → Option (NumberedKey K C)
 x2_spent (X2Open start) = start.spent
@@ -500,6 +553,7 @@ spent_in None = None
 spent_in (Some (OverX2 state)) = x2_spent state
 spent_in (Some (OverS1 state)) = None
 spent_in (Some (Within state)) = x2_spent state
+spent_in (Some (Renewing renewal)) = None
 
 -- this project's own rule: the pair goes back, unless another is stored by now
 abbrev pub given_up : {K C : Type 0} → Context K C → Context K C
@@ -538,6 +592,7 @@ act_does r (StartedByX2 number target cell) s = started_by_x2 r number target ce
 act_does r (StartedByS1 number target cell) s = started_by_s1 number target cell s.context s
 act_does r (StartedWithin number air cell) s = started_within r number air cell s.context s
 act_does r (HandoverCommanded order count) s = commands order count s.context s
+act_does r (ChangeCommanded renewal count) s = commands_change renewal count s.context s
 act_does r (CancelledByX2 conn number target) s = (
   record s { context = option_map given_up s.context },
   record (only Done) { sent = Some (to_station target (X2Cancel conn s.id number)) },

@@ -8,6 +8,7 @@ use Rattle.lte_events.specs.declared.answers.Answer.{Answer}
 use Rattle.x2_handover.specs.declared.orders.Order.{Order}
 use Rattle.lte_machine.specs.Bearers.{Srb, Drb, Which}
 use Rattle.lte_machine.specs.Reply.{Origin}
+use Rattle.lte_machine.specs.StationState.{Renewal}
 
 -- a handover request that is taken (TS 36.413 8.4.2, TS 36.423 8.2.1): connection, source and attempt, cell,
 -- capabilities, the algorithms chosen (TS 33.401 7.2.4.2.2 and 7.2.4.2.3) and the air address drawn
@@ -40,6 +41,9 @@ pub data RecordRow : Type 0 where
   PreparationCancelled : Origin → RecordRow
   -- UE Context Release on X2 (TS 36.423 8.2.3)
   SourceReleased : RecordRow
+  -- UE Context Modification Request (TS 36.413 8.3.4, TS 33.401 7.2.9.2): the next connection, the attempt drawn, the air
+  -- address drawn, and the COUNT on SRB1 of the order
+  KeyRenewed : ℕ → ℕ → ℕ → ℕ → RecordRow
 
 -- by a PDU of a radio bearer
 pub data AirRow : Type 0 where
@@ -67,6 +71,8 @@ pub data ActRow : Type 0 where
   StartedWithin : ℕ → ℕ → Place → ActRow
   -- Reconfiguration on SRB1 (TS 36.331 5.3.5.4): what it orders, its COUNT
   HandoverCommanded : Order → ℕ → ActRow
+  -- the order of a key change again, and its COUNT
+  ChangeCommanded : Renewal → ℕ → ActRow
   -- an attempt is given up (TS 36.423 8.2.4, TS 36.413 8.4.5): connection, attempt, and the target station on X2 or the
   -- target cell on S1
   CancelledByX2 : ℕ → ℕ → ℕ → ActRow

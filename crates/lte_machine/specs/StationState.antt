@@ -28,11 +28,23 @@ pub data S1State : Type 0 where
   S1Ready : S1Acked → S1State
   S1Commanded : S1Sent → S1State
 
+-- a change of the context's key, whose order was sent at once
+pub record Renewal : Type 0 where
+  -- the number of the attempt
+  pub number : ℕ
+  -- the cell of the context, which stays
+  pub cell : Place
+  -- its algorithms, which stay
+  pub algs : Algs
+  -- the air address drawn
+  pub air : ℕ
+
 -- the kinds of attempt are apart
 pub data Attempt (K C : Type 0) : Type 0 where
   OverX2 : X2State K C → Attempt K C
   OverS1 : S1State → Attempt K C
   Within : X2State K C → Attempt K C
+  Renewing : Renewal → Attempt K C
 
 -- the phone's context: connection, cell and air address, key with a stored pair if there is one, keys, capabilities,
 -- whether its security still starts, bearers, attempt, the path switch request whose answer is outstanding, and the X2
@@ -97,6 +109,7 @@ abbrev pub map_attempt : {K C L D : Type 0} → (K → L) → (C → D) → Atte
 map_attempt f g (OverX2 a) = OverX2 (map_x2_state f g a)
 map_attempt f g (OverS1 a) = OverS1 a
 map_attempt f g (Within a) = Within (map_x2_state f g a)
+map_attempt f g (Renewing a) = Renewing a
 
 abbrev pub map_context : {K C L D : Type 0} → (K → L) → (C → D) → Context K C → Context L D
 map_context f g c = record {

@@ -5,7 +5,9 @@ use Rattle.rec_base.specs.declared.uses.Dir.{Dir}
 use Rattle.rec_base.specs.declared.uses.Dir.TheVariants.{Up, Down}
 use Rattle.rec_base.specs.declared.bearers.Bearer.{Bearer}
 use Rattle.rec_base.specs.Bearer.{bearer5_of}
+use Rattle.nas_guard.specs.Keys.{Keys}
 use Rattle.nas_guard.specs.Seal.{nas_bearer}
+use Rattle.pdcp_guard.specs.AsKeys.{AsKeys}
 use Rattle.lte_events.specs.declared.addresses.Address.{Address}
 use Rattle.lte_events.specs.declared.addresses.Address.TheVariants.{Phone, PhoneNas, CoreNas, StationAir}
 use Rattle.key_model.specs.HandoverTable.{NumberedKey}
@@ -65,6 +67,17 @@ drb_use dir key drb count = record { key = key; count = count; bearer = bearer5_
 
 abbrev pub ciphering_by : {K : Type 0} → Eea → KeyUse K → Ciphering K
 ciphering_by eea u = record { under = u; eea = eea }
+
+-- the ciphering of a NAS message, with the key of encryption also where the algorithm is EEA0 (TS 24.301 4.4.5)
+abbrev pub nas_ciphering : {K : Type 0} → Dir → Keys K → ℕ → Ciphering K
+nas_ciphering dir keys count = ciphering_by keys.algs.eea (nas_use dir keys.enc count)
+
+-- the ciphering of a PDU of an SRB, and of one of a DRB (TS 36.323 5.6)
+abbrev pub srb_ciphering : {K : Type 0} → Dir → AsKeys K → Srb → ℕ → Ciphering K
+srb_ciphering dir keys srb count = ciphering_by keys.algs.eea (srb_use dir keys.rrc_enc srb count)
+
+abbrev pub drb_ciphering : {K : Type 0} → Dir → AsKeys K → Drb → ℕ → Ciphering K
+drb_ciphering dir keys drb count = ciphering_by keys.algs.eea (drb_use dir keys.up_enc drb count)
 
 -- where a record goes
 abbrev pub nas_address : Dir → Address

@@ -4,10 +4,12 @@
 //! Each function here has an empty body: its contract is a law about them.
 #![tactic(auto)]
 
+mod calls;
 mod ladder_rows;
 mod refusals;
 mod runs;
 
+pub use calls::{replies_are_kept, turns_are_calls};
 pub use ladder_rows::{every_key_was_reported, rows_stand_for_the_distinct_terms};
 pub use refusals::{refused_core_step, refused_phone_step, refused_station_step};
-pub use runs::{run_in_octets_is_the_value, report_in_octets_is_the_value};
+pub use runs::{report_in_octets_is_the_value, run_in_octets_is_the_value};

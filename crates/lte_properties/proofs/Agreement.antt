@@ -1,5 +1,6 @@
 pub mod Calm
 pub mod Core
+pub mod CoreOpens
 pub mod Events
 mod Examples
 pub mod Follows
@@ -10,11 +11,13 @@ pub mod Lines
 pub mod Noted
 pub mod NotedPhone
 pub mod Opener
+pub mod Order
 pub mod Phone
 pub mod PhoneWalk
 pub mod Station
 pub mod StationAct
 pub mod StationOpens
+pub mod StationSends
 pub mod StationWalk
 pub mod Terms
 pub mod Told

@@ -18,7 +18,7 @@ use Rattle.lte_properties.specs.Agreement.{CompletedLines, KeysTold}
 use Rattle.lte_properties.proofs.Agreement.Whole.{always_ok}
 use Rattle.lte_properties.proofs.Agreement.Lines.{lines_of}
 use Rattle.lte_properties.proofs.Agreement.Noted.{keys_told}
-use Rattle.lte_properties.proofs.EveryRun.{way_is}
+use Rattle.lte_properties.proofs.EveryRun.{reflexive, way_is}
 use Rattle.lte_properties.proofs.Agreement.World.{Conns, WorldOk}
 
 -- the first events are events
@@ -38,5 +38,5 @@ pub lines_completed : (c : Ciphers (List ℕ)) → AreCiphers c → (setup : Set
 lines_completed c good setup events w is set are =
     lines_of same_value Root (octets_of (under_keys value_of c) written_in_values) sender_of (open_by_uses same_value (under_keys value_of c)) setup.cells (first_world setup) events
     (λ n. subst (λ (v : World Term ℕ (Outgoing Term ℕ)). (d : Conns) × WorldOk setup.cells d v) (sym (way_is c good setup events w is n))
-    (always_ok same_value (under_keys value_of c) (under_keys_ciphers value_of c good) written_in_values (by_terms (under_keys value_of c)) (λ u e pdu came. refl)
-    setup set (take n events) (each_of_first n events are)))
+    (always_ok same_value reflexive (under_keys value_of c) (under_keys_ciphers value_of c good) written_in_values (by_terms (under_keys value_of c))
+    ((λ u e pdu came. refl), (same_value, λ u e pdu came. refl)) setup set (take n events) (each_of_first n events are)))

@@ -25,12 +25,13 @@ use Rattle.lte_properties.specs.Freshness.{NoUseTwice, ValuesApart}
 use Rattle.lte_properties.specs.SharedKeys.{SharedApart}
 use Rattle.lte_machine.proofs.KnownWorld.{first_grounds}
 use Rattle.lte_properties.specs.Packets.{OpensToSent}
-use Rattle.lte_properties.proofs.Opening.Opens.{by_uses_open}
+use Rattle.lte_properties.proofs.Opening.Opens.{IsReflexive, by_uses_open}
 use Rattle.lte_properties.proofs.Opening.Sender.{roots_along}
 use Rattle.lte_properties.proofs.Opening.Whole.{packets_open}
 use Rattle.lte_properties.proofs.Agreement.Whole.{agreement_over}
 use Rattle.lte_properties.proofs.Freshness.Whole.{no_use_twice_by_terms, no_value_twice_by_terms}
 use Rattle.lte_properties.proofs.KeySeparation.Ever.{sharing_holds_by}
+use Rattle.lte_properties.specs.AgreeOpenings.{OpensByTerms}
 
 -- each world on the way of a run that meets no coincidence is one of such a run
 on_the_way : {K C S : Type 0} (by_octets : Opening K → List ℕ → Outcome) (m : Machine K C S) (w : World K C S) (es : List Event) (u : World K C S)
@@ -41,6 +42,10 @@ on_the_way by_octets m w (e ∷ es) u is zero = refl
 on_the_way by_octets m w (e ∷ es) u is (suc n) =
     ap (λ r. replay by_octets m r (take n es)) (turns_to by_octets m w e es u is)
     ∙ on_the_way by_octets m (happens m w e).0 es u (goes_on by_octets m w e es u is).1 n
+
+-- a value is itself
+pub reflexive : IsReflexive same_value
+reflexive t = (same_value-Decides t t).1 refl
 
 module _ (c : Ciphers (List ℕ)) (good : AreCiphers c) (setup : Setup) (events : List Event) (w : World Term ℕ (Outgoing Term ℕ)) (is : RunsTo c setup events w) where
   abbrev terms : Ciphers Term
@@ -53,13 +58,13 @@ module _ (c : Ciphers (List ℕ)) (good : AreCiphers c) (setup : Setup) (events 
   pub uses_differ : NoUseTwice w.uses
   uses_differ =
       subst (λ (u : World Term ℕ (Outgoing Term ℕ)). NoUseTwice u.uses) (sym in_mixed)
-      (no_use_twice_by_terms terms same_value (octets_of terms written_in_values) sender_of (by_terms terms) (λ v e pdu came. refl) setup events)
+      (no_use_twice_by_terms terms same_value reflexive (octets_of terms written_in_values) sender_of (by_terms terms) (λ v e pdu came. refl) setup events)
 
   -- and in octets
   pub values_differ : NoUseTwice (map (map_use value_of) w.uses)
   values_differ =
       subst (λ (u : World Term ℕ (Outgoing Term ℕ)). NoUseTwice (map (map_use value_of) u.uses)) (sym in_mixed)
-      (no_value_twice_by_terms terms same_value (octets_of terms written_in_values) sender_of (by_terms terms) (λ v e pdu came. refl) setup events
+      (no_value_twice_by_terms terms same_value reflexive (octets_of terms written_in_values) sender_of (by_terms terms) (λ v e pdu came. refl) setup events
       (subst (λ (u : World Term ℕ (Outgoing Term ℕ)). ValuesApart u.uses) in_mixed
       (uses_apart terms written_in_values (written_machine c).opener (open_octets terms) setup events w is)))
 
@@ -68,9 +73,13 @@ module _ (c : Ciphers (List ℕ)) (good : AreCiphers c) (setup : Setup) (events 
   way_is n = run_by_terms terms written_in_values (open_octets terms) setup (take n events) (run (written_machine c) (first_world setup) (take n events))
       (on_the_way (open_octets terms) (written_machine c) (first_world setup) events w is n)
 
+  -- its opener compares uses on SRBs as terms, and others by values
+  abbrev by_values : OpensByTerms terms (by_terms terms)
+  by_values = ((λ u e pdu came. refl), (same_value, λ u e pdu came. refl))
+
   module _ (set : IsSetup setup) (are : AllOf IsEvent events) where
     abbrev both : AgreementHolds (mixed terms written_in_values) setup events
-    both = agreement_over same_value terms (under_keys_ciphers value_of c good) written_in_values (by_terms terms) (λ u e pdu came. refl) setup set events are
+    both = agreement_over same_value reflexive terms (under_keys_ciphers value_of c good) written_in_values (by_terms terms) by_values setup set events are
 
     -- agreement
     pub agrees : Agrees w
@@ -95,5 +104,5 @@ module _ (c : Ciphers (List ℕ)) (good : AreCiphers c) (setup : Setup) (events 
     packets =
         let one = roots_along terms written_in_values (open_octets terms) (first_world setup) events w (first_grounds setup) refl is in
         subst (OpensToSent (written_machine c)) (sym in_mixed)
-        (packets_open same_value terms (under_keys_ciphers value_of c good) written_in_values (by_terms terms) (λ u e pdu came. refl) setup set events are one
-        (open_by_uses same_value terms) (by_uses_open same_value (λ t. (same_value-Decides t t).1 refl) terms (under_keys_ciphers value_of c good)))
+        (packets_open same_value reflexive terms (under_keys_ciphers value_of c good) written_in_values (by_terms terms) by_values setup set events are one
+        (open_by_uses same_value terms) (by_uses_open same_value reflexive terms (under_keys_ciphers value_of c good)))

@@ -4,4 +4,5 @@ pub mod EveryLine
 pub mod EveryRun
 pub mod Freshness
 pub mod KeySeparation
+pub mod NasWalk
 pub mod Opening

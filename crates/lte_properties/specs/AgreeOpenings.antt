@@ -1,4 +1,4 @@
--- What is so of each opening of a run that has met no coincidence, step by step: proved in `AgreeOpener` and `AgreeCalm`.
+-- What is so of each opening of a run that has met no coincidence, step by step: proved in `Opener` and `Calm`.
 use Rattle.std.specs.Prelude.{◌≡◌, ℕ, Bool, true, false, List, [], ◌∷◌, Option, Some, None, ⊤}
 use Rattle.rec_base.specs.declared.uses.Dir.{Dir}
 use Rattle.rec_base.specs.declared.uses.Dir.TheVariants.{Down}
@@ -6,7 +6,7 @@ use Rattle.lte_events.specs.declared.events.Event.{Event}
 use Rattle.key_model.specs.Term.{Term, same_term}
 use Rattle.lte_machine.specs.Wire.{KeyUse, Ciphering, Outgoing, SealedNas, SealedRrc}
 use Rattle.lte_machine.specs.Ciphers.{Ciphers}
-use Rattle.lte_machine.specs.Opening.{Opening, OpensSrb, Outcome, Opened, open_by_uses}
+use Rattle.lte_machine.specs.Opening.{Opening, OpensNas, OpensSrb, Outcome, Opened, open_by_uses}
 use Rattle.lte_machine.specs.World.{Machine, World, happens}
 use Rattle.lte_machine.specs.Step.{Attempted, attempted}
 
@@ -17,8 +17,15 @@ WasSealed u e text (Some (SealedRrc dir station air srb i f sent)) = (u ≡ i) �
 WasSealed u e text (Some (SealedNas dir header i f sent)) = u ≡ i
 WasSealed u e text other = ⊥
 
+-- a NAS message that opened under a use was sealed with its COUNT
+abbrev pub WasCounted : ℕ → Option (Outgoing Term ℕ) → Type 0
+WasCounted count (Some (SealedNas dir header i f sent)) = count ≡ i.count
+WasCounted count (Some (SealedRrc dir station air srb i f sent)) = count ≡ i.count
+WasCounted count other = ⊥
+
 abbrev pub IsHonest : Opening Term → Option (Outgoing Term ℕ) → Outcome → Type 0
 IsHonest (OpensSrb u e) came (Opened text) = WasSealed u e text came
+IsHonest (OpensNas u e) came (Opened text) = WasCounted u.count came
 IsHonest other came outcome = ⊤
 
 -- the outcome of an opening of a machine
@@ -48,11 +55,22 @@ IsCalm other came outcome = ⊤
 abbrev pub Calm : Machine Term ℕ (Outgoing Term ℕ) → World Term ℕ (Outgoing Term ℕ) → Event → Type 0
 Calm m w e = let a = attempted m w e in IsCalm a.opening a.came (outcome_of m a)
 
--- an opener that compares the uses of SRB records as terms, whatever it does with others
-abbrev pub OpensByTerms : Ciphers Term → (Opening Term → List ℕ → Option (Outgoing Term ℕ) → Outcome) → Type 0
-OpensByTerms c opener =
+-- an opener that compares the uses of SRB records as terms
+abbrev pub OpensSrbByTerms : Ciphers Term → (Opening Term → List ℕ → Option (Outgoing Term ℕ) → Outcome) → Type 0
+OpensSrbByTerms c opener =
     (u : KeyUse Term) (e : Option (Ciphering Term)) (pdu : List ℕ) (came : Option (Outgoing Term ℕ))
     → opener (OpensSrb u e) pdu came ≡ open_by_uses same_term c (OpensSrb u e) pdu came
+
+-- and one that compares the uses of NAS messages, by whatever test says which keys are one
+abbrev pub OpensNasByUses : Ciphers Term → (Opening Term → List ℕ → Option (Outgoing Term ℕ) → Outcome) → Type 0
+OpensNasByUses c opener =
+    (same : Term → Term → Bool)
+    × ((u : KeyUse Term) (e : Option (Ciphering Term)) (pdu : List ℕ) (came : Option (Outgoing Term ℕ))
+    → opener (OpensNas u e) pdu came ≡ open_by_uses same c (OpensNas u e) pdu came)
+
+-- both, whatever it does with others
+abbrev pub OpensByTerms : Ciphers Term → (Opening Term → List ℕ → Option (Outgoing Term ℕ) → Outcome) → Type 0
+OpensByTerms c opener = OpensSrbByTerms c opener × OpensNasByUses c opener
 
 -- at each event of a run
 abbrev pub Along : {K C S : Type 0} → (World K C S → Event → Type 0) → Machine K C S → World K C S → List Event → Type 0

@@ -1,10 +1,9 @@
 -- Agreement of phone and stations on keys over handovers (TS 33.401 7.2.8): what a station made for an air address against
 -- what the phone took there.
-use Rattle.std.specs.Prelude.{◌≡◌, ◌≢◌, ℕ, ◌-◌, ◌≤◌, ◌<◌, ◌==◌, ◌&&◌, Bool, ◌⊎◌, List, [], ◌∷◌, ◌++◌, find, take, Option, Some, None, ⊤}
-use Rattle.key_model.specs.Term.{Term, Star}
-use Rattle.key_model.specs.HandoverTable.{NumberedKey}
+use Rattle.std.specs.Prelude.{if◌then◌else◌, ◌≡◌, ◌≢◌, ℕ, ◌-◌, ◌≤◌, ◌<◌, ◌==◌, ◌&&◌, Bool, ◌⊎◌, List, [], ◌∷◌, ◌++◌, find, take, Option, Some, None, ⊤}
+use Rattle.key_model.specs.Term.{Term, Root, Kenb, Nh, Star, Alg, same_term}
 use Rattle.ho_prep.specs.Prep.{Prep}
-use Rattle.lte_machine.specs.Reply.{Note, Origin, Made, Took}
+use Rattle.lte_machine.specs.Reply.{Note, Origin, From, BySetup, ByAttempt, ByChange, Made, Before, Came, Secured, Commanded, Changed, Took}
 use Rattle.lte_machine.specs.PhoneState.{Link, Radio, Idle, Connecting, Connected}
 use Rattle.lte_machine.specs.StationState.{Station, Context}
 use Rattle.lte_machine.specs.Wire.{Outgoing}
@@ -34,52 +33,85 @@ made_at made station air = find (is_made_at station air) made
 abbrev pub MadeOnce : {S : Type 0} → World Term ℕ S → Type 0
 MadeOnce w = AllOf (λ m. made_at w.made m.station m.air ≡ Some m) w.made
 
--- how many NH steps the key made is ahead of the key that the phone had before (7.2.8.4.4)
-abbrev pub ahead : Made Term ℕ → NumberedKey Term ℕ → ℕ
-ahead m before = m.number - before.number
+-- the KASME that a key comes from
+abbrev pub root_of : Term → Term
+root_of (Root r octets) = Root r octets
+root_of (Kenb r n) = r
+root_of (Nh r t) = r
+root_of (Star t pci earfcn) = root_of t
+root_of (Alg t type id) = root_of t
+
+-- a key change that was made from another authentication than the phone's counts as eight
+abbrev pub change_ahead : Term → Term → ℕ
+change_ahead root key = if same_term root (root_of key) then 0 else 8
+
+-- how many NH steps the key made is ahead of the phone, by how the phone came to the key that it took (7.2.8.4.4, 7.2.9.2)
+abbrev pub ahead : Made Term ℕ → Came Term ℕ → ℕ
+ahead m Secured = 0
+ahead m (Commanded before) = m.number - before.number
+ahead m (Changed before root) = change_ahead root m.key
 
 -- the phone took what was made: one key, one chain number, the same algorithms
 abbrev pub TookMade : Took Term ℕ → Made Term ℕ → Type 0
 TookMade x m = (x.key ≡ m.key) × (x.number ≡ m.number) × (x.algs ≡ m.algs)
 
--- at an obeyed handover command for this air address: the station there made something; its number is not below the
--- phone's; fewer than eight steps ahead the phone took what was made, and at eight or more another key and number, since NCC
--- has three bits (7.2.8.4.4 and TS 36.331 6.3.3)
-abbrev pub ObeysMade : Took Term ℕ → NumberedKey Term ℕ → Made Term ℕ → Type 0
-ObeysMade x before m =
-    (before.number ≤ m.number) × (ahead m before < 8 → TookMade x m)
-    × (8 ≤ ahead m before → (x.key ≢ m.key) × (x.number ≢ m.number))
+-- at an obeyed handover command for this air address (7.2.8.4.4 and TS 36.331 6.3.3)
+pub record ObeysCommand (x : Took Term ℕ) (before : Before Term ℕ) (m : Made Term ℕ) : Type 0 where
+  -- what the station there made came by an attempt of a handover, which the station opened where the phone was connected
+  pub tried : (o : Origin) × (m.from ≡ ByAttempt o) × (o.source ≡ before.station)
+  -- its number is not below the phone's
+  pub not_behind : before.number ≤ m.number
+  -- fewer than eight steps ahead the phone took what was made
+  pub near : ahead m (Commanded before) < 8 → TookMade x m
+  -- at eight or more it took another key and number, since NCC has three bits
+  pub far : 8 ≤ ahead m (Commanded before) → (x.key ≢ m.key) × (x.number ≢ m.number)
+
+-- at an obeyed key change for this air address, where the phone's NAS context is of this KASME (7.2.9.2)
+pub record ObeysChange (x : Took Term ℕ) (before : Before Term ℕ) (root : Term) (m : Made Term ℕ) : Type 0 where
+  -- the station there made it when the key was to change that the phone had
+  pub renewed : m.from ≡ ByChange before.key
+  -- where it was made from the phone's authentication, the phone took it
+  pub near : ahead m (Changed before root) < 8 → TookMade x m
+  -- where it was made from another one, the phone took another key
+  pub far : 8 ≤ ahead m (Changed before root) → x.key ≢ m.key
 
 -- what a phone takes when the security of its connection starts is what the station made for the context at that air
--- address, by no attempt (7.2.4.5 and 7.2.8.1.1)
-abbrev pub Obeys : List (Made Term ℕ) → Took Term ℕ → Option (NumberedKey Term ℕ) → Type 0
-Obeys made x None =
-    (m : Made Term ℕ) × (made_at made x.station x.air ≡ Some m) × TookMade x m × (m.from_attempt ≡ None)
-Obeys made x (Some before) = (m : Made Term ℕ) × (made_at made x.station x.air ≡ Some m) × ObeysMade x before m
+-- address, by its setup (7.2.4.5 and 7.2.8.1.1)
+abbrev pub ObeysMade : Took Term ℕ → Came Term ℕ → Made Term ℕ → Type 0
+ObeysMade x Secured m = TookMade x m × (m.from ≡ BySetup)
+ObeysMade x (Commanded before) m = ObeysCommand x before m
+ObeysMade x (Changed before root) m = ObeysChange x before root m
 
--- at each start of a connection's security and each obeyed command of a run
+abbrev pub Obeys : List (Made Term ℕ) → Took Term ℕ → Type 0
+Obeys made x = (m : Made Term ℕ) × (made_at made x.station x.air ≡ Some m) × ObeysMade x x.came m
+
+-- at each start of a connection's security, each obeyed command and each obeyed key change of a run
 abbrev pub ObeysAgreement : {S : Type 0} → World Term ℕ S → Type 0
-ObeysAgreement w = AllOf (λ x. Obeys w.made x x.before) w.took
+ObeysAgreement w = AllOf (Obeys w.made) w.took
 
--- within one connection the phone's keys grow: the number rises, or it stays and the key is a KeNB* of the one before
--- (7.2.8.4.4)
-abbrev pub Grows : Took Term ℕ → Option (NumberedKey Term ℕ) → Type 0
-Grows x None = ⊤
-Grows x (Some before) =
+-- under one connection number the phone's keys grow: the chain number rises, or it stays and the key is a KeNB* of the one
+-- before (7.2.8.4.4). A key change begins anew with the KeNB of its KASME and of COUNT 0 (7.2.9.2)
+abbrev pub Grows : Took Term ℕ → Came Term ℕ → Type 0
+Grows x Secured = ⊤
+Grows x (Commanded before) =
     (before.number < x.number)
     ⊎ ((x.number ≡ before.number) × (pci : ℕ) × (earfcn : ℕ) × (x.key ≡ Star before.key pci earfcn))
+Grows x (Changed before root) =
+    (x.number ≡ 0) × (pci : ℕ) × (earfcn : ℕ) × (x.key ≡ Star (Kenb root 0) pci earfcn)
 
 abbrev pub TermsGrow : {S : Type 0} → World Term ℕ S → Type 0
-TermsGrow w = AllOf (λ x. Grows x x.before) w.took
+TermsGrow w = AllOf (λ x. Grows x x.came) w.took
 
--- the key before an obeyed command is the one that the phone took last
-abbrev pub Joins : Option (NumberedKey Term ℕ) → Option (NumberedKey Term ℕ) → Type 0
-Joins None last = ⊤
-Joins (Some before) last = last ≡ Some before
+-- what the phone had before an order is what it took last, at the station where it took it
+abbrev pub Joins : Came Term ℕ → Option (Before Term ℕ) → Type 0
+Joins Secured last = ⊤
+Joins (Commanded before) last = last ≡ Some before
+Joins (Changed before root) last = last ≡ Some before
 
-abbrev pub Follow : Option (NumberedKey Term ℕ) → List (Took Term ℕ) → Type 0
+abbrev pub Follow : Option (Before Term ℕ) → List (Took Term ℕ) → Type 0
 Follow last [] = ⊤
-Follow last (x ∷ xs) = Joins x.before last × Follow (Some (record { key = x.key; number = x.number })) xs
+Follow last (x ∷ xs) =
+    Joins x.came last × Follow (Some (record { station = x.station; key = x.key; number = x.number })) xs
 
 abbrev pub TermsFollow : {S : Type 0} → World Term ℕ S → Type 0
 TermsFollow w = Follow None w.took
@@ -121,15 +153,14 @@ abbrev pub JoinedAgree : {S : Type 0} → World Term ℕ S → Type 0
 JoinedAgree w = JoinedBy w w.phone.radio
 
 -- the key made there was eight or more steps ahead of the phone's key before
-abbrev pub IsFar : List (Made Term ℕ) → Took Term ℕ → Option (NumberedKey Term ℕ) → Type 0
-IsFar made x None = ⊥
-IsFar made x (Some before) = (m : Made Term ℕ) × (made_at made x.station x.air ≡ Some m) × (8 ≤ ahead m before)
+abbrev pub IsFar : List (Made Term ℕ) → Took Term ℕ → Type 0
+IsFar made x = (m : Made Term ℕ) × (made_at made x.station x.air ≡ Some m) × (8 ≤ ahead m x.came)
 
 -- no context of the station has the air address of an obeyed command where the key differs: where it was eight or more
 -- steps ahead; in world v, of what the phone took in world w
 abbrev pub NoneThere : {S : Type 0} → World Term ℕ S → World Term ℕ S → Type 0
 NoneThere v w =
-    AllOf (λ x. IsFar w.made x x.before → AtStation v x.station (λ s. ContextAt x.air s.context (λ c. ⊥))) w.took
+    AllOf (λ x. IsFar w.made x → AtStation v x.station (λ s. ContextAt x.air s.context (λ c. ⊥))) w.took
 
 -- in no world on the way of the run has a context the air address of a far command, whenever in the run that command came
 abbrev pub NoneEver : Machine Term ℕ (Outgoing Term ℕ) → World Term ℕ (Outgoing Term ℕ) → List Event → Type 0
@@ -140,10 +171,10 @@ abbrev pub HadTaken : List (Took Term ℕ) → ℕ → ℕ → Term → Type 0
 HadTaken took station air key =
     (x : Took Term ℕ) × IsIn x took × (x.station ≡ station) × (x.air ≡ air) × (x.key ≡ key)
 
--- where what was made came of a handover attempt, the phone had taken its key there
-abbrev pub TakenIfTried : List (Took Term ℕ) → ℕ → ℕ → Term → Option Origin → Type 0
-TakenIfTried took station air key None = ⊤
-TakenIfTried took station air key (Some origin) = HadTaken took station air key
+-- where what was made came of a handover attempt or a key change, the phone had taken its key there
+abbrev pub TakenIfTried : List (Took Term ℕ) → ℕ → ℕ → Term → From Term → Type 0
+TakenIfTried took station air key BySetup = ⊤
+TakenIfTried took station air key other = HadTaken took station air key
 
 -- a context is what its station made for its air address; where it came by a handover, the phone had taken its key there
 abbrev pub ComesMade : {S : Type 0} → World Term ℕ S → ℕ → Option (Context Term ℕ) → Type 0
@@ -151,7 +182,7 @@ ComesMade w station None = ⊤
 ComesMade w station (Some c) =
     (m : Made Term ℕ) × (made_at w.made station c.air ≡ Some m)
     × (c.key.kenb ≡ m.key) × (c.key.number ≡ m.number) × (c.algs ≡ m.algs)
-    × TakenIfTried w.took station c.air c.key.kenb m.from_attempt
+    × TakenIfTried w.took station c.air c.key.kenb m.from
 
 abbrev pub CompletedTaken : {S : Type 0} → World Term ℕ S → Type 0
 CompletedTaken w = AllOf (λ s. ComesMade w s.id s.context) w.stations

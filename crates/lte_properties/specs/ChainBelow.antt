@@ -3,10 +3,10 @@
 use Rattle.std.specs.Prelude.{◌≡◌, ℕ, ◌≤◌, ◌<◌, Option, Some, None, ⊤}
 use Rattle.key_model.specs.Term.{Term}
 use Rattle.key_model.specs.HandoverTable.{NumberedKey}
-use Rattle.s1x2_rec.specs.Fields.{Fields, InitialContext, ContextRelease, PathSwitchRequest, PathSwitchAnswer, HandoverRequired, HandoverRequest, HandoverRequestAck, HandoverCommand, HandoverNotify, HandoverCancel, X2Request, X2Ack, X2Cancel, X2Release}
+use Rattle.s1x2_rec.specs.Fields.{Fields, InitialContext, ContextRelease, PathSwitchRequest, PathSwitchAnswer, HandoverRequired, HandoverRequest, HandoverRequestAck, HandoverCommand, HandoverNotify, HandoverCancel, X2Request, X2Ack, X2Cancel, X2Release, ContextModification}
 use Rattle.ho_prep.specs.Prep.{Prep}
 use Rattle.lte_machine.specs.Wire.{Outgoing, Between}
-use Rattle.lte_machine.specs.StationState.{Station, Context, Attempt, OverX2, OverS1, Within, X2State, X2Open, X2Ready, X2Commanded}
+use Rattle.lte_machine.specs.StationState.{Station, Context, Attempt, OverX2, OverS1, Within, Renewing, X2State, X2Open, X2Ready, X2Commanded}
 use Rattle.lte_machine.specs.StationKeys.{spent_in}
 use Rattle.lte_machine.specs.CoreState.{Core, CoreLink}
 pub use Rattle.lte_machine.specs.Ranges.{AllOf}
@@ -27,6 +27,7 @@ star_in None = None
 star_in (Some (OverX2 state)) = x2_star state
 star_in (Some (OverS1 state)) = None
 star_in (Some (Within state)) = x2_star state
+star_in (Some (Renewing renewal)) = None
 
 -- each number of a context is so: of its term, of its stored pair, of its attempt's KeNB* and of the attempt's pair
 abbrev pub EachNumber : (ℕ → Type 0) → Context Term ℕ → Type 0
@@ -53,7 +54,7 @@ PrepBelow top p = p.key.number ≤ top p.conn
 abbrev pub StationBelow : (ℕ → ℕ) → Station Term ℕ → Type 0
 StationBelow top s = ContextBelow top s.context × AllOf (PrepBelow top) s.preps
 
--- the connection of a record on S1 or X2
+-- the connection of a record on S1 or X2; of a Context Modification it is the next one
 abbrev pub conn_of : Fields → ℕ
 conn_of (InitialContext conn cell caps) = conn
 conn_of (ContextRelease conn) = conn
@@ -69,6 +70,7 @@ conn_of (X2Request conn source attempt cell caps) = conn
 conn_of (X2Ack conn attempt cell algs air) = conn
 conn_of (X2Cancel conn source attempt) = conn
 conn_of (X2Release conn attempt) = conn
+conn_of (ContextModification conn next) = next
 
 -- a record in flight has no number above it
 abbrev pub RecordBelow : (ℕ → ℕ) → Outgoing Term ℕ → Type 0

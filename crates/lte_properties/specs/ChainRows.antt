@@ -1,13 +1,13 @@
 -- What the choice of a row established: of the record that was read, and of the numbers that were drawn.
-use Rattle.std.specs.Prelude.{◌≡◌, ℕ, ◌+◌, ◌≤◌, ◌<◌, slice_index, Option, Some, None, ⊤}
+use Rattle.std.specs.Prelude.{◌≡◌, ℕ, ◌+◌, ◌≤◌, ◌<◌, false, slice_index, Option, Some, None, ⊤}
 use Rattle.alg_choice.specs.declared.caps.Caps.{Caps}
 use Rattle.annex_a_keys.specs.Cell.{Place}
-use Rattle.s1x2_rec.specs.Fields.{Fields, InitialContext, PathSwitchRequest, PathSwitchAnswer, HandoverRequired, HandoverRequest, X2Request}
+use Rattle.s1x2_rec.specs.Fields.{Fields, InitialContext, PathSwitchRequest, PathSwitchAnswer, HandoverRequired, HandoverRequest, X2Request, ContextModification}
 use Rattle.lte_machine.specs.Reply.{Origin}
 use Rattle.lte_machine.specs.StationState.{Station, Context}
-use Rattle.lte_machine.specs.StationRows.{Wanted, RecordRow, ContextGiven, PairTaken, PreparedByS1, PreparedByX2, AirRow, CompletedByX2, ActRow, StartedByX2, StartedByS1, StartedWithin, PathSwitchAsked, StationRow, OfRecord, OfAir, OfAct}
+use Rattle.lte_machine.specs.StationRows.{Wanted, RecordRow, ContextGiven, PairTaken, PreparedByS1, PreparedByX2, KeyRenewed, AirRow, CompletedByX2, ActRow, StartedByX2, StartedByS1, StartedWithin, PathSwitchAsked, StationRow, OfRecord, OfAir, OfAct}
 use Rattle.lte_machine.specs.CoreState.{CoreLink}
-use Rattle.lte_machine.specs.CoreRows.{CoreRecordRow, PathSwitched, HandoverAsked, CoreActRow, ContextSetUp}
+use Rattle.lte_machine.specs.CoreRows.{CoreNasRow, SmcChange, CoreRecordRow, PathSwitched, HandoverAsked, CoreActRow, ContextSetUp}
 
 -- an answer is taken for the outstanding number of the context
 abbrev pub TakenFor : {K C : Type 0} → Option (Context K C) → ℕ → Option Origin → Fields → Type 0
@@ -19,12 +19,19 @@ TakenFor (Some c) conn origin fields =
 abbrev pub WantedFits : {K C : Type 0} → Station K C → Wanted → Type 0
 WantedFits s w = (s.last ≤ w.conn) × (slice_index s.seen w.from.source < w.from.attempt) × (w.air ≡ s.next)
 
+-- a key change is taken for an active context with no attempt, and its order takes the next COUNT of SRB1
+abbrev pub RenewedFor : {K C : Type 0} → Option (Context K C) → ℕ → ℕ → Fields → Type 0
+RenewedFor None next count fields = ⊥
+RenewedFor (Some c) next count fields =
+    (fields ≡ ContextModification c.conn next) × (c.starting ≡ false) × (c.attempt ≡ None) × (count ≡ c.bearers.srb1.send)
+
 -- a record's row says what the record says
 abbrev pub RecordFits : {K C : Type 0} → Station K C → Fields → RecordRow → Type 0
 RecordFits s fields (ContextGiven conn cell caps algs air) = (fields ≡ InitialContext conn cell caps) × (s.last < conn) × (air ≡ s.next)
 RecordFits s fields (PairTaken conn origin) = TakenFor s.context conn origin fields
 RecordFits s fields (PreparedByS1 w) = (fields ≡ HandoverRequest w.conn w.from.source w.from.attempt w.cell w.caps) × WantedFits s w
 RecordFits s fields (PreparedByX2 w) = (fields ≡ X2Request w.conn w.from.source w.from.attempt w.cell w.caps) × WantedFits s w
+RecordFits s fields (KeyRenewed conn number air count) = RenewedFor s.context conn count fields × (s.last < conn) × (number ≡ s.next) × (air ≡ s.next + 1)
 RecordFits s fields other = ⊤
 
 -- the numbers that a row draws are the next ones
@@ -43,6 +50,7 @@ abbrev pub RecordDraws : ℕ → RecordRow → Type 0
 RecordDraws next (ContextGiven conn cell caps algs air) = air ≡ next
 RecordDraws next (PreparedByS1 w) = w.air ≡ next
 RecordDraws next (PreparedByX2 w) = w.air ≡ next
+RecordDraws next (KeyRenewed conn number air count) = (number ≡ next) × (air ≡ next + 1)
 RecordDraws next other = ⊤
 
 abbrev pub RowDraws : ℕ → StationRow → Type 0
@@ -62,6 +70,11 @@ CoreFits link fields (PathSwitched conn station number alarm) =
 CoreFits link fields (HandoverAsked conn source attempt cell target caps) =
     LinkIs link conn × (fields ≡ HandoverRequired conn source attempt cell)
 CoreFits link fields other = ⊤
+
+-- a key change is of the core's connection, and takes the next number
+abbrev pub NasDraws : {K C : Type 0} → Option (CoreLink K C) → ℕ → CoreNasRow → Type 0
+NasDraws link next (SmcChange count conn next_conn station) = LinkIs link conn × (next_conn ≡ next)
+NasDraws link next other = ⊤
 
 -- a new connection has the next number
 abbrev pub CoreDraws : ℕ → CoreActRow → Type 0

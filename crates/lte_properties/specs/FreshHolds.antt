@@ -1,6 +1,6 @@
 -- What holds in every world of every run, so that no key is used twice with one COUNT: how the keys that phone, core and
 -- stations have stand to those that were taken, given and used before (TS 33.401 7.2.6.2 and 7.2.8).
-use Rattle.std.specs.Prelude.{◌≡◌, ℕ, ◌<◌, ◌≤◌, true, false, Option, Some, None, option_map, IfSome, ⊤}
+use Rattle.std.specs.Prelude.{◌≡◌, ℕ, ◌<◌, ◌≤◌, ◌⊎◌, true, false, Option, Some, None, option_map, IfSome, ⊤}
 use Rattle.rec_base.specs.declared.uses.Dir.TheVariants.{Up, Down}
 use Rattle.lte_events.specs.declared.addresses.Address.{Address}
 use Rattle.lte_events.specs.declared.addresses.Address.TheVariants.{StationS1}
@@ -70,6 +70,22 @@ RadioStands roots partial mark taken (Connected l) =
     (taken l.kenb ≡ Some (home_at l.station l.air)) × IsLevel l.kenb l.chain.sync × AsKeysOf l.kenb l.keys
     × ((t : Term) (h : Home) → taken t ≡ Some h → IsNotAfter t l.kenb)
 
+-- the KASME of a connection is that of its KeNB; beside a NAS context in use it is that of the context, or of an older
+-- authentication
+abbrev pub KeyOlder : Term → Term → Option Term → Type 0
+KeyOlder root kenb now =
+    (authentication_of root ≡ authentication_of kenb)
+    × IfSome now (λ k. (root ≡ k) ⊎ (authentication_of root < authentication_of k))
+
+abbrev pub RadioOlder : Radio Term ℕ → Option Term → Type 0
+RadioOlder Idle now = ⊤
+RadioOlder (Connecting w) now = KeyOlder w.root w.kenb now
+RadioOlder (Connected l) now = KeyOlder l.chain.root l.kenb now
+
+-- the KASME of the NAS context in use
+abbrev pub kasme_in_use : Option (NasContext Term) → Option Term
+kasme_in_use context = option_map (λ c. c.root) context
+
 -- the phone
 abbrev pub PhoneStands : ℕ → Homes → Phone Term ℕ → Type 0
 PhoneStands roots taken s =
@@ -77,6 +93,8 @@ PhoneStands roots taken s =
     × IfSome s.context (λ c. NasKeysOf c.root c.keys)
     × ((t : Term) (h : Home) → taken t ≡ Some h → IsPast roots (partial_root s.partial) (phone_mark s.context) t)
     × RadioStands roots (partial_root s.partial) (phone_mark s.context) taken s.radio
+    × RadioOlder s.radio (kasme_in_use s.context)
+    × IfSome s.context (λ c. 1 ≤ c.send)
 
 -- THE CORE
 

@@ -4,14 +4,13 @@ use Rattle.annex_a_keys.specs.Cell.{Place}
 use Rattle.lte_events.specs.declared.addresses.Address.TheVariants.{StationS1}
 use Rattle.lte_events.specs.declared.events.Event.{Event}
 use Rattle.lte_events.specs.declared.setups.Setup.{Setup}
-use Rattle.lte_events.specs.Site.{Site}
+use Rattle.lte_events.specs.Site.{Site, station_of}
 use Rattle.key_model.specs.Term.{Term, Root, Star, IsWellFormed}
 use Rattle.key_model.specs.Chain.{nh}
 use Rattle.key_model.specs.Derivable.{Derivable, HasNoRoot, ComesFrom}
 use Rattle.key_model.specs.HandoverTable.{NumberedKey}
 use Rattle.lte_machine.specs.Wire.{Outgoing, Between}
-use Rattle.lte_machine.specs.Reply.{Origin, Made, Tried}
-use Rattle.lte_machine.specs.StationChoice.{station_of}
+use Rattle.lte_machine.specs.Reply.{Origin, From, BySetup, ByAttempt, ByChange, Made, Tried}
 use Rattle.lte_machine.specs.Distinct.{keys_of, Member}
 use Rattle.lte_machine.specs.Known.{StationKnown}
 use Rattle.lte_machine.specs.World.{Machine, World, Holder, AtPhone, AtCore, AtStation, Holding}
@@ -121,12 +120,15 @@ abbrev pub GivenAt : List (Outgoing Term ℕ) → Term → ℕ → ℕ → Optio
 GivenAt sent key source target (Some star) = GivenTo sent key source
 GivenAt sent key source target None = GivenTo sent key target
 
--- what a station made for an air address by an attempt of a handover: where its key is KeNB* of a key of a chain, the core
+-- what a station made for an air address: by an attempt of a handover, where its key is KeNB* of a key of a chain, the core
 -- gave that key to the source where the attempt made KeNB*, over X2 or within the station, and to the target where it was one
--- over S1 (7.2.8.4.1 to 7.2.8.4.3)
-abbrev pub FromAttempt : World Term ℕ (Outgoing Term ℕ) → Made Term ℕ → Option Origin → Type 0
-FromAttempt w m None = ⊤
-FromAttempt w m (Some o) =
+-- over S1 (7.2.8.4.1 to 7.2.8.4.3); by a key change, the core gave the KeNB of which it is KeNB* to the station (7.2.9.2)
+abbrev pub MadeAsGiven : World Term ℕ (Outgoing Term ℕ) → Made Term ℕ → From Term → Type 0
+MadeAsGiven w m BySetup = ⊤
+MadeAsGiven w m (ByChange before) =
+    (r : ℕ) (octets : List ℕ) (n i pci earfcn : ℕ) → m.key ≡ Star (nh (Root r octets) n i) pci earfcn
+    → GivenTo w.sent (nh (Root r octets) n i) m.station
+MadeAsGiven w m (ByAttempt o) =
     (r : ℕ) (octets : List ℕ) (n i pci earfcn : ℕ) → m.key ≡ Star (nh (Root r octets) n i) pci earfcn
     → AnyOf (λ e. (e.station ≡ o.source) × (e.attempt ≡ o.attempt)
     × GivenAt w.sent (nh (Root r octets) n i) o.source m.station e.given) w.tried
@@ -140,9 +142,9 @@ AttemptsDiffer (e ∷ es) = AllOf (λ f. e.station ≡ f.station → e.attempt �
 abbrev pub SeparationHolds : Machine Term ℕ (Outgoing Term ℕ) → Setup → List Event → Type 0
 SeparationHolds m setup events = Separates setup.cells (run m (first_world setup) events)
 
--- what was made by attempts comes of keys that were given so, and attempts are numbered apart
+-- what was made comes of keys that were given so, and attempts are numbered apart
 abbrev pub GivenAsTried : World Term ℕ (Outgoing Term ℕ) → Type 0
-GivenAsTried w = AllOf (λ m. FromAttempt w m m.from_attempt) w.made × AttemptsDiffer w.tried
+GivenAsTried w = AllOf (λ m. MadeAsGiven w m m.from) w.made × AttemptsDiffer w.tried
 
 abbrev pub GivingHolds : Machine Term ℕ (Outgoing Term ℕ) → Setup → List Event → Type 0
 GivingHolds m setup events = GivenAsTried (run m (first_world setup) events)

@@ -5,7 +5,7 @@ use Rattle.rec_base.specs.declared.faults.RecFault.{RecFault}
 use Rattle.rec_base.specs.declared.faults.RecFault.TheVariants.{Short, BadKind}
 use Rattle.rec_fields.specs.Field.{◌>>=◌, of_size, station_at, ncc_at, from_one_at, algs_at, cell_at, text_of}
 use Rattle.rrc_rec.specs.declared.records.RrcRecord.{RrcRecord}
-use Rattle.rrc_rec.specs.declared.records.RrcRecord.TheVariants.{SecurityModeCommand, SecurityModeComplete, Reconfiguration, ReconfigurationComplete, RrcData}
+use Rattle.rrc_rec.specs.declared.records.RrcRecord.TheVariants.{SecurityModeCommand, SecurityModeComplete, Reconfiguration, ReconfigurationComplete, RrcData, KeyChange}
 
 -- algorithms, station, air address
 unfoldable pub command_of : List ℕ → Result RrcRecord RecFault
@@ -39,6 +39,16 @@ data_of octets = do
   text ← text_of octets
   Ok (RrcData text)
 
+-- cell, algorithms, station, air address
+unfoldable pub key_change_of : List ℕ → Result RrcRecord RecFault
+key_change_of octets = do
+  size ← of_size 13 octets
+  cell ← cell_at octets 1
+  algs ← algs_at octets 7
+  station ← station_at octets 8
+  air ← from_one_at octets 9
+  Ok (KeyChange cell algs station air)
+
 -- by the kind
 abbrev pub of_kind : ℕ → List ℕ → Result RrcRecord RecFault
 of_kind kind octets =
@@ -47,7 +57,8 @@ of_kind kind octets =
     else (if kind == 0x03 then reconfiguration_of octets
     else (if kind == 0x04 then bare octets ReconfigurationComplete
     else (if kind == 0x05 then data_of octets
-    else Err BadKind))))
+    else (if kind == 0x06 then key_change_of octets
+    else Err BadKind)))))
 
 -- the record, or the first fault
 unfoldable pub read_rrc : List ℕ → Result RrcRecord RecFault

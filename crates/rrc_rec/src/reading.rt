@@ -1,6 +1,6 @@
 // Reading an RRC text.
 ghost use Rattle.std.specs.Prelude.{◌≡◌, ◌<◌, length};
-ghost use Rattle.rrc_rec.specs.Reading.{read_rrc, command_of, reconfiguration_of, bare, data_of};
+ghost use Rattle.rrc_rec.specs.Reading.{read_rrc, command_of, reconfiguration_of, bare, data_of, key_change_of};
 
 use crate::RrcRecord;
 use rec_base::{RecFault, u8_at};
@@ -20,6 +20,7 @@ pub(crate) fn record_of(octets: &[u8]) -> Result<RrcRecord, RecFault>
         0x03 => reconfiguration(octets),
         0x04 => without_fields(octets, RrcRecord::ReconfigurationComplete),
         0x05 => data(octets),
+        0x06 => key_change(octets),
         _ => Err(RecFault::BadKind),
     }
 }
@@ -69,4 +70,21 @@ fn data(octets: &[u8]) -> Result<RrcRecord, RecFault>
 {
     let text = text_of(octets)?;
     Ok(RrcRecord::RrcData(text))
+}
+
+#[tactic(auto, unfolding(crate::specs::Reading::key_change_of))]
+fn key_change(octets: &[u8]) -> Result<RrcRecord, RecFault>
+    ensures { result ≡ key_change_of octets.now }
+{
+    sized(octets, 13)?;
+    let cell = cell_at(octets, 1)?;
+    let algs = algs_at(octets, 7)?;
+    let station = station_at(octets, 8)?;
+    let air = from_one_at(octets, 9)?;
+    Ok(RrcRecord::KeyChange {
+        cell,
+        algs,
+        station,
+        air,
+    })
 }

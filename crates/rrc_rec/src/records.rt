@@ -37,6 +37,19 @@ pub enum RrcRecord {
     ReconfigurationComplete,
     /// 05, any other RRC text: 0 to 200 octets, to the end.
     RrcData(ShortText),
+    /// 06, RRCConnectionReconfiguration with mobilityControlInfo to the present cell and keyChangeIndicator
+    /// (TS 36.331 5.3.5.4), which takes the KeNB of the NAS context in use (re-keying of KeNB, TS 33.401
+    /// 7.2.9.2). NCC is 0 and is not written: 13 octets.
+    KeyChange {
+        /// The cell of the phone, PCI in two octets and EARFCN-DL in four.
+        cell: Cell,
+        /// The algorithms chosen by the station, one octet.
+        algs: Algs,
+        /// The station, one octet from 0 to 7.
+        station: u8,
+        /// The new address of the phone, four octets, at least 1.
+        air: u32,
+    },
 }
 
 impl RrcRecord {
@@ -88,6 +101,18 @@ impl RrcRecord {
             RrcRecord::RrcData(text) => {
                 let mut out = list_of(&[0x05]);
                 out.append(text.as_slice());
+                out
+            }
+            RrcRecord::KeyChange {
+                cell,
+                algs,
+                station,
+                air,
+            } => {
+                let mut out = list_of(&[0x06]);
+                put_cell(&mut out, cell);
+                out.append(&[algs_octet(algs), *station]);
+                put_u32(&mut out, *air);
                 out
             }
         }

@@ -43,6 +43,21 @@ fn records_are_read_as_spelled_and_written_back(rt: HostRuntime) {
 }
 
 #[test]
+fn key_change_in_the_greatest_cell_is_read_as_spelled_and_written_back(rt: HostRuntime) {
+    let octets = [
+        0x06, 0x01, 0xf7, 0x00, 0x03, 0xff, 0xff, 0x02, 0x07, 0, 0, 1, 2,
+    ];
+    let change = RrcRecord::KeyChange {
+        cell: Cell::new(503, 262_143).expect(&rt, "in range"),
+        algs: Algs { eea: Eea::Eea0 },
+        station: 7,
+        air: 258,
+    };
+    assert_eq!(rt; change.write().as_slice(), octets.as_slice());
+    assert_eq!(rt; RrcRecord::read(&octets), Ok(change));
+}
+
+#[test]
 fn text_has_up_to_200_octets(rt: HostRuntime) {
     assert_eq!(rt;
         RrcRecord::read(&[0x05]),
@@ -63,7 +78,7 @@ fn text_has_up_to_200_octets(rt: HostRuntime) {
 
 #[test]
 fn fault_is_the_first_in_order(rt: HostRuntime) {
-    let table: [(&[u8], RecFault); 19] = [
+    let table: [(&[u8], RecFault); 26] = [
         (&[], RecFault::Short),
         (&[0x07], RecFault::BadKind),
         (&[0x07, 0, 0], RecFault::BadKind),
@@ -103,6 +118,34 @@ fn fault_is_the_first_in_order(rt: HostRuntime) {
         (
             &[0x03, 1, 0xf7, 0, 3, 0xff, 0xff, 7, 2, 7, 0, 0, 0, 0],
             RecFault::BadField(10),
+        ),
+        (
+            &[0x06, 1, 0xf8, 0, 4, 0, 0, 0x12, 8, 0, 0, 0],
+            RecFault::Short,
+        ),
+        (
+            &[0x06, 1, 0xf7, 0, 3, 0xff, 0xff, 2, 7, 0, 0, 0, 1, 0],
+            RecFault::Long,
+        ),
+        (
+            &[0x06, 1, 0xf8, 0, 4, 0, 0, 0x12, 8, 0, 0, 0, 0],
+            RecFault::BadField(1),
+        ),
+        (
+            &[0x06, 1, 0xf7, 0, 4, 0, 0, 0x12, 8, 0, 0, 0, 0],
+            RecFault::BadField(3),
+        ),
+        (
+            &[0x06, 1, 0xf7, 0, 3, 0xff, 0xff, 0x12, 8, 0, 0, 0, 0],
+            RecFault::BadField(7),
+        ),
+        (
+            &[0x06, 1, 0xf7, 0, 3, 0xff, 0xff, 2, 8, 0, 0, 0, 0],
+            RecFault::BadField(8),
+        ),
+        (
+            &[0x06, 1, 0xf7, 0, 3, 0xff, 0xff, 2, 7, 0, 0, 0, 0],
+            RecFault::BadField(9),
         ),
     ];
     for (octets, fault) in table {

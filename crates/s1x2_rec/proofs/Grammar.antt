@@ -11,10 +11,10 @@ use Rattle.alg_choice.specs.declared.caps.Caps.{Caps}
 use Rattle.annex_a_keys.specs.Cell.{Place}
 use Rattle.rec_fields.proofs.Fields.{octet_is}
 use Rattle.s1x2_rec.specs.declared.records.CoreRecord.{CoreRecord}
-use Rattle.s1x2_rec.specs.declared.records.CoreRecord.TheVariants.{InitialContext, ContextRelease, PathSwitchRequest, PathSwitchAnswer, HandoverRequired, HandoverRequest, HandoverRequestAck, HandoverCommand, HandoverNotify, HandoverCancel, X2Request, X2Ack, X2Cancel, X2Release}
+use Rattle.s1x2_rec.specs.declared.records.CoreRecord.TheVariants.{InitialContext, ContextRelease, PathSwitchRequest, PathSwitchAnswer, HandoverRequired, HandoverRequest, HandoverRequestAck, HandoverCommand, HandoverNotify, HandoverCancel, X2Request, X2Ack, X2Cancel, X2Release, ContextModification}
 use Rattle.s1x2_rec.specs.Content.{content_of}
 use Rattle.s1x2_rec.specs.Spelling.{spelling_of, InRange}
-use Rattle.s1x2_rec.specs.Reading.{read_record, of_kind, initial_context_of, context_release_of, path_switch_request_of, path_switch_answer_of, handover_required_of, handover_request_of, handover_request_ack_of, handover_command_of, handover_notify_of, handover_cancel_of, x2_request_of, x2_ack_of, x2_cancel_of, x2_release_of}
+use Rattle.s1x2_rec.specs.Reading.{read_record, of_kind, initial_context_of, context_release_of, path_switch_request_of, path_switch_answer_of, handover_required_of, handover_request_of, handover_request_ack_of, handover_command_of, handover_notify_of, handover_cancel_of, x2_request_of, x2_ack_of, x2_cancel_of, x2_release_of, context_modification_of}
 use Rattle.s1x2_rec.proofs.Layouts.{Layout, End, Key, Number, Small, Cell, Algorithms, Capabilities, Values, spelled_by, record_found, record_again}
 
 abbrev Spelled : List ℕ → CoreRecord → Type 0
@@ -296,6 +296,25 @@ x2_release_again conn attempt h =
     by_kind (0x33 ∷ spelled_by x2_release_layout vs) 0x33 (omega arith) (octet_is (0x33 ∷ spelled_by x2_release_layout vs) 0 (omega arith))
     ∙ record_again x2_release_layout x2_release_made 0x33 vs (h.fields.0, (h.fields.1, tt))
 
+abbrev context_modification_layout : Layout
+context_modification_layout = Number (Number Key)
+
+abbrev context_modification_made : Values context_modification_layout → CoreRecord
+context_modification_made vs = ContextModification vs.0 vs.1.0 vs.1.1
+
+context_modification_takes : (octets : List ℕ) (r : CoreRecord) → AreOctets octets → number_at octets 0 1 ≡ 0x34 → context_modification_of octets ≡ Ok r → Spelled octets r
+unfolding context_modification_of spelling_of octets_of
+context_modification_takes octets r fit kind e =
+    let t = record_found context_modification_layout context_modification_made 0x34 octets r fit kind e in
+    subst (Spelled octets) t.1 (record { fields = (t.3.0, t.3.1.0); key = (t.3.1.1.0, t.3.1.1.1, omega arith) }, t.2)
+
+context_modification_again : (conn : ℕ) (next : ℕ) (kenb : List ℕ) → ReadAgain (ContextModification conn next kenb)
+unfolding context_modification_of spelling_of octets_of
+context_modification_again conn next kenb h =
+    let vs : Values context_modification_layout = (conn, (next, kenb)) in
+    by_kind (0x34 ∷ spelled_by context_modification_layout vs) 0x34 (omega arith) (octet_is (0x34 ∷ spelled_by context_modification_layout vs) 0 (omega arith))
+    ∙ record_again context_modification_layout context_modification_made 0x34 vs (h.fields.0, (h.fields.1, (h.key.0, h.key.1)))
+
 -- a test of the kind
 by_test : (b : Bool) (x y : Result CoreRecord RecFault) (octets : List ℕ) (r : CoreRecord)
     → (b ≡ true → x ≡ Ok r → Spelled octets r) → (y ≡ Ok r → Spelled octets r) → cond b x y ≡ Ok r → Spelled octets r
@@ -317,7 +336,8 @@ kind_found octets kind r fit is =
     (by_test (eqb kind 0x30) _ _ octets r (λ h. x2_request_takes octets r fit (is ∙ eqb-true kind 0x30 h))
     (by_test (eqb kind 0x31) _ _ octets r (λ h. x2_ack_takes octets r fit (is ∙ eqb-true kind 0x31 h))
     (by_test (eqb kind 0x32) _ _ octets r (λ h. x2_cancel_takes octets r fit (is ∙ eqb-true kind 0x32 h))
-    (by_test (eqb kind 0x33) _ _ octets r (λ h. x2_release_takes octets r fit (is ∙ eqb-true kind 0x33 h)) (λ e. absurd cc)))))))))))))))
+    (by_test (eqb kind 0x33) _ _ octets r (λ h. x2_release_takes octets r fit (is ∙ eqb-true kind 0x33 h))
+    (by_test (eqb kind 0x34) _ _ octets r (λ h. context_modification_takes octets r fit (is ∙ eqb-true kind 0x34 h)) (λ e. absurd cc))))))))))))))))
 
 some_by : (b : Bool) (x : Result CoreRecord RecFault) (r : CoreRecord) → cond b (Err Short) x ≡ Ok r → x ≡ Ok r
 some_by true x r e = absurd cc
@@ -344,6 +364,7 @@ spelled_is_read (X2Request conn source attempt cell caps ncc star) h = x2_reques
 spelled_is_read (X2Ack conn attempt cell algs air) h = x2_ack_again conn attempt cell algs air h
 spelled_is_read (X2Cancel conn source attempt) h = x2_cancel_again conn source attempt h
 spelled_is_read (X2Release conn attempt) h = x2_release_again conn attempt h
+spelled_is_read (ContextModification conn next kenb) h = context_modification_again conn next kenb h
 
 -- the same of what a reader answered
 pub found_in : (octets : List ℕ) (answer : Result CoreRecord RecFault) → AreOctets octets → answer ≡ read_record octets

@@ -34,8 +34,10 @@ pub data Fields : Type 0 where
   X2Cancel : ℕ → ℕ → ℕ → Fields
   -- connection, attempt
   X2Release : ℕ → ℕ → Fields
+  -- connection, next connection number
+  ContextModification : ℕ → ℕ → Fields
 
--- the kind, the first octet, in hex: 20 to 29 on S1, 30 to 33 on X2
+-- the kind, the first octet, in hex: 20 to 29 and 34 on S1, 30 to 33 on X2
 abbrev pub kind_of : Fields → ℕ
 kind_of (InitialContext conn cell caps) = 0x20
 kind_of (ContextRelease conn) = 0x21
@@ -51,3 +53,4 @@ kind_of (X2Request conn source attempt cell caps) = 0x30
 kind_of (X2Ack conn attempt cell algs air) = 0x31
 kind_of (X2Cancel conn source attempt) = 0x32
 kind_of (X2Release conn attempt) = 0x33
+kind_of (ContextModification conn next) = 0x34

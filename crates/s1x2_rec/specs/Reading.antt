@@ -5,7 +5,7 @@ use Rattle.rec_base.specs.declared.faults.RecFault.{RecFault}
 use Rattle.rec_base.specs.declared.faults.RecFault.TheVariants.{Short, BadKind}
 use Rattle.rec_fields.specs.Field.{◌>>=◌, of_size, station_at, ncc_at, from_one_at, algs_at, caps_at, cell_at}
 use Rattle.s1x2_rec.specs.declared.records.CoreRecord.{CoreRecord}
-use Rattle.s1x2_rec.specs.declared.records.CoreRecord.TheVariants.{InitialContext, ContextRelease, PathSwitchRequest, PathSwitchAnswer, HandoverRequired, HandoverRequest, HandoverRequestAck, HandoverCommand, HandoverNotify, HandoverCancel, X2Request, X2Ack, X2Cancel, X2Release}
+use Rattle.s1x2_rec.specs.declared.records.CoreRecord.TheVariants.{InitialContext, ContextRelease, PathSwitchRequest, PathSwitchAnswer, HandoverRequired, HandoverRequest, HandoverRequestAck, HandoverCommand, HandoverNotify, HandoverCancel, X2Request, X2Ack, X2Cancel, X2Release, ContextModification}
 use Rattle.s1x2_rec.specs.Content.{Content, content_of}
 
 -- connection, cell, capabilities, KeNB
@@ -146,6 +146,14 @@ x2_release_of octets = do
   attempt ← from_one_at octets 5
   Ok (X2Release conn attempt)
 
+-- connection, next connection number, KeNB
+unfoldable pub context_modification_of : List ℕ → Result CoreRecord RecFault
+context_modification_of octets = do
+  size ← of_size 41 octets
+  conn ← from_one_at octets 1
+  next ← from_one_at octets 5
+  Ok (ContextModification conn next (field_at octets 9 32))
+
 -- by the kind
 abbrev pub of_kind : ℕ → List ℕ → Result CoreRecord RecFault
 of_kind kind octets =
@@ -163,7 +171,8 @@ of_kind kind octets =
     else (if kind == 0x31 then x2_ack_of octets
     else (if kind == 0x32 then x2_cancel_of octets
     else (if kind == 0x33 then x2_release_of octets
-    else Err BadKind)))))))))))))
+    else (if kind == 0x34 then context_modification_of octets
+    else Err BadKind))))))))))))))
 
 -- the record, or the first fault
 unfoldable pub read_record : List ℕ → Result CoreRecord RecFault

@@ -5,7 +5,7 @@ use Rattle.rec_base.specs.BigEndian.{octets_of}
 use Rattle.rec_fields.specs.Spelled.{algs_octet, cell_octets}
 use Rattle.alg_choice.specs.declared.caps.Caps.{Caps}
 use Rattle.annex_a_keys.specs.Cell.{IsCell}
-use Rattle.s1x2_rec.specs.Fields.{Fields, kind_of, InitialContext, ContextRelease, PathSwitchRequest, PathSwitchAnswer, HandoverRequired, HandoverRequest, HandoverRequestAck, HandoverCommand, HandoverNotify, HandoverCancel, X2Request, X2Ack, X2Cancel, X2Release}
+use Rattle.s1x2_rec.specs.Fields.{Fields, kind_of, InitialContext, ContextRelease, PathSwitchRequest, PathSwitchAnswer, HandoverRequired, HandoverRequest, HandoverRequestAck, HandoverCommand, HandoverNotify, HandoverCancel, X2Request, X2Ack, X2Cancel, X2Release, ContextModification}
 use Rattle.s1x2_rec.specs.Content.{Content}
 
 -- a key
@@ -40,6 +40,7 @@ fields_octets (X2Ack conn attempt cell algs air) key =
     octets_of 4 conn ++ octets_of 4 attempt ++ cell_octets cell ++ algs_octet algs ∷ octets_of 4 air
 fields_octets (X2Cancel conn source attempt) key = octets_of 4 conn ++ source ∷ octets_of 4 attempt
 fields_octets (X2Release conn attempt) key = octets_of 4 conn ++ octets_of 4 attempt
+fields_octets (ContextModification conn next) key = octets_of 4 conn ++ octets_of 4 next ++ key_octets key
 
 -- the kind, and then the fields
 unfoldable pub spelling_of : Content (List ℕ) ℕ → List ℕ
@@ -70,6 +71,7 @@ FieldsInRange (X2Request conn source attempt cell caps) = IsNumber conn × (sour
 FieldsInRange (X2Ack conn attempt cell algs air) = IsNumber conn × IsNumber attempt × IsCell cell × IsNumber air
 FieldsInRange (X2Cancel conn source attempt) = IsNumber conn × (source ≤ 7) × IsNumber attempt
 FieldsInRange (X2Release conn attempt) = IsNumber conn × IsNumber attempt
+FieldsInRange (ContextModification conn next) = IsNumber conn × IsNumber next
 
 -- a key of 32 octets, whose NCC is at most this
 abbrev pub IsKey : ℕ → Option (NumberedKey (List ℕ) ℕ) → Type 0
@@ -80,13 +82,14 @@ abbrev pub IsNoKey : Option (NumberedKey (List ℕ) ℕ) → Type 0
 IsNoKey None = Unit {0}
 IsNoKey (Some k) = ⊥
 
--- a key stands exactly in the records that carry one; that of an InitialContext is a KeNB, whose NCC is 0 and is not
--- written (TS 33.401 7.2.8.1.1)
+-- a key stands exactly in the records that carry one; that of an InitialContext and of a ContextModification is a KeNB made
+-- from KASME, whose NCC is 0 and is not written (TS 33.401 7.2.8.1.1)
 abbrev pub KeyInRange : Fields → Option (NumberedKey (List ℕ) ℕ) → Type 0
 KeyInRange (InitialContext conn cell caps) key = IsKey 0 key
 KeyInRange (PathSwitchAnswer conn number) key = IsKey 7 key
 KeyInRange (HandoverRequest conn source attempt cell caps) key = IsKey 7 key
 KeyInRange (X2Request conn source attempt cell caps) key = IsKey 7 key
+KeyInRange (ContextModification conn next) key = IsKey 0 key
 KeyInRange other key = IsNoKey key
 
 -- each field is in its range

@@ -4,8 +4,8 @@ ghost use Rattle.s1x2_rec.specs.Reading.{read_record};
 
 use crate::CoreRecord;
 use crate::reading_s1::{
-    context_release, handover_cancel, handover_command, handover_notify, handover_request,
-    handover_request_ack, handover_required, initial_context, path_switch_answer,
+    context_modification, context_release, handover_cancel, handover_command, handover_notify,
+    handover_request, handover_request_ack, handover_required, initial_context, path_switch_answer,
     path_switch_request,
 };
 use crate::reading_x2::{x2_ack, x2_cancel, x2_release, x2_request};
@@ -34,6 +34,7 @@ pub(crate) fn record_of(octets: &[u8]) -> Result<CoreRecord, RecFault>
         0x31 => x2_ack(octets),
         0x32 => x2_cancel(octets),
         0x33 => x2_release(octets),
+        0x34 => context_modification(octets),
         _ => Err(RecFault::BadKind),
     }
 }

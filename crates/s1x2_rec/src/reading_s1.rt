@@ -1,6 +1,6 @@
 // Reading the records between station and core, by kind.
 ghost use Rattle.std.specs.Prelude.{◌≡◌};
-ghost use Rattle.s1x2_rec.specs.Reading.{initial_context_of, context_release_of, path_switch_request_of, path_switch_answer_of, handover_required_of, handover_request_of, handover_request_ack_of, handover_command_of, handover_notify_of, handover_cancel_of};
+ghost use Rattle.s1x2_rec.specs.Reading.{initial_context_of, context_release_of, path_switch_request_of, path_switch_answer_of, handover_required_of, handover_request_of, handover_request_ack_of, handover_command_of, handover_notify_of, handover_cancel_of, context_modification_of};
 
 use crate::CoreRecord;
 use annex_a_keys::{Kenb, Nh};
@@ -183,4 +183,15 @@ pub(crate) fn handover_cancel(octets: &[u8]) -> Result<CoreRecord, RecFault>
         attempt,
         cell,
     })
+}
+
+#[tactic(auto, unfolding(crate::specs::Reading::context_modification_of))]
+pub(crate) fn context_modification(octets: &[u8]) -> Result<CoreRecord, RecFault>
+    ensures { result ≡ context_modification_of octets.now }
+{
+    sized(octets, 41)?;
+    let conn = from_one_at(octets, 1)?;
+    let next = from_one_at(octets, 5)?;
+    let kenb = Kenb::of_octets(key_at(octets, 9));
+    Ok(CoreRecord::ContextModification { conn, next, kenb })
 }

@@ -179,6 +179,15 @@ pub enum CoreRecord {
         /// The attempt.
         attempt: u32,
     },
+    /// 34, from the core: UE Context Modification Request with a Security Key (TS 36.413 8.3.4), 41 octets.
+    ContextModification {
+        /// The connection.
+        conn: u32,
+        /// The number that the connection has from now on.
+        next: u32,
+        /// The new KeNB, whose NCC is 0 (TS 33.401 7.2.9.2).
+        kenb: Kenb,
+    },
 }
 
 impl CoreRecord {

@@ -10,7 +10,7 @@ const KEY: [u8; 32] = [
 ];
 
 // The octets of each kind before its key, and whether it has one.
-static KINDS: [(&[u8], bool); 14] = [
+static KINDS: [(&[u8], bool); 15] = [
     (&[0x20, 0, 0, 0, 1, 0, 11, 0, 0, 0, 101, 0xa0, 0x20], true),
     (&[0x21, 0, 0, 0, 1], false),
     (
@@ -61,6 +61,7 @@ static KINDS: [(&[u8], bool); 14] = [
     ),
     (&[0x32, 0, 0, 0, 1, 7, 0, 0, 0, 2], false),
     (&[0x33, 0, 0, 0, 1, 0, 0, 0, 2], false),
+    (&[0x34, 0, 0, 0, 1, 0, 0, 0, 2], true),
 ];
 
 // Appends octets one by one.
@@ -235,6 +236,11 @@ fn each_kind_is_read_as_spelled_and_written_back(rt: HostRuntime) {
             attempt,
         },
         CoreRecord::X2Release { conn, attempt },
+        CoreRecord::ContextModification {
+            conn,
+            next: 2,
+            kenb,
+        },
     ];
     for (kind, record) in table.iter().enumerate() {
         let octets = spelling(kind);
@@ -253,13 +259,13 @@ fn fault_is_the_first_in_order(rt: HostRuntime) {
         (&[], RecFault::Short),
         (&[0x1f], RecFault::BadKind),
         (&[0x2a, 0], RecFault::BadKind),
-        (&[0x34], RecFault::BadKind),
+        (&[0x35], RecFault::BadKind),
         (&[0x22], RecFault::Short),
     ];
     for (octets, fault) in table {
         assert_eq!(rt; CoreRecord::read(octets).err(), Some(fault));
     }
-    for kind in 0..14 {
+    for kind in 0..15 {
         let whole = spelling(kind);
         if let [short @ .., _] = whole.as_slice() {
             assert_eq!(rt;
@@ -280,7 +286,7 @@ fn fault_is_the_first_in_order(rt: HostRuntime) {
 
 #[test]
 fn field_out_of_range_is_named_by_its_offset(rt: HostRuntime) {
-    let table: [(usize, u8, &[u8]); 64] = [
+    let table: [(usize, u8, &[u8]); 66] = [
         (0, 1, &[0, 0, 0, 0]),
         (0, 5, &[1, 0xf8]),
         (0, 7, &[0, 4, 0, 0]),
@@ -345,6 +351,8 @@ fn field_out_of_range_is_named_by_its_offset(rt: HostRuntime) {
         (12, 6, &[0, 0, 0, 0]),
         (13, 1, &[0, 0, 0, 0]),
         (13, 5, &[0, 0, 0, 0]),
+        (14, 1, &[0, 0, 0, 0]),
+        (14, 5, &[0, 0, 0, 0]),
     ];
     for (kind, place, field) in table {
         let octets = changed(kind, place as usize, field);

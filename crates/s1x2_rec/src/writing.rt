@@ -10,7 +10,7 @@ use alg_choice::Caps;
 use rec_base::Octets;
 use rec_fields::{algs_octet, list_of, put_cell, put_u32};
 
-// The spelling of any record: those of a context, and of a path switch.
+// The spelling of any record: those of a context.
 #[tactic(auto, unfolding(crate::specs::Spelling::spelling_of))]
 pub(crate) fn written(core: &CoreRecord) -> Octets
     requires { InRange (content_of core.now) }
@@ -30,6 +30,25 @@ pub(crate) fn written(core: &CoreRecord) -> Octets
             out
         }
         CoreRecord::ContextRelease { conn } => begun(0x21, *conn),
+        CoreRecord::ContextModification { conn, next, kenb } => {
+            let mut out = begun(0x34, *conn);
+            put_u32(&mut out, *next);
+            out.append(&kenb.octets());
+            out
+        }
+        _ => written_of_path_switch(core),
+    }
+}
+
+// The spelling of the records of a path switch.
+#[tactic(auto, unfolding(crate::specs::Spelling::spelling_of))]
+fn written_of_path_switch(core: &CoreRecord) -> Octets
+    requires range { InRange (content_of core.now) }
+    requires from { 0x22 ≤ kind_of (content_of core.now).fields }
+    requires to { kind_of (content_of core.now).fields ≤ 0x33 }
+    ensures { result ≡ spelling_of (content_of core.now) }
+{
+    match core {
         CoreRecord::PathSwitchRequest {
             conn,
             station,
@@ -61,7 +80,8 @@ pub(crate) fn written(core: &CoreRecord) -> Octets
 #[tactic(auto, unfolding(crate::specs::Spelling::spelling_of))]
 fn written_of_handover(core: &CoreRecord) -> Octets
     requires range { InRange (content_of core.now) }
-    requires kind { 0x24 ≤ kind_of (content_of core.now).fields }
+    requires from { 0x24 ≤ kind_of (content_of core.now).fields }
+    requires to { kind_of (content_of core.now).fields ≤ 0x33 }
     ensures { result ≡ spelling_of (content_of core.now) }
 {
     match core {
@@ -113,7 +133,8 @@ fn written_of_handover(core: &CoreRecord) -> Octets
 #[tactic(auto, unfolding(crate::specs::Spelling::spelling_of))]
 fn written_of_command(core: &CoreRecord) -> Octets
     requires range { InRange (content_of core.now) }
-    requires kind { 0x27 ≤ kind_of (content_of core.now).fields }
+    requires from { 0x27 ≤ kind_of (content_of core.now).fields }
+    requires to { kind_of (content_of core.now).fields ≤ 0x33 }
     ensures { result ≡ spelling_of (content_of core.now) }
 {
     match core {
@@ -160,7 +181,8 @@ fn written_of_command(core: &CoreRecord) -> Octets
 #[tactic(auto, unfolding(crate::specs::Spelling::spelling_of))]
 fn written_of_x2(core: &CoreRecord) -> Octets
     requires range { InRange (content_of core.now) }
-    requires kind { 0x30 ≤ kind_of (content_of core.now).fields }
+    requires from { 0x30 ≤ kind_of (content_of core.now).fields }
+    requires to { kind_of (content_of core.now).fields ≤ 0x33 }
     ensures { result ≡ spelling_of (content_of core.now) }
 {
     match core {

@@ -13,9 +13,9 @@ use Rattle.lte_events.specs.Site.{Site}
 use Rattle.key_model.specs.Term.{Term}
 use Rattle.key_model.specs.Reading.{term_reading_by}
 use Rattle.lte_machine.specs.Bearers.{Srb, Signalling1, Signalling2, Drb, Which, OnSrb, which, of_srb, of_drb}
-use Rattle.lte_machine.specs.Wire.{KeyUse, Ciphering, Outgoing, SealedNas, PlainNas, SealedRrc, UserPacket, Between}
+use Rattle.lte_machine.specs.Wire.{KeyUse, Ciphering, Outgoing, SealedNas, PlainNas, SealedRrc, UserPacket, Between, srb_ciphering}
 use Rattle.lte_machine.specs.Opening.{Opening, Outcome, Opened}
-use Rattle.lte_machine.specs.Reply.{Took, unseen}
+use Rattle.lte_machine.specs.Reply.{BySetup, Took, unseen}
 use Rattle.lte_machine.specs.PhoneState.{Phone, PhoneNasPdu, PhoneAirPdu}
 use Rattle.lte_machine.specs.PhoneChoice.{unciphered_text}
 use Rattle.lte_machine.specs.PhoneStep.{plain_phone}
@@ -38,7 +38,7 @@ use Rattle.key_model.specs.Least.{least}
 use Rattle.alg_choice.specs.declared.algs.Algs.{Algs}
 use Rattle.alg_choice.specs.Choice.{are_supported}
 use Rattle.rrc_rec.specs.declared.records.RrcRecord.{RrcRecord}
-use Rattle.rrc_rec.specs.declared.records.RrcRecord.TheVariants.{SecurityModeCommand, SecurityModeComplete, Reconfiguration, ReconfigurationComplete, RrcData}
+use Rattle.rrc_rec.specs.declared.records.RrcRecord.TheVariants.{SecurityModeCommand, SecurityModeComplete, Reconfiguration, ReconfigurationComplete, RrcData, KeyChange}
 use Rattle.rrc_rec.specs.Reading.{read_rrc}
 use Rattle.pdcp_guard.specs.declared.pdus.PdcpFault.{PdcpFault}
 use Rattle.pdcp_guard.specs.Counts.{in_32_bits}
@@ -46,11 +46,11 @@ use Rattle.pdcp_guard.specs.declared.counting.TheConstants.{LIMIT}
 use Rattle.pdcp_guard.specs.Srb.{srb_first, srb_sn, srb_count}
 use Rattle.pdcp_guard.specs.Drb.{drb_count}
 use Rattle.lte_machine.specs.Bearers.{srb_counts, drb_counts, OnDrb}
-use Rattle.lte_machine.specs.Wire.{srb_use, ciphering_by}
+use Rattle.lte_machine.specs.Wire.{srb_use}
 use Rattle.lte_machine.specs.Opening.{Differs, OpensSrb}
 use Rattle.lte_machine.specs.PhoneState.{Waiting, Link, Radio, Idle, Connecting, Connected, map_radio, map_link, NasContext, Partial}
 use Rattle.lte_machine.specs.PhoneChoice.{NasFront, NasSettled, AtCommand, AtMessage, AirFront, AtStart, start_read, start_at, waiting_front, signalling_at, packet_at, linked_front, air_front, nas_by_header, header_for_phone}
-use Rattle.lte_machine.specs.PhoneKeys.{nas_expects, air_expects, start_expects, signalling_expects, packet_expects, srb_ciphering_down, command_expects, message_expects}
+use Rattle.lte_machine.specs.PhoneKeys.{nas_expects, air_expects, start_expects, signalling_expects, packet_expects, command_expects, message_expects}
 use Rattle.lte_machine.specs.StationChoice as st
 use Rattle.lte_machine.specs.StationKeys as stk
 use Rattle.lte_machine.specs.StationStep.{station_front_of}
@@ -65,7 +65,7 @@ use Rattle.lte_properties.proofs.Agreement.Ghost.{keys_of, LinkIs}
 use Rattle.lte_properties.proofs.Agreement.PhoneWalk.{by_test, one_key, both_named}
 use Rattle.lte_properties.proofs.Agreement.Later.{same_found}
 use Rattle.lte_properties.proofs.Agreement.Events.{which_srb}
-use Rattle.lte_properties.proofs.Agreement.World.{TheWorld, Conns, ghost, WorldOk, PlainReads}
+use Rattle.lte_properties.proofs.Agreement.World.{TheWorld, Conns, ghost, WorldOk, OctetsTell}
 
 -- a phone that waits for the security of its connection took its KeNB nowhere yet
 abbrev pub NewKenb : List (Took Term ℕ) → Radio Term ℕ → Type 0
@@ -135,6 +135,7 @@ module _ (same : Term → Term → Bool) (g : Ghost) (s : Phone Term ℕ) (caps 
   read_calm w is never count outcome (Ok (Reconfiguration cell ncc algs st a)) honest = tt
   read_calm w is never count outcome (Ok ReconfigurationComplete) honest = tt
   read_calm w is never count outcome (Ok (RrcData text)) honest = tt
+  read_calm w is never count outcome (Ok (KeyChange cell algs st a)) honest = tt
 
   count_calm : (w : Waiting Term) → s.radio ≡ Connecting w → NewKenb g.took (Connecting w) → (outcome : Outcome) (count : Result ℕ PdcpFault)
       → Calmly outcome (start_at caps station air pdu count)
@@ -151,8 +152,8 @@ module _ (same : Term → Term → Bool) (g : Ghost) (s : Phone Term ℕ) (caps 
   ciphered_here : (l : Link Term ℕ) → LinkIs g l → l.station ≡ station → l.air ≡ air → (srb : Srb) (count : ℕ) → on ≡ OnSrb srb
       → (srb_counts srb l.bearers).receive ≤ count
       → (text : List ℕ) (o : Option (Outgoing Term ℕ)) → CameDown g station air on pdu o
-      → WasSealed (srb_use Down l.keys.rrc_int srb count) (Some (srb_ciphering_down l.keys srb count)) text o
-      → CipheredAs Down (Some (srb_ciphering_down l.keys srb count)) o
+      → WasSealed (srb_use Down l.keys.rrc_int srb count) (Some (srb_ciphering Down l.keys srb count)) text o
+      → CipheredAs Down (Some (srb_ciphering Down l.keys srb count)) o
   ciphered_here l h is_s is_a srb count is_on low text None k sealed = tt
   ciphered_here l h is_s is_a srb count is_on low text (Some (SealedNas dir header i f sent)) k sealed = tt
   ciphered_here l h is_s is_a srb count is_on low text (Some (SealedRrc Up st a sr i f sent)) k sealed = absurd k
@@ -160,7 +161,7 @@ module _ (same : Term → Term → Bool) (g : Ghost) (s : Phone Term ℕ) (caps 
   ciphered_here l h is_s is_a srb count is_on low text (Some (SealedRrc Down st a sr i None sent)) k sealed =
       let d = k.3 in
       let there : made_at g.made station air ≡ Some h.2 = (λ j. made_at g.made (sym is_s j) (sym is_a j)) ∙ h.3 in
-      let from : h.2.from_attempt ≡ None = ap (λ x. x.from_attempt) (same_found _ h.2 d.0 there d.1) ∙ d.3.0 in
+      let from : h.2.from ≡ BySetup = ap (λ x. x.from) (same_found _ h.2 d.0 there d.1) ∙ d.3.0 in
       let heard : 1 ≤ l.bearers.srb1.receive = h.7 from in
       let first : srb ≡ Signalling1 = one_srb srb sr (sym is_on ∙ k.2) ∙ d.3.2 in
       let none : count ≡ 0 = ap (λ v. v.count) sealed.0 ∙ d.3.1 in
@@ -259,7 +260,7 @@ station_calm (st.FromAir (st.OnSignalling srb count)) s came outcome = by_contex
   where
     by_context : (o : Option (Context Term ℕ)) → IsCalm (stk.signalling_expects srb count o) came outcome
     by_context None = tt
-    by_context (Some c) = up_calm (srb_use Up c.keys.rrc_int srb count) (Some (ciphering_by c.keys.algs.eea (srb_use Up c.keys.rrc_enc srb count))) came outcome refl
+    by_context (Some c) = up_calm (srb_use Up c.keys.rrc_int srb count) (Some (srb_ciphering Up c.keys srb count)) came outcome refl
 station_calm (st.FromAir (st.OnUser drb count)) s came outcome = by_context s.context
   where
     by_context : (o : Option (Context Term ℕ)) → IsCalm (stk.user_expects drb count o) came outcome
@@ -269,11 +270,11 @@ station_calm (st.FromAir (st.OnPrepared air by count)) s came outcome = by_prep 
   where
     by_prep : (o : Option (Prep Term ℕ)) → IsCalm (stk.prepared_expects {C = ℕ} count o) came outcome
     by_prep None = tt
-    by_prep (Some p) = up_calm (srb_use Up p.keys.rrc_int Signalling1 count) (Some (ciphering_by p.keys.algs.eea (srb_use Up p.keys.rrc_enc Signalling1 count))) came outcome refl
+    by_prep (Some p) = up_calm (srb_use Up p.keys.rrc_int Signalling1 count) (Some (srb_ciphering Up p.keys Signalling1 count)) came outcome refl
 
 -- AN EVENT
 
-module _ (same : Term → Term → Bool) (root : ℕ → List ℕ → Term) (octets : Outgoing Term ℕ → List ℕ) (sender : Option (Outgoing Term ℕ) → Option (KeyUse Term)) (opener : Opening Term → List ℕ → Option (Outgoing Term ℕ) → Outcome) (plain_reads : PlainReads octets) (cells : List Site) where
+module _ (same : Term → Term → Bool) (root : ℕ → List ℕ → Term) (octets : Outgoing Term ℕ → List ℕ) (sender : Option (Outgoing Term ℕ) → Option (KeyUse Term)) (opener : Opening Term → List ℕ → Option (Outgoing Term ℕ) → Outcome) (tell : OctetsTell octets) (cells : List Site) where
   abbrev m : Machine Term ℕ (Outgoing Term ℕ)
   m = machine_by same root octets sender opener
 
@@ -295,7 +296,8 @@ module _ (same : Term → Term → Bool) (root : ℕ → List ℕ → Term) (oct
 
   phone_nas_at : (w : TheWorld) (pdu : List ℕ) (came : Option (Outgoing Term ℕ)) → IsCalmAt (phone_attempts m w (PhoneNasPdu pdu) came)
   phone_nas_at w pdu came =
-      nas_calm same (nas_by_header (plain_phone (term_reading_by same) w.phone) pdu (header_for_phone pdu)) w.phone came (outcome_of m (phone_attempts m w (PhoneNasPdu pdu) came))
+      let p = plain_phone (term_reading_by same) w.phone in
+      nas_calm same (nas_by_header p.caps p.partial p.context pdu (header_for_phone pdu)) w.phone came (outcome_of m (phone_attempts m w (PhoneNasPdu pdu) came))
 
   phone_air_at : (c : Conns) (w : TheWorld) → WorldOk cells c w → NewKenb w.took w.phone.radio → (station air : ℕ) (bearer : Bearer) (pdu : List ℕ) (came : Option (Outgoing Term ℕ))
       → CameDown (ghost c w) station air (which bearer) pdu came
@@ -328,7 +330,7 @@ module _ (same : Term → Term → Bool) (root : ℕ → List ℕ → Term) (oct
       station_calm_at station w (AirPdu air (of_srb srb) (octets (SealedRrc Up station air srb i e text))) (Some (SealedRrc Up station air srb i e text))
   delivery_calm c w h never (Some (SealedRrc Down station air srb i e text)) k honest =
       phone_air_at c w h never station air (of_srb srb) (octets (SealedRrc Down station air srb i e text)) (Some (SealedRrc Down station air srb i e text))
-      (refl, refl, which_srb srb, k, (λ none. ap (λ f. unciphered_text (octets (SealedRrc Down station air srb i f text))) none ∙ plain_reads Down station air srb i text)) honest
+      (refl, refl, which_srb srb, k, (λ none. ap (λ f. unciphered_text (octets (SealedRrc Down station air srb i f text))) none ∙ tell.text Down station air srb i text)) honest
   delivery_calm c w h never (Some (UserPacket Up station air drb e text)) k honest =
       station_calm_at station w (AirPdu air (of_drb drb) (octets (UserPacket Up station air drb e text))) (Some (UserPacket Up station air drb e text))
   delivery_calm c w h never (Some (UserPacket Down station air drb e text)) k honest = phone_air_at c w h never station air (of_drb drb) (octets (UserPacket Down station air drb e text)) (Some (UserPacket Down station air drb e text)) tt honest

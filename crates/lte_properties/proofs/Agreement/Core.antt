@@ -12,21 +12,21 @@ use Rattle.annex_a_keys.specs.Cell.{Place}
 use Rattle.lte_events.specs.declared.acts.CoreAct.{CoreAct}
 use Rattle.lte_events.specs.declared.acts.CoreAct.TheVariants.{StartSmc, Connect, Release, SendNas, Skip}
 use Rattle.lte_events.specs.declared.addresses.Address.{Address}
-use Rattle.lte_events.specs.Site.{Site}
+use Rattle.lte_events.specs.Site.{Site, station_of}
 use Rattle.key_model.specs.Term.{Term, Kenb, Nh}
 use Rattle.key_model.specs.Chain.{nh, ncc_of}
 use Rattle.key_model.specs.HandoverTable.{NumberedKey}
 use Rattle.key_model.specs.Reading.{term_reading_by}
 use Rattle.nas_count.specs.declared.sending.TheConstants.{LIMIT}
 use Rattle.nas_guard.specs.Keys.{Keys}
-use Rattle.s1x2_rec.specs.Fields.{Fields, InitialContext, ContextRelease, PathSwitchRequest, PathSwitchAnswer, HandoverRequired, HandoverRequest, HandoverRequestAck, HandoverCommand, HandoverNotify, HandoverCancel, X2Request, X2Ack, X2Cancel, X2Release}
+use Rattle.nh_chain.specs.Chain.{begun}
+use Rattle.s1x2_rec.specs.Fields.{Fields, InitialContext, ContextRelease, PathSwitchRequest, PathSwitchAnswer, HandoverRequired, HandoverRequest, HandoverRequestAck, HandoverCommand, HandoverNotify, HandoverCancel, X2Request, X2Ack, X2Cancel, X2Release, ContextModification}
 use Rattle.lte_machine.specs.Reply.{unseen}
 use Rattle.lte_machine.specs.CoreState.{Core, CorePartial, CoreContext, CoreLink, map_core_link}
-use Rattle.lte_machine.specs.CoreRows.{CoreNasRow, NasRefused, PlainReject, SmcComplete, ServiceAsked, NasOpened, SealedReject, CoreRecordRow, RecordRefused, PathSwitched, HandoverAsked, HandoverOrdered, HandoverNotified, HandoverCancelled, CoreActRow, ActRefused, SmcStarted, ContextSetUp, ContextReleased, NasSent, NasSkipped, CoreRow, OfNas, OfRecord, OfAct, OfAuth}
-use Rattle.lte_machine.specs.CoreKeys.{CoreDone, authenticated, smc_started, smc_complete, service_asked, nas_opened, sealed_reject, nas_sent, nas_skipped, context_set_up, path_switched, handover_asked, handover_notified, core_does_nas, core_does_record, core_does_act, core_does}
-use Rattle.lte_machine.specs.CoreChoice.{PlainCore, station_at_cell, asked_at, caps_in_use, cancelled_at, of_link, core_fields_row, smc_row, start_smc_row, connect_row, release_row, send_nas_row, skip_nas_row, core_act_row, NUMBERS}
+use Rattle.lte_machine.specs.CoreRows.{CoreNasRow, NasRefused, PlainReject, SmcComplete, SmcChange, ServiceAsked, NasOpened, SealedReject, CoreRecordRow, RecordRefused, PathSwitched, HandoverAsked, HandoverOrdered, HandoverNotified, HandoverCancelled, CoreActRow, ActRefused, SmcStarted, ContextSetUp, ContextReleased, NasSent, NasSkipped, CoreRow, OfNas, OfRecord, OfAct, OfAuth}
+use Rattle.lte_machine.specs.CoreKeys.{CoreDone, authenticated, smc_started, smc_complete, key_changed, service_asked, nas_opened, sealed_reject, nas_sent, nas_skipped, context_set_up, path_switched, handover_asked, handover_notified, core_does_nas, core_does_record, core_does_act, core_does}
+use Rattle.lte_machine.specs.CoreChoice.{PlainCore, asked_at, caps_in_use, cancelled_at, of_link, core_fields_row, smc_row, start_smc_row, connect_row, release_row, send_nas_row, skip_nas_row, core_act_row, NUMBERS}
 use Rattle.lte_machine.specs.CoreStep.{plain_core}
-use Rattle.lte_machine.specs.StationChoice.{station_of}
 use Rattle.lte_properties.specs.ChainBelow.{AllOf}
 use Rattle.lte_properties.proofs.Agreement.Ghost.{Ghost, chain_at, PairOk, TriedOk, CoreLinkOk, CoreOk, AskedIs, AnyTried, AckIs, HasNcc, BetweenOk, OutOk}
 use Rattle.lte_properties.proofs.Agreement.Later.{Later, later_itself, same_found}
@@ -56,11 +56,17 @@ CoreRecordNeeds cells g s (HandoverAsked conn source attempt cell target caps) =
 CoreRecordNeeds cells g s (HandoverOrdered conn source attempt cell ncc algs air) = AckIs g source attempt algs air (HasNcc ncc)
 CoreRecordNeeds cells g s other = ⊤
 
+-- a key change begins the next connection, with the KeNB of COUNT 0
+abbrev pub CoreNasNeeds : Core Term ℕ → CoreNasRow → Type 0
+CoreNasNeeds s (SmcChange count conn next station) = (next ≡ s.next) × (count ≡ 0)
+CoreNasNeeds s other = ⊤
+
 abbrev pub CoreActNeeds : Core Term ℕ → CoreActRow → Type 0
 CoreActNeeds s (ContextSetUp conn cell target caps count) = conn ≡ s.next
 CoreActNeeds s other = ⊤
 
 abbrev pub CoreNeeds : List Site → Ghost → Core Term ℕ → CoreRow → Type 0
+CoreNeeds cells g s (OfNas row) = CoreNasNeeds s row
 CoreNeeds cells g s (OfRecord row) = CoreRecordNeeds cells g s row
 CoreNeeds cells g s (OfAct row) = CoreActNeeds s row
 CoreNeeds cells g s other = ⊤
@@ -99,32 +105,53 @@ rises n f i = by_number (i == n) refl
     by_number false e = omega arith
 
 module _ (same : Term → Term → Bool) (cells : List Site) (g : Ghost) (tried_ok : AllOf (TriedOk cells g) g.tried) where
+  -- a new connection: its KASME, and the COUNT of its KeNB
+  module _ (conn : ℕ) (root : Term) (count : ℕ) (is : conn ≡ g.next) where
+    abbrev roots : ℕ → Term
+    roots = at_number conn root g.root
+
+    abbrev counts : ℕ → ℕ
+    counts = at_number conn count g.count
+
+    abbrev tops : ℕ → ℕ
+    tops = at_number conn 0 g.top
+
+    abbrev begun_ghost : Ghost
+    begun_ghost = with_conns g roots counts tops (conn + 1)
+
+    begins_later : Later g begun_ghost
+    begins_later = record {
+      next = omega arith;
+      root = λ i low. elsewhere conn i root g.root (omega arith);
+      count = λ i low. elsewhere conn i count g.count (omega arith);
+      top = λ i low. equal_below (sym (elsewhere conn i 0 g.top (omega arith)));
+      made = λ station air m e. e;
+      tried = λ station number e f. f;
+      took = λ x i. i;
+      first = λ station air x e. e;
+    }
+
+    begins_key : Kenb root count ≡ chain_at begun_ghost conn 0
+    begins_key = λ j. Kenb (sym (here conn root g.root) j) (sym (here conn count g.count) j)
+
+    begins_low : conn < conn + 1
+    begins_low = omega arith
+
+    begins_link : (station : ℕ) → CoreLinkOk begun_ghost (Some (record { conn = conn; chain = begun (term_reading_by same) root (Kenb root count); station = station }))
+    begins_link station = (begins_low, sym (here conn 0 g.top), sym (here conn root g.root), begins_key)
+
   set_up_goes : (conn : ℕ) (cell : Place) (target : ℕ) (caps : Caps) (count : ℕ) (o : Option (CoreContext Term)) (s : Core Term ℕ)
       → CoreOk cells g s → conn ≡ s.next → CoreGoes cells g (context_set_up (term_reading_by same) conn cell target caps count o s)
   set_up_goes conn cell target caps count None s h draws = (g.root, g.count, g.top, g.next, later_itself g, h, tt)
   set_up_goes conn cell target caps count (Some c) s h draws =
-      let root = at_number conn c.nas.root g.root in
-      let counts = at_number conn count g.count in
-      let top = at_number conn 0 g.top in
-      let k = with_conns g root counts top (conn + 1) in
-      let is : conn ≡ g.next = draws ∙ h.1 in
-      let later : Later g k = record {
-        next = omega arith;
-        root = λ i low. elsewhere conn i c.nas.root g.root (omega arith);
-        count = λ i low. elsewhere conn i count g.count (omega arith);
-        top = λ i low. equal_below (sym (elsewhere conn i 0 g.top (omega arith)));
-        made = λ station air m e. e;
-        tried = λ station number e f. f;
-        took = λ x i. i;
-      } in
-      let key : Kenb c.nas.root count ≡ chain_at k conn 0 = λ j. Kenb (sym (here conn c.nas.root g.root) j) (sym (here conn count g.count) j) in (
-        root,
-        counts,
-        top,
+      let is : conn ≡ g.next = draws ∙ h.1 in (
+        roots conn c.nas.root count is,
+        counts conn c.nas.root count is,
+        tops conn c.nas.root count is,
         conn + 1,
-        later,
-        ((omega arith, sym (here conn 0 g.top), sym (here conn c.nas.root g.root), key), refl, h.2),
-        (omega arith, key),
+        begins_later conn c.nas.root count is,
+        (begins_link conn c.nas.root count is target, refl, h.2),
+        (begins_low conn c.nas.root count is, begins_key conn c.nas.root count is),
       )
 
   -- a step of the chain
@@ -144,6 +171,7 @@ module _ (same : Term → Term → Bool) (cells : List Site) (g : Ghost) (tried_
       made = λ station air m e. e;
       tried = λ station number e f. f;
       took = λ x i. i;
+      first = λ station air x e. e;
     }
 
     number_up : link.chain.number + 1 ≡ up link.conn
@@ -214,6 +242,23 @@ module _ (same : Term → Term → Bool) (cells : List Site) (g : Ghost) (tried_
   smc_goes count (Some partial) None s h = (g.root, g.count, g.top, g.next, later_itself g, h, tt)
   smc_goes count (Some partial) (Some keys) s h = (g.root, g.count, g.top, g.next, later_itself g, h, tt)
 
+  -- the connection goes on under the next number, and its station gets the KeNB of COUNT 0
+  key_changed_goes : (count conn next station : ℕ) (o : Option (CorePartial Term)) (p : Option (Keys Term)) (s : Core Term ℕ) → CoreOk cells g s
+      → (next ≡ s.next) × (count ≡ 0) → CoreGoes cells g (key_changed (term_reading_by same) count conn next station o p s)
+  key_changed_goes count conn next station None p s h needs = (g.root, g.count, g.top, g.next, later_itself g, h, tt)
+  key_changed_goes count conn next station (Some partial) None s h needs = (g.root, g.count, g.top, g.next, later_itself g, h, tt)
+  key_changed_goes count conn next station (Some partial) (Some keys) s h needs =
+      let root = partial.root in
+      let is : next ≡ g.next = needs.0 ∙ h.1 in (
+        roots next root count is,
+        counts next root count is,
+        tops next root count is,
+        next + 1,
+        begins_later next root count is,
+        (begins_link next root count is station, refl, h.2),
+        (begins_low next root count is, begins_key next root count is, root, ap (Kenb root) needs.1),
+      )
+
   service_goes : (count : ℕ) (o : Option (CoreContext Term)) (s : Core Term ℕ) → CoreOk cells g s → CoreGoes cells g (service_asked count o s)
   service_goes count None s h = (g.root, g.count, g.top, g.next, later_itself g, h, tt)
   service_goes count (Some c) s h = (g.root, g.count, g.top, g.next, later_itself g, h, tt)
@@ -226,13 +271,14 @@ module _ (same : Term → Term → Bool) (cells : List Site) (g : Ghost) (tried_
   reject_goes count None s h = (g.root, g.count, g.top, g.next, later_itself g, h, tt)
   reject_goes count (Some c) s h = (g.root, g.count, g.top, g.next, later_itself g, h, tt)
 
-  core_nas_goes : (row : CoreNasRow) (s : Core Term ℕ) → CoreOk cells g s → CoreGoes cells g (core_does_nas row s)
-  core_nas_goes (NasRefused answer) s h = (g.root, g.count, g.top, g.next, later_itself g, h, tt)
-  core_nas_goes PlainReject s h = (g.root, g.count, g.top, g.next, later_itself g, h, tt)
-  core_nas_goes (SmcComplete count) s h = smc_goes count s.partial s.procedure s h
-  core_nas_goes (ServiceAsked count) s h = service_goes count s.context s h
-  core_nas_goes (NasOpened count text) s h = opened_goes count text s.context s h
-  core_nas_goes (SealedReject count) s h = reject_goes count s.context s h
+  core_nas_goes : (row : CoreNasRow) (s : Core Term ℕ) → CoreOk cells g s → CoreNasNeeds s row → CoreGoes cells g (core_does_nas (term_reading_by same) row s)
+  core_nas_goes (NasRefused answer) s h needs = (g.root, g.count, g.top, g.next, later_itself g, h, tt)
+  core_nas_goes PlainReject s h needs = (g.root, g.count, g.top, g.next, later_itself g, h, tt)
+  core_nas_goes (SmcComplete count) s h needs = smc_goes count s.partial s.procedure s h
+  core_nas_goes (SmcChange count conn next station) s h needs = key_changed_goes count conn next station s.partial s.procedure s h needs
+  core_nas_goes (ServiceAsked count) s h needs = service_goes count s.context s h
+  core_nas_goes (NasOpened count text) s h needs = opened_goes count text s.context s h
+  core_nas_goes (SealedReject count) s h needs = reject_goes count s.context s h
 
   started_goes : (ksi : ℕ) (algs : Algs) (caps : Caps) (count : ℕ) (o : Option (CorePartial Term)) (s : Core Term ℕ) → CoreOk cells g s
       → CoreGoes cells g (smc_started (term_reading_by same) ksi algs caps count o s)
@@ -262,7 +308,7 @@ module _ (same : Term → Term → Bool) (cells : List Site) (g : Ghost) (tried_
   -- each row
   pub core_goes : (row : CoreRow) (root : Option Term) (s : Core Term ℕ) → CoreOk cells g s → CoreNeeds cells g s row
       → CoreGoes cells g (core_does (term_reading_by same) row root s)
-  core_goes (OfNas row) root s h needs = core_nas_goes row s h
+  core_goes (OfNas row) root s h needs = core_nas_goes row s h needs
   core_goes (OfRecord row) root s h needs = core_record_goes row s h needs
   core_goes (OfAct row) root s h needs = core_act_goes row s h needs
   core_goes (OfAuth ksi caps) root s h needs = auth_goes ksi caps root s h
@@ -282,7 +328,7 @@ module _ (same : Term → Term → Bool) (cells : List Site) (g : Ghost) (s : Co
   linked (Some link) is conn row f =
       by_test Needs (link.conn == conn) _ _ (λ b. f (subst (λ o. LinkConn o conn) (sym is) (eqb-true link.conn conn b))) (λ b. tt)
 
-  asked_walks : (conn source attempt : ℕ) (cell : Place) (caps : Caps) (t : Option ℕ) → station_at_cell cell s.cells ≡ t
+  asked_walks : (conn source attempt : ℕ) (cell : Place) (caps : Caps) (t : Option ℕ) → station_of cell s.cells ≡ t
       → LinkConn s.link conn → AskedIs g conn source attempt cell None AnyTried → Needs (asked_at conn source attempt cell caps t)
   asked_walks conn source attempt cell caps None e is asked = tt
   asked_walks conn source attempt cell caps (Some target) e is asked = (is, asked, subst (λ x. station_of cell x ≡ Some target) h.2 e)
@@ -301,17 +347,18 @@ module _ (same : Term → Term → Bool) (cells : List Site) (g : Ghost) (s : Co
   core_record_walks to (PathSwitchAnswer conn number) key k = tt
   core_record_walks to (HandoverRequired conn source attempt cell) key k =
       linked s.link refl conn _ (λ is. by_test Needs (nat_le attempt (slice_index s.attempts source)) _ _ (λ b. tt)
-      (λ b. asked_walks conn source attempt cell (caps_in_use plain.context) (station_at_cell cell s.cells) refl is k))
+      (λ b. asked_walks conn source attempt cell (caps_in_use plain.context) (station_of cell s.cells) refl is k))
   core_record_walks to (HandoverRequest conn source attempt cell caps) key k = tt
   core_record_walks to (HandoverRequestAck conn source attempt cell ncc algs air) key k = linked s.link refl conn _ (λ is. k)
   core_record_walks to (HandoverCommand conn attempt cell ncc algs air) key k = tt
   core_record_walks to (HandoverNotify conn station cell) key k = linked s.link refl conn _ (λ is. tt)
   core_record_walks to (HandoverCancel conn source attempt cell) key k =
-      linked s.link refl conn _ (λ is. cancelled_walks conn source attempt cell (station_at_cell cell s.cells))
+      linked s.link refl conn _ (λ is. cancelled_walks conn source attempt cell (station_of cell s.cells))
   core_record_walks to (X2Request conn source attempt cell caps) key k = tt
   core_record_walks to (X2Ack conn attempt cell algs air) key k = tt
   core_record_walks to (X2Cancel conn source attempt) key k = tt
   core_record_walks to (X2Release conn attempt) key k = tt
+  core_record_walks to (ContextModification conn next) key k = tt
 
   smc_walks : (partial : CorePartial (Unit {0})) (answer : Result Algs NoneChosen) → CoreActNeeds s (smc_row partial answer)
   smc_walks partial (Err none) = tt
@@ -343,7 +390,7 @@ module _ (same : Term → Term → Bool) (cells : List Site) (g : Ghost) (s : Co
   pub core_act_walks : (act : CoreAct) → CoreActNeeds s (core_act_row (plain_core (term_reading_by same) s) act)
   unfolding plain
   core_act_walks StartSmc = start_walks s.priority plain.partial plain.procedure
-  core_act_walks (Connect cell) = connect_walks cell (station_at_cell cell s.cells) plain.context s.trigger
+  core_act_walks (Connect cell) = connect_walks cell (station_of cell s.cells) plain.context s.trigger
   core_act_walks Release = release_walks plain.link
   core_act_walks (SendNas text) = send_walks plain.context text
   core_act_walks (Skip n) = skip_walks plain.context n

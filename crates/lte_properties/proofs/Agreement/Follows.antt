@@ -1,5 +1,5 @@
--- The key before each obeyed command is the one that the phone took last, and a connection's the one that it took last.
-use Rattle.std.proofs.Common.{◌≡◌, refl, ap, ◌∙◌, ℕ, zero, suc, Bool, List, [], ◌∷◌, ◌++◌, Option, Some, None}
+-- What the phone had before each order that it obeyed is what it took last, and a connection is what it took last.
+use Rattle.std.proofs.Common.{◌≡◌, refl, ap, ◌∙◌, ℕ, zero, suc, Bool, true, false, List, [], ◌∷◌, ◌++◌, Option, Some, None}
 use Rattle.std.specs.List.{position_from}
 use Rattle.alg_choice.specs.declared.algs.Algs.{Algs}
 use Rattle.alg_choice.specs.declared.caps.Caps.{Caps}
@@ -9,17 +9,16 @@ use Rattle.lte_events.specs.declared.answers.Answer.{Answer}
 use Rattle.lte_events.specs.declared.events.Event.{Event}
 use Rattle.lte_events.specs.declared.setups.Setup.{Setup}
 use Rattle.key_model.specs.Term.{Term}
-use Rattle.key_model.specs.HandoverTable.{NumberedKey}
 use Rattle.key_model.specs.Reading.{term_reading_by}
 use Rattle.nh_chain.specs.Reach.{reached_after}
 use Rattle.lte_machine.specs.Bearers.{Srb, Drb, Which}
 use Rattle.lte_machine.specs.Wire.{KeyUse, Outgoing, address_of}
 use Rattle.lte_machine.specs.Opening.{Opening, Outcome}
-use Rattle.lte_machine.specs.Reply.{Took}
+use Rattle.lte_machine.specs.Reply.{Before, Took}
 use Rattle.lte_machine.specs.PhoneState.{Partial, NasContext, Link, Radio, Idle, Connecting, Connected, Phone, PhoneInput, PhoneActs, PhoneNasPdu, PhoneAirPdu}
-use Rattle.lte_machine.specs.PhoneRows.{AuthRow, Authenticated, NasRow, NasRefused, RejectedPlain, RejectedUnder, ContextTaken, ContextTakenConnected, NasOpened, AirRow, AirRefused, LinkSecured, HandedOver, RrcOpened, PacketOpened, ActRow, ActRefused, ServiceRequested, CompleteResent, WentIdle, PacketSent, RrcSent, NasSent, NasSkipped, BearerSkipped, PhoneRow, OfAuth, OfNas, OfAir, OfAct}
+use Rattle.lte_machine.specs.PhoneRows.{AuthRow, Authenticated, NasRow, NasRefused, RejectedPlain, RejectedUnder, ContextTaken, ContextTakenConnected, NasOpened, AirRow, AirRefused, LinkSecured, HandedOver, KeyChanged, RrcOpened, PacketOpened, ActRow, ActRefused, ServiceRequested, CompleteResent, WentIdle, PacketSent, RrcSent, NasSent, NasSkipped, BearerSkipped, PhoneRow, OfAuth, OfNas, OfAir, OfAct}
 use Rattle.lte_machine.specs.PhoneChoice.{phone_row}
-use Rattle.lte_machine.specs.PhoneKeys.{PhoneDone, auth_does, rejected_under, context_taken, context_taken_connected, nas_opened, nas_does, link_secured, handed_over, rrc_opened, packet_opened, air_does, service_requested, complete_resent, packet_sent, rrc_sent, nas_sent, nas_skipped, bearer_skipped, act_does, phone_does}
+use Rattle.lte_machine.specs.PhoneKeys.{PhoneDone, auth_does, rejected_under, context_taken, context_taken_connected, nas_opened, nas_does, link_secured, handed_over, before_of, changed_unless, key_changed, rrc_opened, packet_opened, air_does, service_requested, complete_resent, packet_sent, rrc_sent, nas_sent, nas_skipped, bearer_skipped, act_does, phone_does}
 use Rattle.lte_machine.specs.PhoneStep.{plain_phone, front_of, phone_root, phone_opens, phone_pdu_in}
 use Rattle.lte_machine.specs.StationState.{Station, StationInput, StationActs, AirPdu, StationRecord, OnS1, OnX2}
 use Rattle.lte_machine.specs.CoreState.{CoreInput, CoreActs, CoreNasPdu, CoreRecord}
@@ -28,23 +27,27 @@ use Rattle.lte_machine.specs.Run.{first_world}
 use Rattle.lte_properties.specs.ChainHolds.{machine_by, run}
 use Rattle.lte_properties.specs.Agreement.{Joins, Follow, TookLast}
 
--- the key that was taken last, if one was
-abbrev last_of : Option (NumberedKey Term ℕ) → List (Took Term ℕ) → Option (NumberedKey Term ℕ)
+-- what was taken, as it stands before the next order
+abbrev taken_before : Took Term ℕ → Before Term ℕ
+taken_before x = record { station = x.station; key = x.key; number = x.number }
+
+-- what was taken last, if anything was
+abbrev last_of : Option (Before Term ℕ) → List (Took Term ℕ) → Option (Before Term ℕ)
 last_of o [] = o
-last_of o (x ∷ xs) = last_of (Some (record { key = x.key; number = x.number })) xs
+last_of o (x ∷ xs) = last_of (Some (taken_before x)) xs
 
-follow_more : (o : Option (NumberedKey Term ℕ)) (xs : List (Took Term ℕ)) (x : Took Term ℕ) → Follow o xs → Joins x.before (last_of o xs) → Follow o (xs ++ x ∷ [])
+follow_more : (o : Option (Before Term ℕ)) (xs : List (Took Term ℕ)) (x : Took Term ℕ) → Follow o xs → Joins x.came (last_of o xs) → Follow o (xs ++ x ∷ [])
 follow_more o [] x h j = (j, tt)
-follow_more o (y ∷ ys) x h j = (h.0, follow_more (Some (record { key = y.key; number = y.number })) ys x h.1 j)
+follow_more o (y ∷ ys) x h j = (h.0, follow_more (Some (taken_before y)) ys x h.1 j)
 
-last_more : (o : Option (NumberedKey Term ℕ)) (xs : List (Took Term ℕ)) (x : Took Term ℕ) → last_of o (xs ++ x ∷ []) ≡ Some (record { key = x.key; number = x.number })
+last_more : (o : Option (Before Term ℕ)) (xs : List (Took Term ℕ)) (x : Took Term ℕ) → last_of o (xs ++ x ∷ []) ≡ Some (taken_before x)
 last_more o [] x = refl
-last_more o (y ∷ ys) x = last_more (Some (record { key = y.key; number = y.number })) ys x
+last_more o (y ∷ ys) x = last_more (Some (taken_before y)) ys x
 
--- the key of a connection is the one that was taken last
-last_is : (took : List (Took Term ℕ)) (l : Link Term ℕ) → TookLast took (Connected l) → last_of None took ≡ Some (record { key = l.kenb; number = l.chain.number })
+-- a connection is what was taken last
+last_is : (took : List (Took Term ℕ)) (l : Link Term ℕ) → TookLast took (Connected l) → last_of None took ≡ Some (before_of l)
 last_is took l k =
-    ap (last_of None) k.2 ∙ last_more None k.0 k.1 ∙ (λ j. Some (record { key = k.3.2 j; number = k.3.3 j }))
+    ap (last_of None) k.2 ∙ last_more None k.0 k.1 ∙ (λ j. Some (record { station = k.3.0 j; key = k.3.2 j; number = k.3.3 j }))
 
 -- after a step of the phone
 abbrev Follows : List (Took Term ℕ) → PhoneDone Term ℕ → Type 0
@@ -68,6 +71,18 @@ module _ (same : Term → Term → Bool) (took : List (Took Term ℕ)) (h : Foll
   handed cell steps algs station air s Idle k last = (h, k)
   handed cell steps algs station air s (Connecting w) k last = (h, k)
 
+  changed : (cell : Place) (algs : Algs) (station air : ℕ) (s : Phone Term ℕ) (l : Link Term ℕ) (root : Term) (b : Bool) → TookLast took s.radio → TookLast took (Connected l)
+      → Follows took (changed_unless (term_reading_by same) cell algs station air s (before_of l) root b)
+  changed cell algs station air s l root true k last = (h, k)
+  changed cell algs station air s l root false k last = (follow_more None took _ h (last_is took l last), (took, _, refl, (refl, refl, refl, refl, refl)))
+
+  key_change : (cell : Place) (algs : Algs) (station air : ℕ) (s : Phone Term ℕ) (radio : Radio Term ℕ) (o : Option (NasContext Term)) → TookLast took s.radio → TookLast took radio
+      → Follows took (key_changed (term_reading_by same) cell algs station air s radio o)
+  key_change cell algs station air s (Connected l) (Some c) k last = changed cell algs station air s l c.root (same c.root l.chain.root) k last
+  key_change cell algs station air s (Connected l) None k last = (h, k)
+  key_change cell algs station air s Idle o k last = (h, k)
+  key_change cell algs station air s (Connecting w) o k last = (h, k)
+
   opened_rrc : (srb : Srb) (count : ℕ) (text : List ℕ) (s : Phone Term ℕ) (radio : Radio Term ℕ) → TookLast took s.radio → TookLast took radio → Follows took (rrc_opened srb count text s radio)
   opened_rrc srb count text s (Connected l) k last = (h, last)
   opened_rrc srb count text s Idle k last = (h, k)
@@ -82,6 +97,7 @@ module _ (same : Term → Term → Bool) (took : List (Took Term ℕ)) (h : Foll
   air_follows (AirRefused answer) s k = (h, k)
   air_follows (LinkSecured station air algs count) s k = secured station air algs count s s.radio k
   air_follows (HandedOver cell steps algs station air) s k = handed cell steps algs station air s s.radio k k
+  air_follows (KeyChanged cell algs station air) s k = key_change cell algs station air s s.radio s.context k k
   air_follows (RrcOpened srb count text) s k = opened_rrc srb count text s s.radio k k
   air_follows (PacketOpened drb count text) s k = opened_packet drb count text s s.radio k k
 
@@ -205,7 +221,7 @@ module _ (same : Term → Term → Bool) (root : ℕ → List ℕ → Term) (oct
     auth_goes ksi key caps None = h
     auth_goes ksi key caps (Some row) = h
 
-    happens_in_turn : (e : Event) → InTurn (happens m w e).0
+    pub happens_in_turn : (e : Event) → InTurn (happens m w e).0
     happens_in_turn (Event.Auth ksi key caps) = let k = root (next_root w) key in auth_goes ksi k caps (known_root m w k)
     happens_in_turn (Event.Phone act) = phone_goes (PhoneActs act) None
     happens_in_turn (Event.Station id act) = turn_goes id (StationActs act) None (station_of_id id w.stations)

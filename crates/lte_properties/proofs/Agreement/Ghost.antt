@@ -4,11 +4,11 @@ use Rattle.std.proofs.Common.{◌≡◌, ℕ, ◌-◌, ◌<◌, ◌≤◌, List,
 use Rattle.rec_base.specs.declared.uses.Dir.TheVariants.{Up, Down}
 use Rattle.alg_choice.specs.Algs.{eia2_identity}
 use Rattle.alg_choice.specs.declared.algs.Algs.{Algs}
-use Rattle.annex_a_keys.specs.Cell.{Place}
+use Rattle.annex_a_keys.specs.Cell.{Place, IsCell}
 use Rattle.lte_events.specs.declared.addresses.Address.{Address}
 use Rattle.lte_events.specs.declared.addresses.Address.TheVariants.{StationS1, StationX2}
-use Rattle.lte_events.specs.Site.{Site}
-use Rattle.key_model.specs.Term.{Term, Kenb, Alg}
+use Rattle.lte_events.specs.Site.{Site, station_of}
+use Rattle.key_model.specs.Term.{Term, Kenb, Star, Alg}
 use Rattle.key_model.specs.Chain.{nh, ncc_of}
 use Rattle.key_model.specs.Number.{chain_number}
 use Rattle.key_model.specs.Reading.{term_reading}
@@ -16,19 +16,18 @@ use Rattle.key_model.specs.HandoverTable.{NumberedKey}
 use Rattle.key_model.specs.HandoverLines.{steps_to}
 use Rattle.pdcp_guard.specs.AsKeys.{AsKeys, as_keys_of}
 use Rattle.rrc_rec.specs.declared.records.RrcRecord.{RrcRecord}
-use Rattle.rrc_rec.specs.declared.records.RrcRecord.TheVariants.{SecurityModeCommand, Reconfiguration}
+use Rattle.rrc_rec.specs.declared.records.RrcRecord.TheVariants.{SecurityModeCommand, Reconfiguration, KeyChange}
 use Rattle.rrc_rec.specs.Reading.{read_rrc}
-use Rattle.s1x2_rec.specs.Fields.{Fields, InitialContext, PathSwitchAnswer, HandoverRequired, HandoverRequest, HandoverRequestAck, HandoverCommand, X2Request, X2Ack}
+use Rattle.s1x2_rec.specs.Fields.{Fields, InitialContext, PathSwitchAnswer, HandoverRequired, HandoverRequest, HandoverRequestAck, HandoverCommand, X2Request, X2Ack, ContextModification}
 use Rattle.ho_prep.specs.Prep.{Prep}
 use Rattle.x2_handover.specs.declared.orders.Order.{Order}
 use Rattle.x2_handover.specs.Attempt.{x2_order}
 use Rattle.s1_handover.specs.Attempt.{s1_order}
 use Rattle.lte_machine.specs.Bearers.{Srb, Signalling1, Bearers}
-use Rattle.lte_machine.specs.Wire.{KeyUse, Ciphering, Outgoing, SealedRrc, Between, srb_use, ciphering_by}
-use Rattle.lte_machine.specs.Reply.{Origin, Made, Tried, Took}
+use Rattle.lte_machine.specs.Wire.{KeyUse, Ciphering, Outgoing, SealedNas, SealedRrc, Between, srb_use, srb_ciphering}
+use Rattle.lte_machine.specs.Reply.{Origin, From, BySetup, ByAttempt, ByChange, Made, Tried, Took}
 use Rattle.lte_machine.specs.PhoneState.{Link, Radio, Idle, Connecting, Connected}
-use Rattle.lte_machine.specs.StationState.{Station, Context, Attempt, OverX2, OverS1, Within, X2State, X2Open, X2Ready, X2Commanded, S1State, S1Open, S1Ready, S1Commanded}
-use Rattle.lte_machine.specs.StationChoice.{station_of}
+use Rattle.lte_machine.specs.StationState.{Station, Context, Attempt, OverX2, OverS1, Within, Renewal, Renewing, X2State, X2Open, X2Ready, X2Commanded, S1State, S1Open, S1Ready, S1Commanded}
 use Rattle.lte_machine.specs.CoreState.{Core, CoreLink}
 use Rattle.std.specs.Prelude.{◌==◌, ◌&&◌, Bool, true, false, find, ⊤}
 use Rattle.lte_properties.specs.ChainBelow.{AllOf}
@@ -52,6 +51,13 @@ is_tried_at station attempt t = (t.station == station) && (t.attempt == attempt)
 
 abbrev pub tried_at : List (Tried Term ℕ) → ℕ → ℕ → Option (Tried Term ℕ)
 tried_at tried station attempt = find (is_tried_at station attempt) tried
+
+-- what the phone took first at a station and air address
+abbrev pub is_took_at : ℕ → ℕ → Took Term ℕ → Bool
+is_took_at station air x = (x.station == station) && (x.air == air)
+
+abbrev pub took_at : List (Took Term ℕ) → ℕ → ℕ → Option (Took Term ℕ)
+took_at took station air = find (is_took_at station air) took
 
 -- the key of a number of a connection's chain
 abbrev pub chain_at : Ghost → ℕ → ℕ → Term
@@ -77,14 +83,16 @@ PairsOk g conn (Some pair) = PairOk g conn pair
 abbrev pub taken : Tried Term ℕ → Made Term ℕ → Term
 taken e m = lands e.key (steps_to (ncc_of (chain_number e.key)) (ncc_of m.number)) e.cell
 
--- this is what a phone takes of what was made: the same key, or what an attempt leads to
-abbrev pub FromIs : Ghost → Made Term ℕ → Term → Option Origin → Type 0
-FromIs g m t None = t ≡ m.key
-FromIs g m t (Some o) = (e : Tried Term ℕ) × (tried_at g.tried o.source o.attempt ≡ Some e) × (t ≡ taken e m)
+-- this is what a phone takes of what was made: the same key, what an attempt leads to, or at a key change, where it is of
+-- the phone's KASME alone, what it took there first
+abbrev pub FromIs : Ghost → Made Term ℕ → Term → From Term → Type 0
+FromIs g m t BySetup = t ≡ m.key
+FromIs g m t (ByAttempt o) = (e : Tried Term ℕ) × (tried_at g.tried o.source o.attempt ≡ Some e) × (t ≡ taken e m)
+FromIs g m t (ByChange k) = (x : Took Term ℕ) × (took_at g.took m.station m.air ≡ Some x) × (t ≡ x.key)
 
 -- this is what a phone takes at a station and air address
 abbrev pub HereIs : Ghost → ℕ → ℕ → Term → Type 0
-HereIs g station air t = (m : Made Term ℕ) × (made_at g.made station air ≡ Some m) × FromIs g m t m.from_attempt
+HereIs g station air t = (m : Made Term ℕ) × (made_at g.made station air ≡ Some m) × FromIs g m t m.from
 
 -- the key of a number is that of an attempt's context, so many steps on
 abbrev pub Leads : Tried Term ℕ → Term → ℕ → Type 0
@@ -95,15 +103,17 @@ GivenFits None number = ⊤
 GivenFits (Some star) number = star.number ≡ number
 
 -- what was made; it is all that was made for its air address
-abbrev pub FromOk : Ghost → Made Term ℕ → Option Origin → Type 0
-FromOk g m None = m.number ≡ 0
-FromOk g m (Some o) =
+abbrev pub FromOk : Ghost → Made Term ℕ → From Term → Type 0
+FromOk g m BySetup = m.number ≡ 0
+FromOk g m (ByAttempt o) =
     (e : Tried Term ℕ) × (tried_at g.tried o.source o.attempt ≡ Some e) × (chain_number e.key ≡ e.number)
     × (e.target ≡ m.station) × Leads e m.key m.number × GivenFits e.given m.number
+FromOk g m (ByChange k) =
+    (m.number ≡ 0) × IsCell m.cell × (r : Term) × (m.key ≡ Star (Kenb r 0) m.cell.pci m.cell.earfcn)
 
 abbrev pub MadeOk : Ghost → Made Term ℕ → Type 0
 MadeOk g m =
-    (1 ≤ m.air) × (m.air < 4294967296) × (m.station ≤ 7) × FromOk g m m.from_attempt
+    (1 ≤ m.air) × (m.air < 4294967296) × (m.station ≤ 7) × FromOk g m m.from
     × (made_at g.made m.station m.air ≡ Some m)
 
 -- what was tried
@@ -117,7 +127,7 @@ TriedOk cells g e =
 
 -- what was taken
 abbrev pub TookOk : Ghost → Took Term ℕ → Type 0
-TookOk g x = HereIs g x.station x.air x.key × Obeys g.made x x.before × Grows x x.before
+TookOk g x = HereIs g x.station x.air x.key × Obeys g.made x × Grows x x.came
 
 -- a context or preparation is what was made for its air address
 abbrev pub IsMade : Made Term ℕ → Term → ℕ → Algs → Type 0
@@ -127,17 +137,23 @@ IsMade m t number algs = (t ≡ m.key) × (number ≡ m.number) × (algs ≡ m.a
 abbrev pub EntryIs : Ghost → ℕ → ℕ → Term → ℕ → Algs → Type 0
 EntryIs g id air t number algs =
     (m : Made Term ℕ) × (made_at g.made id air ≡ Some m) × IsMade m t number algs
-    × FromIs g m t m.from_attempt × TakenIfTried g.took id air t m.from_attempt
+    × FromIs g m t m.from × TakenIfTried g.took id air t m.from
 
--- an order for the phone with this key: of an attempt of that key, for what was made of it
-abbrev pub OrderIs : Ghost → Term → Place → ℕ → Algs → ℕ → ℕ → Type 0
-OrderIs g t cell ncc algs station air =
+-- an order of a source for the phone with this key: of an attempt of that key, for what was made of it
+abbrev pub OrderIs : Ghost → ℕ → Term → Place → ℕ → Algs → ℕ → ℕ → Type 0
+OrderIs g source t cell ncc algs station air =
     (m : Made Term ℕ) × (o : Origin) × (e : Tried Term ℕ)
-    × (made_at g.made station air ≡ Some m) × (m.from_attempt ≡ Some o) × (tried_at g.tried o.source o.attempt ≡ Some e)
-    × (e.key ≡ t) × (e.cell ≡ cell) × (ncc_of m.number ≡ ncc) × (m.algs ≡ algs)
+    × (made_at g.made station air ≡ Some m) × (m.from ≡ ByAttempt o) × (tried_at g.tried o.source o.attempt ≡ Some e)
+    × (e.key ≡ t) × (e.cell ≡ cell) × (ncc_of m.number ≡ ncc) × (m.algs ≡ algs) × (o.source ≡ source)
 
-abbrev pub IsOrder : Ghost → Term → Order → Type 0
-IsOrder g t o = OrderIs g t o.cell o.ncc o.algs o.station o.air
+-- an order for the phone with this key: what was made there is of a change of that key
+abbrev pub ChangeIs : Ghost → Term → Place → Algs → ℕ → ℕ → Type 0
+ChangeIs g t cell algs station air =
+    (m : Made Term ℕ) × (made_at g.made station air ≡ Some m) × (m.from ≡ ByChange t) × (m.cell ≡ cell)
+    × (m.algs ≡ algs)
+
+abbrev pub IsOrder : Ghost → ℕ → Term → Order → Type 0
+IsOrder g source t o = OrderIs g source t o.cell o.ncc o.algs o.station o.air
 
 -- an attempt of a context: it was opened under the context's key
 abbrev pub StartIs : Ghost → ℕ → ℕ → Term → ℕ → ℕ → Place → Option (NumberedKey Term ℕ) → Type 0
@@ -148,19 +164,20 @@ StartIs g id conn t number target cell given =
 abbrev pub X2Ok : Ghost → ℕ → ℕ → Term → X2State Term ℕ → Type 0
 X2Ok g id conn t (X2Open start) =
     StartIs g id conn t start.number start.station start.cell (Some start.star) × PairsOk g conn start.spent
-X2Ok g id conn t (X2Ready acked) = IsOrder g t (x2_order ncc_of acked) × PairsOk g conn acked.start.spent
-X2Ok g id conn t (X2Commanded sent) = IsOrder g t sent.order
+X2Ok g id conn t (X2Ready acked) = IsOrder g id t (x2_order ncc_of acked) × PairsOk g conn acked.start.spent
+X2Ok g id conn t (X2Commanded sent) = IsOrder g id t sent.order
 
 abbrev pub S1Ok : Ghost → ℕ → ℕ → Term → S1State → Type 0
 S1Ok g id conn t (S1Open start) = StartIs g id conn t start.number start.station start.cell None
-S1Ok g id conn t (S1Ready acked) = IsOrder g t (s1_order acked)
-S1Ok g id conn t (S1Commanded sent) = IsOrder g t sent.order
+S1Ok g id conn t (S1Ready acked) = IsOrder g id t (s1_order acked)
+S1Ok g id conn t (S1Commanded sent) = IsOrder g id t sent.order
 
 abbrev pub AttemptOk : Ghost → ℕ → ℕ → Term → Option (Attempt Term ℕ) → Type 0
 AttemptOk g id conn t None = ⊤
 AttemptOk g id conn t (Some (OverX2 state)) = X2Ok g id conn t state
 AttemptOk g id conn t (Some (OverS1 state)) = S1Ok g id conn t state
 AttemptOk g id conn t (Some (Within state)) = X2Ok g id conn t state
+AttemptOk g id conn t (Some (Renewing a)) = ChangeIs g t a.cell a.algs id a.air
 
 -- a context whose security starts has no attempt, and the phone had taken the key of any other
 abbrev pub StartedOk : Ghost → ℕ → ℕ → Term → Bool → Option (Attempt Term ℕ) → Type 0
@@ -191,14 +208,14 @@ StationOk cells g s =
 
 -- a phone that came to what was made for a connection took the first record there, so that its next COUNT is not 0
 abbrev pub HeardFirst : Made Term ℕ → Bearers → Type 0
-HeardFirst m bearers = m.from_attempt ≡ None → 1 ≤ bearers.srb1.receive
+HeardFirst m bearers = m.from ≡ BySetup → 1 ≤ bearers.srb1.receive
 
 -- the phone's connection
 abbrev pub LinkIs : Ghost → Link Term ℕ → Type 0
 LinkIs g l =
     ChainOf l.kenb l.chain × (l.keys ≡ keys_of l.kenb l.keys.algs)
     × (m : Made Term ℕ) × (made_at g.made l.station l.air ≡ Some m) × (l.keys.algs ≡ m.algs)
-    × FromIs g m l.kenb m.from_attempt × HadTaken g.took l.station l.air l.kenb × HeardFirst m l.bearers
+    × FromIs g m l.kenb m.from × HadTaken g.took l.station l.air l.kenb × HeardFirst m l.bearers
 
 abbrev pub RadioOk : Ghost → Radio Term ℕ → Type 0
 RadioOk g Idle = ⊤
@@ -215,29 +232,30 @@ CoreLinkOk g (Some link) =
 abbrev pub CoreOk : List Site → Ghost → Core Term ℕ → Type 0
 CoreOk cells g core = CoreLinkOk g core.link × (core.next ≡ g.next) × (core.cells ≡ cells)
 
--- what an RRC text says to the phone that has this key
-abbrev pub SaysOk : Ghost → Term → RrcRecord → Type 0
-SaysOk g t (Reconfiguration cell ncc algs station air) = OrderIs g t cell ncc algs station air
-SaysOk g t (SecurityModeCommand algs station air) =
-    (m : Made Term ℕ) × (made_at g.made station air ≡ Some m) × (m.from_attempt ≡ None) × (m.algs ≡ algs)
-SaysOk g t other = ⊤
+-- what an RRC text of a station says to the phone that has this key
+abbrev pub SaysOk : Ghost → ℕ → Term → RrcRecord → Type 0
+SaysOk g source t (Reconfiguration cell ncc algs station air) = OrderIs g source t cell ncc algs station air
+SaysOk g source t (SecurityModeCommand algs station air) =
+    (m : Made Term ℕ) × (made_at g.made station air ≡ Some m) × (m.from ≡ BySetup) × (m.algs ≡ algs)
+SaysOk g source t (KeyChange cell algs station air) = ChangeIs g t cell algs station air
+SaysOk g source t other = ⊤
 
-abbrev pub TextOk : Ghost → Term → List ℕ → Type 0
-TextOk g t text = (r : RrcRecord) → read_rrc text ≡ Ok r → SaysOk g t r
+abbrev pub TextOk : Ghost → ℕ → Term → List ℕ → Type 0
+TextOk g source t text = (r : RrcRecord) → read_rrc text ≡ Ok r → SaysOk g source t r
 
 -- how a text of a station is ciphered: under its own use, where the phone had taken the key; or not at all in the first
 -- of a new connection
 abbrev pub CipheredSo : Ghost → ℕ → ℕ → Made Term ℕ → Srb → KeyUse Term → Option (Ciphering Term) → Type 0
-CipheredSo g station air m srb i None = (m.from_attempt ≡ None) × (i.count ≡ 0) × (srb ≡ Signalling1)
+CipheredSo g station air m srb i None = (m.from ≡ BySetup) × (i.count ≡ 0) × (srb ≡ Signalling1)
 CipheredSo g station air m srb i (Some e) =
-    (e ≡ ciphering_by m.algs.eea (srb_use Down (keys_of m.key m.algs).rrc_enc srb i.count))
+    (e ≡ srb_ciphering Down (keys_of m.key m.algs) srb i.count)
     × HadTaken g.took station air m.key
 
 -- an RRC text from a station: under the key made for the air address
 abbrev pub DownOk : Ghost → ℕ → ℕ → Srb → KeyUse Term → Option (Ciphering Term) → List ℕ → Type 0
 DownOk g station air srb i f text =
     (m : Made Term ℕ) × (made_at g.made station air ≡ Some m)
-    × (i ≡ srb_use Down (keys_of m.key m.algs).rrc_int srb i.count) × CipheredSo g station air m srb i f × TextOk g m.key text
+    × (i ≡ srb_use Down (keys_of m.key m.algs).rrc_int srb i.count) × CipheredSo g station air m srb i f × TextOk g station m.key text
 
 -- and from the phone: under the key that it took there
 abbrev pub UpOk : Ghost → ℕ → ℕ → KeyUse Term → Type 0
@@ -262,7 +280,7 @@ ToStationX2 other target = ⊤
 abbrev pub AckIs : Ghost → ℕ → ℕ → Algs → ℕ → (Made Term ℕ → Type 0) → Type 0
 AckIs g source attempt algs air P =
     (m : Made Term ℕ) × (made_at g.made m.station air ≡ Some m)
-    × (m.from_attempt ≡ Some (record { source = source; attempt = attempt })) × (m.algs ≡ algs) × P m
+    × (m.from ≡ ByAttempt (record { source = source; attempt = attempt })) × (m.algs ≡ algs) × P m
 
 abbrev pub HasNcc : ℕ → Made Term ℕ → Type 0
 HasNcc ncc m = ncc_of m.number ≡ ncc
@@ -298,12 +316,16 @@ BetweenOk g to (X2Request conn source attempt cell caps) (Some star) =
     TermOk g conn star.key star.number
     × AskedIs g conn source attempt cell (Some star) (λ e. ToStationX2 to e.target)
 BetweenOk g to (X2Ack conn attempt cell algs air) key = X2AckTo g to attempt algs air
+BetweenOk g to (ContextModification conn next) (Some key) =
+    (next < g.next) × (key.key ≡ chain_at g next 0) × (r : Term) × (key.key ≡ Kenb r 0)
 BetweenOk g to other key = ⊤
 
+-- what goes up on NAS: a SECURITY MODE COMPLETE, of header type 4, is the first under its context (TS 24.301 4.4.3.1)
 abbrev pub SentOk : Ghost → Outgoing Term ℕ → Type 0
 SentOk g (SealedRrc Down station air srb i f text) = DownOk g station air srb i f text
 SentOk g (SealedRrc Up station air srb i f text) = UpOk g station air i
 SentOk g (Between to fields key) = BetweenOk g to fields key
+SentOk g (SealedNas Up header i f text) = header ≡ 4 → i.count ≡ 0
 SentOk g other = ⊤
 
 abbrev pub OutOk : Ghost → Option (Outgoing Term ℕ) → Type 0

@@ -1,20 +1,19 @@
 -- Agreement in every world of every run: from the invariant, which the first world has.
-use Rattle.std.proofs.Common.{◌≡◌, refl, sym, ap, ◌∙◌, subst, ℕ, ◌≤◌, List, [], ◌∷◌, Option, Some, None, inl, inr}
+use Rattle.std.proofs.Common.{◌≡◌, refl, sym, ap, ◌∙◌, subst, ℕ, ◌≤◌, arith, List, [], ◌∷◌, Option, Some, None, inl, inr}
 use Rattle.lte_events.specs.declared.setups.Setup.{Setup}
 use Rattle.lte_events.specs.declared.setups.StationSetup.{StationSetup}
 use Rattle.lte_events.specs.Site.{Site}
 use Rattle.key_model.specs.Term.{Term, Root}
 use Rattle.key_model.specs.Number.{chain_number}
-use Rattle.key_model.specs.HandoverTable.{NumberedKey}
 use Rattle.ho_prep.specs.Prep.{Prep}
 use Rattle.lte_machine.specs.Ranges.{IsSetup, IsStation, IsSiteOf, IsEvent}
 use Rattle.lte_machine.specs.Ranges as ranges
-use Rattle.lte_machine.specs.Reply.{Origin, Made, Took}
+use Rattle.lte_machine.specs.Reply.{From, BySetup, ByAttempt, ByChange, Made, Came, Secured, Commanded, Changed, Took}
 use Rattle.lte_machine.specs.PhoneState.{Radio, Idle, Connecting, Connected, Link}
 use Rattle.lte_machine.specs.StationState.{Station, Context}
 use Rattle.lte_machine.specs.Run.{stations_of, first_world}
 use Rattle.lte_properties.specs.ChainBelow.{AllOf}
-use Rattle.lte_properties.specs.Agreement.{IsIn, made_at, ahead, Obeys, Grows, OneTerm, ContextAt, AtStation, Agree, JoinedBy, IsFar, NoneThere, ComesMade, PrepMade, Agrees}
+use Rattle.lte_properties.specs.Agreement.{IsIn, made_at, ahead, ObeysMade, Obeys, Grows, OneTerm, ContextAt, AtStation, Agree, JoinedBy, IsFar, NoneThere, ComesMade, PrepMade, Agrees}
 use Rattle.lte_properties.proofs.ChainNumbers.Lists.{all_map}
 use Rattle.lte_properties.proofs.Agreement.Ghost.{MadeOk, Ghost, tried_at, keys_of, taken, FromIs, HereIs, CtxOk, PrepOk, StationOk, LinkIs, RadioOk, TookOk}
 use Rattle.lte_properties.proofs.Agreement.Follows.{InTurn}
@@ -57,14 +56,18 @@ first_ok setup h = record {
 -- what a phone takes at an air address is one key
 pub one_here : (g : Ghost) (station air : ℕ) (t u : Term) → HereIs g station air t → HereIs g station air u → t ≡ u
 one_here g station air t u h k =
-    by_from h.0.from_attempt refl (subst (λ m. FromIs g m u m.from_attempt) (sym one) k.2)
+    by_from h.0.from refl (subst (λ m. FromIs g m u m.from) (sym one) k.2)
   where
     one : h.0 ≡ k.0
     one = same_found _ h.0 k.0 h.1 k.1
 
-    by_from : (o : Option Origin) → h.0.from_attempt ≡ o → FromIs g h.0 u h.0.from_attempt → t ≡ u
-    by_from None e f = subst (FromIs g h.0 t) e h.2 ∙ sym (subst (FromIs g h.0 u) e f)
-    by_from (Some o) e f =
+    by_from : (from : From Term) → h.0.from ≡ from → FromIs g h.0 u h.0.from → t ≡ u
+    by_from BySetup e f = subst (FromIs g h.0 t) e h.2 ∙ sym (subst (FromIs g h.0 u) e f)
+    by_from (ByChange l) e f =
+        let a = subst (FromIs g h.0 t) e h.2 in
+        let b = subst (FromIs g h.0 u) e f in
+        a.2 ∙ ap (λ x. x.key) (same_found _ a.0 b.0 a.1 b.1) ∙ sym b.2
+    by_from (ByAttempt o) e f =
         let a = subst (FromIs g h.0 t) e h.2 in
         let b = subst (FromIs g h.0 u) e f in
         a.2 ∙ ap (λ x. taken x h.0) (same_found _ a.0 b.0 a.1 b.1) ∙ sym b.2
@@ -123,8 +126,8 @@ module _ (cells : List Site) (c : Conns) (w : TheWorld) (h : WorldOk cells c w) 
     follow = turn.0;
     last = turn.1;
     made_once = all_map (MadeOk (ghost c w)) (λ m. made_at w.made m.station m.air ≡ Some m) (λ m k. k.4) w.made h.made;
-    obeyed = all_map (TookOk (ghost c w)) (λ x. Obeys w.made x x.before) (λ x k. k.1) w.took h.took;
-    grow = all_map (TookOk (ghost c w)) (λ x. Grows x x.before) (λ x k. k.2) w.took h.took;
+    obeyed = all_map (TookOk (ghost c w)) (Obeys w.made) (λ x k. k.1) w.took h.took;
+    grow = all_map (TookOk (ghost c w)) (λ x. Grows x x.came) (λ x k. k.2) w.took h.took;
     one_term = one_term;
     joined = joined w.phone.radio h.radio;
     completed = all_map (StationOk cells (ghost c w)) (λ s. ComesMade w s.id s.context) (λ s ok. comes s.id s.context ok.0) w.stations h.stations;
@@ -134,18 +137,22 @@ module _ (cells : List Site) (c : Conns) (w : TheWorld) (h : WorldOk cells c w) 
 -- where the phone took a key that is not the one made, no context has that air address, in any world before or after
 module _ (cells : List Site) (c d : Conns) (v u : TheWorld) (l : Later (ghost c v) (ghost d u)) (a : WorldOk cells c v) (b : WorldOk cells d u) where
   -- a context's key is the one made, and what the phone takes there
-  far_differs : (x : Took Term ℕ) → TookOk (ghost d u) x → (o : Option (NumberedKey Term ℕ)) → x.before ≡ o → IsFar u.made x o
+  far_differs : (x : Took Term ℕ) → TookOk (ghost d u) x → IsFar u.made x
       → (m : Made Term ℕ) → made_at u.made x.station x.air ≡ Some m → HereIs (ghost d u) x.station x.air m.key → ⊥
-  far_differs x k None e far m found here = far
-  far_differs x k (Some before) e far m found here =
-      let obeys = subst (Obeys u.made x) e k.1 in
+  far_differs x k far m found here =
+      let obeys = k.1 in
       let one : obeys.0 ≡ m = same_found _ obeys.0 m obeys.1 found in
       let also : far.0 ≡ m = same_found _ far.0 m far.1 found in
-      let wide : 8 ≤ ahead obeys.0 before = subst (λ y. 8 ≤ ahead y before) (also ∙ sym one) far.2 in
-      (obeys.2.2 wide).0 (one_here (ghost d u) x.station x.air x.key m.key k.0 here ∙ sym (ap (λ y. y.key) one))
+      let wide : 8 ≤ ahead m x.came = subst (λ y. 8 ≤ ahead y x.came) also far.2 in
+      other_key x.came x m (subst (ObeysMade x x.came) one obeys.2) wide (one_here (ghost d u) x.station x.air x.key m.key k.0 here)
+    where
+      other_key : (came : Came Term ℕ) (y : Took Term ℕ) (n : Made Term ℕ) → ObeysMade y came n → 8 ≤ ahead n came → y.key ≡ n.key → ⊥
+      other_key Secured y n h wide same = omega arith
+      other_key (Commanded before) y n h wide same = (h.far wide).0 same
+      other_key (Changed before root) y n h wide same = h.far wide same
 
   -- a context of the earlier world
-  none_before_at : (x : Took Term ℕ) → TookOk (ghost d u) x → IsFar u.made x x.before → (s : Station Term ℕ) → s.id ≡ x.station
+  none_before_at : (x : Took Term ℕ) → TookOk (ghost d u) x → IsFar u.made x → (s : Station Term ℕ) → s.id ≡ x.station
       → (o : Option (Context Term ℕ)) → CtxOk (ghost c v) s.id o → ContextAt x.air o (λ y. ⊥)
   none_before_at x k far s is None ok = tt
   none_before_at x k far s is (Some y) ok = λ at_air.
@@ -153,11 +160,11 @@ module _ (cells : List Site) (c d : Conns) (v u : TheWorld) (l : Later (ghost c 
       let m = e.0 in
       let found : made_at v.made x.station x.air ≡ Some m = (λ j. made_at v.made (sym is j) (sym at_air j)) ∙ e.1 in
       let here : HereIs (ghost c v) x.station x.air m.key = subst (HereIs (ghost c v) x.station x.air) e.2.0 (m, found, e.3) in
-      far_differs x k x.before refl far m (l.made x.station x.air m found) (here_later (ghost c v) (ghost d u) l x.station x.air m.key here)
+      far_differs x k far m (l.made x.station x.air m found) (here_later (ghost c v) (ghost d u) l x.station x.air m.key here)
 
   pub none_before : NoneThere v u
   none_before =
-      all_map (TookOk (ghost d u)) (λ x. IsFar u.made x x.before → AtStation v x.station (λ s. ContextAt x.air s.context (λ y. ⊥)))
+      all_map (TookOk (ghost d u)) (λ x. IsFar u.made x → AtStation v x.station (λ s. ContextAt x.air s.context (λ y. ⊥)))
       (λ x k far. all_map (StationOk cells (ghost c v)) (λ s. s.id ≡ x.station → ContextAt x.air s.context (λ y. ⊥))
       (λ s ok is. none_before_at x k far s is s.context ok.0) v.stations a.stations)
       u.took b.took

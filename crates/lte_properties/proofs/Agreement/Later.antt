@@ -9,24 +9,24 @@ use Rattle.key_model.specs.Term.{Term}
 use Rattle.key_model.specs.Chain.{nh, ncc_of}
 use Rattle.key_model.specs.HandoverTable.{NumberedKey}
 use Rattle.rrc_rec.specs.declared.records.RrcRecord.{RrcRecord}
-use Rattle.rrc_rec.specs.declared.records.RrcRecord.TheVariants.{SecurityModeCommand, Reconfiguration}
-use Rattle.s1x2_rec.specs.Fields.{Fields, InitialContext, PathSwitchAnswer, HandoverRequired, HandoverRequest, HandoverRequestAck, HandoverCommand, X2Request, X2Ack}
+use Rattle.rrc_rec.specs.declared.records.RrcRecord.TheVariants.{SecurityModeCommand, Reconfiguration, KeyChange}
+use Rattle.s1x2_rec.specs.Fields.{Fields, InitialContext, PathSwitchAnswer, HandoverRequired, HandoverRequest, HandoverRequestAck, HandoverCommand, X2Request, X2Ack, ContextModification}
 use Rattle.ho_prep.specs.Prep.{Prep}
 use Rattle.x2_handover.specs.declared.orders.Order.{Order}
 use Rattle.x2_handover.specs.Attempt.{x2_order}
 use Rattle.s1_handover.specs.Attempt.{s1_order}
 use Rattle.lte_machine.specs.Bearers.{Srb}
-use Rattle.lte_machine.specs.Wire.{KeyUse, Ciphering, Outgoing, SealedRrc, Between}
-use Rattle.lte_machine.specs.Reply.{Origin, Made, Tried, Took}
+use Rattle.lte_machine.specs.Wire.{KeyUse, Ciphering, Outgoing, SealedNas, SealedRrc, Between}
+use Rattle.lte_machine.specs.Reply.{From, BySetup, ByAttempt, ByChange, Made, Tried, Took}
 use Rattle.lte_machine.specs.PhoneState.{Radio, Idle, Connecting, Connected}
-use Rattle.lte_machine.specs.StationState.{Context, Attempt, OverX2, OverS1, Within, X2State, X2Open, X2Ready, X2Commanded, S1State, S1Open, S1Ready, S1Commanded}
+use Rattle.lte_machine.specs.StationState.{Context, Attempt, OverX2, OverS1, Within, Renewing, X2State, X2Open, X2Ready, X2Commanded, S1State, S1Open, S1Ready, S1Commanded}
 use Rattle.lte_properties.specs.ChainBelow.{AllOf}
 use Rattle.std.proofs.Common.{◌≡◌, ℕ, ◌<◌, ◌≤◌, refl, sym, ◌∙◌, ap, le_trans, arith, Bool, true, false, List, [], ◌∷◌, ◌++◌, Option, Some, None, inl, inr}
 use Rattle.std.specs.Prelude.{find}
 use Rattle.std.specs.Option.{option_or}
 use Rattle.std.proofs.lemmas.List.Folds.{find-append}
 use Rattle.lte_properties.specs.Agreement.{IsIn, made_at, Obeys, HadTaken, TakenIfTried}
-use Rattle.lte_properties.proofs.Agreement.Ghost.{Ghost, tried_at, chain_at, TermOk, PairOk, PairsOk, FromIs, HereIs, FromOk, MadeOk, GivenOk, TriedOk, TookOk, EntryIs, OrderIs, IsOrder, StartIs, X2Ok, S1Ok, AttemptOk, StartedOk, CtxOk, PrepOk, RadioOk, SaysOk, CipheredSo, DownOk, UpOk, AskedIs, AckIs, CommandTo, X2AckTo, HasNcc, AnyMade, AnyTried, Surpasses, ToStationX2, BetweenOk, SentOk}
+use Rattle.lte_properties.proofs.Agreement.Ghost.{Ghost, tried_at, took_at, chain_at, TermOk, PairOk, PairsOk, FromIs, HereIs, FromOk, MadeOk, GivenOk, TriedOk, TookOk, EntryIs, OrderIs, IsOrder, StartIs, X2Ok, S1Ok, ChangeIs, AttemptOk, StartedOk, CtxOk, PrepOk, RadioOk, SaysOk, CipheredSo, DownOk, UpOk, AskedIs, AckIs, CommandTo, X2AckTo, HasNcc, AnyMade, AnyTried, Surpasses, ToStationX2, BetweenOk, SentOk}
 
 -- more is told, connections go on, and none begins anew
 pub record Later (g h : Ghost) : Type 0 where
@@ -37,6 +37,7 @@ pub record Later (g h : Ghost) : Type 0 where
   pub made : (station air : ℕ) (m : Made Term ℕ) → made_at g.made station air ≡ Some m → made_at h.made station air ≡ Some m
   pub tried : (station number : ℕ) (e : Tried Term ℕ) → tried_at g.tried station number ≡ Some e → tried_at h.tried station number ≡ Some e
   pub took : (x : Took Term ℕ) → IsIn x g.took → IsIn x h.took
+  pub first : (station air : ℕ) (x : Took Term ℕ) → took_at g.took station air ≡ Some x → took_at h.took station air ≡ Some x
 
 pub later_itself : (g : Ghost) → Later g g
 later_itself g = record {
@@ -47,6 +48,7 @@ later_itself g = record {
   made = λ station air m e. e;
   tried = λ station number e f. f;
   took = λ x i. i;
+  first = λ station air x e. e;
 }
 
 pub later_after : (g h k : Ghost) → Later g h → Later h k → Later g k
@@ -58,6 +60,7 @@ later_after g h k a b = record {
   made = λ station air m e. b.made station air m (a.made station air m e);
   tried = λ station number e f. b.tried station number e (a.tried station number e f);
   took = λ x i. b.took x (a.took x i);
+  first = λ station air x e. b.first station air x (a.first station air x e);
 }
 
 -- what was found is found when more stands behind
@@ -97,19 +100,21 @@ module _ (g h : Ghost) (l : Later g h) where
   pairs_later conn None x = tt
   pairs_later conn (Some pair) x = pair_later conn pair x
 
-  pub from_later : (m : Made Term ℕ) (t : Term) (o : Option Origin) → FromIs g m t o → FromIs h m t o
-  from_later m t None x = x
-  from_later m t (Some o) x = (x.0, l.tried o.source o.attempt x.0 x.1, x.2)
+  pub from_later : (m : Made Term ℕ) (t : Term) (o : From Term) → FromIs g m t o → FromIs h m t o
+  from_later m t BySetup x = x
+  from_later m t (ByAttempt o) x = (x.0, l.tried o.source o.attempt x.0 x.1, x.2)
+  from_later m t (ByChange k) x = (x.0, l.first m.station m.air x.0 x.1, x.2)
 
   pub here_later : (station air : ℕ) (t : Term) → HereIs g station air t → HereIs h station air t
-  here_later station air t x = (x.0, l.made station air x.0 x.1, from_later x.0 t x.0.from_attempt x.2)
+  here_later station air t x = (x.0, l.made station air x.0 x.1, from_later x.0 t x.0.from x.2)
 
-  from_ok_later : (m : Made Term ℕ) (o : Option Origin) → FromOk g m o → FromOk h m o
-  from_ok_later m None x = x
-  from_ok_later m (Some o) x = (x.0, l.tried o.source o.attempt x.0 x.1, x.2, x.3, x.4, x.5)
+  from_ok_later : (m : Made Term ℕ) (o : From Term) → FromOk g m o → FromOk h m o
+  from_ok_later m BySetup x = x
+  from_ok_later m (ByAttempt o) x = (x.0, l.tried o.source o.attempt x.0 x.1, x.2, x.3, x.4, x.5)
+  from_ok_later m (ByChange k) x = x
 
   pub made_later : (m : Made Term ℕ) → MadeOk g m → MadeOk h m
-  made_later m x = (x.0, x.1, x.2, from_ok_later m m.from_attempt x.3, l.made m.station m.air m x.4)
+  made_later m x = (x.0, x.1, x.2, from_ok_later m m.from x.3, l.made m.station m.air m x.4)
 
   given_later : (e : Tried Term ℕ) (o : Option (NumberedKey Term ℕ)) → GivenOk g e o → GivenOk h e o
   given_later e None x = tt
@@ -118,51 +123,55 @@ module _ (g h : Ghost) (l : Later g h) where
   pub tried_later : (cells : List Site) (e : Tried Term ℕ) → TriedOk cells g e → TriedOk cells h e
   tried_later cells e x = (term_later e.conn e.number e.key x.0, x.1, given_later e e.given x.2)
 
-  obeys_later : (x : Took Term ℕ) (o : Option (NumberedKey Term ℕ)) → Obeys g.made x o → Obeys h.made x o
-  obeys_later x None y = (y.0, l.made x.station x.air y.0 y.1, y.2, y.3)
-  obeys_later x (Some before) y = (y.0, l.made x.station x.air y.0 y.1, y.2)
+  obeys_later : (x : Took Term ℕ) → Obeys g.made x → Obeys h.made x
+  obeys_later x y = (y.0, l.made x.station x.air y.0 y.1, y.2)
 
   pub took_later : (x : Took Term ℕ) → TookOk g x → TookOk h x
-  took_later x y = (here_later x.station x.air x.key y.0, obeys_later x x.before y.1, y.2)
+  took_later x y = (here_later x.station x.air x.key y.0, obeys_later x y.1, y.2)
 
   pub had_later : (station air : ℕ) (t : Term) → HadTaken g.took station air t → HadTaken h.took station air t
   had_later station air t x = (x.0, l.took x.0 x.1, x.2, x.3, x.4)
 
-  taken_if_later : (station air : ℕ) (t : Term) (o : Option Origin) → TakenIfTried g.took station air t o → TakenIfTried h.took station air t o
-  taken_if_later station air t None x = tt
-  taken_if_later station air t (Some o) x = had_later station air t x
+  taken_if_later : (station air : ℕ) (t : Term) (o : From Term) → TakenIfTried g.took station air t o → TakenIfTried h.took station air t o
+  taken_if_later station air t BySetup x = tt
+  taken_if_later station air t (ByAttempt o) x = had_later station air t x
+  taken_if_later station air t (ByChange k) x = had_later station air t x
 
   pub entry_later : (id air : ℕ) (t : Term) (number : ℕ) (algs : Algs) → EntryIs g id air t number algs → EntryIs h id air t number algs
   entry_later id air t number algs x =
-      (x.0, l.made id air x.0 x.1, x.2, from_later x.0 t x.0.from_attempt x.3, taken_if_later id air t x.0.from_attempt x.4)
+      (x.0, l.made id air x.0 x.1, x.2, from_later x.0 t x.0.from x.3, taken_if_later id air t x.0.from x.4)
 
-  pub order_later : (t : Term) (cell : Place) (ncc : ℕ) (algs : Algs) (station air : ℕ) → OrderIs g t cell ncc algs station air → OrderIs h t cell ncc algs station air
-  order_later t cell ncc algs station air x =
-      (x.0, x.1, x.2, l.made station air x.0 x.3, x.4, l.tried x.1.source x.1.attempt x.2 x.5, x.6, x.7, x.8, x.9)
+  pub order_later : (source : ℕ) (t : Term) (cell : Place) (ncc : ℕ) (algs : Algs) (station air : ℕ) → OrderIs g source t cell ncc algs station air → OrderIs h source t cell ncc algs station air
+  order_later source t cell ncc algs station air x =
+      (x.0, x.1, x.2, l.made station air x.0 x.3, x.4, l.tried x.1.source x.1.attempt x.2 x.5, x.6, x.7, x.8, x.9, x.10)
 
   start_later : (id conn : ℕ) (t : Term) (number target : ℕ) (cell : Place) (given : Option (NumberedKey Term ℕ))
       → StartIs g id conn t number target cell given → StartIs h id conn t number target cell given
   start_later id conn t number target cell given x = (x.0, l.tried id number x.0 x.1, x.2, x.3, x.4, x.5, x.6)
 
-  is_order_later : (t : Term) (o : Order) → IsOrder g t o → IsOrder h t o
-  is_order_later t o x = order_later t o.cell o.ncc o.algs o.station o.air x
+  pub change_later : (t : Term) (cell : Place) (algs : Algs) (station air : ℕ) → ChangeIs g t cell algs station air → ChangeIs h t cell algs station air
+  change_later t cell algs station air x = (x.0, l.made station air x.0 x.1, x.2, x.3, x.4)
+
+  is_order_later : (source : ℕ) (t : Term) (o : Order) → IsOrder g source t o → IsOrder h source t o
+  is_order_later source t o x = order_later source t o.cell o.ncc o.algs o.station o.air x
 
   x2_later : (id conn : ℕ) (t : Term) (state : X2State Term ℕ) → X2Ok g id conn t state → X2Ok h id conn t state
   x2_later id conn t (X2Open start) x =
       (start_later id conn t start.number start.station start.cell (Some start.star) x.0, pairs_later conn start.spent x.1)
-  x2_later id conn t (X2Ready acked) x = (is_order_later t (x2_order ncc_of acked) x.0, pairs_later conn acked.start.spent x.1)
-  x2_later id conn t (X2Commanded sent) x = is_order_later t sent.order x
+  x2_later id conn t (X2Ready acked) x = (is_order_later id t (x2_order ncc_of acked) x.0, pairs_later conn acked.start.spent x.1)
+  x2_later id conn t (X2Commanded sent) x = is_order_later id t sent.order x
 
   s1_later : (id conn : ℕ) (t : Term) (state : S1State) → S1Ok g id conn t state → S1Ok h id conn t state
   s1_later id conn t (S1Open start) x = start_later id conn t start.number start.station start.cell None x
-  s1_later id conn t (S1Ready acked) x = is_order_later t (s1_order acked) x
-  s1_later id conn t (S1Commanded sent) x = is_order_later t sent.order x
+  s1_later id conn t (S1Ready acked) x = is_order_later id t (s1_order acked) x
+  s1_later id conn t (S1Commanded sent) x = is_order_later id t sent.order x
 
   attempt_later : (id conn : ℕ) (t : Term) (o : Option (Attempt Term ℕ)) → AttemptOk g id conn t o → AttemptOk h id conn t o
   attempt_later id conn t None x = tt
   attempt_later id conn t (Some (OverX2 state)) x = x2_later id conn t state x
   attempt_later id conn t (Some (OverS1 state)) x = s1_later id conn t state x
   attempt_later id conn t (Some (Within state)) x = x2_later id conn t state x
+  attempt_later id conn t (Some (Renewing a)) x = change_later t a.cell a.algs id a.air x
 
   started_later : (id air : ℕ) (t : Term) (starting : Bool) (o : Option (Attempt Term ℕ)) → StartedOk g id air t starting o → StartedOk h id air t starting o
   started_later id air t true o x = x
@@ -191,12 +200,13 @@ module _ (g h : Ghost) (l : Later g h) where
   radio_later Idle x = tt
   radio_later (Connecting w) x = x
   radio_later (Connected k) x =
-      (x.0, x.1, x.2, l.made k.station k.air x.2 x.3, x.4, from_later x.2 k.kenb x.2.from_attempt x.5, had_later k.station k.air k.kenb x.6, x.7)
+      (x.0, x.1, x.2, l.made k.station k.air x.2 x.3, x.4, from_later x.2 k.kenb x.2.from x.5, had_later k.station k.air k.kenb x.6, x.7)
 
-  says_later : (t : Term) (r : RrcRecord) → SaysOk g t r → SaysOk h t r
-  says_later t (Reconfiguration cell ncc algs station air) x = order_later t cell ncc algs station air x
-  says_later t (SecurityModeCommand algs station air) x = (x.0, l.made station air x.0 x.1, x.2, x.3)
-  says_later t other x = tt
+  says_later : (source : ℕ) (t : Term) (r : RrcRecord) → SaysOk g source t r → SaysOk h source t r
+  says_later source t (Reconfiguration cell ncc algs station air) x = order_later source t cell ncc algs station air x
+  says_later source t (SecurityModeCommand algs station air) x = (x.0, l.made station air x.0 x.1, x.2, x.3)
+  says_later source t (KeyChange cell algs station air) x = change_later t cell algs station air x
+  says_later source t other x = tt
 
   ciphered_later : (station air : ℕ) (n : Made Term ℕ) (srb : Srb) (i : KeyUse Term) (f : Option (Ciphering Term)) → CipheredSo g station air n srb i f → CipheredSo h station air n srb i f
   ciphered_later station air n srb i None x = x
@@ -204,7 +214,7 @@ module _ (g h : Ghost) (l : Later g h) where
 
   down_later : (station air : ℕ) (srb : Srb) (i : KeyUse Term) (f : Option (Ciphering Term)) (text : List ℕ) → DownOk g station air srb i f text → DownOk h station air srb i f text
   down_later station air srb i f text x =
-      (x.0, l.made station air x.0 x.1, x.2, ciphered_later station air x.0 srb i f x.3, λ r e. says_later x.0.key r (x.4 r e))
+      (x.0, l.made station air x.0 x.1, x.2, ciphered_later station air x.0 srb i f x.3, λ r e. says_later station x.0.key r (x.4 r e))
 
   up_later : (station air : ℕ) (i : KeyUse Term) → UpOk g station air i → UpOk h station air i
   up_later station air i x = (x.0, x.1, here_later station air x.0 x.2, had_later station air x.0 x.3)
@@ -237,12 +247,15 @@ module _ (g h : Ghost) (l : Later g h) where
   between_later to (X2Request conn source attempt cell caps) (Some star) x =
       (term_later conn star.number star.key x.0, asked_later conn source attempt cell (Some star) (λ e. ToStationX2 to e.target) x.1)
   between_later to (X2Ack conn attempt cell algs air) key x = x2_ack_later to attempt algs air x
+  between_later to (ContextModification conn next) (Some key) x =
+      let n = l.next in (omega arith, x.1 ∙ sym (chain_later next 0 x.0), x.2, x.3)
   between_later to other key x = tt
 
   pub sent_later : (x : Outgoing Term ℕ) → SentOk g x → SentOk h x
   sent_later (SealedRrc Down station air srb i f text) x = down_later station air srb i f text x
   sent_later (SealedRrc Up station air srb i f text) x = up_later station air i x
   sent_later (Between to fields key) x = between_later to fields key x
+  sent_later (SealedNas Up header i f text) x = x
   sent_later other x = tt
 
   pub all_later : {A : Type 0} (P Q : A → Type 0) → ((x : A) → P x → Q x) → (xs : List A) → AllOf P xs → AllOf Q xs

@@ -16,15 +16,15 @@ use Rattle.lte_machine.specs.Wire.{KeyUse, Outgoing, address_of}
 use Rattle.lte_machine.specs.Opening.{Opening, Outcome}
 use Rattle.lte_machine.specs.Reply.{Note, Origin, Reply, Took}
 use Rattle.lte_machine.specs.PhoneState.{PhoneInput, PhoneActs, PhoneNasPdu, PhoneAirPdu}
-use Rattle.lte_machine.specs.StationState.{Station, Context, StationInput, StationActs, AirPdu, StationRecord, OnS1, OnX2}
+use Rattle.lte_machine.specs.StationState.{Station, Context, Renewal, StationInput, StationActs, AirPdu, StationRecord, OnS1, OnX2}
 use Rattle.x2_handover.specs.declared.orders.Order.{Order}
 use Rattle.lte_machine.specs.StationStep.{station_opens, station_pdu_in, station_row_of, station_key}
 use Rattle.lte_machine.specs.CoreState.{CoreInput, CoreActs, CoreNasPdu, CoreRecord}
 use Rattle.lte_machine.specs.World.{Machine, phone_turn, core_turn, station_of_id, turn_of, auth_unless, known_root, next_root, content_in, arrives, chosen, delivered, class_of, is_sent, injected, happens, with_one}
 use Rattle.lte_machine.specs.PhoneChoice.{phone_row}
 use Rattle.lte_machine.specs.PhoneStep.{plain_phone, front_of, phone_root, phone_opens, phone_pdu_in}
-use Rattle.lte_machine.specs.StationRows.{Wanted, RecordRow, RecordRefused, ContextGiven, ContextReleased, PairTaken, PreparedByS1, PreparedByX2, AckedByS1, AckedByX2, PreparationCancelled, SourceReleased, AirRow, AirRefused, SecurityStarted, RrcOpened, PacketOpened, CompletedByS1, CompletedWithin, CompletedByX2, ActRow, ActRefused, StartedByX2, StartedByS1, StartedWithin, HandoverCommanded, CancelledByX2, CancelledByS1, CancelledWithin, PathSwitchAsked, PacketSent, RrcSent, BearerSkipped, StationRow, OfRecord, OfAir, OfAct}
-use Rattle.lte_machine.specs.StationKeys.{context_given, pair_taken, prepared_by_s1, prepared_by_x2, record_does, completed_by_s1, completed_within, completed_by_x2, air_does, started_by_x2, started_by_s1, started_within, commands, asks_again, sends_packet, sends_rrc, act_does, station_does}
+use Rattle.lte_machine.specs.StationRows.{Wanted, RecordRow, RecordRefused, ContextGiven, ContextReleased, PairTaken, PreparedByS1, PreparedByX2, AckedByS1, AckedByX2, PreparationCancelled, SourceReleased, KeyRenewed, AirRow, AirRefused, SecurityStarted, RrcOpened, PacketOpened, CompletedByS1, CompletedWithin, CompletedByX2, ActRow, ActRefused, StartedByX2, StartedByS1, StartedWithin, HandoverCommanded, ChangeCommanded, CancelledByX2, CancelledByS1, CancelledWithin, PathSwitchAsked, PacketSent, RrcSent, BearerSkipped, StationRow, OfRecord, OfAir, OfAct}
+use Rattle.lte_machine.specs.StationKeys.{context_given, pair_taken, prepared_by_s1, prepared_by_x2, key_renewed, record_does, completed_by_s1, completed_within, completed_by_x2, air_does, started_by_x2, started_by_s1, started_within, commands, commands_change, asks_again, sends_packet, sends_rrc, act_does, station_does}
 use Rattle.std.specs.Prelude.{◌⊎◌}
 use Rattle.std.proofs.Common.{inl, inr}
 use Rattle.std.proofs.lemmas.Bool.{eqb-true}
@@ -63,6 +63,11 @@ module _ (same : Term → Term → Bool) where
   by_x2 w None s = tt
   by_x2 w (Some key) s = (refl, (refl, refl))
 
+  renewed : (conn number air count : ℕ) (o : Option (Context Term ℕ)) (key : Option (NumberedKey Term ℕ)) (s : Station Term ℕ) → Notes s.id (key_renewed (term_reading_by same) conn number air count o key s)
+  renewed conn number air count (Some c) (Some key) s = (refl, (refl, refl))
+  renewed conn number air count (Some c) None s = tt
+  renewed conn number air count None key s = tt
+
   record_notes : (row : RecordRow) (key : Option (NumberedKey Term ℕ)) (s : Station Term ℕ) → Notes s.id (record_does (term_reading_by same) row key s)
   record_notes (RecordRefused answer) key s = tt
   record_notes (ContextGiven conn cell caps algs air) key s = given conn cell caps algs air key s
@@ -74,6 +79,7 @@ module _ (same : Term → Term → Bool) where
   record_notes (AckedByX2 algs air) key s = tt
   record_notes (PreparationCancelled from) key s = tt
   record_notes SourceReleased key s = tt
+  record_notes (KeyRenewed conn number air count) key s = renewed conn number air count s.context key s
 
   done_by_s1 : (count : ℕ) (o : Option (Prep Term ℕ)) (s : Station Term ℕ) → Notes s.id (completed_by_s1 (term_reading_by same) count o s)
   done_by_s1 count None s = tt
@@ -112,6 +118,10 @@ module _ (same : Term → Term → Bool) where
   command order count None s = tt
   command order count (Some c) s = tt
 
+  change : (renewal : Renewal) (count : ℕ) (o : Option (Context Term ℕ)) (s : Station Term ℕ) → Notes s.id (commands_change renewal count o s)
+  change renewal count None s = tt
+  change renewal count (Some c) s = tt
+
   ask : (number : ℕ) (o : Option (Context Term ℕ)) (s : Station Term ℕ) → Notes s.id (asks_again number o s)
   ask number None s = tt
   ask number (Some c) s = tt
@@ -130,6 +140,7 @@ module _ (same : Term → Term → Bool) where
   act_notes (StartedByS1 number target cell) s = s1_start number target cell s.context s
   act_notes (StartedWithin number air cell) s = within_start number air cell s.context s
   act_notes (HandoverCommanded order count) s = command order count s.context s
+  act_notes (ChangeCommanded renewal count) s = change renewal count s.context s
   act_notes (CancelledByX2 conn number target) s = tt
   act_notes (CancelledByS1 conn number cell) s = tt
   act_notes (CancelledWithin number) s = tt

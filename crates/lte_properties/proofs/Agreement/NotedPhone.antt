@@ -1,5 +1,5 @@
 -- What the phone takes is told in its reply: the key, and the NCC of its number.
-use Rattle.std.proofs.Common.{◌≡◌, refl, ℕ, Bool, List, Option, Some, None}
+use Rattle.std.proofs.Common.{◌≡◌, refl, ℕ, Bool, true, false, List, Option, Some, None}
 use Rattle.std.specs.Prelude.{⊤}
 use Rattle.alg_choice.specs.declared.algs.Algs.{Algs}
 use Rattle.annex_a_keys.specs.Cell.{Place}
@@ -7,10 +7,10 @@ use Rattle.lte_events.specs.declared.answers.Answer.{Answer}
 use Rattle.key_model.specs.Term.{Term}
 use Rattle.key_model.specs.Reading.{term_reading_by}
 use Rattle.lte_machine.specs.Bearers.{Srb, Drb, Which}
-use Rattle.lte_machine.specs.Reply.{Took}
+use Rattle.lte_machine.specs.Reply.{Before, Took}
 use Rattle.lte_machine.specs.PhoneState.{Partial, NasContext, Radio, Idle, Connecting, Connected, Phone}
-use Rattle.lte_machine.specs.PhoneRows.{AuthRow, Authenticated, NasRow, NasRefused, RejectedPlain, RejectedUnder, ContextTaken, ContextTakenConnected, NasOpened, AirRow, AirRefused, LinkSecured, HandedOver, RrcOpened, PacketOpened, ActRow, ActRefused, ServiceRequested, CompleteResent, WentIdle, PacketSent, RrcSent, NasSent, NasSkipped, BearerSkipped, PhoneRow, OfAuth, OfNas, OfAir, OfAct}
-use Rattle.lte_machine.specs.PhoneKeys.{PhoneDone, auth_does, rejected_under, context_taken, context_taken_connected, nas_opened, nas_does, link_secured, handed_over, rrc_opened, packet_opened, air_does, service_requested, complete_resent, packet_sent, rrc_sent, nas_sent, nas_skipped, bearer_skipped, act_does, phone_does}
+use Rattle.lte_machine.specs.PhoneRows.{AuthRow, Authenticated, NasRow, NasRefused, RejectedPlain, RejectedUnder, ContextTaken, ContextTakenConnected, NasOpened, AirRow, AirRefused, LinkSecured, HandedOver, KeyChanged, RrcOpened, PacketOpened, ActRow, ActRefused, ServiceRequested, CompleteResent, WentIdle, PacketSent, RrcSent, NasSent, NasSkipped, BearerSkipped, PhoneRow, OfAuth, OfNas, OfAir, OfAct}
+use Rattle.lte_machine.specs.PhoneKeys.{PhoneDone, auth_does, rejected_under, context_taken, context_taken_connected, nas_opened, nas_does, link_secured, handed_over, before_of, changed_unless, key_changed, rrc_opened, packet_opened, air_does, service_requested, complete_resent, packet_sent, rrc_sent, nas_sent, nas_skipped, bearer_skipped, act_does, phone_does}
 use Rattle.key_model.specs.Chain.{ncc_of}
 use Rattle.lte_machine.specs.Reply.{Note}
 
@@ -39,6 +39,18 @@ module _ (same : Term → Term → Bool) where
   handed cell steps algs station air s Idle = tt
   handed cell steps algs station air s (Connecting w) = tt
 
+  changed : (cell : Place) (algs : Algs) (station air : ℕ) (s : Phone Term ℕ) (before : Before Term ℕ) (root : Term) (b : Bool)
+      → Noted (changed_unless (term_reading_by same) cell algs station air s before root b)
+  changed cell algs station air s before root true = tt
+  changed cell algs station air s before root false = (refl, refl)
+
+  key_change : (cell : Place) (algs : Algs) (station air : ℕ) (s : Phone Term ℕ) (radio : Radio Term ℕ) (o : Option (NasContext Term))
+      → Noted (key_changed (term_reading_by same) cell algs station air s radio o)
+  key_change cell algs station air s (Connected l) (Some c) = changed cell algs station air s (before_of l) c.root (same c.root l.chain.root)
+  key_change cell algs station air s (Connected l) None = tt
+  key_change cell algs station air s Idle o = tt
+  key_change cell algs station air s (Connecting w) o = tt
+
   opened_rrc : (srb : Srb) (count : ℕ) (text : List ℕ) (s : Phone Term ℕ) (radio : Radio Term ℕ) → Noted (rrc_opened srb count text s radio)
   opened_rrc srb count text s (Connected l) = tt
   opened_rrc srb count text s Idle = tt
@@ -53,6 +65,7 @@ module _ (same : Term → Term → Bool) where
   air_notes (AirRefused answer) s = tt
   air_notes (LinkSecured station air algs count) s = secured station air algs count s s.radio
   air_notes (HandedOver cell steps algs station air) s = handed cell steps algs station air s s.radio
+  air_notes (KeyChanged cell algs station air) s = key_change cell algs station air s s.radio s.context
   air_notes (RrcOpened srb count text) s = opened_rrc srb count text s s.radio
   air_notes (PacketOpened drb count text) s = opened_packet drb count text s s.radio
 

@@ -1,5 +1,5 @@
--- An opener that compares the uses of SRB records as terms is honest, and unciphered records read as their texts.
-use Rattle.std.proofs.Common.{◌≡◌, refl, sym, ◌∙◌, subst, ℕ, ◌-◌, ◌%◌, Bool, true, false, List, ◌∷◌, ◌++◌, length, Option, Some, None, arith}
+-- An opener that compares the uses of SRB records as terms is honest, and octets tell what is not ciphered.
+use Rattle.std.proofs.Common.{◌≡◌, refl, sym, ◌∙◌, subst, ℕ, ◌+◌, ◌-◌, ◌*◌, ◌/◌, ◌%◌, Bool, true, false, List, ◌∷◌, ◌++◌, length, Option, Some, None, Result, Ok, Err, arith}
 use Rattle.std.specs.Prelude.{◌&&◌, ◌==◌}
 use Rattle.std.proofs.lemmas.Bool.{eqb-true, eq-eqb}
 use Rattle.std.proofs.lemmas.List.{take_at, length-append}
@@ -13,13 +13,17 @@ use Rattle.key_model.proofs.TermFacts.{same_term-Decides}
 use Rattle.s1x2_rec.specs.Fields.{Fields}
 use Rattle.lte_machine.specs.Bearers.{Srb}
 use Rattle.lte_machine.specs.Wire.{KeyUse, Ciphering, Outgoing, SealedNas, PlainNas, SealedRrc, UserPacket, Between}
-use Rattle.lte_machine.specs.Ciphers.{Ciphers, AreCiphers, srb_octets, octets_of}
+use Rattle.lte_events.specs.declared.answers.Answer.{Answer}
+use Rattle.lte_events.specs.declared.answers.Answer.TheVariants.{Short, BadHeader}
+use Rattle.lte_machine.specs.CoreChoice.{core_takes, core_header}
+use Rattle.lte_machine.specs.Ciphers.{Ciphers, AreCiphers, nas_octets, srb_octets, octets_of}
 use Rattle.lte_machine.specs.Opening.{Opening, OpensNothing, OpensNas, OpensSrb, OpensDrb, Outcome, Opened, Differs, open_octets, open_foreign, same_dir, same_uses, same_ciphering, judged, open_case, open_by_uses}
 use Rattle.lte_machine.specs.World.{World}
 use Rattle.lte_machine.specs.Step.{attempted}
 use Rattle.lte_properties.specs.ChainHolds.{machine_by}
 use Rattle.lte_properties.specs.AgreeOpenings.{IsHonest, Honest, OpensByTerms}
-use Rattle.lte_properties.proofs.Agreement.World.{PlainReads}
+use Rattle.lte_properties.proofs.Agreement.PhoneWalk.{by_test}
+use Rattle.lte_properties.proofs.Agreement.World.{PlainReads, HeaderReads, OctetsTell}
 
 one_dir : (a b : Dir) → same_dir a b ≡ true → a ≡ b
 one_dir Up Up e = refl
@@ -112,12 +116,48 @@ srb_honest c u e pdu (Some (SealedRrc dir station air srb i f sent)) =
 srb_honest c u e pdu (Some (UserPacket dir station air drb f sent)) = tt
 srb_honest c u e pdu (Some (Between to fields key)) = tt
 
--- an opener that compares the uses on SRBs as terms is honest, whatever it does elsewhere
+-- uses that some test says are one have one COUNT
+one_count : (same : Term → Term → Bool) (u v : KeyUse Term) → same_uses same u v ≡ true → u.count ≡ v.count
+one_count same u v e =
+    let a = both_true ((same u.key v.key && (u.count == v.count)) && (u.bearer == v.bearer)) (same_dir u.dir v.dir) e in
+    let b = both_true (same u.key v.key && (u.count == v.count)) (u.bearer == v.bearer) a.0 in
+    eqb-true u.count v.count (both_true (same u.key v.key) (u.count == v.count) b.0).1
+
+counted_nas : (u i : KeyUse Term) (e f : Option (Ciphering Term)) (dir : Dir) (header : ℕ) (sent : List ℕ) → u.count ≡ i.count
+    → (o : Outcome) → IsHonest (OpensNas u e) (Some (SealedNas dir header i f sent)) o
+counted_nas u i e f dir header sent is (Opened text) = is
+counted_nas u i e f dir header sent is (Differs wanted got) = tt
+
+counted_rrc : (u i : KeyUse Term) (e f : Option (Ciphering Term)) (dir : Dir) (station air : ℕ) (srb : Srb) (sent : List ℕ) → u.count ≡ i.count
+    → (o : Outcome) → IsHonest (OpensNas u e) (Some (SealedRrc dir station air srb i f sent)) o
+counted_rrc u i e f dir station air srb sent is (Opened text) = is
+counted_rrc u i e f dir station air srb sent is (Differs wanted got) = tt
+
+counted_case : (c : Ciphers Term) (u : KeyUse Term) (e : Option (Ciphering Term)) (pdu : List ℕ) (came : Option (Outgoing Term ℕ)) (a b : Bool) (sent : List ℕ)
+    → (a ≡ true → (o : Outcome) → IsHonest (OpensNas u e) came o) → IsHonest (OpensNas u e) came (open_case c (OpensNas u e) pdu (judged a b sent))
+unfolding open_foreign
+counted_case c u e pdu came true true sent f = f refl (Opened sent)
+counted_case c u e pdu came true false sent f = f refl (open_octets c (OpensNas u e) pdu)
+counted_case c u e pdu came false b sent f = tt
+
+nas_honest : (same : Term → Term → Bool) (c : Ciphers Term) (u : KeyUse Term) (e : Option (Ciphering Term)) (pdu : List ℕ) (came : Option (Outgoing Term ℕ))
+    → IsHonest (OpensNas u e) came (open_by_uses same c (OpensNas u e) pdu came)
+unfolding open_foreign
+nas_honest same c u e pdu None = tt
+nas_honest same c u e pdu (Some (SealedNas dir header i f sent)) =
+    counted_case c u e pdu (Some (SealedNas dir header i f sent)) (same_uses same u i) (same_ciphering same e f) sent (λ b. counted_nas u i e f dir header sent (one_count same u i b))
+nas_honest same c u e pdu (Some (PlainNas octets)) = tt
+nas_honest same c u e pdu (Some (SealedRrc dir station air srb i f sent)) =
+    counted_case c u e pdu (Some (SealedRrc dir station air srb i f sent)) (same_uses same u i) false sent (λ b. counted_rrc u i e f dir station air srb sent (one_count same u i b))
+nas_honest same c u e pdu (Some (UserPacket dir station air drb f sent)) = tt
+nas_honest same c u e pdu (Some (Between to fields key)) = tt
+
+-- an opener that compares the uses on SRBs as terms, and those on NAS in any way, is honest
 opener_honest : (c : Ciphers Term) (opener : Opening Term → List ℕ → Option (Outgoing Term ℕ) → Outcome) → OpensByTerms c opener
     → (opening : Opening Term) (pdu : List ℕ) (came : Option (Outgoing Term ℕ)) → IsHonest opening came (opener opening pdu came)
 opener_honest c opener is OpensNothing pdu came = tt
-opener_honest c opener is (OpensNas u e) pdu came = tt
-opener_honest c opener is (OpensSrb u e) pdu came = subst (IsHonest (OpensSrb u e) came) (sym (is u e pdu came)) (srb_honest c u e pdu came)
+opener_honest c opener is (OpensNas u e) pdu came = subst (IsHonest (OpensNas u e) came) (sym (is.1.1 u e pdu came)) (nas_honest is.1.0 c u e pdu came)
+opener_honest c opener is (OpensSrb u e) pdu came = subst (IsHonest (OpensSrb u e) came) (sym (is.0 u e pdu came)) (srb_honest c u e pdu came)
 opener_honest c opener is (OpensDrb e) pdu came = tt
 
 -- so each event of its machine is honest
@@ -127,10 +167,30 @@ honest same root octets sender opener c is w e =
     let a = attempted (machine_by same root octets sender opener) w e in opener_honest c opener is a.opening a.octets a.came
 
 -- an unciphered record's octets hold its text, since a MAC has four octets
-pub plain_reads : (c : Ciphers Term) → AreCiphers c → (between : Fields → Option (NumberedKey Term ℕ) → List ℕ) → PlainReads (octets_of c between)
+plain_text : (c : Ciphers Term) → AreCiphers c → (between : Fields → Option (NumberedKey Term ℕ) → List ℕ) → PlainReads (octets_of c between)
 unfolding srb_octets
-plain_reads c good between dir station air srb i text =
+plain_text c good between dir station air srb i text =
     let mac = c.mac i (i.count % 32 ∷ text) in
     let four = good.mac_length i (i.count % 32 ∷ text) in
     let long = length-append text mac in
     take_at text mac (length (i.count % 32 ∷ text ++ mac) - 5) (omega arith)
+
+one_header : (o : Result ℕ Answer) (a b : ℕ) → o ≡ Ok a → o ≡ Ok b → a ≡ b
+one_header o a b e f = cc
+
+no_header : (o : Result ℕ Answer) (a : Answer) (b : ℕ) → o ≡ Err a → o ≡ Ok b → ⊥
+no_header o a b e f = cc
+
+-- the first octet of a NAS message has its header type (TS 24.301 9.2 and 9.3.1)
+plain_header : (c : Ciphers Term) (between : Fields → Option (NumberedKey Term ℕ) → List ℕ) → HeaderReads (octets_of c between)
+unfolding nas_octets core_header
+plain_header c between dir header i e text h is =
+    by_test (λ (r : Result ℕ Answer). r ≡ Ok h → h ≡ header) (length (nas_octets c header i e text) == 0) _ _
+    (λ b f. absurd (no_header _ Short h refl f))
+    (λ b. by_test (λ (r : Result ℕ Answer). r ≡ Ok h → h ≡ header) (core_takes (16 * header + 7)) _ _
+    (λ d f. let one : (16 * header + 7) / 16 ≡ h = one_header _ _ _ refl f in omega arith)
+    (λ d f. absurd (no_header _ (BadHeader (16 * header + 7)) h refl f))) is
+
+-- what octets tell of a record before it is opened
+pub octets_tell : (c : Ciphers Term) → AreCiphers c → (between : Fields → Option (NumberedKey Term ℕ) → List ℕ) → OctetsTell (octets_of c between)
+octets_tell c good between = record { text = plain_text c good between; header = plain_header c between }

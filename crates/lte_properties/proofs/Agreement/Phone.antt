@@ -1,11 +1,12 @@
 -- What each row of the phone leaves of the invariant of agreement.
 use Rattle.std.proofs.Common.{◌≡◌, ℕ, zero, suc, ◌+◌, ◌-◌, ◌<◌, ◌≤◌, refl, sym, ◌∙◌, ap, subst, arith, Bool, true, false, cond, List, [], ◌∷◌, ◌++◌, Option, Some, None, inl, inr}
-use Rattle.std.specs.Prelude.{find, ⊤}
+use Rattle.std.specs.Prelude.{if◌then◌else◌, find, ⊤}
 use Rattle.alg_choice.specs.Algs.{eia2_identity}
 use Rattle.alg_choice.specs.declared.algs.Algs.{Algs}
 use Rattle.annex_a_keys.specs.Cell.{Place}
 use Rattle.lte_events.specs.declared.answers.Answer.{Answer}
-use Rattle.key_model.specs.Term.{Term, Alg}
+use Rattle.key_model.specs.Term.{Term, Kenb, Star, Alg, same_term}
+use Rattle.key_model.proofs.TermFacts.{same_term-Decides}
 use Rattle.key_model.specs.Chain.{ncc_of}
 use Rattle.key_model.specs.Number.{chain_number}
 use Rattle.key_model.specs.Reading.{term_reading_by}
@@ -13,16 +14,17 @@ use Rattle.key_model.specs.HandoverTable.{NumberedKey}
 use Rattle.key_model.specs.HandoverLines.{steps_to}
 use Rattle.nh_chain.specs.Reach.{reached_after}
 use Rattle.lte_machine.specs.Bearers.{Srb, Signalling1, Signalling2, Drb, User1, User2, User3, User4, Which, OnSrb, OnDrb, Bearers, srb_taken, drb_taken, srb_sent, drb_sent, skipped_on}
-use Rattle.lte_machine.specs.Reply.{Origin, Made, Tried, Took}
+use Rattle.lte_machine.specs.Reply.{Origin, From, BySetup, ByAttempt, ByChange, Made, Tried, Before, Came, Secured, Commanded, Changed, Took}
 use Rattle.lte_machine.specs.World.{with_one}
 use Rattle.lte_machine.specs.PhoneState.{Partial, NasContext, Link, Radio, Connecting, Connected, Phone}
-use Rattle.lte_machine.specs.PhoneRows.{AuthRow, Authenticated, NasRow, NasRefused, RejectedPlain, RejectedUnder, ContextTaken, ContextTakenConnected, NasOpened, AirRow, AirRefused, LinkSecured, HandedOver, RrcOpened, PacketOpened, ActRow, ActRefused, ServiceRequested, CompleteResent, WentIdle, PacketSent, RrcSent, NasSent, NasSkipped, BearerSkipped, PhoneRow, OfAuth, OfNas, OfAir, OfAct}
-use Rattle.lte_machine.specs.PhoneKeys.{PhoneDone, auth_does, rejected_under, context_taken, context_taken_connected, nas_opened, nas_does, link_secured, handed_over, rrc_opened, packet_opened, air_does, service_requested, complete_resent, packet_sent, rrc_sent, nas_sent, nas_skipped, bearer_skipped, act_does, phone_does}
+use Rattle.lte_machine.specs.PhoneRows.{AuthRow, Authenticated, NasRow, NasRefused, RejectedPlain, RejectedUnder, ContextTaken, ContextTakenConnected, NasOpened, AirRow, AirRefused, LinkSecured, HandedOver, KeyChanged, RrcOpened, PacketOpened, ActRow, ActRefused, ServiceRequested, CompleteResent, WentIdle, PacketSent, RrcSent, NasSent, NasSkipped, BearerSkipped, PhoneRow, OfAuth, OfNas, OfAir, OfAct}
+use Rattle.lte_machine.specs.PhoneKeys.{PhoneDone, auth_does, rejected_under, context_taken, context_taken_connected, nas_opened, nas_does, link_secured, handed_over, before_of, changed_unless, key_changed, rrc_opened, packet_opened, air_does, service_requested, complete_resent, packet_sent, rrc_sent, nas_sent, nas_skipped, bearer_skipped, act_does, phone_does}
 use Rattle.lte_properties.specs.ChainBelow.{AllOf}
-use Rattle.lte_properties.specs.Agreement.{made_at, ahead, TookMade, ObeysMade, Obeys, Grows, HadTaken}
-use Rattle.lte_properties.proofs.Agreement.Terms.{base, root_of, lands, ChainOf, reached_key, reached_number, reached_chain, steps_near, lands_near, steps_far, lands_far}
-use Rattle.lte_properties.proofs.Agreement.Ghost.{Ghost, taken, FromIs, HereIs, Leads, FromOk, MadeOk, TookOk, OrderIs, LinkIs, RadioOk, OutOk}
-use Rattle.lte_properties.proofs.Agreement.Later.{Later, in_front, in_last, same_found}
+use Rattle.lte_properties.specs.Agreement.{made_at, root_of, change_ahead, ahead, TookMade, ObeysCommand, ObeysChange, Obeys, Grows, HadTaken}
+use Rattle.lte_properties.proofs.Agreement.Terms.{base, lands, ChainOf, reached_key, reached_number, reached_chain, steps_near, lands_near, steps_far, lands_far}
+use Rattle.lte_properties.proofs.Agreement.Ghost.{Ghost, is_took_at, took_at, taken, FromIs, HereIs, Leads, FromOk, MadeOk, TookOk, OrderIs, ChangeIs, LinkIs, RadioOk, OutOk}
+use Rattle.lte_properties.proofs.Agreement.Told.{found_new, both_same, made_there}
+use Rattle.lte_properties.proofs.Agreement.Later.{Later, found_later, in_front, in_last, same_found}
 
 -- what is told after the phone took a key, or none
 abbrev pub with_took : Ghost → Option (Took Term ℕ) → Ghost
@@ -40,17 +42,24 @@ PhoneGoes g d =
 -- what the rows on a PDU need of the text that came
 abbrev pub StartNeeds : Ghost → ℕ → ℕ → Algs → Radio Term ℕ → Type 0
 StartNeeds g station air algs (Connecting w) =
-    (m : Made Term ℕ) × (made_at g.made station air ≡ Some m) × (m.from_attempt ≡ None) × (w.kenb ≡ m.key) × (algs ≡ m.algs)
+    (m : Made Term ℕ) × (made_at g.made station air ≡ Some m) × (m.from ≡ BySetup) × (w.kenb ≡ m.key) × (algs ≡ m.algs)
 StartNeeds g station air algs other = ⊤
 
 abbrev pub CommandNeeds : Ghost → Place → ℕ → Algs → ℕ → ℕ → Radio Term ℕ → Type 0
 CommandNeeds g cell steps algs station air (Connected l) =
-    (ncc : ℕ) × (steps ≡ steps_to (ncc_of l.chain.number) ncc) × OrderIs g l.kenb cell ncc algs station air
+    (ncc : ℕ) × (steps ≡ steps_to (ncc_of l.chain.number) ncc) × OrderIs g l.station l.kenb cell ncc algs station air
 CommandNeeds g cell steps algs station air other = ⊤
+
+-- an order to change the present key, at whose air address the phone took nothing yet
+abbrev pub ChangeNeeds : Ghost → Place → Algs → ℕ → ℕ → Radio Term ℕ → Type 0
+ChangeNeeds g cell algs station air (Connected l) =
+    ChangeIs g l.kenb cell algs station air × (took_at g.took station air ≡ None)
+ChangeNeeds g cell algs station air other = ⊤
 
 abbrev pub AirNeeds : Ghost → Radio Term ℕ → AirRow → Type 0
 AirNeeds g radio (LinkSecured station air algs count) = StartNeeds g station air algs radio
 AirNeeds g radio (HandedOver cell steps algs station air) = CommandNeeds g cell steps algs station air radio
+AirNeeds g radio (KeyChanged cell algs station air) = ChangeNeeds g cell algs station air radio
 AirNeeds g radio other = ⊤
 
 abbrev pub PhoneNeeds : Ghost → Radio Term ℕ → PhoneRow → Type 0
@@ -69,11 +78,11 @@ all_found P p (z ∷ zs) x h e = found_step P (p z) z x (find p zs) h.0 (all_fou
 -- THE OBEYED COMMAND
 
 -- a phone whose key is that of the attempt takes what was made, or where it is eight or more steps ahead another key
-obeys_made : (e : Tried Term ℕ) (m : Made Term ℕ) (x : Took Term ℕ) (before : NumberedKey Term ℕ)
+obeys_command : (e : Tried Term ℕ) (m : Made Term ℕ) (x : Took Term ℕ) (before : Before Term ℕ) (o : Origin) → m.from ≡ ByAttempt o → o.source ≡ before.station
     → before.number ≡ e.number → chain_number e.key ≡ e.number → Leads e m.key m.number
     → x.key ≡ taken e m → x.number ≡ chain_number e.key + steps_to (ncc_of (chain_number e.key)) (ncc_of m.number) → x.algs ≡ m.algs
-    → ObeysMade x before m
-obeys_made e m x before own number leads key reached algs = (omega arith, near, far)
+    → ObeysCommand x before m
+obeys_command e m x before o from source own number leads key reached algs = record { tried = (o, from, source); not_behind = omega arith; near = near; far = far }
   where
     made_is : m.key ≡ lands e.key (m.number - chain_number e.key) e.cell
     made_is = leads.1 ∙ ap (λ d. lands e.key (m.number - d) e.cell) (sym number)
@@ -81,13 +90,13 @@ obeys_made e m x before own number leads key reached algs = (omega arith, near, 
     below : chain_number e.key ≤ m.number
     below = omega arith
 
-    near : ahead m before < 8 → TookMade x m
+    near : ahead m (Commanded before) < 8 → TookMade x m
     near few =
         let close : m.number - chain_number e.key < 8 = omega arith in
         let steps = steps_near (chain_number e.key) m.number below close in
         (key ∙ lands_near e.key (chain_number e.key) m.number e.cell refl below close ∙ sym made_is, omega arith, algs)
 
-    far : 8 ≤ ahead m before → (x.key ≡ m.key → ⊥) × (x.number ≡ m.number → ⊥)
+    far : 8 ≤ ahead m (Commanded before) → (x.key ≡ m.key → ⊥) × (x.number ≡ m.number → ⊥)
     far many =
         let wide : 8 ≤ m.number - chain_number e.key = omega arith in (
           λ same. lands_far e.key (chain_number e.key) m.number e.cell refl below wide (sym key ∙ same ∙ made_is),
@@ -98,7 +107,7 @@ obeys_made e m x before own number leads key reached algs = (omega arith, near, 
 grows : (same : Term → Term → Bool) (l : Link Term ℕ) (steps : ℕ) (cell : Place) → ChainOf l.kenb l.chain
     → (x : Took Term ℕ) → x.key ≡ (reached_after (term_reading_by same) l.chain l.kenb steps cell).star.key
     → x.number ≡ (reached_after (term_reading_by same) l.chain l.kenb steps cell).star.number
-    → Grows x (Some (record { key = l.kenb; number = l.chain.number }))
+    → Grows x (Commanded (before_of l))
 grows same l zero cell chain x key number = inr (number, cell.pci, cell.earfcn, key)
 grows same l (suc steps) cell chain x key number = inl (omega arith)
 
@@ -112,6 +121,7 @@ took_more g None = record {
   made = λ station air m e. e;
   tried = λ station number e f. f;
   took = λ x i. i;
+  first = λ station air x e. e;
 }
 took_more g (Some y) = record {
   next = omega arith;
@@ -121,6 +131,7 @@ took_more g (Some y) = record {
   made = λ station air m e. e;
   tried = λ station number e f. f;
   took = λ x i. in_front x g.took (y ∷ []) i;
+  first = λ station air x e. found_later (is_took_at station air) g.took (y ∷ []) x e;
 }
 
 -- the next COUNT on SRB1 falls in no row but a handover
@@ -163,21 +174,21 @@ link_secured_goes : (same : Term → Term → Bool) (g : Ghost) → AllOf (MadeO
     → PhoneGoes g (link_secured (term_reading_by same) station air algs count s radio)
 link_secured_goes same g made station air algs count s (Connecting w) old h needs =
     let m = needs.0 in
-    let x : Took Term ℕ = record { station = station; air = air; key = w.kenb; number = 0; algs = algs; before = None } in
+    let x : Took Term ℕ = record { station = station; air = air; key = w.kenb; number = 0; algs = algs; came = Secured } in
     let k = with_took g (Some x) in
-    let from : FromIs k m w.kenb m.from_attempt = subst (FromIs k m w.kenb) (sym needs.2) needs.3 in
+    let from : FromIs k m w.kenb m.from = subst (FromIs k m w.kenb) (sym needs.2) needs.3 in
     let heard : 1 ≤ count + 1 = omega arith in
     let had : HadTaken (g.took ++ x ∷ []) station air w.kenb = (x, in_last x g.took, refl, refl, refl) in
     let here : HereIs k station air w.kenb = (m, needs.1, from) in
     let number : m.number ≡ 0 = subst (FromOk g m) needs.2 (all_found (MadeOk g) _ g.made m made needs.1).3 in (
       ((sym (ap root_of h.1), h.1 ∙ sym (ap base h.1), sym (ap chain_number h.1)), refl, m, needs.1, needs.4, from, had, (λ none. heard)),
-      (here, (m, needs.1, (needs.3, sym number, needs.4), needs.2), tt),
+      (here, (m, needs.1, ((needs.3, sym number, needs.4), needs.2)), tt),
       (w.kenb, refl, here, had),
     )
 link_secured_goes same g made station air algs count s other old h needs = (old, tt, tt)
 
-no_origin : {o : Option Origin} {from : Origin} → o ≡ Some from → o ≡ None → ⊥
-no_origin e f = cc
+no_setup : {from : From Term} {o : Origin} → from ≡ ByAttempt o → from ≡ BySetup → ⊥
+no_setup e f = cc
 
 handed_over_goes : (same : Term → Term → Bool) (g : Ghost) → AllOf (MadeOk g) g.made
     → (cell : Place) (steps : ℕ) (algs : Algs) (station air : ℕ) (s : Phone Term ℕ) (radio : Radio Term ℕ)
@@ -195,25 +206,25 @@ handed_over_goes same g made cell steps algs station air s (Connected l) old h n
       key = r.star.key;
       number = r.star.number;
       algs = algs;
-      before = Some (record { key = l.kenb; number = l.chain.number });
+      came = Commanded (before_of l);
     } in
     let k = with_took g (Some x) in
     let lands_so : r.star.key ≡ lands l.kenb steps cell = reached_key same l.kenb l.chain steps cell h.0 in
     let steps_are : steps ≡ steps_to (ncc_of (chain_number e.key)) (ncc_of m.number) =
     needs.1 ∙ (λ j. steps_to (ncc_of ((h.0.2 ∙ sym (ap chain_number order.6)) j)) (sym order.8 j)) in
     let takes : r.star.key ≡ taken e m = lands_so ∙ (λ j. lands (sym order.6 j) (steps_are j) (sym order.7 j)) in
-    let from : FromIs k m r.star.key m.from_attempt = subst (FromIs k m r.star.key) (sym order.4) (e, order.5, takes) in
+    let from : FromIs k m r.star.key m.from = subst (FromIs k m r.star.key) (sym order.4) (e, order.5, takes) in
     let had : HadTaken (g.took ++ x ∷ []) station air r.star.key = (x, in_last x g.took, refl, refl, refl) in
     let here : HereIs k station air r.star.key = (m, order.3, from) in
-    let ok : FromOk g m (Some o) = subst (FromOk g m) order.4 (all_found (MadeOk g) _ g.made m made order.3).3 in
+    let ok : FromOk g m (ByAttempt o) = subst (FromOk g m) order.4 (all_found (MadeOk g) _ g.made m made order.3).3 in
     let one : ok.0 ≡ e = same_found _ ok.0 e ok.1 order.5 in
     let number : chain_number e.key ≡ e.number = subst (λ u. chain_number u.key ≡ u.number) one ok.2 in
     let leads : Leads e m.key m.number = subst (λ u. Leads u m.key m.number) one ok.4 in
     let own : l.chain.number ≡ e.number = h.0.2 ∙ sym (ap chain_number order.6) ∙ number in
     let reached : r.star.number ≡ chain_number e.key + steps_to (ncc_of (chain_number e.key)) (ncc_of m.number) =
     reached_number same l.kenb l.chain steps cell h.0 ∙ (λ j. chain_number (sym order.6 j) + steps_are j) in
-    let obeys : Obeys g.made x x.before =
-    (m, order.3, obeys_made e m x (record { key = l.kenb; number = l.chain.number }) own number leads takes reached (sym order.9)) in (
+    let obeys : Obeys g.made x =
+    (m, order.3, obeys_command e m x (before_of l) o order.4 order.10 own number leads takes reached (sym order.9)) in (
       (
         (subst (λ t. ChainOf t r.chain) (sym lands_so) (reached_chain same l.kenb l.chain steps cell h.0)),
         refl,
@@ -222,12 +233,82 @@ handed_over_goes same g made cell steps algs station air s (Connected l) old h n
         sym order.9,
         from,
         had,
-        (λ none. absurd (no_origin order.4 none)),
+        (λ none. absurd (no_setup order.4 none)),
       ),
       (here, obeys, grows same l steps cell h.0 x refl refl),
       (r.star.key, refl, here, had),
     )
 handed_over_goes same g made cell steps algs station air s other old h needs = (old, tt, tt)
+
+-- THE OBEYED KEY CHANGE
+
+one_root : (r root : Term) (pci earfcn : ℕ) → Star (Kenb root 0) pci earfcn ≡ Star (Kenb r 0) pci earfcn → root ≡ r
+one_root r root pci earfcn e = cc
+
+-- how far ahead a change is tells whether it is of the phone's KASME
+by_same : (b : Bool) {A : Type 0} → (b ≡ true → A) → (if b then 0 else 8) < 8 → A
+by_same true f few = f refl
+by_same false f few = absurd (omega arith)
+
+by_other : (b : Bool) → 8 ≤ (if b then 0 else 8) → b ≡ true → ⊥
+by_other true many e = omega arith
+by_other false many e = cc
+
+-- a phone that changes its key takes what was made where that is of its own KASME, and another key else
+obeys_change : (m : Made Term ℕ) (x : Took Term ℕ) (before : Before Term ℕ) (root : Term) → m.from ≡ ByChange before.key
+    → m.number ≡ 0 → (r : Term) → m.key ≡ Star (Kenb r 0) m.cell.pci m.cell.earfcn
+    → x.key ≡ Star (Kenb root 0) m.cell.pci m.cell.earfcn → x.number ≡ 0 → x.algs ≡ m.algs
+    → ObeysChange x before root m
+obeys_change m x before root from number r made_is key none algs = record { renewed = from; near = near; far = far }
+  where
+    of_key : root_of m.key ≡ r
+    of_key = ap root_of made_is
+
+    near : change_ahead root m.key < 8 → TookMade x m
+    near few =
+        let one : root ≡ r = by_same (same_term root (root_of m.key)) (λ e. (same_term-Decides root (root_of m.key)).0 e ∙ of_key) few in
+        (key ∙ (λ j. Star (Kenb (one j) 0) m.cell.pci m.cell.earfcn) ∙ sym made_is, none ∙ sym number, algs)
+
+    far : 8 ≤ change_ahead root m.key → x.key ≡ m.key → ⊥
+    far many same =
+        let one : root ≡ r = one_root r root m.cell.pci m.cell.earfcn (sym key ∙ same ∙ made_is) in
+        by_other (same_term root (root_of m.key)) many ((same_term-Decides root (root_of m.key)).1 (one ∙ sym of_key))
+
+no_setup_change : {from : From Term} {k : Term} → from ≡ ByChange k → from ≡ BySetup → ⊥
+no_setup_change e f = cc
+
+changed_goes : (same : Term → Term → Bool) (g : Ghost) → AllOf (MadeOk g) g.made
+    → (cell : Place) (algs : Algs) (station air : ℕ) (s : Phone Term ℕ) (l : Link Term ℕ) (root : Term) (b : Bool)
+    → RadioOk g s.radio → ChangeNeeds g cell algs station air (Connected l)
+    → PhoneGoes g (changed_unless (term_reading_by same) cell algs station air s (before_of l) root b)
+changed_goes same g made cell algs station air s l root true old needs = (old, tt, tt)
+changed_goes same g made cell algs station air s l root false old needs =
+    let order = needs.0 in
+    let m = order.0 in
+    let t = Star (Kenb root 0) cell.pci cell.earfcn in
+    let x : Took Term ℕ = record { station = station; air = air; key = t; number = 0; algs = algs; came = Changed (before_of l) root } in
+    let k = with_took g (Some x) in
+    let at = made_there g.made station air m order.1 in
+    let none : took_at g.took m.station m.air ≡ None = (λ j. took_at g.took (at.0 j) (at.1 j)) ∙ needs.1 in
+    let first : took_at (g.took ++ x ∷ []) m.station m.air ≡ Some x =
+    found_new (is_took_at m.station m.air) g.took x none (both_same station m.station air m.air (sym at.0) (sym at.1)) in
+    let from : FromIs k m t m.from = subst (FromIs k m t) (sym order.2) (x, first, refl) in
+    let had : HadTaken (g.took ++ x ∷ []) station air t = (x, in_last x g.took, refl, refl, refl) in
+    let here : HereIs k station air t = (m, order.1, from) in
+    let ok : FromOk g m (ByChange l.kenb) = subst (FromOk g m) order.2 (all_found (MadeOk g) _ g.made m made order.1).3 in
+    let of_cell : t ≡ Star (Kenb root 0) m.cell.pci m.cell.earfcn = λ j. Star (Kenb root 0) (sym order.3 j).pci (sym order.3 j).earfcn in (
+      ((refl, refl, refl), refl, m, order.1, sym order.4, from, had, (λ e. absurd (no_setup_change order.2 e))),
+      (here, (m, order.1, obeys_change m x (before_of l) root order.2 ok.0 ok.2 ok.3 of_cell refl (sym order.4)), (refl, cell.pci, cell.earfcn, refl)),
+      (t, refl, here, had),
+    )
+
+key_changed_goes : (same : Term → Term → Bool) (g : Ghost) → AllOf (MadeOk g) g.made
+    → (cell : Place) (algs : Algs) (station air : ℕ) (s : Phone Term ℕ) (radio : Radio Term ℕ) (o : Option (NasContext Term))
+    → RadioOk g s.radio → ChangeNeeds g cell algs station air radio
+    → PhoneGoes g (key_changed (term_reading_by same) cell algs station air s radio o)
+key_changed_goes same g made cell algs station air s (Connected l) (Some c) old needs =
+    changed_goes same g made cell algs station air s l c.root (same c.root l.chain.root) old needs
+key_changed_goes same g made cell algs station air s radio o old needs = (old, tt, tt)
 
 rrc_opened_goes : (same : Term → Term → Bool) (g : Ghost) (srb : Srb) (count : ℕ) (text : List ℕ) (s : Phone Term ℕ) (radio : Radio Term ℕ)
     → RadioOk g s.radio → RadioOk g radio → PhoneGoes g (rrc_opened {C = ℕ} srb count text s radio)
@@ -245,25 +326,29 @@ air_goes same g made (AirRefused answer) s h needs = (h, tt, tt)
 air_goes same g made (LinkSecured station air algs count) s h needs = link_secured_goes same g made station air algs count s s.radio h h needs
 air_goes same g made (HandedOver cell steps algs station air) s h needs =
     handed_over_goes same g made cell steps algs station air s s.radio h h needs
+air_goes same g made (KeyChanged cell algs station air) s h needs = key_changed_goes same g made cell algs station air s s.radio s.context h needs
 air_goes same g made (RrcOpened srb count text) s h needs = rrc_opened_goes same g srb count text s s.radio h h
 air_goes same g made (PacketOpened drb count text) s h needs = packet_opened_goes g drb count text s s.radio h h
 
 -- THE ROWS ON A NAS MESSAGE
 
+not_four : (n : ℕ) → n < 4 → n ≡ 4 → ⊥
+not_four n low e = omega arith
+
 rejected_goes : (g : Ghost) (answer : Answer) (cause : ℕ) (s : Phone Term ℕ) (o : Option (NasContext Term)) → RadioOk g s.radio
     → PhoneGoes g (rejected_under answer cause s o)
 rejected_goes g answer cause s None h = (h, tt, tt)
-rejected_goes g answer cause s (Some c) h = (h, tt, tt)
+rejected_goes g answer cause s (Some c) h = (h, tt, (λ e. absurd (not_four 2 (omega arith) e)))
 
 context_taken_goes : (same : Term → Term → Bool) (g : Ghost) (algs : Algs) (count : ℕ) (s : Phone Term ℕ) (o : Option (Partial Term)) → RadioOk g s.radio
     → PhoneGoes g (context_taken (term_reading_by same) algs count s o)
 context_taken_goes same g algs count s None h = (h, tt, tt)
-context_taken_goes same g algs count s (Some p) h = ((0, refl), tt, tt)
+context_taken_goes same g algs count s (Some p) h = ((0, refl), tt, (λ e. refl))
 
 taken_connected_goes : (same : Term → Term → Bool) (g : Ghost) (algs : Algs) (count : ℕ) (s : Phone Term ℕ) (o : Option (Partial Term)) → RadioOk g s.radio
     → PhoneGoes g (context_taken_connected (term_reading_by same) algs count s o)
 taken_connected_goes same g algs count s None h = (h, tt, tt)
-taken_connected_goes same g algs count s (Some p) h = (h, tt, tt)
+taken_connected_goes same g algs count s (Some p) h = (h, tt, (λ e. refl))
 
 nas_opened_goes : (g : Ghost) (count : ℕ) (text : List ℕ) (s : Phone Term ℕ) (o : Option (NasContext Term)) → RadioOk g s.radio
     → PhoneGoes g (nas_opened count text s o)
@@ -304,11 +389,11 @@ rrc_sent_goes g srb text s other old h = (old, tt, tt)
 service_goes : (same : Term → Term → Bool) (g : Ghost) (s : Phone Term ℕ) (o : Option (NasContext Term)) → RadioOk g s.radio
     → PhoneGoes g (service_requested (term_reading_by same) s o)
 service_goes same g s None h = (h, tt, tt)
-service_goes same g s (Some c) h = ((c.send, refl), tt, tt)
+service_goes same g s (Some c) h = ((c.send, refl), tt, (λ e. absurd (not_four 1 (omega arith) e)))
 
 nas_sent_goes : (g : Ghost) (text : List ℕ) (s : Phone Term ℕ) (o : Option (NasContext Term)) → RadioOk g s.radio → PhoneGoes g (nas_sent text s o)
 nas_sent_goes g text s None h = (h, tt, tt)
-nas_sent_goes g text s (Some c) h = (h, tt, tt)
+nas_sent_goes g text s (Some c) h = (h, tt, (λ e. absurd (not_four 2 (omega arith) e)))
 
 nas_left_goes : (g : Ghost) (n : ℕ) (s : Phone Term ℕ) (o : Option (NasContext Term)) → RadioOk g s.radio → PhoneGoes g (nas_skipped n s o)
 nas_left_goes g n s None h = (h, tt, tt)

@@ -13,23 +13,23 @@ use Rattle.key_model.specs.Chain.{ncc_of}
 use Rattle.key_model.specs.HandoverLines.{steps_to}
 use Rattle.key_model.specs.Reading.{term_reading_by}
 use Rattle.rrc_rec.specs.declared.records.RrcRecord.{RrcRecord}
-use Rattle.rrc_rec.specs.declared.records.RrcRecord.TheVariants.{SecurityModeCommand, SecurityModeComplete, Reconfiguration, ReconfigurationComplete, RrcData}
+use Rattle.rrc_rec.specs.declared.records.RrcRecord.TheVariants.{SecurityModeCommand, SecurityModeComplete, Reconfiguration, ReconfigurationComplete, RrcData, KeyChange}
 use Rattle.rrc_rec.specs.Reading.{read_rrc}
 use Rattle.pdcp_guard.specs.declared.pdus.PdcpFault.{PdcpFault}
 use Rattle.pdcp_guard.specs.Srb.{srb_count}
 use Rattle.pdcp_guard.specs.Drb.{drb_count}
 use Rattle.lte_machine.specs.Bearers.{Srb, Signalling1, Signalling2, Drb, Which, OnSrb, OnDrb, srb_counts, drb_counts}
-use Rattle.lte_machine.specs.Wire.{KeyUse, Ciphering, Outgoing, SealedNas, PlainNas, SealedRrc, UserPacket, Between, srb_use, ciphering_by}
+use Rattle.lte_machine.specs.Wire.{KeyUse, Ciphering, Outgoing, SealedNas, PlainNas, SealedRrc, UserPacket, Between, srb_use, srb_ciphering}
 use Rattle.lte_machine.specs.Opening.{Outcome, Opened, Differs}
-use Rattle.lte_machine.specs.Reply.{unseen}
+use Rattle.lte_machine.specs.Reply.{BySetup, ByChange, Made, unseen}
 use Rattle.lte_machine.specs.PhoneState.{Waiting, Link, Radio, Idle, Connecting, Connected, Phone, map_radio, map_link}
-use Rattle.lte_machine.specs.PhoneChoice.{unciphered_text, start_read, start_at, waiting_front, signalling_at, packet_at, linked_front, air_front, AirFront, AtStart, command_taken, signalling_read, air_row}
-use Rattle.lte_machine.specs.PhoneKeys.{air_expects, start_expects, signalling_expects, srb_ciphering_down}
+use Rattle.lte_machine.specs.PhoneChoice.{unciphered_text, start_read, start_at, waiting_front, signalling_at, packet_at, linked_front, air_front, AirFront, AtStart, command_taken, change_taken, signalling_read, air_row}
+use Rattle.lte_machine.specs.PhoneKeys.{air_expects, start_expects, signalling_expects}
 use Rattle.lte_properties.specs.Agreement.{made_at}
 use Rattle.lte_properties.specs.AgreeOpenings.{WasSealed, IsHonest, CipheredAs, IsCalm, is_ciphered}
-use Rattle.lte_properties.proofs.Agreement.Ghost.{Ghost, keys_of, TextOk, CipheredSo, DownOk, LinkIs, RadioOk, OrderIs}
+use Rattle.lte_properties.proofs.Agreement.Ghost.{Ghost, took_at, keys_of, TextOk, CipheredSo, DownOk, LinkIs, RadioOk, OrderIs, ChangeIs}
 use Rattle.lte_properties.proofs.Agreement.Later.{same_found}
-use Rattle.lte_properties.proofs.Agreement.Phone.{StartNeeds, CommandNeeds, AirNeeds}
+use Rattle.lte_properties.proofs.Agreement.Phone.{StartNeeds, CommandNeeds, ChangeNeeds, AirNeeds}
 
 -- what came to a phone's air address on a bearer: nothing that was sent, or a record of the station there, and an
 -- unciphered one has its text in its octets
@@ -40,6 +40,13 @@ CameDown g station air on pdu (Some (SealedRrc Down st a srb i f text)) =
 CameDown g station air on pdu (Some (SealedRrc Up st a srb i f text)) = ⊥
 CameDown g station air on pdu (Some (SealedNas dir header i f text)) = ⊥
 CameDown g station air on pdu (Some other) = ⊤
+
+-- where the present key is to change, the phone took nothing yet
+abbrev pub NothingYet : Ghost → Radio Term ℕ → Type 0
+NothingYet g (Connected l) =
+    (station air : ℕ) (m : Made Term ℕ) → made_at g.made station air ≡ Some m → m.from ≡ ByChange l.kenb
+    → took_at g.took station air ≡ None
+NothingYet g other = ⊤
 
 -- by the two ends of a test
 pub by_test : {A : Type 0} (P : A → Type 0) (b : Bool) (x y : A) → (b ≡ true → P x) → (b ≡ false → P y) → P (if b then x else y)
@@ -76,7 +83,7 @@ start_named g w station air pdu on algs ns na reads is_s is_a u key down text (S
     let plain : f ≡ None = no_cipher f (subst (λ d. CipheredAs d None (Some (SealedRrc Down st a srb i f sent))) down calm) in
     let d = h.3 in
     let m = d.0 in
-    let from : m.from_attempt ≡ None = (subst (CipheredSo g station air m srb i) plain d.3).0 in
+    let from : m.from ≡ BySetup = (subst (CipheredSo g station air m srb i) plain d.3).0 in
     let says = d.4 (SecurityModeCommand algs ns na) (ap read_rrc (sym (h.4 plain)) ∙ reads) in
     let there : made_at g.made station air ≡ Some says.0 = (λ j. made_at g.made (sym is_s j) (sym is_a j)) ∙ says.1 in
     let one : says.0 ≡ m = same_found _ says.0 m there d.1 in
@@ -89,7 +96,7 @@ start_named g w station air pdu on algs ns na reads is_s is_a u key down text (S
 pub both_named : (a b c d : ℕ) → ((a == b) && (c == d)) ≡ true → (a ≡ b) × (c ≡ d)
 both_named a b c d e = grind (arith, nat_tests)
 
-module _ (same : Term → Term → Bool) (g : Ghost) (s : Phone Term ℕ) (caps : Caps) (station air : ℕ) (pdu : List ℕ) (on : Which) (came : Option (Outgoing Term ℕ)) (came_ok : CameDown g station air on pdu came) where
+module _ (same : Term → Term → Bool) (g : Ghost) (s : Phone Term ℕ) (caps : Caps) (station air : ℕ) (pdu : List ℕ) (on : Which) (came : Option (Outgoing Term ℕ)) (came_ok : CameDown g station air on pdu came) (yet : NothingYet g s.radio) where
   -- what the record that starts a connection's security needs, once it opened
   start_walks : (w : Waiting Term) → s.radio ≡ Connecting w → (count : ℕ) (algs : Algs) (ns na : ℕ)
       → read_rrc (unciphered_text pdu) ≡ Ok (SecurityModeCommand algs ns na)
@@ -116,6 +123,7 @@ module _ (same : Term → Term → Bool) (g : Ghost) (s : Phone Term ℕ) (caps 
   read_walks w is count outcome (Ok (Reconfiguration cell ncc algs st a)) reads honest calm = tt
   read_walks w is count outcome (Ok ReconfigurationComplete) reads honest calm = tt
   read_walks w is count outcome (Ok (RrcData text)) reads honest calm = tt
+  read_walks w is count outcome (Ok (KeyChange cell algs st a)) reads honest calm = tt
 
   count_walks : (w : Waiting Term) → s.radio ≡ Connecting w → (outcome : Outcome) (count : Result ℕ PdcpFault)
       → Walked same g s came outcome caps (start_at caps station air pdu count)
@@ -133,9 +141,9 @@ module _ (same : Term → Term → Bool) (g : Ghost) (s : Phone Term ℕ) (caps 
   -- a text under the phone's keys is what the station there sent
   text_is : (l : Link Term ℕ) → LinkIs g l → l.station ≡ station → l.air ≡ air → (srb : Srb) (count : ℕ) → on ≡ OnSrb srb
       → (text : List ℕ) (o : Option (Outgoing Term ℕ)) → CameDown g station air on pdu o
-      → WasSealed (srb_use Down l.keys.rrc_int srb count) (Some (srb_ciphering_down l.keys srb count)) text o
-      → CipheredAs Down (Some (srb_ciphering_down l.keys srb count)) o
-      → TextOk g l.kenb text
+      → WasSealed (srb_use Down l.keys.rrc_int srb count) (Some (srb_ciphering Down l.keys srb count)) text o
+      → CipheredAs Down (Some (srb_ciphering Down l.keys srb count)) o
+      → TextOk g l.station l.kenb text
   text_is l h is_s is_a srb count is_on text None k sealed calm = absurd sealed
   text_is l h is_s is_a srb count is_on text (Some (SealedNas dir header i f sent)) k sealed calm = absurd k
   text_is l h is_s is_a srb count is_on text (Some (SealedRrc Up st a sr i f sent)) k sealed calm = absurd k
@@ -151,9 +159,9 @@ module _ (same : Term → Term → Bool) (g : Ghost) (s : Phone Term ℕ) (caps 
       let keys : l.keys ≡ keys_of m.key m.algs = h.1 ∙ (λ j. keys_of (kenb j) (algs j)) in
       let counts : count ≡ i.count = ap (λ v. v.count) sealed.0 in
       let srbs : srb ≡ sr = one_srb srb sr (sym is_on ∙ k.2) in
-      let cipher : Some (srb_ciphering_down l.keys srb count) ≡ Some f =
-      (λ j. Some (ciphering_by (algs j).eea (srb_use Down (keys j).rrc_enc (srbs j) (counts j)))) ∙ ap Some (sym d.3.0) in
-      subst (λ t. TextOk g t text) (sym kenb) (subst (TextOk g m.key) (sym (sealed.1 cipher)) d.4)
+      let cipher : Some (srb_ciphering Down l.keys srb count) ≡ Some f =
+      (λ j. Some (srb_ciphering Down (keys j) (srbs j) (counts j))) ∙ ap Some (sym d.3.0) in
+      subst (λ n. TextOk g n l.kenb text) (sym is_s) (subst (λ t. TextOk g station t text) (sym kenb) (subst (TextOk g station m.key) (sym (sealed.1 cipher)) d.4))
     where
       one_srb : (a b : Srb) → OnSrb a ≡ OnSrb b → a ≡ b
       one_srb a b e = cc
@@ -162,14 +170,22 @@ module _ (same : Term → Term → Bool) (g : Ghost) (s : Phone Term ℕ) (caps 
   text_is l h is_s is_a srb count is_on text (Some (Between to fields key)) k sealed calm = absurd sealed
 
   command_walks : (l : Link Term ℕ) → s.radio ≡ Connected l → (srb : Srb) (cell : Place) (ncc : ℕ) (algs : Algs) (st a : ℕ)
-      → OrderIs g l.kenb cell ncc algs st a
+      → OrderIs g l.station l.kenb cell ncc algs st a
       → AirNeeds g s.radio (command_taken caps srb (ncc_of l.chain.number) cell ncc algs st a)
   command_walks l is Signalling1 cell ncc algs st a order =
       by_test (AirNeeds g s.radio) (are_supported caps algs) _ _
       (λ b. subst (CommandNeeds g cell (steps_to (ncc_of l.chain.number) ncc) algs st a) (sym is) (ncc, refl, order)) (λ b. tt)
   command_walks l is Signalling2 cell ncc algs st a order = tt
 
-  text_walks : (l : Link Term ℕ) → s.radio ≡ Connected l → (srb : Srb) (count : ℕ) (text : List ℕ) → TextOk g l.kenb text
+  change_walks : (l : Link Term ℕ) → s.radio ≡ Connected l → (srb : Srb) (cell : Place) (algs : Algs) (st a : ℕ)
+      → ChangeIs g l.kenb cell algs st a
+      → AirNeeds g s.radio (change_taken caps srb cell algs st a)
+  change_walks l is Signalling1 cell algs st a change =
+      by_test (AirNeeds g s.radio) (are_supported caps algs) _ _
+      (λ b. subst (ChangeNeeds g cell algs st a) (sym is) (change, subst (NothingYet g) is yet st a change.0 change.1 change.2)) (λ b. tt)
+  change_walks l is Signalling2 cell algs st a change = tt
+
+  text_walks : (l : Link Term ℕ) → s.radio ≡ Connected l → (srb : Srb) (count : ℕ) (text : List ℕ) → TextOk g l.station l.kenb text
       → (read : Result RrcRecord RecFault) → read_rrc text ≡ read
       → AirNeeds g s.radio (signalling_read caps srb count (ncc_of l.chain.number) read)
   text_walks l is srb count text ok (Err fault) reads = tt
@@ -179,6 +195,8 @@ module _ (same : Term → Term → Bool) (g : Ghost) (s : Phone Term ℕ) (caps 
       command_walks l is srb cell ncc algs st a (ok (Reconfiguration cell ncc algs st a) reads)
   text_walks l is srb count text ok (Ok ReconfigurationComplete) reads = tt
   text_walks l is srb count text ok (Ok (RrcData data_text)) reads = tt
+  text_walks l is srb count text ok (Ok (KeyChange cell algs st a)) reads =
+      change_walks l is srb cell algs st a (ok (KeyChange cell algs st a) reads)
 
   signalling_walks : (l : Link Term ℕ) → s.radio ≡ Connected l → LinkIs g l → l.station ≡ station → l.air ≡ air → (srb : Srb) → on ≡ OnSrb srb
       → (outcome : Outcome) (count : Result ℕ PdcpFault)

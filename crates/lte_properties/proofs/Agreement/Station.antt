@@ -3,25 +3,28 @@ use Rattle.std.proofs.Common.{◌≡◌, ℕ, ◌+◌, ◌<◌, ◌≤◌, refl,
 use Rattle.std.specs.Prelude.{⊤}
 use Rattle.alg_choice.specs.declared.algs.Algs.{Algs}
 use Rattle.alg_choice.specs.declared.caps.Caps.{Caps}
-use Rattle.annex_a_keys.specs.Cell.{Place}
+use Rattle.annex_a_keys.specs.Cell.{Place, IsCell}
 use Rattle.lte_events.specs.Site.{Site}
-use Rattle.key_model.specs.Term.{Term, Star}
+use Rattle.key_model.specs.Term.{Term, Kenb, Star}
 use Rattle.key_model.specs.Chain.{ncc_of}
 use Rattle.key_model.specs.Reading.{term_reading_by}
 use Rattle.key_model.specs.HandoverTable.{NumberedKey}
 use Rattle.rrc_rec.specs.declared.records.RrcRecord.TheVariants.{SecurityModeCommand}
 use Rattle.ho_prep.specs.declared.origins.By.{By}
 use Rattle.ho_prep.specs.Prep.{Prep, is_at, at_air}
-use Rattle.lte_machine.specs.Reply.{Origin, Made, Tried, Reply}
-use Rattle.lte_machine.specs.StationState.{Station, Context, Attempt, OverX2, OverS1, Within, X2Open, X2Ready, X2Commanded, S1Open, S1Ready, S1Commanded}
-use Rattle.lte_machine.specs.StationRows.{Wanted, RecordRow, RecordRefused, ContextGiven, ContextReleased, PairTaken, PreparedByS1, PreparedByX2, AckedByS1, AckedByX2, PreparationCancelled, SourceReleased, AirRow, AirRefused, SecurityStarted, RrcOpened, PacketOpened, CompletedByS1, CompletedWithin, CompletedByX2}
-use Rattle.lte_machine.specs.StationKeys.{context_given, with_pair, source_release, pair_taken, wanted_prep, prepared_by_s1, prepared_by_x2, s1_acked, x2_acked, with_s1_ack, with_x2_ack, record_does, with_security, with_rrc_taken, with_packet_taken, completed_by_s1, completed_within, completed_by_x2, air_does}
+use Rattle.lte_machine.specs.Bearers.{Signalling1}
+use Rattle.lte_machine.specs.Reply.{Origin, BySetup, ByAttempt, ByChange, Made, Tried, Reply}
+use Rattle.lte_machine.specs.StationState.{Station, Context, Attempt, OverX2, OverS1, Within, Renewal, Renewing, X2Open, X2Ready, X2Commanded, S1Open, S1Ready, S1Commanded}
+use Rattle.lte_machine.specs.StationRows.{Wanted, RecordRow, RecordRefused, ContextGiven, ContextReleased, PairTaken, PreparedByS1, PreparedByX2, AckedByS1, AckedByX2, PreparationCancelled, SourceReleased, KeyRenewed, AirRow, AirRefused, SecurityStarted, RrcOpened, PacketOpened, CompletedByS1, CompletedWithin, CompletedByX2}
+use Rattle.lte_machine.specs.StationKeys.{context_given, with_pair, source_release, pair_taken, wanted_prep, prepared_by_s1, prepared_by_x2, s1_acked, x2_acked, with_s1_ack, with_x2_ack, change_text, key_renewed, record_does, with_security, with_rrc_taken, with_packet_taken, completed_by_s1, completed_within, completed_by_x2, air_does}
 use Rattle.lte_properties.specs.ChainBelow.{AllOf}
 use Rattle.lte_properties.specs.Agreement.{made_at, HadTaken}
-use Rattle.lte_properties.proofs.Agreement.Terms.{base}
-use Rattle.lte_properties.proofs.Agreement.Ghost.{Ghost, tried_at, chain_at, keys_of, TermOk, PairOk, PairsOk, FromIs, HereIs, Leads, GivenFits, FromOk, MadeOk, GivenOk, TriedOk, EntryIs, AttemptOk, StartedOk, CtxOk, PrepOk, FreshFrom, StationOk, SaysOk, AskedIs, AckIs, HasNcc, AnyMade, OutOk}
-use Rattle.lte_properties.proofs.Agreement.Later.{same_found, ctx_later, preps_later}
+use Rattle.lte_properties.proofs.Agreement.Terms.{base, base_nh}
+use Rattle.lte_properties.proofs.Agreement.Ghost.{Ghost, tried_at, chain_at, keys_of, TermOk, PairOk, PairsOk, FromIs, HereIs, Leads, GivenFits, FromOk, MadeOk, GivenOk, TriedOk, EntryIs, AttemptOk, StartedOk, CtxOk, PrepOk, FreshFrom, StationOk, SaysOk, ChangeIs, AskedIs, AckIs, HasNcc, AnyMade, OutOk}
+use Rattle.lte_properties.proofs.Agreement.Later.{same_found, made_later, ctx_later, preps_later}
+use Rattle.lte_properties.proofs.ChainNumbers.Lists.{all_map}
 use Rattle.lte_properties.proofs.Agreement.Phone.{all_found}
+use Rattle.lte_properties.proofs.Agreement.StationSends.{sends_down, change_says}
 use Rattle.lte_properties.proofs.Agreement.Told.{told, told_more, made_new, made_none, MadeBy, TriedBy, all_append, all_filter, reads_as, term_number, leads_up, star_term, if_tried}
 
 -- what is told anew
@@ -91,6 +94,13 @@ abbrev pub X2AckOf : Ghost → ℕ → Algs → ℕ → Option (Context Term ℕ
 X2AckOf g id algs air None = ⊤
 X2AckOf g id algs air (Some c) = X2AckNeeds g id algs air c.attempt
 
+-- the context is active, its cell is a cell, and the key received is the first of the next connection, of COUNT 0
+abbrev pub RenewNeeds : Ghost → ℕ → ℕ → ℕ → Option (Context Term ℕ) → Option (NumberedKey Term ℕ) → Type 0
+RenewNeeds g next conn air (Some c) (Some key) =
+    DrawsAir (next + 1) air × (c.starting ≡ false) × IsCell c.cell × (conn < g.next)
+    × (key.key ≡ chain_at g conn 0) × (r : Term) × (key.key ≡ Kenb r 0)
+RenewNeeds g next conn air context key = ⊤
+
 abbrev pub RecordNeeds : Ghost → Station Term ℕ → RecordRow → Option (NumberedKey Term ℕ) → Type 0
 RecordNeeds g s (ContextGiven conn cell caps algs air) key = ContextNeeds g s.next conn air key
 RecordNeeds g s (PairTaken conn origin) key = PairTakenNeeds g s.context key
@@ -98,6 +108,7 @@ RecordNeeds g s (PreparedByS1 w) key = S1Needs g s.id s.next w key
 RecordNeeds g s (PreparedByX2 w) key = X2Needs g s.id s.next w key
 RecordNeeds g s (AckedByS1 ncc algs air) key = S1AckOf g s.id ncc algs air s.context
 RecordNeeds g s (AckedByX2 algs air) key = X2AckOf g s.id algs air s.context
+RecordNeeds g s (KeyRenewed conn number air count) key = RenewNeeds g s.next conn air s.context key
 RecordNeeds g s other key = ⊤
 
 -- what the rows on a PDU need: the phone had taken the key of the preparation
@@ -124,6 +135,15 @@ pub started_map : (g : Ghost) (id air : ℕ) (t : Term) (starting : Bool) (f : A
 started_map g id air t true f o h = ap (option_map f) h
 started_map g id air t false f o h = h
 
+-- an active context's key was taken, so that it may have any attempt
+pub started_any : (g : Ghost) (id air : ℕ) (t : Term) (starting : Bool) (o : Option (Attempt Term ℕ)) → starting ≡ false → HadTaken g.took id air t → StartedOk g id air t starting o
+started_any g id air t true o e h = absurd cc
+started_any g id air t false o e h = h
+
+pub had_by : (g : Ghost) (id air : ℕ) (t : Term) (starting : Bool) (o : Option (Attempt Term ℕ)) → starting ≡ false → StartedOk g id air t starting o → HadTaken g.took id air t
+had_by g id air t true o e h = absurd cc
+had_by g id air t false o e h = h
+
 -- a change of the context that keeps all this
 pub map_ctx : (g : Ghost) (id : ℕ) (f : Context Term ℕ → Context Term ℕ) → ((c : Context Term ℕ) → CtxOk g id (Some c) → CtxOk g id (Some (f c)))
     → (o : Option (Context Term ℕ)) → CtxOk g id o → CtxOk g id (option_map f o)
@@ -146,12 +166,12 @@ module _ (same : Term → Term → Bool) (cells : List Site) (g : Ghost) (made_o
         key = key.key;
         number = 0;
         algs = algs;
-        from_attempt = None;
+        from = BySetup;
       } in
       let draws = needs.0 in
       let here : made_at (g.made ++ m ∷ []) s.id air ≡ Some m = made_new g.made m (h.2 air (omega arith)).0 in
       let low : 1 ≤ air = at_least draws.0 h.5 in
-      let text = reads_as (SaysOk (told g (Some m) None) key.key) (SecurityModeCommand algs s.id air) (h.4, low, draws.1) (m, here, refl, refl) in
+      let text = reads_as (SaysOk (told g (Some m) None) s.id key.key) (SecurityModeCommand algs s.id air) (h.4, low, draws.1) (m, here, refl, refl) in
       let fresh : FreshFrom (told g (Some m) None) s.id (air + 1) =
       λ n above. (made_none g.made m s.id n (h.2 n (omega arith)).0 (omega arith), (h.2 n (omega arith)).1) in (
         (
@@ -191,7 +211,7 @@ module _ (same : Term → Term → Bool) (cells : List Site) (g : Ghost) (made_o
       → TermOk g w.conn star.key star.number → Leads e star.key star.number → GivenFits e.given star.number
       → (p : Prep Term ℕ) → p.conn ≡ w.conn → p.key.kenb ≡ star.key → p.key.number ≡ star.number → p.key.pair ≡ None
       → p.air ≡ w.air → p.algs ≡ w.algs → p.keys ≡ keys_of star.key w.algs
-      → (m : Made Term ℕ) → m ≡ record { station = s.id; air = w.air; conn = w.conn; cell = w.cell; key = star.key; number = star.number; algs = w.algs; from_attempt = Some w.from }
+      → (m : Made Term ℕ) → m ≡ record { station = s.id; air = w.air; conn = w.conn; cell = w.cell; key = star.key; number = star.number; algs = w.algs; from = ByAttempt w.from }
       → let k = told g (Some m) None in
       (made_at k.made s.id w.air ≡ Some m) × MadeOk k m × PrepOk k s.id p × FreshFrom k s.id (w.air + 1) × (1 ≤ w.air + 1)
   prepared_goes w star s h draws e found target term leads given p conn kenb number pair air algs keys m is =
@@ -204,7 +224,7 @@ module _ (same : Term → Term → Bool) (cells : List Site) (g : Ghost) (made_o
       let low : 1 ≤ w.air = at_least draws.0 h.5 in
       let fresh : FreshFrom k s.id (w.air + 1) =
       λ n above. (made_none g.made m s.id n (h.2 n (omega arith)).0 (omega arith), (h.2 n (omega arith)).1) in
-      let from : FromOk k (record { station = s.id; air = w.air; conn = w.conn; cell = w.cell; key = star.key; number = star.number; algs = w.algs; from_attempt = Some w.from }) (Some w.from) =
+      let from : FromOk k (record { station = s.id; air = w.air; conn = w.conn; cell = w.cell; key = star.key; number = star.number; algs = w.algs; from = ByAttempt w.from }) (ByAttempt w.from) =
       (e, found, term_number g e.conn e.key e.number (all_found (TriedOk cells g) _ g.tried e tried_ok found).0, target, leads, given) in
       let made : MadeOk k m = subst (MadeOk k) (sym is) (low, draws.1, h.4, from, here ∙ ap Some is) in
       let prep : PrepOk k s.id p = (
@@ -226,7 +246,7 @@ module _ (same : Term → Term → Bool) (cells : List Site) (g : Ghost) (made_o
       let e = asked.0 in
       let own = (all_found (TriedOk cells g) _ g.tried e tried_ok asked.1).0 in
       let star : NumberedKey Term ℕ = record { key = Star pair.key w.cell.pci w.cell.earfcn; number = pair.number } in
-      let m : Made Term ℕ = record { station = s.id; air = w.air; conn = w.conn; cell = w.cell; key = star.key; number = star.number; algs = w.algs; from_attempt = Some w.from } in
+      let m : Made Term ℕ = record { station = s.id; air = w.air; conn = w.conn; cell = w.cell; key = star.key; number = star.number; algs = w.algs; from = ByAttempt w.from } in
       let pair_ok : PairOk g e.conn pair = subst (λ c. PairOk g c pair) (sym asked.2) needs.1 in
       let up = leads_up g e.conn e.key e.number pair e.cell own pair_ok asked.5.0 in
       let same_star : Star pair.key w.cell.pci w.cell.earfcn ≡ Star pair.key e.cell.pci e.cell.earfcn = ap (λ c. Star pair.key c.pci c.earfcn) (sym asked.3) in
@@ -258,7 +278,7 @@ module _ (same : Term → Term → Bool) (cells : List Site) (g : Ghost) (made_o
       let asked = needs.2 in
       let e = asked.0 in
       let own = all_found (TriedOk cells g) _ g.tried e tried_ok asked.1 in
-      let m : Made Term ℕ = record { station = s.id; air = w.air; conn = w.conn; cell = w.cell; key = star.key; number = star.number; algs = w.algs; from_attempt = Some w.from } in
+      let m : Made Term ℕ = record { station = s.id; air = w.air; conn = w.conn; cell = w.cell; key = star.key; number = star.number; algs = w.algs; from = ByAttempt w.from } in
       let of_given : GivenOk g e (Some star) = subst (GivenOk g e) asked.4 own.2 in
       let given : GivenFits e.given star.number = subst (λ o. GivenFits o star.number) (sym asked.4) refl in
       let goes = prepared_goes w star s h needs.0 e asked.1 asked.5 needs.1 of_given.1 given
@@ -288,13 +308,14 @@ module _ (same : Term → Term → Bool) (cells : List Site) (g : Ghost) (made_o
   s1_attempt_acked id conn t ncc algs air (Some (OverS1 (S1Open start))) h needs =
       let m = needs.0 in
       let e = h.0 in
-      let ok : FromOk g m (Some (record { source = id; attempt = start.number })) = subst (FromOk g m) needs.2 (all_found (MadeOk g) _ g.made m made_ok needs.1).3 in
+      let ok : FromOk g m (ByAttempt (record { source = id; attempt = start.number })) = subst (FromOk g m) needs.2 (all_found (MadeOk g) _ g.made m made_ok needs.1).3 in
       let one : ok.0 ≡ e = same_found _ ok.0 e ok.1 h.1 in
       let there : m.station ≡ start.station = sym ok.3 ∙ ap (λ x. x.target) one ∙ h.4 in
-      (m, record { source = id; attempt = start.number }, e, ap (λ n. made_at g.made n air) (sym there) ∙ needs.1, needs.2, h.1, h.2, h.3, needs.4, needs.3)
+      (m, record { source = id; attempt = start.number }, e, ap (λ n. made_at g.made n air) (sym there) ∙ needs.1, needs.2, h.1, h.2, h.3, needs.4, needs.3, refl)
   s1_attempt_acked id conn t ncc algs air (Some (OverS1 (S1Ready acked))) h needs = h
   s1_attempt_acked id conn t ncc algs air (Some (OverS1 (S1Commanded sent))) h needs = h
   s1_attempt_acked id conn t ncc algs air (Some (Within state)) h needs = h
+  s1_attempt_acked id conn t ncc algs air (Some (Renewing a)) h needs = h
 
   s1_ack_ctx : (id ncc : ℕ) (algs : Algs) (air : ℕ) (o : Option (Context Term ℕ)) → CtxOk g id o → S1AckOf g id ncc algs air o
       → CtxOk g id (option_map (with_s1_ack ncc algs air) o)
@@ -308,21 +329,68 @@ module _ (same : Term → Term → Bool) (cells : List Site) (g : Ghost) (made_o
   x2_attempt_acked id conn t algs air (Some (OverX2 (X2Open start))) h needs =
       let m = needs.0 in
       let e = h.0.0 in
-      let ok : FromOk g m (Some (record { source = id; attempt = start.number })) = subst (FromOk g m) needs.2 (all_found (MadeOk g) _ g.made m made_ok needs.1).3 in
+      let ok : FromOk g m (ByAttempt (record { source = id; attempt = start.number })) = subst (FromOk g m) needs.2 (all_found (MadeOk g) _ g.made m made_ok needs.1).3 in
       let one : ok.0 ≡ e = same_found _ ok.0 e ok.1 h.0.1 in
       let there : m.station ≡ start.station = sym ok.3 ∙ ap (λ x. x.target) one ∙ h.0.4 in
       let number : start.star.number ≡ m.number = subst (λ o. GivenFits o m.number) (ap (λ x. x.given) one ∙ h.0.6) ok.5 in
-      ((m, record { source = id; attempt = start.number }, e, ap (λ n. made_at g.made n air) (sym there) ∙ needs.1, needs.2, h.0.1, h.0.2, h.0.3, ap ncc_of (sym number), needs.3), h.1)
+      ((m, record { source = id; attempt = start.number }, e, ap (λ n. made_at g.made n air) (sym there) ∙ needs.1, needs.2, h.0.1, h.0.2, h.0.3, ap ncc_of (sym number), needs.3, refl), h.1)
   x2_attempt_acked id conn t algs air (Some (OverX2 (X2Ready acked))) h needs = h
   x2_attempt_acked id conn t algs air (Some (OverX2 (X2Commanded sent))) h needs = h
   x2_attempt_acked id conn t algs air (Some (OverS1 state)) h needs = h
   x2_attempt_acked id conn t algs air (Some (Within state)) h needs = h
+  x2_attempt_acked id conn t algs air (Some (Renewing a)) h needs = h
 
   x2_ack_ctx : (id : ℕ) (algs : Algs) (air : ℕ) (o : Option (Context Term ℕ)) → CtxOk g id o → X2AckOf g id algs air o
       → CtxOk g id (option_map (with_x2_ack algs air) o)
   x2_ack_ctx id algs air None h needs = tt
   x2_ack_ctx id algs air (Some c) h needs =
       (h.0, h.1, h.2, h.3, x2_attempt_acked id c.conn c.key.kenb algs air c.attempt h.4 needs, started_map g id c.air c.key.kenb c.starting (x2_acked algs air) c.attempt h.5)
+
+  -- the key is to change: what is made is KeNB* of the KeNB received, for the context's cell, and the order goes under the
+  -- context's key
+  renewed_with_goes : (conn number air count : ℕ) (c : Context Term ℕ) (key : NumberedKey Term ℕ) (s : Station Term ℕ)
+      → StationOk cells g s → CtxOk g s.id (Some c) → RenewNeeds g s.next conn air (Some c) (Some key)
+      → StationGoes cells g s (key_renewed (term_reading_by same) conn number air count (Some c) (Some key) s)
+  renewed_with_goes conn number air count c key s h ctx needs =
+      let star : NumberedKey Term ℕ = record { key = Star key.key c.cell.pci c.cell.earfcn; number = 0 } in
+      let m : Made Term ℕ = record { station = s.id; air = air; conn = conn; cell = c.cell; key = star.key; number = 0; algs = c.algs; from = ByChange c.key.kenb } in
+      let a : Renewal = record { number = number; cell = c.cell; algs = c.algs; air = air } in
+      let k = told g (Some m) None in
+      let l = told_more g (Some m) None in
+      let draws = needs.0 in
+      let low : 1 ≤ air = at_least draws.0 (omega arith) in
+      let here : made_at (g.made ++ m ∷ []) s.id air ≡ Some m = made_new g.made m (h.2 air (omega arith)).0 in
+      let from : FromOk k m (ByChange c.key.kenb) = (refl, needs.2, needs.5, (λ j. Star (needs.6 j) c.cell.pci c.cell.earfcn)) in
+      let made_new_ok : MadeOk k m = (low, draws.1, h.4, from, here) in
+      let change : ChangeIs k c.key.kenb c.cell c.algs s.id air = (m, here, refl, refl, refl) in
+      let ctx_new : CtxOk k s.id (Some c) = ctx_later g k l s.id (Some c) ctx in
+      let had : HadTaken k.took s.id c.air c.key.kenb = had_by k s.id c.air c.key.kenb c.starting c.attempt needs.1 ctx_new.5 in
+      let all_made : AllOf (MadeOk k) k.made = all_append (MadeOk k) g.made m (all_map (MadeOk g) (MadeOk k) (made_later g k l) g.made made_ok) made_new_ok in
+      let fresh : FreshFrom k s.id (air + 1) =
+      λ n above. (made_none g.made m s.id n (h.2 n (omega arith)).0 (omega arith), (h.2 n (omega arith)).1) in
+      let term : TermOk k conn star.key 0 = (needs.3, omega arith, ap base needs.4 ∙ base_nh (g.root conn) (g.count conn) 0) in (
+        (
+          (ctx_new.0, ctx_new.1, ctx_new.2, ctx_new.3, change, started_any k s.id c.air c.key.kenb c.starting _ needs.1 had),
+          ((term, tt, refl, m, here, (refl, refl, refl)), tt),
+          fresh,
+          h.3,
+          h.4,
+          omega arith,
+        ),
+        made_new_ok,
+        tt,
+        sends_down k s.id c.air c ctx_new refl Signalling1 count (change_text s.id a) (change_says k all_made c.key.kenb s.id a change) had,
+        refl,
+        refl,
+        tt,
+      )
+
+  key_renewed_goes : (conn number air count : ℕ) (o : Option (Context Term ℕ)) (key : Option (NumberedKey Term ℕ)) (s : Station Term ℕ)
+      → StationOk cells g s → CtxOk g s.id o → RenewNeeds g s.next conn air o key
+      → StationGoes cells g s (key_renewed (term_reading_by same) conn number air count o key s)
+  key_renewed_goes conn number air count (Some c) (Some key) s h ctx needs = renewed_with_goes conn number air count c key s h ctx needs
+  key_renewed_goes conn number air count (Some c) None s h ctx needs = (h, tt, tt, tt, refl, tt, tt)
+  key_renewed_goes conn number air count None key s h ctx needs = (h, tt, tt, tt, refl, tt, tt)
 
   pub record_goes : (row : RecordRow) (key : Option (NumberedKey Term ℕ)) (s : Station Term ℕ) → StationOk cells g s → RecordNeeds g s row key
       → StationGoes cells g s (record_does (term_reading_by same) row key s)
@@ -339,6 +407,7 @@ module _ (same : Term → Term → Bool) (cells : List Site) (g : Ghost) (made_o
   record_goes (PreparationCancelled from) key s h needs =
       ((h.0, all_filter _ _ s.preps h.1, h.2, h.3, h.4, h.5), tt, tt, tt, refl, tt, tt)
   record_goes SourceReleased key s h needs = ((tt, h.1, h.2, h.3, h.4, h.5), tt, tt, tt, refl, tt, tt)
+  record_goes (KeyRenewed conn number air count) key s h needs = key_renewed_goes conn number air count s.context key s h h.0 needs
 
   -- BY A PDU
 
@@ -356,7 +425,7 @@ module _ (same : Term → Term → Bool) (cells : List Site) (g : Ghost) (made_o
   arrived_ok id p h needs =
       let m = h.3 in
       let one : needs.0.0 ≡ m = same_found _ needs.0.0 m needs.0.1 h.4 in
-      (m, h.4, h.5, subst (λ x. FromIs g x p.key.kenb x.from_attempt) one needs.0.2, if_tried g.took id p.air p.key.kenb m.from_attempt needs.1)
+      (m, h.4, h.5, subst (λ x. FromIs g x p.key.kenb x.from) one needs.0.2, if_tried g.took id p.air p.key.kenb m.from needs.1)
 
   prep_found : (s : Station Term ℕ) → StationOk cells g s → (air : ℕ) (p : Prep Term ℕ) → at_air air s.preps ≡ Some p → PrepOk g s.id p
   prep_found s h air p e = all_found (PrepOk g s.id) (is_at air) s.preps p h.1 e

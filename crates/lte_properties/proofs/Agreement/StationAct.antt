@@ -3,40 +3,45 @@ use Rattle.std.proofs.Common.{◌≡◌, ℕ, ◌+◌, ◌-◌, ◌%◌, ◌<◌
 use Rattle.std.specs.Prelude.{⊤, length}
 use Rattle.rec_base.specs.declared.uses.Dir.TheVariants.{Down}
 use Rattle.annex_a_keys.specs.Cell.{Place, IsCell}
-use Rattle.lte_events.specs.Site.{Site}
+use Rattle.lte_events.specs.Site.{Site, station_of}
 use Rattle.key_model.specs.Term.{Term}
 use Rattle.key_model.specs.Number.{chain_number}
 use Rattle.key_model.specs.Reading.{term_reading_by}
 use Rattle.key_model.specs.HandoverTable.{NumberedKey}
 use Rattle.x2_handover.specs.declared.orders.Order.{Order}
 use Rattle.lte_machine.specs.Bearers.{Srb, Drb}
-use Rattle.lte_machine.specs.Reply.{Made, Tried}
-use Rattle.lte_machine.specs.StationState.{Station, Context, Attempt, OverX2, OverS1, Within, X2State, X2Open, X2Ready, X2Commanded, S1State, S1Open, S1Ready, S1Commanded}
-use Rattle.lte_machine.specs.StationRows.{ActRow, ActRefused, StartedByX2, StartedByS1, StartedWithin, HandoverCommanded, CancelledByX2, CancelledByS1, CancelledWithin, PathSwitchAsked, PacketSent, RrcSent, BearerSkipped}
+use Rattle.lte_machine.specs.Reply.{ByAttempt, Made, Tried}
+use Rattle.lte_machine.specs.StationState.{Station, Context, Attempt, OverX2, OverS1, Within, Renewal, Renewing, X2State, X2Open, X2Ready, X2Commanded, S1State, S1Open, S1Ready, S1Commanded}
+use Rattle.lte_machine.specs.StationRows.{ActRow, ActRefused, StartedByX2, StartedByS1, StartedWithin, HandoverCommanded, ChangeCommanded, CancelledByX2, CancelledByS1, CancelledWithin, PathSwitchAsked, PacketSent, RrcSent, BearerSkipped}
 use Rattle.lte_properties.specs.ChainBelow.{AllOf}
 use Rattle.lte_properties.specs.Agreement.{made_at, HadTaken}
 use Rattle.lte_properties.proofs.Agreement.Terms.{lands}
-use Rattle.lte_properties.proofs.Agreement.Ghost.{Ghost, tried_at, keys_of, TermOk, PairOk, PairsOk, MadeOk, TriedOk, IsOrder, X2Ok, S1Ok, AttemptOk, StartedOk, CtxOk, FreshFrom, StationOk, SaysOk, OutOk}
+use Rattle.lte_properties.proofs.Agreement.Ghost.{Ghost, tried_at, keys_of, TermOk, PairOk, PairsOk, MadeOk, TriedOk, IsOrder, ChangeIs, X2Ok, S1Ok, AttemptOk, StartedOk, CtxOk, FreshFrom, StationOk, SaysOk, OutOk}
 use Rattle.lte_properties.proofs.Agreement.Phone.{all_found}
 use Rattle.rrc_rec.specs.declared.records.RrcRecord.TheVariants.{Reconfiguration, RrcData}
 use Rattle.nh_chain.specs.Station.{restored_if, pair_after, opened, base_of}
 use Rattle.key_model.specs.HandoverLines.{star_line}
 use Rattle.lte_machine.specs.Bearers.{Signalling1}
 use Rattle.lte_machine.specs.Wire.{srb_use, ciphering_by}
-use Rattle.lte_machine.specs.StationKeys.{signalling_sent, order_text, started_by_x2_with, started_by_x2, started_by_s1, started_within_with, started_within, x2_commanded, s1_commanded, commanded, commands, spent_in, given_up, asks_again, sends_packet, sends_rrc, with_skipped, act_does}
-use Rattle.lte_machine.specs.StationChoice.{station_of}
+use Rattle.lte_machine.specs.StationKeys.{signalling_sent, order_text, started_by_x2_with, started_by_x2, started_by_s1, started_within_with, started_within, x2_commanded, s1_commanded, commanded, commands, change_text, commands_change, spent_in, given_up, asks_again, sends_packet, sends_rrc, with_skipped, act_does}
 use Rattle.rrc_rec.specs.Spelling.{spelling_of}
 use Rattle.lte_properties.specs.ChainBelow.{OfPair, IsAbove}
 use Rattle.lte_properties.specs.ChainAbove.{ContextAbove}
 use Rattle.lte_properties.proofs.Agreement.Ghost.{TextOk}
 use Rattle.lte_properties.proofs.Agreement.Later.{term_later, pairs_later, entry_later, preps_later}
 use Rattle.lte_properties.proofs.Agreement.Told.{told, told_more, made_new, made_none, made_there, tried_new, tried_none, all_append, all_filter, SiteOk, cell_found, reads_as, term_number, leads_up, leads_level, star_term}
-use Rattle.lte_properties.proofs.Agreement.Station.{StationGoes, map_ctx, started_map}
+use Rattle.lte_properties.proofs.Agreement.Station.{StationGoes, map_ctx, started_map, started_any, had_by}
+use Rattle.lte_properties.proofs.Agreement.StationSends.{sends_down, order_says, change_says}
 
 -- what the rows of acts need
 abbrev pub OrderNeeds : Ghost → ℕ → Order → Option (Context Term ℕ) → Type 0
 OrderNeeds g id order None = ⊤
-OrderNeeds g id order (Some c) = IsOrder g c.key.kenb order × HadTaken g.took id c.air c.key.kenb
+OrderNeeds g id order (Some c) = IsOrder g id c.key.kenb order × HadTaken g.took id c.air c.key.kenb
+
+abbrev pub RenewalNeeds : Ghost → ℕ → Renewal → Option (Context Term ℕ) → Type 0
+RenewalNeeds g id a None = ⊤
+RenewalNeeds g id a (Some c) =
+    ChangeIs g c.key.kenb a.cell a.algs id a.air × HadTaken g.took id c.air c.key.kenb
 
 -- the context is active
 abbrev pub IsActive : Option (Context Term ℕ) → Type 0
@@ -50,22 +55,14 @@ ActNeeds cells g s (StartedWithin number air cell) =
     (number ≡ s.next) × (air ≡ s.next + 1) × (air < 4294967296) × (station_of cell cells ≡ Some s.id)
     × IsActive s.context
 ActNeeds cells g s (HandoverCommanded order count) = OrderNeeds g s.id order s.context
+ActNeeds cells g s (ChangeCommanded renewal count) = RenewalNeeds g s.id renewal s.context
 ActNeeds cells g s (PathSwitchAsked number) = number ≡ s.next
 ActNeeds cells g s (RrcSent srb count text) = (length text ≤ 200) × IsActive s.context
 ActNeeds cells g s other = ⊤
 
--- an active context's key was taken, so that it may have any attempt
-started_any : (g : Ghost) (id air : ℕ) (t : Term) (starting : Bool) (o : Option (Attempt Term ℕ)) → starting ≡ false → HadTaken g.took id air t → StartedOk g id air t starting o
-started_any g id air t true o e h = absurd cc
-started_any g id air t false o e h = h
-
 started_none : (g : Ghost) (id air : ℕ) (t : Term) (starting : Bool) (o : Option (Attempt Term ℕ)) → StartedOk g id air t starting o → StartedOk g id air t starting None
 started_none g id air t true o h = refl
 started_none g id air t false o h = h
-
-had_by : (g : Ghost) (id air : ℕ) (t : Term) (starting : Bool) (o : Option (Attempt Term ℕ)) → starting ≡ false → StartedOk g id air t starting o → HadTaken g.took id air t
-had_by g id air t true o e h = absurd cc
-had_by g id air t false o e h = h
 
 module _ (same : Term → Term → Bool) (cells : List Site) (cells_ok : AllOf SiteOk cells) (g : Ghost) (made_ok : AllOf (MadeOk g) g.made) (tried_ok : AllOf (TriedOk cells g) g.tried) where
   -- KeNB* of a start is of the connection, and where the context's key leads
@@ -198,7 +195,7 @@ module _ (same : Term → Term → Bool) (cells : List Site) (cells_ok : AllOf S
         key = o.star.key;
         number = o.star.number;
         algs = c.algs;
-        from_attempt = Some (record { source = s.id; attempt = number });
+        from = ByAttempt (record { source = s.id; attempt = number });
       } in
       let x = told g (Some m) (Some e) in
       let l = told_more g (Some m) (Some e) in
@@ -217,7 +214,7 @@ module _ (same : Term → Term → Bool) (cells : List Site) (cells_ok : AllOf S
             tt,
             k.2,
             entry_later g x l s.id c.air c.key.kenb c.key.number c.algs k.3,
-            ((m, record { source = s.id; attempt = number }, e, made_here, refl, tried_here, refl, refl, refl, refl), pairs_later g x l c.conn c.key.pair k.1),
+            ((m, record { source = s.id; attempt = number }, e, made_here, refl, tried_here, refl, refl, refl, refl, refl), pairs_later g x l c.conn c.key.pair k.1),
             started_any x s.id c.air c.key.kenb c.starting _ active had,
           ),
           all_append _ _ _ (preps_later g x l s.id s.preps h.1) (star_later, tt, refl, m, made_here, (refl, refl, refl)),
@@ -242,58 +239,25 @@ module _ (same : Term → Term → Bool) (cells : List Site) (cells_ok : AllOf S
 
   -- THE COMMAND
 
-  -- what a station sends on an SRB is under the key made for the air address
-  sends_down : (id air : ℕ) (c : Context Term ℕ) → CtxOk g id (Some c) → c.air ≡ air → (srb : Srb) (count : ℕ) (text : List ℕ) → TextOk g c.key.kenb text → HadTaken g.took id c.air c.key.kenb
-      → OutOk g (Some (signalling_sent id c.air c.keys srb count text))
-  sends_down id air c h at_air srb count text says had =
-      let m = h.3.0 in
-      let keys : c.keys ≡ keys_of m.key m.algs = h.2 ∙ (λ j. keys_of (h.3.2.0 j) (h.3.2.2 j)) in (
-        m,
-        h.3.1,
-        (λ j. srb_use Down (keys j).rrc_int srb count),
-        ((λ j. ciphering_by (algs_of j).eea (srb_use Down (keys j).rrc_enc srb count)), subst (HadTaken g.took id c.air) h.3.2.0 had),
-        subst (λ t. TextOk g t text) h.3.2.0 says,
-      )
-    where
-      algs_of : c.keys.algs ≡ h.3.0.algs
-      algs_of = ap (λ x. x.algs) h.2 ∙ h.3.2.2
-
-  x2_commanded_ok : (id conn : ℕ) (t : Term) (order : Order) (state : X2State Term ℕ) → X2Ok g id conn t state → IsOrder g t order
+  x2_commanded_ok : (id conn : ℕ) (t : Term) (order : Order) (state : X2State Term ℕ) → X2Ok g id conn t state → IsOrder g id t order
       → X2Ok g id conn t (x2_commanded order state)
   x2_commanded_ok id conn t order (X2Open start) h k = h
   x2_commanded_ok id conn t order (X2Ready acked) h k = k
   x2_commanded_ok id conn t order (X2Commanded sent) h k = h
 
-  s1_commanded_ok : (id conn : ℕ) (t : Term) (order : Order) (state : S1State) → S1Ok g id conn t state → IsOrder g t order
+  s1_commanded_ok : (id conn : ℕ) (t : Term) (order : Order) (state : S1State) → S1Ok g id conn t state → IsOrder g id t order
       → S1Ok g id conn t (s1_commanded order state)
   s1_commanded_ok id conn t order (S1Open start) h k = h
   s1_commanded_ok id conn t order (S1Ready acked) h k = k
   s1_commanded_ok id conn t order (S1Commanded sent) h k = h
 
-  commanded_ok : (id conn : ℕ) (t : Term) (order : Order) (o : Option (Attempt Term ℕ)) → AttemptOk g id conn t o → IsOrder g t order
+  commanded_ok : (id conn : ℕ) (t : Term) (order : Order) (o : Option (Attempt Term ℕ)) → AttemptOk g id conn t o → IsOrder g id t order
       → AttemptOk g id conn t (option_map (commanded order) o)
   commanded_ok id conn t order None h k = tt
   commanded_ok id conn t order (Some (OverX2 state)) h k = x2_commanded_ok id conn t order state h k
   commanded_ok id conn t order (Some (OverS1 state)) h k = s1_commanded_ok id conn t order state h k
   commanded_ok id conn t order (Some (Within state)) h k = x2_commanded_ok id conn t order state h k
-
-  -- the text of an order reads as it
-  order_says : (t : Term) (order : Order) → IsOrder g t order → TextOk g t (order_text order)
-  order_says t order h =
-      let m = h.0 in
-      let e = h.2 in
-      let ok = all_found (MadeOk g) _ g.made m made_ok h.3 in
-      let there = made_there g.made order.station order.air m h.3 in
-      let cell = cell_found cells cells_ok e.cell e.target (all_found (TriedOk cells g) _ g.tried e tried_ok h.5).1 in
-      let is_cell = subst IsCell h.7 cell.1 in
-      let ncc : m.number % 8 ≡ order.ncc = h.8 in
-      let low_air = ok.0 in
-      let high_air = ok.1 in
-      let low_id = ok.2 in
-      let is_station = there.0 in
-      let is_air = there.1 in
-      reads_as (SaysOk g t) (Reconfiguration order.cell order.ncc order.algs order.station order.air)
-      (is_cell, omega arith, omega arith, omega arith, omega arith) h
+  commanded_ok id conn t order (Some (Renewing a)) h k = h
 
   commands_goes : (order : Order) (count : ℕ) (o : Option (Context Term ℕ)) (s : Station Term ℕ) → StationOk cells g s → CtxOk g s.id o → OrderNeeds g s.id order o
       → StationGoes cells g s (commands order count o s)
@@ -302,7 +266,20 @@ module _ (same : Term → Term → Bool) (cells : List Site) (cells_ok : AllOf S
     ((k.0, k.1, k.2, k.3, commanded_ok s.id c.conn c.key.kenb order c.attempt k.4 needs.0, started_map g s.id c.air c.key.kenb c.starting (commanded order) c.attempt k.5), h.1, h.2, h.3, h.4, h.5),
     tt,
     tt,
-    sends_down s.id c.air c k refl Signalling1 count (order_text order) (order_says c.key.kenb order needs.0) needs.1,
+    sends_down g s.id c.air c k refl Signalling1 count (order_text order) (order_says cells cells_ok g made_ok tried_ok s.id c.key.kenb order needs.0) needs.1,
+    refl,
+    tt,
+    tt,
+  )
+
+  commands_change_goes : (a : Renewal) (count : ℕ) (o : Option (Context Term ℕ)) (s : Station Term ℕ) → StationOk cells g s → CtxOk g s.id o → RenewalNeeds g s.id a o
+      → StationGoes cells g s (commands_change a count o s)
+  commands_change_goes a count None s h k needs = (h, tt, tt, tt, refl, tt, tt)
+  commands_change_goes a count (Some c) s h k needs = (
+    ((k.0, k.1, k.2, k.3, k.4, k.5), h.1, h.2, h.3, h.4, h.5),
+    tt,
+    tt,
+    sends_down g s.id c.air c k refl Signalling1 count (change_text s.id a) (change_says g made_ok c.key.kenb s.id a needs.0) needs.1,
     refl,
     tt,
     tt,
@@ -319,6 +296,7 @@ module _ (same : Term → Term → Bool) (cells : List Site) (cells_ok : AllOf S
   spent_ok id conn t (Some (Within (X2Open start))) h = h.1
   spent_ok id conn t (Some (Within (X2Ready acked))) h = h.1
   spent_ok id conn t (Some (Within (X2Commanded sent))) h = tt
+  spent_ok id conn t (Some (Renewing a)) h = tt
 
   restored_pair : (conn : ℕ) (o : Option (NumberedKey Term ℕ)) (back : NumberedKey Term ℕ) → PairsOk g conn o → PairOk g conn back
       → PairsOk g conn (pair_after o back)
@@ -352,7 +330,7 @@ module _ (same : Term → Term → Bool) (cells : List Site) (cells_ok : AllOf S
     (k, h.1, h.2, h.3, h.4, h.5),
     tt,
     tt,
-    sends_down s.id c.air c k refl srb count (spelling_of (RrcData text)) (reads_as (SaysOk g c.key.kenb) (RrcData text) fits tt) (had_by g s.id c.air c.key.kenb c.starting c.attempt active k.5),
+    sends_down g s.id c.air c k refl srb count (spelling_of (RrcData text)) (reads_as (SaysOk g s.id c.key.kenb) (RrcData text) fits tt) (had_by g s.id c.air c.key.kenb c.starting c.attempt active k.5),
     refl,
     tt,
     tt,
@@ -366,6 +344,7 @@ module _ (same : Term → Term → Bool) (cells : List Site) (cells_ok : AllOf S
   act_goes (StartedWithin number air cell) s h above needs =
       within_goes number air cell s.context s h h.0 above needs.0 needs.1 needs.2 needs.3 needs.4
   act_goes (HandoverCommanded order count) s h above needs = commands_goes order count s.context s h h.0 needs
+  act_goes (ChangeCommanded renewal count) s h above needs = commands_change_goes renewal count s.context s h h.0 needs
   act_goes (CancelledByX2 conn number target) s h above needs =
       ((map_ctx g s.id given_up (given_up_ok s.id) s.context h.0, h.1, h.2, h.3, h.4, h.5), tt, tt, tt, refl, tt, tt)
   act_goes (CancelledByS1 conn number cell) s h above needs =

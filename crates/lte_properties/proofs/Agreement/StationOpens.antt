@@ -8,7 +8,7 @@ use Rattle.annex_a_keys.specs.Cell.{Place}
 use Rattle.lte_events.specs.declared.acts.HoKind.{HoKind}
 use Rattle.lte_events.specs.declared.acts.StationAct.{StationAct}
 use Rattle.lte_events.specs.declared.acts.StationAct.TheVariants.{Start, Command, Cancel, Ask, SendUser, SendRrc, Skip}
-use Rattle.lte_events.specs.Site.{Site}
+use Rattle.lte_events.specs.Site.{Site, station_of}
 use Rattle.key_model.specs.Term.{Term, Alg}
 use Rattle.key_model.specs.Chain.{ncc_of}
 use Rattle.key_model.specs.Reading.{term_reading_by}
@@ -17,7 +17,7 @@ use Rattle.pdcp_guard.specs.Counts.{Counts}
 use Rattle.pdcp_guard.specs.Srb.{srb_count}
 use Rattle.pdcp_guard.specs.Drb.{drb_count}
 use Rattle.rrc_rec.specs.declared.records.RrcRecord.{RrcRecord}
-use Rattle.rrc_rec.specs.declared.records.RrcRecord.TheVariants.{SecurityModeCommand, SecurityModeComplete, Reconfiguration, ReconfigurationComplete, RrcData}
+use Rattle.rrc_rec.specs.declared.records.RrcRecord.TheVariants.{SecurityModeCommand, SecurityModeComplete, Reconfiguration, ReconfigurationComplete, RrcData, KeyChange}
 use Rattle.rrc_rec.specs.Reading.{read_rrc}
 use Rattle.ho_prep.specs.declared.origins.By.{By}
 use Rattle.ho_prep.specs.Prep.{Prep, is_at, at_air}
@@ -26,9 +26,9 @@ use Rattle.lte_machine.specs.Wire.{KeyUse, Ciphering, Outgoing, SealedNas, Plain
 use Rattle.lte_machine.specs.Opening.{Outcome, Opened, Differs}
 use Rattle.lte_machine.specs.Reply.{Origin, unseen}
 use Rattle.lte_machine.specs.Ranges.{IsStationAct}
-use Rattle.lte_machine.specs.StationState.{Station, Context, Attempt, OverX2, OverS1, Within, X2State, X2Open, X2Ready, X2Commanded, S1State, S1Open, S1Ready, S1Commanded, map_context, map_attempt, map_x2_state}
-use Rattle.lte_machine.specs.StationRows.{ActRow, HandoverCommanded}
-use Rattle.lte_machine.specs.StationChoice.{PlainStation, PlainContext, PlainAttempt, runs_out, station_of, is_full, AirFront, OnStarting, OnSignalling, OnUser, OnPrepared, counted, starting_front, active_front, context_front, prepared_front, air_front_by, starting_row, rrc_row, completed_row, prepared_row, air_row, active_row, unless_spent, is_misplaced, begun_row, alone_row, target_row, start_row, ordered_row, x2_command_row, s1_command_row, attempt_command_row, command_row, attempt_cancel_row, give_up_row, came_row, ask_row, packet_row, send_rrc_row, skip_row, act_row}
+use Rattle.lte_machine.specs.StationState.{Station, Context, Attempt, OverX2, OverS1, Within, Renewing, X2State, X2Open, X2Ready, X2Commanded, S1State, S1Open, S1Ready, S1Commanded, map_context, map_attempt, map_x2_state}
+use Rattle.lte_machine.specs.StationRows.{ActRow, HandoverCommanded, ChangeCommanded}
+use Rattle.lte_machine.specs.StationChoice.{PlainStation, PlainContext, PlainAttempt, runs_out, is_full, AirFront, OnStarting, OnSignalling, OnUser, OnPrepared, counted, starting_front, active_front, context_front, prepared_front, air_front_by, starting_row, rrc_row, completed_row, prepared_row, air_row, active_row, unless_spent, is_misplaced, begun_row, alone_row, target_row, start_row, ordered_row, x2_command_row, s1_command_row, attempt_command_row, command_row, attempt_cancel_row, give_up_row, came_row, ask_row, packet_row, send_rrc_row, skip_row, act_row}
 use Rattle.lte_machine.specs.StationKeys.{air_expects, starting_expects, prepared_expects}
 use Rattle.lte_machine.specs.StationStep.{plain_station}
 use Rattle.lte_properties.specs.Agreement.{HadTaken}
@@ -39,7 +39,7 @@ use Rattle.lte_properties.proofs.Agreement.Phone.{all_found}
 use Rattle.lte_properties.proofs.Agreement.PhoneWalk.{by_test, one_key}
 use Rattle.lte_properties.proofs.Agreement.Told.{found_holds}
 use Rattle.lte_properties.proofs.Agreement.Station.{TakenThere, StartingNeeds, AirNeeds}
-use Rattle.lte_properties.proofs.Agreement.StationAct.{OrderNeeds, IsActive, ActNeeds}
+use Rattle.lte_properties.proofs.Agreement.StationAct.{OrderNeeds, RenewalNeeds, IsActive, ActNeeds}
 use Rattle.lte_machine.specs.StationRows.{PacketSent, RrcSent}
 use Rattle.x2_handover.specs.declared.orders.Order.{Order}
 use Rattle.lte_properties.proofs.Agreement.StationWalk.{in_range_next, own_target}
@@ -88,6 +88,7 @@ module _ (same : Term → Term → Bool) (cells : List Site) (g : Ghost) (s : St
     starting_walks count (Ok (Reconfiguration cell ncc algs st a)) h = tt
     starting_walks count (Ok ReconfigurationComplete) h = tt
     starting_walks count (Ok (RrcData text)) h = tt
+    starting_walks count (Ok (KeyChange cell algs st a)) h = tt
 
     rrc_walks : (srb : Srb) (count : ℕ) (read : Result RrcRecord RecFault) → AirNeeds g s (rrc_row srb count read)
     rrc_walks srb count (Err fault) = tt
@@ -96,6 +97,7 @@ module _ (same : Term → Term → Bool) (cells : List Site) (g : Ghost) (s : St
     rrc_walks srb count (Ok (Reconfiguration cell ncc algs st a)) = tt
     rrc_walks srb count (Ok ReconfigurationComplete) = tt
     rrc_walks srb count (Ok (RrcData text)) = tt
+    rrc_walks srb count (Ok (KeyChange cell algs st a)) = tt
 
     completed_walks : (count : ℕ) (by : By) → TakenThere g s.id (at_air air s.preps) → AirNeeds g s (completed_row s.next air count by)
     completed_walks count By.X2 h = by_test (AirNeeds g s) (runs_out 1 s.next) _ _ (λ b. tt) (λ b. (refl, h))
@@ -109,6 +111,7 @@ module _ (same : Term → Term → Bool) (cells : List Site) (g : Ghost) (s : St
     prepared_walks count by (Ok (Reconfiguration cell ncc algs st a)) h = tt
     prepared_walks count by (Ok ReconfigurationComplete) h = completed_walks count by h
     prepared_walks count by (Ok (RrcData text)) h = tt
+    prepared_walks count by (Ok (KeyChange cell algs st a)) h = tt
 
     is_there : (p : Prep Term ℕ) → is_at air p ≡ true → p.air ≡ air
     is_there p e = eqb-true p.air air e
@@ -250,7 +253,7 @@ module _ (same : Term → Term → Bool) (cells : List Site) (g : Ghost) (s : St
   start_walks kind cell (Some c) is =
       active_or c is c.starting refl _ (target_walks (option_map (map_attempt unseen ncc_of) c.attempt) cell kind (station_of cell s.cells) refl)
 
-  ordered_walks : (c : Context Term ℕ) → s.context ≡ Some c → (order : Order) (counts : Counts) → IsOrder g c.key.kenb order → HadTaken g.took s.id c.air c.key.kenb → ActNeeds cells g s (ordered_row order counts)
+  ordered_walks : (c : Context Term ℕ) → s.context ≡ Some c → (order : Order) (counts : Counts) → IsOrder g s.id c.key.kenb order → HadTaken g.took s.id c.air c.key.kenb → ActNeeds cells g s (ordered_row order counts)
   ordered_walks c is order counts h had = unless_walks counts (HandoverCommanded order counts.send) (subst (OrderNeeds g s.id order) (sym is) (h, had))
 
   x2_command_walks : (c : Context Term ℕ) → s.context ≡ Some c → (conn : ℕ) (state : X2State Term ℕ) (counts : Counts) → HadTaken g.took s.id c.air c.key.kenb → X2Ok g s.id conn c.key.kenb state
@@ -276,6 +279,9 @@ module _ (same : Term → Term → Bool) (cells : List Site) (g : Ghost) (s : St
   attempt_command_walks c is started (Some (OverX2 state)) e counts h = x2_command_walks c is c.conn state counts (had_with c c.starting c.attempt _ e started) h
   attempt_command_walks c is started (Some (OverS1 state)) e counts h = s1_command_walks c is c.conn state counts (had_with c c.starting c.attempt _ e started) h
   attempt_command_walks c is started (Some (Within state)) e counts h = x2_command_walks c is c.conn state counts (had_with c c.starting c.attempt _ e started) h
+  attempt_command_walks c is started (Some (Renewing a)) e counts h =
+      unless_walks counts (ChangeCommanded a counts.send)
+      (subst (RenewalNeeds g s.id a) (sym is) (h, had_with c c.starting c.attempt _ e started))
 
   command_walks : (o : Option (Context Term ℕ)) → s.context ≡ o → CtxOk g s.id o → ActNeeds cells g s (command_row (option_map (map_context unseen ncc_of) o))
   command_walks None is h = tt
@@ -296,6 +302,7 @@ module _ (same : Term → Term → Bool) (cells : List Site) (g : Ghost) (s : St
       by_attempt (Some (Within (X2Open start))) = tt
       by_attempt (Some (Within (X2Ready acked))) = tt
       by_attempt (Some (Within (X2Commanded sent))) = tt
+      by_attempt (Some (Renewing a)) = tt
 
   came_walks : (o : Option Origin) → ActNeeds cells g s (came_row s.next o)
   came_walks None = tt

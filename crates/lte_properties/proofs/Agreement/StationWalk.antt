@@ -1,30 +1,36 @@
 -- What a station's choice of a row establishes of the record that it read, of the PDU that it opened, and of its act.
 use Rattle.std.proofs.Common.{◌≡◌, ℕ, ◌+◌, ◌<◌, refl, sym, ◌∙◌, ap, subst, arith, Bool, false, not, Option, Some, None, option_map, Result, Ok, Err}
-use Rattle.std.specs.Prelude.{◌&&◌, ◌==◌, nat_le, nat_lt, slice_index}
+use Rattle.std.specs.Prelude.{◌&&◌, ◌==◌, nat_le, nat_lt, slice_index, ⊤}
 use Rattle.std.proofs.lemmas.Bool.{eqb-true}
 use Rattle.std.proofs.lemmas.Bool.Decides.{nat_tests}
 use Rattle.alg_choice.specs.declared.algs.Algs.{Algs}
 use Rattle.alg_choice.specs.declared.caps.Caps.{Caps}
 use Rattle.alg_choice.specs.declared.choices.NoAlgorithm.{NoAlgorithm as Unmatched}
 use Rattle.alg_choice.specs.Choice.{choice_of}
-use Rattle.annex_a_keys.specs.Cell.{Place}
+use Rattle.annex_a_keys.specs.Cell.{Place, IsCell}
 use Rattle.lte_events.specs.declared.addresses.Address.TheVariants.{StationS1, StationX2}
 use Rattle.key_model.specs.Term.{Term}
 use Rattle.key_model.specs.Chain.{ncc_of}
 use Rattle.key_model.specs.HandoverTable.{NumberedKey}
 use Rattle.key_model.specs.Reading.{term_reading_by}
-use Rattle.s1x2_rec.specs.Fields.{Fields, InitialContext, ContextRelease, PathSwitchRequest, PathSwitchAnswer, HandoverRequired, HandoverRequest, HandoverRequestAck, HandoverCommand, HandoverNotify, HandoverCancel, X2Request, X2Ack, X2Cancel, X2Release}
+use Rattle.s1x2_rec.specs.Fields.{Fields, InitialContext, ContextRelease, PathSwitchRequest, PathSwitchAnswer, HandoverRequired, HandoverRequest, HandoverRequestAck, HandoverCommand, HandoverNotify, HandoverCancel, X2Request, X2Ack, X2Cancel, X2Release, ContextModification}
 use Rattle.ho_prep.specs.Prep.{has_attempt}
+use Rattle.lte_machine.specs.Bearers.{is_spent}
 use Rattle.lte_machine.specs.Wire.{Between}
 use Rattle.lte_machine.specs.Reply.{Origin, unseen}
-use Rattle.lte_machine.specs.StationState.{Station, Context, Attempt, OverX2, OverS1, Within, X2Open, X2Ready, X2Commanded, S1Open, S1Ready, S1Commanded, map_context, map_attempt}
-use Rattle.lte_machine.specs.StationRows.{Wanted, RecordRow, PairTaken, PreparedByS1, PreparedByX2, AckedByS1, AckedByX2}
-use Rattle.lte_machine.specs.StationChoice.{PlainStation, runs_out, is_own, initial_chosen, initial_row, release_row, answer_row_by, answer_row, wanted_chosen, is_full, wanted_row, s1_acked_row, s1_ack_row, x2_acked_row, x2_ack_row, cancel_row, x2_released_row, x2_release_row, s1_row, x2_row}
+use Rattle.lte_machine.specs.StationState.{Station, Context, Attempt, OverX2, OverS1, Within, Renewing, X2Open, X2Ready, X2Commanded, S1Open, S1Ready, S1Commanded, map_context, map_attempt}
+use Rattle.lte_machine.specs.StationRows.{Wanted, RecordRow, PairTaken, PreparedByS1, PreparedByX2, AckedByS1, AckedByX2, KeyRenewed}
+use Rattle.lte_machine.specs.StationChoice.{PlainStation, runs_out, is_own, initial_chosen, initial_row, release_row, answer_row_by, answer_row, wanted_chosen, is_full, wanted_row, s1_acked_row, s1_ack_row, x2_acked_row, x2_ack_row, cancel_row, x2_released_row, x2_release_row, renewed_alone, modification_row, s1_row, x2_row}
 use Rattle.lte_machine.specs.StationStep.{plain_station}
 use Rattle.lte_properties.specs.ChainAbove.{AnswerOk, InFlight}
 use Rattle.lte_properties.proofs.Agreement.Ghost.{Ghost, PairOk, AckIs, HasNcc, AnyMade, BetweenOk}
 use Rattle.lte_properties.proofs.Agreement.PhoneWalk.{by_test}
-use Rattle.lte_properties.proofs.Agreement.Station.{ContextNeeds, PairNeeds, PairTakenNeeds, S1Needs, X2Needs, S1AckNeeds, S1AckOf, X2AckNeeds, X2AckOf, RecordNeeds}
+use Rattle.lte_properties.proofs.Agreement.Station.{ContextNeeds, PairNeeds, PairTakenNeeds, S1Needs, X2Needs, S1AckNeeds, S1AckOf, X2AckNeeds, X2AckOf, RenewNeeds, RecordNeeds}
+
+-- the cell of a context is a cell
+abbrev pub CellFits : Option (Context Term ℕ) → Type 0
+CellFits None = ⊤
+CellFits (Some c) = IsCell c.cell
 
 pub in_range : (n : ℕ) → runs_out 1 n ≡ false → n < 4294967296
 in_range n e = grind (arith, nat_tests)
@@ -115,6 +121,7 @@ module _ (same : Term → Term → Bool) (g : Ghost) (s : Station Term ℕ) wher
       by_attempt (Some (OverS1 (S1Ready acked))) e = by_test (Needs key) (acked.start.number == attempt) _ _ (λ b. tt) (λ b. tt)
       by_attempt (Some (OverS1 (S1Commanded sent))) e = by_test (Needs key) (sent.number == attempt) _ _ (λ b. tt) (λ b. tt)
       by_attempt (Some (Within state)) e = tt
+      by_attempt (Some (Renewing a)) e = tt
 
   x2_ack_walks : (attempt : ℕ) (algs : Algs) (air : ℕ) (key : Option (NumberedKey Term ℕ)) (o : Option (Context Term ℕ)) → s.context ≡ o
       → AckIs g s.id attempt algs air AnyMade
@@ -133,6 +140,7 @@ module _ (same : Term → Term → Bool) (g : Ghost) (s : Station Term ℕ) wher
       by_attempt (Some (OverX2 (X2Commanded sent))) e = by_test (Needs key) (sent.number == attempt) _ _ (λ b. tt) (λ b. tt)
       by_attempt (Some (OverS1 state)) e = tt
       by_attempt (Some (Within state)) e = tt
+      by_attempt (Some (Renewing a)) e = tt
 
   cancel_walks : (from : Origin) (key : Option (NumberedKey Term ℕ)) → Needs key (cancel_row plain from)
   unfolding plain
@@ -149,6 +157,7 @@ module _ (same : Term → Term → Bool) (g : Ghost) (s : Station Term ℕ) wher
       by_attempt (Some (OverX2 (X2Commanded sent))) = by_test (Needs key) (sent.number == number) _ _ (λ b. tt) (λ b. tt)
       by_attempt (Some (OverS1 state)) = tt
       by_attempt (Some (Within state)) = tt
+      by_attempt (Some (Renewing a)) = tt
 
   s1_needs : (conn source attempt : ℕ) (cell : Place) (caps : Caps) (key : Option (NumberedKey Term ℕ)) (algs : Algs)
       → BetweenOk g (StationS1 s.id) (HandoverRequest conn source attempt cell caps) key → runs_out 1 s.next ≡ false
@@ -164,25 +173,52 @@ module _ (same : Term → Term → Bool) (g : Ghost) (s : Station Term ℕ) wher
   x2_needs conn source attempt cell caps (Some star) algs h e =
       let k = h.1 in ((refl, in_range s.next e), h.0, (k.0, k.1, k.2, k.3, k.4, sym k.5))
 
+  -- a key change, where two numbers are left
+  renewed_needs : (next count : ℕ) (key : Option (NumberedKey Term ℕ)) (conn : ℕ) (c : Context Term ℕ) → s.context ≡ Some c → c.starting ≡ false → IsCell c.cell
+      → BetweenOk g (StationS1 s.id) (ContextModification conn next) key → runs_out 2 s.next ≡ false
+      → Needs key (KeyRenewed next s.next (s.next + 1) count)
+  renewed_needs next count None conn c is active fits h e = subst (λ o. RenewNeeds g s.next next (s.next + 1) o None) (sym is) tt
+  renewed_needs next count (Some key) conn c is active fits h e =
+      subst (λ o. RenewNeeds g s.next next (s.next + 1) o (Some key)) (sym is)
+      ((refl, in_range_next s.next e), active, fits, h.0, h.1, h.2, h.3)
+
+  modification_walks : (conn next : ℕ) (key : Option (NumberedKey Term ℕ)) (o : Option (Context Term ℕ)) → s.context ≡ o → CellFits o
+      → BetweenOk g (StationS1 s.id) (ContextModification conn next) key
+      → Needs key (modification_row plain conn next (option_map (map_context unseen ncc_of) o))
+  unfolding plain
+  modification_walks conn next key None is fits h = tt
+  modification_walks conn next key (Some c) is fits h =
+      by_test (Needs key) (not (c.conn == conn)) _ _ (λ b. tt)
+      (λ b. by_test (Needs key) (nat_le next s.last) _ _ (λ b. tt)
+      (λ b. by_test (Needs key) c.starting _ _ (λ b. tt) (λ b. alone b c.attempt)))
+    where
+      alone : c.starting ≡ false → (a : Option (Attempt Term ℕ)) → Needs key (renewed_alone next s.next c.bearers.srb1 (option_map (map_attempt unseen ncc_of) a))
+      alone active (Some attempt) = tt
+      alone active None =
+          by_test (Needs key) (runs_out 2 s.next) _ _ (λ b. tt)
+          (λ b. by_test (Needs key) (is_spent c.bearers.srb1) _ _ (λ d. tt) (λ d. renewed_needs next c.bearers.srb1.send key conn c is active fits h b))
+
   -- a record on S1, and one on X2
-  pub s1_walks : (fields : Fields) (key : Option (NumberedKey Term ℕ)) → BetweenOk g (StationS1 s.id) fields key → InFlight s (Between (StationS1 s.id) fields key)
+  pub s1_walks : (fields : Fields) (key : Option (NumberedKey Term ℕ)) → CellFits s.context → BetweenOk g (StationS1 s.id) fields key
+      → InFlight s (Between (StationS1 s.id) fields key)
       → RecordNeeds g s (s1_row (plain_station (term_reading_by same) s) fields) key
   unfolding plain
-  s1_walks (InitialContext conn cell caps) key h flight = initial_walks conn cell caps key h
-  s1_walks (ContextRelease conn) key h flight = release_walks conn s.context key
-  s1_walks (PathSwitchRequest conn station number cell caps) key h flight = tt
-  s1_walks (PathSwitchAnswer conn number) key h flight = answer_walks conn number key s.context refl h flight
-  s1_walks (HandoverRequired conn source attempt cell) key h flight = tt
-  s1_walks (HandoverRequest conn source attempt cell caps) key h flight =
+  s1_walks (InitialContext conn cell caps) key fits h flight = initial_walks conn cell caps key h
+  s1_walks (ContextRelease conn) key fits h flight = release_walks conn s.context key
+  s1_walks (PathSwitchRequest conn station number cell caps) key fits h flight = tt
+  s1_walks (PathSwitchAnswer conn number) key fits h flight = answer_walks conn number key s.context refl h flight
+  s1_walks (HandoverRequired conn source attempt cell) key fits h flight = tt
+  s1_walks (HandoverRequest conn source attempt cell caps) key fits h flight =
       wanted_walks conn _ cell caps PreparedByS1 key (λ algs e. s1_needs conn source attempt cell caps key algs h e)
-  s1_walks (HandoverRequestAck conn source attempt cell ncc algs air) key h flight = tt
-  s1_walks (HandoverCommand conn attempt cell ncc algs air) key h flight = s1_ack_walks attempt ncc algs air key s.context refl h
-  s1_walks (HandoverNotify conn station cell) key h flight = tt
-  s1_walks (HandoverCancel conn source attempt cell) key h flight = cancel_walks _ key
-  s1_walks (X2Request conn source attempt cell caps) key h flight = tt
-  s1_walks (X2Ack conn attempt cell algs air) key h flight = tt
-  s1_walks (X2Cancel conn source attempt) key h flight = tt
-  s1_walks (X2Release conn attempt) key h flight = tt
+  s1_walks (HandoverRequestAck conn source attempt cell ncc algs air) key fits h flight = tt
+  s1_walks (HandoverCommand conn attempt cell ncc algs air) key fits h flight = s1_ack_walks attempt ncc algs air key s.context refl h
+  s1_walks (HandoverNotify conn station cell) key fits h flight = tt
+  s1_walks (HandoverCancel conn source attempt cell) key fits h flight = cancel_walks _ key
+  s1_walks (X2Request conn source attempt cell caps) key fits h flight = tt
+  s1_walks (X2Ack conn attempt cell algs air) key fits h flight = tt
+  s1_walks (X2Cancel conn source attempt) key fits h flight = tt
+  s1_walks (X2Release conn attempt) key fits h flight = tt
+  s1_walks (ContextModification conn next) key fits h flight = modification_walks conn next key s.context refl fits h
 
   pub x2_walks : (fields : Fields) (key : Option (NumberedKey Term ℕ)) → BetweenOk g (StationX2 s.id) fields key
       → RecordNeeds g s (x2_row (plain_station (term_reading_by same) s) fields) key
@@ -202,3 +238,4 @@ module _ (same : Term → Term → Bool) (g : Ghost) (s : Station Term ℕ) wher
   x2_walks (X2Ack conn attempt cell algs air) key h = x2_ack_walks attempt algs air key s.context refl h
   x2_walks (X2Cancel conn source attempt) key h = cancel_walks _ key
   x2_walks (X2Release conn attempt) key h = released_walks attempt key s.context
+  x2_walks (ContextModification conn next) key h = tt

@@ -10,21 +10,15 @@ use Rattle.key_model.specs.HandoverLines.{nh_after, steps_to}
 use Rattle.key_model.proofs.LeastFacts.{least_from_remainder, eight_ahead}
 use Rattle.nh_chain.specs.Chain.{ChainState, number_after}
 use Rattle.nh_chain.specs.Reach.{reached_after}
+use Rattle.lte_properties.specs.Agreement.{root_of}
 
--- the key of the chain that a KeNB comes from by KeNB* steps, and its KASME
+-- the key of the chain that a KeNB comes from by KeNB* steps
 abbrev pub base : Term → Term
 base (Star t pci earfcn) = base t
 base (Root r octets) = Root r octets
 base (Kenb r n) = Kenb r n
 base (Nh r t) = Nh r t
 base (Alg t type id) = Alg t type id
-
-abbrev pub root_of : Term → Term
-root_of (Star t pci earfcn) = root_of t
-root_of (Kenb r n) = r
-root_of (Nh r t) = r
-root_of (Root r octets) = Root r octets
-root_of (Alg t type id) = Alg t type id
 
 -- so many NH steps from a key
 abbrev pub climb : Term → Term → ℕ → Term

@@ -6,7 +6,7 @@ use Rattle.std.proofs.lemmas.List.Folds.{find-append}
 use Rattle.std.proofs.lemmas.Bool.Decides.{nat_tests}
 use Rattle.rec_base.specs.declared.faults.RecFault.{RecFault}
 use Rattle.annex_a_keys.specs.Cell.{Place, IsCell}
-use Rattle.lte_events.specs.Site.{Site, is_site}
+use Rattle.lte_events.specs.Site.{Site, is_site, station_of}
 use Rattle.key_model.specs.Term.{Term, Star}
 use Rattle.key_model.specs.Chain.{nh}
 use Rattle.key_model.specs.Number.{chain_number}
@@ -16,12 +16,11 @@ use Rattle.rrc_rec.specs.declared.records.RrcRecord.{RrcRecord}
 use Rattle.rrc_rec.specs.Reading.{read_rrc}
 use Rattle.rrc_rec.specs.Spelling.{spelling_of, InRange}
 use Rattle.rrc_rec.proofs.Laws.{spelled_is_read}
-use Rattle.lte_machine.specs.Reply.{Origin, Made, Tried, Took}
-use Rattle.lte_machine.specs.StationChoice.{station_of}
+use Rattle.lte_machine.specs.Reply.{From, BySetup, ByAttempt, ByChange, Made, Tried, Took}
 use Rattle.lte_machine.specs.World.{with_one}
 use Rattle.lte_properties.specs.ChainBelow.{AllOf}
-use Rattle.lte_properties.specs.Agreement.{is_made_at, made_at, HadTaken, TakenIfTried}
-use Rattle.lte_properties.proofs.Agreement.Terms.{base, root_of, climb, lands, climb-nh, base_nh, root_nh, root_base, number_base}
+use Rattle.lte_properties.specs.Agreement.{is_made_at, made_at, root_of, HadTaken, TakenIfTried}
+use Rattle.lte_properties.proofs.Agreement.Terms.{base, climb, lands, climb-nh, base_nh, root_nh, root_base, number_base}
 use Rattle.lte_properties.proofs.Agreement.Ghost.{Ghost, is_tried_at, tried_at, TermOk, PairOk, FreshFrom}
 use Rattle.lte_properties.proofs.Agreement.Later.{Later, found_later, same_found}
 
@@ -42,10 +41,11 @@ told_more g made tried = record {
   made = λ station air m e. found_with (is_made_at station air) made g.made m e;
   tried = λ station number t e. found_with (is_tried_at station number) tried g.tried t e;
   took = λ x i. i;
+  first = λ station air x e. e;
 }
 
 -- a new item is found where no other was, and is not where its test fails
-found_new : {A : Type 0} (p : A → Bool) (xs : List A) (y : A) → find p xs ≡ None → p y ≡ true → find p (xs ++ y ∷ []) ≡ Some y
+pub found_new : {A : Type 0} (p : A → Bool) (xs : List A) (y : A) → find p xs ≡ None → p y ≡ true → find p (xs ++ y ∷ []) ≡ Some y
 found_new p xs y none holds =
     find-append p xs (y ∷ []) ∙ ap (λ o. option_or o (find p (y ∷ []))) none ∙ ap (λ b. cond b (Some y) None) holds
 
@@ -53,7 +53,7 @@ found_none : {A : Type 0} (p : A → Bool) (xs : List A) (y : A) → find p xs �
 found_none p xs y none fails =
     find-append p xs (y ∷ []) ∙ ap (λ o. option_or o (find p (y ∷ []))) none ∙ ap (λ b. cond b (Some y) None) fails
 
-both_same : (a b c d : ℕ) → a ≡ b → c ≡ d → ((a == b) && (c == d)) ≡ true
+pub both_same : (a b c d : ℕ) → a ≡ b → c ≡ d → ((a == b) && (c == d)) ≡ true
 both_same a b c d e f = grind (arith, nat_tests)
 
 second_differs : (a b c d : ℕ) → c < d → ((a == b) && (c == d)) ≡ false
@@ -200,6 +200,7 @@ leads_level t number cell = ap (λ d. lands t d cell) none
 pub star_term : (g : Ghost) (conn : ℕ) (pair : NumberedKey Term ℕ) (pci earfcn : ℕ) → PairOk g conn pair → TermOk g conn (Star pair.key pci earfcn) pair.number
 star_term g conn pair pci earfcn h = (h.0, h.1, ap base h.2 ∙ base_nh (g.root conn) (g.count conn) pair.number)
 
-pub if_tried : (took : List (Took Term ℕ)) (id air : ℕ) (t : Term) (o : Option Origin) → HadTaken took id air t → TakenIfTried took id air t o
-if_tried took id air t None h = tt
-if_tried took id air t (Some o) h = h
+pub if_tried : (took : List (Took Term ℕ)) (id air : ℕ) (t : Term) (o : From Term) → HadTaken took id air t → TakenIfTried took id air t o
+if_tried took id air t BySetup h = tt
+if_tried took id air t (ByAttempt o) h = h
+if_tried took id air t (ByChange k) h = h

@@ -1,5 +1,5 @@
 -- Agreement of phone and stations in every world of every run.
-use Rattle.std.proofs.Common.{◌≡◌, refl, ℕ, zero, suc, Bool, List, [], ◌∷◌, Option}
+use Rattle.std.proofs.Common.{◌≡◌, refl, ℕ, zero, suc, Bool, List, [], ◌∷◌, Option, Some, None}
 use Rattle.lte_events.specs.declared.events.Event.{Event}
 use Rattle.lte_events.specs.declared.setups.Setup.{Setup}
 use Rattle.lte_events.specs.Site.{Site}
@@ -10,7 +10,6 @@ use Rattle.lte_machine.specs.Wire.{KeyUse, Outgoing}
 use Rattle.lte_machine.specs.Ciphers.{Ciphers, AreCiphers, octets_of}
 use Rattle.lte_machine.specs.Opening.{Opening, Outcome, open_by_uses}
 use Rattle.lte_machine.specs.Ranges.{IsSetup, IsEvent}
-use Rattle.lte_machine.specs.Ranges as ranges
 use Rattle.lte_machine.specs.PhoneState.{Radio, Idle, Connecting, Connected}
 use Rattle.lte_machine.specs.Reply.{Took}
 use Rattle.lte_machine.specs.World.{Machine, happens}
@@ -25,48 +24,40 @@ use Rattle.lte_properties.specs.FreshPhone.{RadioInOrder, PhoneFresh}
 use Rattle.lte_properties.proofs.Freshness.PhoneRun.{in_order, happens_order, first_order}
 use Rattle.lte_properties.proofs.Agreement.Later.{later_itself}
 use Rattle.lte_properties.proofs.Agreement.Told.{SiteOk}
-use Rattle.lte_properties.proofs.Agreement.World.{TheWorld, Conns, ghost, WorldOk, PlainReads}
+use Rattle.lte_properties.proofs.Agreement.World.{TheWorld, Conns, ghost, WorldOk, Goes, OctetsTell, Settled}
 use Rattle.lte_properties.proofs.Agreement.Events.{happens_goes, run_goes}
 use Rattle.lte_properties.proofs.Agreement.Holds.{cells_of, no_conns, first_ok, agrees, none_before, of_each}
-use Rattle.lte_properties.proofs.Agreement.Follows.{in_turn}
+use Rattle.lte_properties.proofs.Agreement.Follows.{InTurn, happens_in_turn, in_turn}
+use Rattle.lte_properties.proofs.Agreement.StationWalk.{CellFits}
+use Rattle.lte_properties.proofs.ChainNumbers.Lists.{all_map}
+use Rattle.lte_machine.proofs.RangeHolds.{ContextRanged, StationRanged, Ranged}
+use Rattle.lte_machine.proofs.RangeWorld.{ranged_keeps, first_ranged}
+use Rattle.lte_machine.specs.StationState.{Station, Context}
+use Rattle.key_model.proofs.TermFacts.{same_term-Decides}
+use Rattle.lte_properties.proofs.Opening.Opens.{IsReflexive}
 use Rattle.lte_properties.proofs.Agreement.Lines.{line_told}
 use Rattle.lte_properties.proofs.Agreement.Noted.{keys_told}
 use Rattle.lte_properties.proofs.Agreement.Calm.{NewKenb, calm_at}
-use Rattle.lte_properties.proofs.Agreement.Opener.{honest, plain_reads}
+use Rattle.lte_properties.proofs.Agreement.Opener.{honest, octets_tell}
 
--- of each event of a list
-each_event : (es : List Event) → ranges.AllOf IsEvent es → AllOf IsEvent es
-each_event [] h = tt
-each_event (e ∷ es) h = (h.0, each_event es h.1)
+-- WHAT OTHER INVARIANTS SAY
 
-module _ (same : Term → Term → Bool) (root : ℕ → List ℕ → Term) (octets : Outgoing Term ℕ → List ℕ) (sender : Option (Outgoing Term ℕ) → Option (KeyUse Term)) (opener : Opening Term → List ℕ → Option (Outgoing Term ℕ) → Outcome) (reads : PlainReads octets) (cells : List Site) (cells_ok : AllOf SiteOk cells) where
-  abbrev m : Machine Term ℕ (Outgoing Term ℕ)
-  m = machine_by same root octets sender opener
+-- the cells of contexts are cells
+cells_fit : (ss : List (Station Term ℕ)) → AllOf StationRanged ss → AllOf (λ s. CellFits s.context) ss
+cells_fit ss h = all_map StationRanged (λ s. CellFits s.context) (λ s k. of_context s.context k.2) ss h
+  where
+    of_context : (o : Option (Context Term ℕ)) → ContextRanged o → CellFits o
+    of_context None k = tt
+    of_context (Some c) k = k.1
 
-  -- in each world of a run no context has an air address where the phone took a far key by the end of it
-  none_ever : (top : ℕ → ℕ) (c : Conns) (w : TheWorld) (es : List Event) → Holds top w → WorldOk cells c w → AllOf IsEvent es
-      → Along (Honest m) m w es → Along (Calm m) m w es → NoneEver m w es
-  none_ever top c w es holds h is honest calm zero =
-      let g = run_goes same root octets sender opener reads cells cells_ok top c w es holds h is honest calm in
-      none_before cells c g.0 w (run m w es) g.1 h g.2
-  none_ever top c w [] holds h is honest calm (suc n) = none_before cells c c w w (later_itself (ghost c w)) h h
-  none_ever top c w (e ∷ es) holds h is honest calm (suc n) =
-      let u = (happens m w e).0 in
-      let step = happens_goes same root octets sender opener reads cells cells_ok c w e is.0 h holds.above holds.flight honest.0 calm.0 in
-      let next = happens_holds same root octets sender opener top w e holds in
-      none_ever (noted u.core.link top) step.0 u es next step.2 is.1 honest.1 calm.1 n
+settled_by : (w : TheWorld) → PhoneFresh w → InTurn w → Ranged w → Settled w
+settled_by w fresh turn ranged = record { turn = turn; order = in_order w fresh; fits = cells_fit w.stations ranged.1 }
 
-  -- at each line of a completed handover the phone had taken the new context's key
-  lines_along : (top : ℕ → ℕ) (c : Conns) (w : TheWorld) (es : List Event) → Holds top w → WorldOk cells c w → AllOf IsEvent es
-      → Along (Honest m) m w es → Along (Calm m) m w es → CompletedLines m w es
-  lines_along top c w [] holds h is honest calm = tt
-  lines_along top c w (e ∷ es) holds h is honest calm =
-      let u = (happens m w e).0 in
-      let step = happens_goes same root octets sender opener reads cells cells_ok c w e is.0 h holds.above holds.flight honest.0 calm.0 in
-      let next = happens_holds same root octets sender opener top w e holds in (
-        line_told same root octets sender opener w e cells step.0 step.2,
-        lines_along (noted u.core.link top) step.0 u es next step.2 is.1 honest.1 calm.1,
-      )
+-- where the phone waits with a KeNB that it never took
+new_kenb : (radio : Radio Term ℕ) (took : List (Took Term ℕ)) → RadioInOrder took radio → NewKenb took radio
+new_kenb Idle took h = tt
+new_kenb (Connecting w) took h = λ x i. of_each (λ y. y.key ≡ w.kenb → ⊥) took x h.1 i
+new_kenb (Connected l) took h = tt
 
 -- an opener by terms is honest along every run
 pub honest_along : (same : Term → Term → Bool) (root : ℕ → List ℕ → Term) (octets : Outgoing Term ℕ → List ℕ) (sender : Option (Outgoing Term ℕ) → Option (KeyUse Term)) (opener : Opening Term → List ℕ → Option (Outgoing Term ℕ) → Outcome) (c : Ciphers Term) → OpensByTerms c opener
@@ -77,97 +68,112 @@ honest_along same root octets sender opener c is w (e ∷ es) = (
   honest_along same root octets sender opener c is (happens (machine_by same root octets sender opener) w e).0 es,
 )
 
--- every run of a machine whose openings are honest and calm, and whose unciphered records read as their texts
-pub agreement_by : (same : Term → Term → Bool) (root : ℕ → List ℕ → Term) (octets : Outgoing Term ℕ → List ℕ) (sender : Option (Outgoing Term ℕ) → Option (KeyUse Term)) (opener : Opening Term → List ℕ → Option (Outgoing Term ℕ) → Outcome) → PlainReads octets
-    → (setup : Setup) → IsSetup setup → (events : List Event) → ranges.AllOf IsEvent events
-    → Along (Honest (machine_by same root octets sender opener)) (machine_by same root octets sender opener) (first_world setup) events
-    → Along (Calm (machine_by same root octets sender opener)) (machine_by same root octets sender opener) (first_world setup) events
-    → AgreementHolds (machine_by same root octets sender opener) setup events
-agreement_by same root octets sender opener reads setup is events are honest calm =
-    let cells_ok = cells_of setup is in
-    let each = each_event events are in
-    let first = first_ok setup is in
-    let g = run_goes same root octets sender opener reads setup.cells cells_ok (λ conn. 0) (no_conns setup) (first_world setup) events (first_holds setup) first each honest calm in (
-      agrees setup.cells g.0 (run (machine_by same root octets sender opener) (first_world setup) events) g.2
-          (in_turn same root octets sender opener setup events),
-      none_ever same root octets sender opener reads setup.cells cells_ok (λ conn. 0) (no_conns setup) (first_world setup) events (first_holds setup) first each honest calm,
-      lines_along same root octets sender opener reads setup.cells cells_ok (λ conn. 0) (no_conns setup) (first_world setup) events (first_holds setup) first each honest calm,
-      keys_told same root octets sender opener (first_world setup) events,
-    )
+module _ (same : Term → Term → Bool) (itself : IsReflexive same) (octets : Outgoing Term ℕ → List ℕ) (sender : Option (Outgoing Term ℕ) → Option (KeyUse Term)) (opener : Opening Term → List ℕ → Option (Outgoing Term ℕ) → Outcome) where
+  abbrev settling : Machine Term ℕ (Outgoing Term ℕ)
+  settling = machine_by same Root octets sender opener
 
--- where the phone waits with a KeNB that it never took
-new_kenb : (radio : Radio Term ℕ) (took : List (Took Term ℕ)) → RadioInOrder took radio → NewKenb took radio
-new_kenb Idle took h = tt
-new_kenb (Connecting w) took h = λ x i. of_each (λ y. y.key ≡ w.kenb → ⊥) took x h.1 i
-new_kenb (Connected l) took h = tt
+  -- each world of a run is settled
+  pub settled_along : (w : TheWorld) (es : List Event) → PhoneFresh w → InTurn w → Ranged w → AllOf IsEvent es → Along (λ v e. Settled v) settling w es
+  settled_along w [] fresh turn ranged is = tt
+  settled_along w (e ∷ es) fresh turn ranged is = (
+    settled_by w fresh turn ranged,
+    settled_along (happens settling w e).0 es (happens_order same itself octets sender opener w fresh e) (happens_in_turn same Root octets sender opener w turn e)
+        (ranged_keeps same Root octets sender opener w e is.0 ranged) is.1,
+  )
 
-module _ (same : Term → Term → Bool) (octets : Outgoing Term ℕ → List ℕ) (sender : Option (Outgoing Term ℕ) → Option (KeyUse Term)) (opener : Opening Term → List ℕ → Option (Outgoing Term ℕ) → Outcome) (reads : PlainReads octets) (cells : List Site) (cells_ok : AllOf SiteOk cells) where
+  pub settled_from_first : (setup : Setup) → IsSetup setup → (es : List Event) → AllOf IsEvent es → Along (λ v e. Settled v) settling (first_world setup) es
+  settled_from_first setup is es each =
+      settled_along (first_world setup) es (first_order same itself octets sender opener setup) (tt, tt) (first_ranged setup is) each
+
+module _ (same : Term → Term → Bool) (root : ℕ → List ℕ → Term) (octets : Outgoing Term ℕ → List ℕ) (sender : Option (Outgoing Term ℕ) → Option (KeyUse Term)) (opener : Opening Term → List ℕ → Option (Outgoing Term ℕ) → Outcome) (tell : OctetsTell octets) (cells : List Site) (cells_ok : AllOf SiteOk cells) where
+  abbrev m : Machine Term ℕ (Outgoing Term ℕ)
+  m = machine_by same root octets sender opener
+
+  -- each event of a run is calm
+  calm_along : (top : ℕ → ℕ) (c : Conns) (w : TheWorld) (es : List Event) → Holds top w → WorldOk cells c w → AllOf IsEvent es
+      → Along (λ v e. Settled v) m w es → Along (Honest m) m w es → Along (Calm m) m w es
+  calm_along top c w [] holds h is settled honest = tt
+  calm_along top c w (e ∷ es) holds h is settled honest =
+      let u = (happens m w e).0 in
+      let calm = calm_at same root octets sender opener tell cells c w e h (new_kenb w.phone.radio w.took settled.0.order.1) honest.0 in
+      let step = happens_goes same root octets sender opener tell cells cells_ok c w e is.0 h settled.0 holds.above holds.flight honest.0 calm in
+      let next = happens_holds same root octets sender opener top w e holds in
+      (calm, calm_along (noted u.core.link top) step.0 u es next step.2 is.1 settled.1 honest.1)
+
+  -- in each world of a run no context has an air address where the phone took a far key by the end of it
+  none_ever : (top : ℕ → ℕ) (c : Conns) (w : TheWorld) (es : List Event) → Holds top w → WorldOk cells c w → AllOf IsEvent es
+      → Along (λ v e. Settled v) m w es → Along (Honest m) m w es → Along (Calm m) m w es → NoneEver m w es
+  none_ever top c w es holds h is settled honest calm zero =
+      let g = run_goes same root octets sender opener tell cells cells_ok top c w es holds h is settled honest calm in
+      none_before cells c g.0 w (run m w es) g.1 h g.2
+  none_ever top c w [] holds h is settled honest calm (suc n) = none_before cells c c w w (later_itself (ghost c w)) h h
+  none_ever top c w (e ∷ es) holds h is settled honest calm (suc n) =
+      let u = (happens m w e).0 in
+      let step = happens_goes same root octets sender opener tell cells cells_ok c w e is.0 h settled.0 holds.above holds.flight honest.0 calm.0 in
+      let next = happens_holds same root octets sender opener top w e holds in
+      none_ever (noted u.core.link top) step.0 u es next step.2 is.1 settled.1 honest.1 calm.1 n
+
+  -- at each line of a completed handover the phone had taken the new context's key
+  lines_along : (top : ℕ → ℕ) (c : Conns) (w : TheWorld) (es : List Event) → Holds top w → WorldOk cells c w → AllOf IsEvent es
+      → Along (λ v e. Settled v) m w es → Along (Honest m) m w es → Along (Calm m) m w es → CompletedLines m w es
+  lines_along top c w [] holds h is settled honest calm = tt
+  lines_along top c w (e ∷ es) holds h is settled honest calm =
+      let u = (happens m w e).0 in
+      let step = happens_goes same root octets sender opener tell cells cells_ok c w e is.0 h settled.0 holds.above holds.flight honest.0 calm.0 in
+      let next = happens_holds same root octets sender opener top w e holds in (
+        line_told same root octets sender opener w e cells step.0 step.2,
+        lines_along (noted u.core.link top) step.0 u es next step.2 is.1 settled.1 honest.1 calm.1,
+      )
+
+-- from the first world
+module _ (same : Term → Term → Bool) (itself : IsReflexive same) (octets : Outgoing Term ℕ → List ℕ) (sender : Option (Outgoing Term ℕ) → Option (KeyUse Term)) (opener : Opening Term → List ℕ → Option (Outgoing Term ℕ) → Outcome) (tell : OctetsTell octets) (setup : Setup) (is : IsSetup setup) (events : List Event) (are : AllOf IsEvent events) where
   abbrev rooted : Machine Term ℕ (Outgoing Term ℕ)
   rooted = machine_by same Root octets sender opener
 
+  abbrev settled : Along (λ v e. Settled v) rooted (first_world setup) events
+  settled = settled_from_first same itself octets sender opener setup is events are
+
+  module _ (honest : Along (Honest rooted) rooted (first_world setup) events) where
+    calm : Along (Calm rooted) rooted (first_world setup) events
+    calm = calm_along same Root octets sender opener tell setup.cells (cells_of setup is) (λ conn. 0) (no_conns setup) (first_world setup) events (first_holds setup) (first_ok setup is) are settled honest
+
+    goes : Goes setup.cells (no_conns setup) (first_world setup) (run rooted (first_world setup) events)
+    goes = run_goes same Root octets sender opener tell setup.cells (cells_of setup is) (λ conn. 0) (no_conns setup) (first_world setup) events (first_holds setup) (first_ok setup is) are settled honest calm
+
+    -- every run whose openings are honest
+    pub agreement_if_honest : AgreementHolds rooted setup events
+    agreement_if_honest = (
+      agrees setup.cells goes.0 (run rooted (first_world setup) events) goes.2 (in_turn same Root octets sender opener setup events),
+      none_ever same Root octets sender opener tell setup.cells (cells_of setup is) (λ conn. 0) (no_conns setup) (first_world setup) events (first_holds setup) (first_ok setup is) are settled honest calm,
+      lines_along same Root octets sender opener tell setup.cells (cells_of setup is) (λ conn. 0) (no_conns setup) (first_world setup) events (first_holds setup) (first_ok setup is) are settled honest calm,
+      keys_told same Root octets sender opener (first_world setup) events,
+    )
+
+-- over these ciphers, by an opener that compares the uses on SRBs as terms
+module _ (same : Term → Term → Bool) (itself : IsReflexive same) (c : Ciphers Term) (good : AreCiphers c) (between : Fields → Option (NumberedKey Term ℕ) → List ℕ) (opener : Opening Term → List ℕ → Option (Outgoing Term ℕ) → Outcome) (by_terms : OpensByTerms c opener) (setup : Setup) (is : IsSetup setup) (events : List Event) (are : AllOf IsEvent events) where
+  abbrev over : Machine Term ℕ (Outgoing Term ℕ)
+  over = record (machine_over same c between) { opener = opener }
+
+  abbrev each_honest : Along (Honest over) over (first_world setup) events
+  each_honest = honest_along same Root (octets_of c between) sender_of opener c by_terms (first_world setup) events
+
   -- each event of a run is calm
-  calm_along : (top : ℕ → ℕ) (c : Conns) (w : TheWorld) (es : List Event) → Holds top w → WorldOk cells c w → PhoneFresh w → AllOf IsEvent es
-      → Along (Honest rooted) rooted w es → Along (Calm rooted) rooted w es
-  calm_along top c w [] holds h fresh is honest = tt
-  calm_along top c w (e ∷ es) holds h fresh is honest =
-      let u = (happens rooted w e).0 in
-      let calm = calm_at same Root octets sender opener reads cells c w e h (new_kenb w.phone.radio w.took (in_order w fresh).1) honest.0 in
-      let step = happens_goes same Root octets sender opener reads cells cells_ok c w e is.0 h holds.above holds.flight honest.0 calm in
-      let next = happens_holds same Root octets sender opener top w e holds in
-      let order = happens_order same octets sender opener w fresh e in
-      (calm, calm_along (noted u.core.link top) step.0 u es next step.2 order is.1 honest.1)
+  pub calm_over : Along (Calm over) over (first_world setup) events
+  calm_over = calm same itself (octets_of c between) sender_of opener (octets_tell c good between) setup is events are each_honest
 
--- at every event of a run whose openings are honest
-calm_if_honest : (same : Term → Term → Bool) (octets : Outgoing Term ℕ → List ℕ) (sender : Option (Outgoing Term ℕ) → Option (KeyUse Term)) (opener : Opening Term → List ℕ → Option (Outgoing Term ℕ) → Outcome) → PlainReads octets
-    → (setup : Setup) → IsSetup setup → (events : List Event) → ranges.AllOf IsEvent events
-    → Along (Honest (machine_by same Root octets sender opener)) (machine_by same Root octets sender opener) (first_world setup) events
-    → Along (Calm (machine_by same Root octets sender opener)) (machine_by same Root octets sender opener) (first_world setup) events
-calm_if_honest same octets sender opener reads setup is events are honest =
-    calm_along same octets sender opener reads setup.cells (cells_of setup is) (λ conn. 0) (no_conns setup) (first_world setup) events (first_holds setup)
-    (first_ok setup is) (first_order same octets sender opener setup) (each_event events are) honest
+  -- agreement holds of every run
+  pub agreement_over : AgreementHolds over setup events
+  agreement_over = agreement_if_honest same itself (octets_of c between) sender_of opener (octets_tell c good between) setup is events are each_honest
 
-pub calm_over : (same : Term → Term → Bool) (c : Ciphers Term) → AreCiphers c → (between : Fields → Option (NumberedKey Term ℕ) → List ℕ) (opener : Opening Term → List ℕ → Option (Outgoing Term ℕ) → Outcome) → OpensByTerms c opener
-    → (setup : Setup) → IsSetup setup → (events : List Event) → ranges.AllOf IsEvent events
-    → Along (Calm (record (machine_over same c between) { opener = opener })) (record (machine_over same c between) { opener = opener }) (first_world setup) events
-calm_over same c good between opener by_terms setup is events are =
-    calm_if_honest same (octets_of c between) sender_of opener (plain_reads c good between) setup is events are
-    (honest_along same Root (octets_of c between) sender_of opener c by_terms (first_world setup) events)
-
--- every run whose openings are honest
-pub agreement_if_honest : (same : Term → Term → Bool) (octets : Outgoing Term ℕ → List ℕ) (sender : Option (Outgoing Term ℕ) → Option (KeyUse Term)) (opener : Opening Term → List ℕ → Option (Outgoing Term ℕ) → Outcome) → PlainReads octets
-    → (setup : Setup) → IsSetup setup → (events : List Event) → ranges.AllOf IsEvent events
-    → Along (Honest (machine_by same Root octets sender opener)) (machine_by same Root octets sender opener) (first_world setup) events
-    → AgreementHolds (machine_by same Root octets sender opener) setup events
-agreement_if_honest same octets sender opener reads setup is events are honest =
-    agreement_by same Root octets sender opener reads setup is events are honest (calm_if_honest same octets sender opener reads setup is events are honest)
-
--- every run of a machine over these ciphers that compares the uses on SRBs as terms
-pub agreement_over : (same : Term → Term → Bool) (c : Ciphers Term) → AreCiphers c → (between : Fields → Option (NumberedKey Term ℕ) → List ℕ) (opener : Opening Term → List ℕ → Option (Outgoing Term ℕ) → Outcome) → OpensByTerms c opener
-    → (setup : Setup) → IsSetup setup → (events : List Event) → ranges.AllOf IsEvent events
-    → AgreementHolds (record (machine_over same c between) { opener = opener }) setup events
-agreement_over same c good between opener by_terms setup is events are =
-    agreement_if_honest same (octets_of c between) sender_of opener (plain_reads c good between) setup is events are
-    (honest_along same Root (octets_of c between) sender_of opener c by_terms (first_world setup) events)
+  -- and every world of it has the invariant
+  pub always_ok : (d : Conns) × WorldOk setup.cells d (run over (first_world setup) events)
+  always_ok =
+      let g = goes same itself (octets_of c between) sender_of opener (octets_tell c good between) setup is events are each_honest in (g.0, g.2)
 
 -- every run of the machine over terms that compares keys as terms
 pub agreement_of_terms : (c : Ciphers Term) → AreCiphers c → (between : Fields → Option (NumberedKey Term ℕ) → List ℕ)
-    → (setup : Setup) → IsSetup setup → (events : List Event) → ranges.AllOf IsEvent events
+    → (setup : Setup) → IsSetup setup → (events : List Event) → AllOf IsEvent events
     → AgreementHolds (machine_over same_term c between) setup events
 agreement_of_terms c good between setup is events are =
-    agreement_over same_term c good between (open_by_uses same_term c) (λ u e pdu came. refl) setup is events are
-
--- and every world of it has the invariant
-pub always_ok : (same : Term → Term → Bool) (c : Ciphers Term) → AreCiphers c → (between : Fields → Option (NumberedKey Term ℕ) → List ℕ) (opener : Opening Term → List ℕ → Option (Outgoing Term ℕ) → Outcome) → OpensByTerms c opener
-    → (setup : Setup) → IsSetup setup → (events : List Event) → ranges.AllOf IsEvent events
-    → (d : Conns) × WorldOk setup.cells d (run (record (machine_over same c between) { opener = opener }) (first_world setup) events)
-always_ok same c good between opener by_terms setup is events are =
-    let octets = octets_of c between in
-    let reads = plain_reads c good between in
-    let cells_ok = cells_of setup is in
-    let each = each_event events are in
-    let first = first_ok setup is in
-    let honest = honest_along same Root octets sender_of opener c by_terms (first_world setup) events in
-    let calm = calm_along same octets sender_of opener reads setup.cells cells_ok (λ conn. 0) (no_conns setup) (first_world setup) events (first_holds setup)
-    first (first_order same octets sender_of opener setup) each honest in
-    let g = run_goes same Root octets sender_of opener reads setup.cells cells_ok (λ conn. 0) (no_conns setup) (first_world setup) events (first_holds setup) first each honest calm in
-    (g.0, g.2)
+    agreement_over same_term (λ t. (same_term-Decides t t).1 refl) c good between (open_by_uses same_term c)
+    ((λ u e pdu came. refl), (same_term, λ u e pdu came. refl)) setup is events are

@@ -1,5 +1,5 @@
 -- Agreement's invariant of a world, and what an event leaves of it.
-use Rattle.std.proofs.Common.{◌≡◌, refl, sym, ◌∙◌, subst, ℕ, ◌≤◌, ◌==◌, Bool, true, List, Option, Some, None}
+use Rattle.std.proofs.Common.{◌≡◌, refl, sym, ◌∙◌, subst, ℕ, ◌≤◌, ◌==◌, Bool, true, List, Option, Some, None, Ok}
 use Rattle.std.specs.Prelude.{⊤}
 use Rattle.std.proofs.lemmas.Bool.{eqb-true, eqb-false}
 use Rattle.rec_base.specs.declared.bearers.Bearer.{Bearer}
@@ -14,7 +14,7 @@ use Rattle.key_model.specs.HandoverTable.{NumberedKey}
 use Rattle.key_model.specs.Reading.{term_reading_by}
 use Rattle.s1x2_rec.specs.Fields.{Fields}
 use Rattle.lte_machine.specs.Bearers.{Srb, which}
-use Rattle.lte_machine.specs.Wire.{KeyUse, Outgoing, SealedNas, PlainNas, SealedRrc, UserPacket, Between}
+use Rattle.lte_machine.specs.Wire.{KeyUse, Ciphering, Outgoing, SealedNas, PlainNas, SealedRrc, UserPacket, Between}
 use Rattle.lte_machine.specs.Opening.{Opening, Outcome}
 use Rattle.lte_machine.specs.Ranges.{IsStationAct}
 use Rattle.lte_machine.specs.Reply.{Made, Tried, Took, Reply}
@@ -36,17 +36,22 @@ use Rattle.ho_prep.specs.Prep.{at_air}
 use Rattle.lte_properties.specs.ChainBelow.{AllOf}
 use Rattle.lte_properties.specs.ChainAbove.{ContextAbove, StationAbove, InFlight}
 use Rattle.lte_properties.specs.ChainHolds.{machine_by}
-use Rattle.lte_properties.specs.Agreement.{made_at}
+use Rattle.lte_machine.specs.PhoneState.{Radio, Idle, Connecting, Connected}
+use Rattle.lte_machine.specs.CoreChoice.{core_header}
+use Rattle.lte_properties.specs.FreshPhone.{TookInOrder, RadioInOrder, PhoneInOrder}
+use Rattle.lte_properties.specs.Agreement.{made_at, Obeys, Follow}
+use Rattle.lte_properties.proofs.Agreement.Follows.{InTurn}
+use Rattle.lte_properties.proofs.Agreement.Order.{new_at}
 use Rattle.lte_properties.specs.AgreeOpenings.{IsHonest, IsCalm, outcome_of}
 use Rattle.lte_properties.proofs.ChainNumbers.Lists.{OfSome, all_one, all_find, all_map, all_both, all_put}
 use Rattle.lte_properties.proofs.Agreement.Ghost.{Ghost, tried_at, CoreOk, RadioOk, StationOk, SentOk, MadeOk, TriedOk, TookOk, OutOk, BetweenOk}
 use Rattle.lte_properties.proofs.Agreement.Later.{Later, later_itself, ctx_later, preps_later, radio_later, sent_later, made_later, tried_later, took_later}
 use Rattle.lte_properties.proofs.Agreement.Phone.{PhoneGoes, NewTook, PhoneNeeds, took_more, phone_goes}
-use Rattle.lte_properties.proofs.Agreement.PhoneWalk.{CameDown, air_walks}
+use Rattle.lte_properties.proofs.Agreement.PhoneWalk.{CameDown, NothingYet, air_walks}
 use Rattle.lte_properties.proofs.Agreement.Told.{told_more, fresh_beside, SiteOk}
 use Rattle.lte_properties.proofs.Agreement.Station.{StationGoes, NewMade, NewTried, RecordNeeds, AirNeeds, record_goes, air_goes}
 use Rattle.lte_properties.proofs.Agreement.StationAct.{ActNeeds, act_goes}
-use Rattle.lte_properties.proofs.Agreement.StationWalk.{s1_walks, x2_walks}
+use Rattle.lte_properties.proofs.Agreement.StationWalk.{CellFits, s1_walks, x2_walks}
 use Rattle.lte_properties.proofs.Agreement.StationOpens.{CameUp, air_walks_by, act_walks}
 use Rattle.lte_properties.proofs.Agreement.Core.{CoreGoes, CoreNeeds, core_goes}
 
@@ -90,6 +95,17 @@ abbrev pub PlainReads : (Outgoing Term ℕ → List ℕ) → Type 0
 PlainReads octets =
     (dir : Dir) (station air : ℕ) (srb : Srb) (i : KeyUse Term) (text : List ℕ)
     → unciphered_text (octets (SealedRrc dir station air srb i None text)) ≡ text
+
+-- and the header type of a NAS message to the core stands in its octets
+abbrev pub HeaderReads : (Outgoing Term ℕ → List ℕ) → Type 0
+HeaderReads octets =
+    (dir : Dir) (header : ℕ) (i : KeyUse Term) (e : Option (Ciphering Term)) (text : List ℕ) (h : ℕ)
+    → core_header (octets (SealedNas dir header i e text)) ≡ Ok h → h ≡ header
+
+-- what octets tell of a record before it is opened
+pub record OctetsTell (octets : Outgoing Term ℕ → List ℕ) : Type 0 where
+  pub text : PlainReads octets
+  pub header : HeaderReads octets
 
 -- nothing made or tried at numbers from here on
 abbrev Fresh : List (Made Term ℕ) → List (Tried Term ℕ) → ℕ → ℕ → Type 0
@@ -135,12 +151,24 @@ module _ (cells : List Site) (c d : Conns) (w u : TheWorld) (l : Later (ghost c 
   took_stays : (xs : List (Took Term ℕ)) → AllOf (TookOk (ghost c w)) xs → AllOf (TookOk (ghost d u)) xs
   took_stays xs h = all_map (TookOk (ghost c w)) (TookOk (ghost d u)) (took_later (ghost c w) (ghost d u) l) xs h
 
+-- what other invariants say of a world: the phone follows its keys in order, and the cell of a context is a cell
+pub record Settled (w : TheWorld) : Type 0 where
+  pub turn : InTurn w
+  pub order : PhoneInOrder w
+  pub fits : AllOf (λ s. CellFits s.context) w.stations
+
+-- so where the present key is to change, the phone took nothing yet
+not_yet : (g : Ghost) (radio : Radio Term ℕ) → Follow None g.took → TookInOrder g.took → RadioInOrder g.took radio → AllOf (Obeys g.made) g.took → NothingYet g radio
+not_yet g Idle follow order radio obeys = tt
+not_yet g (Connecting w) follow order radio obeys = tt
+not_yet g (Connected l) follow order radio obeys = λ station air m there from. new_at g.made station air m there l.kenb from g.took follow order radio obeys
+
 -- what came in a record on S1 or X2
 abbrev pub ReadOk : (Address → Fields → Option (NumberedKey Term ℕ) → Type 0) → Option (Outgoing Term ℕ) → Type 0
 ReadOk P (Some (Between to fields key)) = P to fields key
 ReadOk P other = ⊤
 
-module _ (same : Term → Term → Bool) (root : ℕ → List ℕ → Term) (octets : Outgoing Term ℕ → List ℕ) (sender : Option (Outgoing Term ℕ) → Option (KeyUse Term)) (opener : Opening Term → List ℕ → Option (Outgoing Term ℕ) → Outcome) (plain_reads : PlainReads octets) (cells : List Site) (cells_ok : AllOf SiteOk cells) where
+module _ (same : Term → Term → Bool) (root : ℕ → List ℕ → Term) (octets : Outgoing Term ℕ → List ℕ) (sender : Option (Outgoing Term ℕ) → Option (KeyUse Term)) (opener : Opening Term → List ℕ → Option (Outgoing Term ℕ) → Outcome) (tell : OctetsTell octets) (cells : List Site) (cells_ok : AllOf SiteOk cells) where
   abbrev m : Machine Term ℕ (Outgoing Term ℕ)
   m = machine_by same root octets sender opener
 
@@ -187,14 +215,15 @@ module _ (same : Term → Term → Bool) (root : ℕ → List ℕ → Term) (oct
       (phone_row (plain_phone (term_reading_by same) w.phone) (front_of (term_reading_by same) w.phone input) (outcome_of m (phone_attempts m w input came)))
       (phone_root input) w.phone h.radio needs)
 
-  pub phone_air_goes : (c : Conns) (w : TheWorld) (station air : ℕ) (bearer : Bearer) (pdu : List ℕ) (came : Option (Outgoing Term ℕ)) → WorldOk cells c w
+  pub phone_air_goes : (c : Conns) (w : TheWorld) (station air : ℕ) (bearer : Bearer) (pdu : List ℕ) (came : Option (Outgoing Term ℕ)) → WorldOk cells c w → Settled w
       → CameDown (ghost c w) station air (which bearer) pdu came
       → let a = phone_attempts m w (PhoneAirPdu station air bearer pdu) came in
       IsHonest a.opening a.came (outcome_of m a) → IsCalm a.opening a.came (outcome_of m a)
       → Goes cells c w (phone_turn m w (PhoneAirPdu station air bearer pdu) came).0
-  phone_air_goes c w station air bearer pdu came h k honest calm =
+  phone_air_goes c w station air bearer pdu came h settled k honest calm =
       phone_turn_goes c w (PhoneAirPdu station air bearer pdu) came h
       (air_walks same (ghost c w) w.phone w.phone.caps station air pdu (which bearer) came k
+      (not_yet (ghost c w) w.phone.radio settled.turn.0 settled.order.0 settled.order.1 (all_map (TookOk (ghost c w)) (Obeys w.made) (λ x t. t.1) w.took h.took))
       (outcome_of m (phone_attempts m w (PhoneAirPdu station air bearer pdu) came)) w.phone.radio refl h.radio honest calm)
 
   -- THE CORE
@@ -321,13 +350,13 @@ module _ (same : Term → Term → Bool) (root : ℕ → List ℕ → Term) (oct
   -- what came to a station in a record
   abbrev S1Came : Conns → TheWorld → ℕ → Option (Outgoing Term ℕ) → Type 0
   S1Came c w id came =
-      ReadOk (λ to fields key. BetweenOk (ghost c w) (Address.StationS1 id) fields key × AllOf (λ s. s.id ≡ id → InFlight s (Between (Address.StationS1 id) fields key)) w.stations) came
+      ReadOk (λ to fields key. BetweenOk (ghost c w) (Address.StationS1 id) fields key × AllOf (λ s. s.id ≡ id → CellFits s.context × InFlight s (Between (Address.StationS1 id) fields key)) w.stations) came
 
   abbrev X2Came : Conns → TheWorld → ℕ → Option (Outgoing Term ℕ) → Type 0
   X2Came c w id came = ReadOk (λ to fields key. BetweenOk (ghost c w) (Address.StationX2 id) fields key) came
 
   s1_needs : (c : Conns) (w : TheWorld) (id : ℕ) (came : Option (Outgoing Term ℕ)) → S1Came c w id came → (outcome : Outcome) (s : Station Term ℕ)
-      → (ReadOk (λ to fields key. InFlight s (Between (Address.StationS1 id) fields key)) came)
+      → (ReadOk (λ to fields key. CellFits s.context × InFlight s (Between (Address.StationS1 id) fields key)) came)
       → StationOk cells (ghost c w) s → s.id ≡ id
       → StationNeeds (ghost c w) s (station_row_of (term_reading_by same) s (StationRecord OnS1 (content_in m came)) outcome) (station_key (StationRecord OnS1 (content_in m came)))
   s1_needs c w id None k outcome s f ok is = tt
@@ -336,9 +365,9 @@ module _ (same : Term → Term → Bool) (root : ℕ → List ℕ → Term) (oct
   s1_needs c w id (Some (SealedRrc dir station air srb i e text)) k outcome s f ok is = tt
   s1_needs c w id (Some (UserPacket dir station air drb e text)) k outcome s f ok is = tt
   s1_needs c w id (Some (Between to fields key)) k outcome s f ok is =
-      s1_walks same (ghost c w) s fields key
+      s1_walks same (ghost c w) s fields key f.0
       (subst (λ n. BetweenOk (ghost c w) (Address.StationS1 n) fields key) (sym is) k.0)
-      (subst (λ n. InFlight s (Between (Address.StationS1 n) fields key)) (sym is) f)
+      (subst (λ n. InFlight s (Between (Address.StationS1 n) fields key)) (sym is) f.1)
 
   x2_needs : (c : Conns) (w : TheWorld) (id : ℕ) (came : Option (Outgoing Term ℕ)) → X2Came c w id came → (outcome : Outcome) (s : Station Term ℕ)
       → StationOk cells (ghost c w) s → s.id ≡ id
@@ -353,14 +382,14 @@ module _ (same : Term → Term → Bool) (root : ℕ → List ℕ → Term) (oct
 
   -- the records in flight fit each station, and so the one of a number
   flight_of : (c : Conns) (w : TheWorld) (id : ℕ) (came : Option (Outgoing Term ℕ)) → S1Came c w id came
-      → OfSome (λ s. (s.id ≡ id) → ReadOk (λ to fields key. InFlight s (Between (Address.StationS1 id) fields key)) came) (station_of_id id w.stations)
+      → OfSome (λ s. (s.id ≡ id) → ReadOk (λ to fields key. CellFits s.context × InFlight s (Between (Address.StationS1 id) fields key)) came) (station_of_id id w.stations)
   flight_of c w id None k = each _ (λ s e. tt) (station_of_id id w.stations)
   flight_of c w id (Some (SealedNas dir header i e text)) k = each _ (λ s e. tt) (station_of_id id w.stations)
   flight_of c w id (Some (PlainNas pdu)) k = each _ (λ s e. tt) (station_of_id id w.stations)
   flight_of c w id (Some (SealedRrc dir station air srb i e text)) k = each _ (λ s e. tt) (station_of_id id w.stations)
   flight_of c w id (Some (UserPacket dir station air drb e text)) k = each _ (λ s e. tt) (station_of_id id w.stations)
   flight_of c w id (Some (Between to fields key)) k =
-      some_map _ _ (λ s h. h.0) (station_of_id id w.stations) (all_find (λ s. s.id ≡ id → InFlight s (Between (Address.StationS1 id) fields key)) (λ s. s.id == id) w.stations k.1)
+      some_map _ _ (λ s h. h.0) (station_of_id id w.stations) (all_find (λ s. s.id ≡ id → CellFits s.context × InFlight s (Between (Address.StationS1 id) fields key)) (λ s. s.id == id) w.stations k.1)
 
   pub station_s1_goes : (c : Conns) (w : TheWorld) (id : ℕ) (came : Option (Outgoing Term ℕ)) → WorldOk cells c w → AllOf StationAbove w.stations → S1Came c w id came
       → Goes cells c w (station_turn m w id (StationRecord OnS1 (content_in m came)) came).0

@@ -5,16 +5,17 @@ use Rattle.alg_choice.specs.declared.algs.Algs.{Algs}
 use Rattle.alg_choice.specs.declared.caps.Caps.{Caps}
 use Rattle.alg_choice.specs.declared.choices.NoAlgorithm.{NoAlgorithm as Unmatched}
 use Rattle.annex_a_keys.specs.Cell.{Place}
-use Rattle.s1x2_rec.specs.Fields.{Fields, InitialContext, ContextRelease, PathSwitchRequest, PathSwitchAnswer, HandoverRequired, HandoverRequest, HandoverRequestAck, HandoverCommand, HandoverNotify, HandoverCancel, X2Request, X2Ack, X2Cancel, X2Release}
+use Rattle.s1x2_rec.specs.Fields.{Fields, InitialContext, ContextRelease, PathSwitchRequest, PathSwitchAnswer, HandoverRequired, HandoverRequest, HandoverRequestAck, HandoverCommand, HandoverNotify, HandoverCancel, X2Request, X2Ack, X2Cancel, X2Release, ContextModification}
 use Rattle.s1x2_rec.specs.Content.{Content, map_content}
 use Rattle.key_model.specs.Reading.{Reading}
 use Rattle.ho_prep.specs.Prep.{has_attempt}
 use Rattle.lte_machine.specs.Reply.{Origin, unseen}
-use Rattle.lte_machine.specs.StationState.{Station, Context, OverX2, OverS1, Within, X2Open, X2Ready, X2Commanded, S1Open, S1Ready, S1Commanded, Interface, OnS1, OnX2, map_context}
+use Rattle.lte_machine.specs.StationState.{Station, Context, OverX2, OverS1, Within, X2Open, X2Ready, X2Commanded, S1Open, S1Ready, S1Commanded, Interface, OnS1, OnX2, map_context, Renewing, Attempt, map_attempt}
 use Rattle.lte_machine.specs.StationRows.{Wanted, RecordRow, PairTaken, PreparedByS1, PreparedByX2}
-use Rattle.lte_machine.specs.StationChoice.{PlainContext, PlainAttempt, initial_chosen, initial_row, release_row, answer_row_by, answer_row, wanted_chosen, is_full, wanted_row, acked_open, s1_acked_row, s1_ack_row, x2_acked_row, x2_ack_row, cancel_row, x2_released_row, x2_release_row, s1_row, x2_row, record_row, is_own, runs_out}
+use Rattle.lte_machine.specs.StationChoice.{PlainContext, PlainAttempt, initial_chosen, initial_row, release_row, answer_row_by, answer_row, wanted_chosen, is_full, wanted_row, acked_open, s1_acked_row, s1_ack_row, x2_acked_row, x2_ack_row, cancel_row, x2_released_row, x2_release_row, s1_row, x2_row, record_row, is_own, runs_out, modification_row, renewed_alone}
 use Rattle.lte_machine.specs.StationStep.{plain_station}
-use Rattle.lte_properties.specs.ChainRows.{TakenFor, RecordFits}
+use Rattle.lte_properties.specs.ChainRows.{TakenFor, RecordFits, RenewedFor}
+use Rattle.lte_machine.specs.Bearers.{is_spent}
 
 -- by the two ends of a test
 pub by_test : {A : Type 0} (P : A → Type 0) (b : Bool) (x y : A) → (b ≡ true → P x) → (b ≡ false → P y) → P (if b then x else y)
@@ -113,6 +114,7 @@ module _ {K C : Type 0} (r : Reading K C) (s : Station K C) where
   s1_acked_fits fields number row h None = tt
   s1_acked_fits fields number row h (Some (OverX2 state)) = tt
   s1_acked_fits fields number row h (Some (Within state)) = tt
+  s1_acked_fits fields number row h (Some (Renewing renewal)) = tt
   s1_acked_fits fields number row h (Some (OverS1 (S1Open start))) = acked_open_fits fields number start.number row h
   s1_acked_fits fields number row h (Some (OverS1 (S1Ready acked))) = acked_open_fits fields number acked.start.number _ tt
   s1_acked_fits fields number row h (Some (OverS1 (S1Commanded sent))) = acked_open_fits fields number sent.number _ tt
@@ -125,6 +127,7 @@ module _ {K C : Type 0} (r : Reading K C) (s : Station K C) where
   x2_acked_fits fields number row h None = tt
   x2_acked_fits fields number row h (Some (OverS1 state)) = tt
   x2_acked_fits fields number row h (Some (Within state)) = tt
+  x2_acked_fits fields number row h (Some (Renewing renewal)) = tt
   x2_acked_fits fields number row h (Some (OverX2 (X2Open start))) = acked_open_fits fields number start.number row h
   x2_acked_fits fields number row h (Some (OverX2 (X2Ready acked))) = acked_open_fits fields number acked.start.number _ tt
   x2_acked_fits fields number row h (Some (OverX2 (X2Commanded sent))) = acked_open_fits fields number sent.number _ tt
@@ -140,6 +143,7 @@ module _ {K C : Type 0} (r : Reading K C) (s : Station K C) where
   x2_released_fits fields number None = tt
   x2_released_fits fields number (Some (OverS1 state)) = tt
   x2_released_fits fields number (Some (Within state)) = tt
+  x2_released_fits fields number (Some (Renewing renewal)) = tt
   x2_released_fits fields number (Some (OverX2 (X2Open start))) = tt
   x2_released_fits fields number (Some (OverX2 (X2Ready acked))) = tt
   x2_released_fits fields number (Some (OverX2 (X2Commanded sent))) =
@@ -148,6 +152,38 @@ module _ {K C : Type 0} (r : Reading K C) (s : Station K C) where
   x2_release_fits : (fields : Fields) (number : ℕ) (o : Option PlainContext) → RecordFits s fields (x2_release_row number o)
   x2_release_fits fields number None = tt
   x2_release_fits fields number (Some c) = x2_released_fits fields number c.attempt
+
+  -- a key change is of the context's connection, and finds no attempt
+  modification_fits : (conn next : ℕ) (o : Option (Context K C)) → s.context ≡ o →
+      RecordFits s (ContextModification conn next) (modification_row (plain_station r s) conn next (option_map (map_context unseen r.ncc) o))
+  modification_fits conn next None e = tt
+  modification_fits conn next (Some c) e =
+      by_test P (not (c.conn == conn)) _ _ (λ f. tt) (λ f.
+      by_test P (nat_le next s.last) _ _ (λ g. tt) (λ g.
+      by_test P c.starting _ _ (λ h. tt) (λ h. alone (above_of next s.last g) (same_conn c.conn conn f) h c.attempt refl)))
+    where
+      P : RecordRow → Type 0
+      P = RecordFits s (ContextModification conn next)
+
+      same_conn : (a b : ℕ) → not (a == b) ≡ false → a ≡ b
+      same_conn a b f = grind (arith, nat_tests)
+
+      taken : c.conn ≡ conn → c.starting ≡ false → c.attempt ≡ None → (o : Option (Context K C)) → o ≡ Some c →
+          RenewedFor o next c.bearers.srb1.send (ContextModification conn next)
+      taken f h i None j = absurd (none_some j)
+      taken f h i (Some d) j =
+          let d_conn : d.conn ≡ c.conn = ap conn_in (by_some j) in
+          let d_starting : d.starting ≡ c.starting = ap (λ x. x.starting) (by_some j) in
+          let d_attempt : d.attempt ≡ c.attempt = ap (λ x. x.attempt) (by_some j) in
+          let d_count : d.bearers.srb1.send ≡ c.bearers.srb1.send = ap (λ x. x.bearers.srb1.send) (by_some j) in
+          (ap (λ n. ContextModification n next) (sym f ∙ sym d_conn), d_starting ∙ h, d_attempt ∙ i, sym d_count)
+
+      alone : s.last < next → c.conn ≡ conn → c.starting ≡ false → (a : Option (Attempt K C)) → c.attempt ≡ a →
+          P (renewed_alone next s.next c.bearers.srb1 (option_map (map_attempt unseen r.ncc) a))
+      alone newer f h (Some attempt) i = tt
+      alone newer f h None i =
+          by_test P (runs_out 2 s.next) _ _ (λ g. tt) (λ g.
+          by_test P (is_spent c.bearers.srb1) _ _ (λ k. tt) (λ k. (taken f h i s.context e, newer, refl, refl)))
 
   -- by the kinds of each interface
   s1_fits : (fields : Fields) → RecordFits s fields (s1_row (plain_station r s) fields)
@@ -165,6 +201,7 @@ module _ {K C : Type 0} (r : Reading K C) (s : Station K C) where
   s1_fits (X2Ack conn attempt cell algs air) = tt
   s1_fits (X2Cancel conn source attempt) = tt
   s1_fits (X2Release conn attempt) = tt
+  s1_fits (ContextModification conn next) = modification_fits conn next s.context refl
 
   x2_fits : (fields : Fields) → RecordFits s fields (x2_row (plain_station r s) fields)
   x2_fits (InitialContext conn cell caps) = tt
@@ -181,6 +218,7 @@ module _ {K C : Type 0} (r : Reading K C) (s : Station K C) where
   x2_fits (X2Ack conn attempt cell algs air) = x2_ack_fits _ attempt algs air (plain_station r s).context
   x2_fits (X2Cancel conn source attempt) = cancel_fits _ (record { source = source; attempt = attempt })
   x2_fits (X2Release conn attempt) = x2_release_fits _ attempt (plain_station r s).context
+  x2_fits (ContextModification conn next) = tt
 
   -- a record that reads
   pub record_row_fits : (interface : Interface) (content : Content K C) →

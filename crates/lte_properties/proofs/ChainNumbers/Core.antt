@@ -1,5 +1,6 @@
 -- What each row of the core keeps of the chain numbers.
 use Rattle.std.proofs.Common.{◌≡◌, refl, sym, ap, ◌∙◌, subst, ℕ, ◌+◌, ◌≤◌, ◌<◌, ◌==◌, nat_le, Bool, false, List, slice_index, Option, Some, None, option_map, Result, Ok, Err, le_of_eq, lt_of_le_of_lt, arith}
+use Rattle.lte_events.specs.Site.{station_of}
 use Rattle.std.proofs.lemmas.Bool.Decides.{nat_tests}
 use Rattle.std.specs.Prelude.{⊤}
 use Rattle.alg_choice.specs.declared.algs.Algs.{Algs}
@@ -16,21 +17,21 @@ use Rattle.key_model.specs.Term.{Term}
 use Rattle.key_model.specs.HandoverTable.{NumberedKey}
 use Rattle.key_model.specs.Reading.{Reading, term_reading_by}
 use Rattle.nh_chain.specs.Chain.{stepped}
-use Rattle.s1x2_rec.specs.Fields.{Fields, InitialContext, ContextRelease, PathSwitchRequest, PathSwitchAnswer, HandoverRequired, HandoverRequest, HandoverRequestAck, HandoverCommand, HandoverNotify, HandoverCancel, X2Request, X2Ack, X2Cancel, X2Release}
+use Rattle.s1x2_rec.specs.Fields.{Fields, InitialContext, ContextRelease, PathSwitchRequest, PathSwitchAnswer, HandoverRequired, HandoverRequest, HandoverRequestAck, HandoverCommand, HandoverNotify, HandoverCancel, X2Request, X2Ack, X2Cancel, X2Release, ContextModification}
 use Rattle.s1x2_rec.specs.Content.{Content, map_content}
 use Rattle.lte_machine.specs.Reply.{unseen}
 use Rattle.lte_machine.specs.Wire.{Outgoing}
 use Rattle.lte_machine.specs.StationState.{Station, Context}
 use Rattle.lte_machine.specs.CoreState.{Core, CorePartial, CoreContext, CoreLink, map_core_link}
-use Rattle.lte_machine.specs.CoreRows.{CoreNasRow, NasRefused, PlainReject, SmcComplete, ServiceAsked, NasOpened, SealedReject, CoreRecordRow, RecordRefused, PathSwitched, HandoverAsked, HandoverOrdered, HandoverNotified, HandoverCancelled, CoreActRow, ActRefused, SmcStarted, ContextSetUp, ContextReleased, NasSent, NasSkipped, CoreRow, OfNas, OfRecord, OfAct, OfAuth}
-use Rattle.lte_machine.specs.CoreChoice.{PlainCore, station_at_cell, path_switch_row, asked_at, required_row, cancelled_at, of_link, core_fields_row, core_record_row, smc_row, start_smc_row, NUMBERS, connect_row, release_row, send_nas_row, skip_nas_row, core_act_row}
-use Rattle.lte_machine.specs.CoreKeys.{authenticated, smc_started, smc_complete, service_asked, nas_opened, sealed_reject, nas_sent, nas_skipped, context_set_up, path_switched, handover_asked, handover_notified, core_does_nas, core_does_record, core_does_act, core_does}
+use Rattle.lte_machine.specs.CoreRows.{CoreNasRow, NasRefused, PlainReject, SmcComplete, ServiceAsked, NasOpened, SealedReject, CoreRecordRow, RecordRefused, PathSwitched, HandoverAsked, HandoverOrdered, HandoverNotified, HandoverCancelled, CoreActRow, ActRefused, SmcStarted, ContextSetUp, ContextReleased, NasSent, NasSkipped, CoreRow, OfNas, OfRecord, OfAct, OfAuth, SmcChange}
+use Rattle.lte_machine.specs.CoreChoice.{PlainCore, path_switch_row, asked_at, required_row, cancelled_at, of_link, core_fields_row, core_record_row, smc_row, start_smc_row, NUMBERS, connect_row, release_row, send_nas_row, skip_nas_row, core_act_row}
+use Rattle.lte_machine.specs.CoreKeys.{authenticated, smc_started, smc_complete, service_asked, nas_opened, sealed_reject, nas_sent, nas_skipped, context_set_up, path_switched, handover_asked, handover_notified, core_does_nas, core_does_record, core_does_act, core_does, key_changed}
 use Rattle.lte_machine.specs.CoreStep.{plain_core}
 use Rattle.lte_properties.specs.ChainBelow.{OfPair, star_in, EachNumber, AtMost, IsUnder, ContextBelow, RecordBelow, LinkTop, CoreTop}
 use Rattle.lte_machine.specs.StationKeys.{spent_in}
 use Rattle.lte_properties.specs.ChainAbove.{RequestOk, AnswerOk, InFlight}
 use Rattle.lte_properties.specs.ChainHolds.{noted}
-use Rattle.lte_properties.specs.ChainRows.{LinkIs, CoreFits, CoreDraws}
+use Rattle.lte_properties.specs.ChainRows.{LinkIs, CoreFits, CoreDraws, NasDraws}
 use Rattle.lte_properties.proofs.ChainNumbers.Choice.{by_test, same_of}
 use Rattle.lte_properties.proofs.ChainNumbers.Lists.{OfSome}
 
@@ -59,7 +60,7 @@ module _ {K C : Type 0} (r : Reading K C) (s : Core K C) where
       CoreFits s.link (HandoverRequired conn source attempt cell) (required_row (plain_core r s) conn source attempt cell)
   required_fits conn source attempt cell h =
       by_test (CoreFits s.link (HandoverRequired conn source attempt cell)) (nat_le attempt (slice_index s.attempts source)) _ _
-      (λ e. tt) (λ e. asked_at_fits conn source attempt cell _ (station_at_cell cell s.cells) h)
+      (λ e. tt) (λ e. asked_at_fits conn source attempt cell _ (station_of cell s.cells) h)
 
   cancelled_at_fits : (fields : Fields) (conn source attempt : ℕ) (cell : Place) (o : Option ℕ) → CoreFits s.link fields (cancelled_at conn source attempt cell o)
   cancelled_at_fits fields conn source attempt cell None = tt
@@ -78,11 +79,12 @@ module _ {K C : Type 0} (r : Reading K C) (s : Core K C) where
   core_fields_fits (HandoverCommand conn attempt cell ncc algs air) = tt
   core_fields_fits (HandoverNotify conn station cell) = of_link_fits _ s.link conn _ (λ h. tt)
   core_fields_fits (HandoverCancel conn source attempt cell) =
-      of_link_fits _ s.link conn _ (λ h. cancelled_at_fits _ conn source attempt cell (station_at_cell cell s.cells))
+      of_link_fits _ s.link conn _ (λ h. cancelled_at_fits _ conn source attempt cell (station_of cell s.cells))
   core_fields_fits (X2Request conn source attempt cell caps) = tt
   core_fields_fits (X2Ack conn attempt cell algs air) = tt
   core_fields_fits (X2Cancel conn source attempt) = tt
   core_fields_fits (X2Release conn attempt) = tt
+  core_fields_fits (ContextModification conn next) = tt
 
   -- a record that reads
   pub core_record_fits : (content : Content K C) →
@@ -119,7 +121,7 @@ skip_nas_draws next (Some context) n = tt
 
 pub core_act_draws : (s : PlainCore) (act : CoreAct) → CoreDraws s.next (core_act_row s act)
 core_act_draws s StartSmc = start_smc_draws s.next s.priority s.partial s.procedure
-core_act_draws s (Connect cell) = connect_draws s.next cell (station_at_cell cell s.cells) s.context s.trigger
+core_act_draws s (Connect cell) = connect_draws s.next cell (station_of cell s.cells) s.context s.trigger
 core_act_draws s Release = release_draws s.next s.link
 core_act_draws s (SendNas text) = send_nas_draws s.next s.context text
 core_act_draws s (Skip n) = skip_nas_draws s.next s.context n
@@ -170,6 +172,7 @@ abbrev pub CoreNeeds : Core Term ℕ → CoreRow → Type 0
 CoreNeeds s (OfRecord (PathSwitched conn station number alarm)) = LinkIs s.link conn
 CoreNeeds s (OfRecord (HandoverAsked conn source attempt cell target caps)) = LinkIs s.link conn
 CoreNeeds s (OfAct row) = CoreDraws s.next row
+CoreNeeds s (OfNas row) = NasDraws s.link s.next row
 CoreNeeds s other = ⊤
 
 -- no pair is sent
@@ -241,13 +244,23 @@ module _ (top : ℕ → ℕ) (A : Station Term ℕ → Type 0) (s : Core Term �
   sealed_reject_kept count None = silent_kept s refl refl
   sealed_reject_kept count (Some c) = silent_kept _ refl refl
 
-  nas_kept : (row : CoreNasRow) → CoreKept top A (core_does_nas row s).0 (core_does_nas row s).1.sent
-  nas_kept (NasRefused answer) = silent_kept s refl refl
-  nas_kept PlainReject = silent_kept _ refl refl
-  nas_kept (SmcComplete count) = smc_complete_kept count s.partial s.procedure
-  nas_kept (ServiceAsked count) = service_asked_kept count s.context
-  nas_kept (NasOpened count text) = nas_opened_kept count text s.context
-  nas_kept (SealedReject count) = sealed_reject_kept count s.context
+  -- a key change begins with number 0 under the next connection number
+  key_changed_kept : (same : Term → Term → Bool) (count conn next station : ℕ) (o : Option (CorePartial Term)) (p : Option (Keys Term)) → next ≡ s.next →
+      CoreKept top A (key_changed (term_reading_by same) count conn next station o p s).0 (key_changed (term_reading_by same) count conn next station o p s).1.sent
+  key_changed_kept same count conn next station None p e = silent_kept s refl refl
+  key_changed_kept same count conn next station (Some partial) None e = silent_kept s refl refl
+  key_changed_kept same count conn next station (Some partial) (Some keys) e =
+      link_moves _ _ _ refl (omega arith) (omega arith) (le_of_eq (h.1 next (le_of_eq (sym e)))) (omega arith) (λ u k a. tt)
+
+  nas_kept : (same : Term → Term → Bool) (row : CoreNasRow) → NasDraws s.link s.next row →
+      CoreKept top A (core_does_nas (term_reading_by same) row s).0 (core_does_nas (term_reading_by same) row s).1.sent
+  nas_kept same (NasRefused answer) d = silent_kept s refl refl
+  nas_kept same PlainReject d = silent_kept _ refl refl
+  nas_kept same (SmcComplete count) d = smc_complete_kept count s.partial s.procedure
+  nas_kept same (SmcChange count conn next station) d = key_changed_kept same count conn next station s.partial s.procedure d.1
+  nas_kept same (ServiceAsked count) d = service_asked_kept count s.context
+  nas_kept same (NasOpened count text) d = nas_opened_kept count text s.context
+  nas_kept same (SealedReject count) d = sealed_reject_kept count s.context
 
   -- by an act, and by an authentication
   smc_started_kept : (same : Term → Term → Bool) (ksi : ℕ) (algs : Algs) (caps : Caps) (count : ℕ) (o : Option (CorePartial Term)) →
@@ -363,7 +376,7 @@ module _ (top : ℕ → ℕ) (same : Term → Term → Bool) (s : Core Term ℕ)
 -- each row of the core
 pub core_does_kept : (top : ℕ → ℕ) (same : Term → Term → Bool) (s : Core Term ℕ) (row : CoreRow) (root : Option Term) → CoreNeeds s row → CoreTop top s →
     CoreKept top (Asked row) (core_does (term_reading_by same) row root s).0 (core_does (term_reading_by same) row root s).1.sent
-core_does_kept top same s (OfNas row) root n h = nas_kept top _ s h row
+core_does_kept top same s (OfNas row) root n h = nas_kept top _ s h same row n
 core_does_kept top same s (OfRecord row) root n h = record_kept top same s h row n
 core_does_kept top same s (OfAct row) root n h = act_kept top _ s h same row n
 core_does_kept top same s (OfAuth ksi caps) root n h = authenticated_kept top _ s h ksi caps root

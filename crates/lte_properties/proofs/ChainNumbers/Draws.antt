@@ -1,5 +1,6 @@
 -- The numbers that a station's row draws are its next ones: the walk through the refusals.
 use Rattle.std.proofs.Common.{refl, ℕ, Bool, true, false, ◌==◌, List, Option, Some, None, Result, Ok, Err}
+use Rattle.lte_events.specs.Site.{station_of}
 use Rattle.std.specs.Bool.{⊤}
 use Rattle.annex_a_keys.specs.Cell.{Place}
 use Rattle.rec_base.specs.declared.faults.RecFault.{RecFault}
@@ -9,16 +10,16 @@ use Rattle.lte_events.specs.declared.acts.HoKind.{HoKind}
 use Rattle.pdcp_guard.specs.declared.pdus.PdcpFault.{PdcpFault}
 use Rattle.pdcp_guard.specs.Counts.{Counts}
 use Rattle.rrc_rec.specs.declared.records.RrcRecord.{RrcRecord}
-use Rattle.rrc_rec.specs.declared.records.RrcRecord.TheVariants.{SecurityModeCommand, SecurityModeComplete, Reconfiguration, ReconfigurationComplete, RrcData}
+use Rattle.rrc_rec.specs.declared.records.RrcRecord.TheVariants.{SecurityModeCommand, SecurityModeComplete, Reconfiguration, ReconfigurationComplete, RrcData, KeyChange}
 use Rattle.rrc_rec.specs.Reading.{read_rrc}
 use Rattle.ho_prep.specs.declared.origins.By.{By}
 use Rattle.ho_prep.specs.Prep.{Prep, at_air}
 use Rattle.lte_machine.specs.Bearers.{Srb, Signalling1, Signalling2, Which, OnSrb, OnDrb, which, Bearers, srb_counts, drb_counts, is_spent}
 use Rattle.lte_machine.specs.Opening.{Outcome, Opened, Differs}
 use Rattle.lte_machine.specs.Reply.{Origin}
-use Rattle.lte_machine.specs.StationState.{OverX2, OverS1, Within, X2State, X2Open, X2Ready, X2Commanded, S1State, S1Open, S1Ready, S1Commanded}
+use Rattle.lte_machine.specs.StationState.{OverX2, OverS1, Within, X2State, X2Open, X2Ready, X2Commanded, S1State, S1Open, S1Ready, S1Commanded, Renewing}
 use Rattle.lte_machine.specs.StationRows.{ActRow}
-use Rattle.lte_machine.specs.StationChoice.{PlainStation, PlainContext, PlainAttempt, is_full, AirFront, AirSettled, OnStarting, OnSignalling, OnUser, OnPrepared, counted, starting_front, active_front, context_front, prepared_front, air_front_by, air_front, starting_row, rrc_row, completed_row, prepared_row, air_row, active_row, unless_spent, begun_row, alone_row, target_row, start_row, x2_command_row, s1_command_row, attempt_command_row, command_row, x2_cancel_row, s1_cancel_row, within_cancel_row, attempt_cancel_row, give_up_row, came_row, ask_row, packet_row, send_rrc_row, skip_row, act_row, runs_out, is_misplaced, station_of}
+use Rattle.lte_machine.specs.StationChoice.{PlainStation, PlainContext, PlainAttempt, is_full, AirFront, AirSettled, OnStarting, OnSignalling, OnUser, OnPrepared, counted, starting_front, active_front, context_front, prepared_front, air_front_by, air_front, starting_row, rrc_row, completed_row, prepared_row, air_row, active_row, unless_spent, begun_row, alone_row, target_row, start_row, x2_command_row, s1_command_row, attempt_command_row, command_row, x2_cancel_row, s1_cancel_row, within_cancel_row, attempt_cancel_row, give_up_row, came_row, ask_row, packet_row, send_rrc_row, skip_row, act_row, runs_out, is_misplaced}
 use Rattle.lte_properties.specs.ChainRows.{AirDraws, ActDraws}
 use Rattle.lte_properties.proofs.ChainNumbers.Choice.{by_test}
 
@@ -64,6 +65,7 @@ starting_row_draws next count (Ok SecurityModeComplete) = tt
 starting_row_draws next count (Ok (Reconfiguration cell ncc algs station air)) = tt
 starting_row_draws next count (Ok ReconfigurationComplete) = tt
 starting_row_draws next count (Ok (RrcData text)) = tt
+starting_row_draws next count (Ok (KeyChange cell algs station air)) = tt
 
 rrc_row_draws : (next : ℕ) (srb : Srb) (count : ℕ) (read : Result RrcRecord RecFault) → AirDraws next (rrc_row srb count read)
 rrc_row_draws next srb count (Err fault) = tt
@@ -72,6 +74,7 @@ rrc_row_draws next srb count (Ok SecurityModeComplete) = tt
 rrc_row_draws next srb count (Ok (Reconfiguration cell ncc algs station air)) = tt
 rrc_row_draws next srb count (Ok ReconfigurationComplete) = tt
 rrc_row_draws next srb count (Ok (RrcData text)) = tt
+rrc_row_draws next srb count (Ok (KeyChange cell algs station air)) = tt
 
 completed_row_draws : (next air count : ℕ) (by : By) → AirDraws next (completed_row next air count by)
 completed_row_draws next air count By.X2 = by_test (AirDraws next) (runs_out 1 next) _ _ (λ e. tt) (λ e. refl)
@@ -85,6 +88,7 @@ prepared_row_draws next air count by (Ok SecurityModeComplete) = tt
 prepared_row_draws next air count by (Ok (Reconfiguration cell ncc algs station air')) = tt
 prepared_row_draws next air count by (Ok ReconfigurationComplete) = completed_row_draws next air count by
 prepared_row_draws next air count by (Ok (RrcData text)) = tt
+prepared_row_draws next air count by (Ok (KeyChange cell algs station air')) = tt
 
 row_draws_by : (s : PlainStation) (front : AirFront) (outcome : Outcome) → FrontDraws s.next front → AirDraws s.next (air_row s front outcome)
 row_draws_by s (AirSettled row) outcome h = h
@@ -146,6 +150,7 @@ attempt_command_draws next None counts = tt
 attempt_command_draws next (Some (OverX2 state)) counts = x2_command_draws next state counts
 attempt_command_draws next (Some (OverS1 state)) counts = s1_command_draws next state counts
 attempt_command_draws next (Some (Within state)) counts = x2_command_draws next state counts
+attempt_command_draws next (Some (Renewing renewal)) counts = unspent_draws next counts _ tt
 
 command_draws : (next : ℕ) (o : Option PlainContext) → ActDraws next (command_row o)
 command_draws next None = tt
@@ -171,6 +176,7 @@ attempt_cancel_draws next conn None = tt
 attempt_cancel_draws next conn (Some (OverX2 state)) = x2_cancel_draws next conn state
 attempt_cancel_draws next conn (Some (OverS1 state)) = s1_cancel_draws next conn state
 attempt_cancel_draws next conn (Some (Within state)) = within_cancel_draws next state
+attempt_cancel_draws next conn (Some (Renewing renewal)) = tt
 
 give_up_draws : (next : ℕ) (o : Option PlainContext) → ActDraws next (give_up_row o)
 give_up_draws next None = tt

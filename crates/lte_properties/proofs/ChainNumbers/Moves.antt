@@ -4,7 +4,7 @@ use Rattle.std.specs.Prelude.{⊤}
 use Rattle.key_model.specs.Term.{Term}
 use Rattle.lte_events.specs.declared.addresses.Address.{Address}
 use Rattle.lte_events.specs.declared.addresses.Address.TheVariants.{Phone, PhoneNas, CoreNas, CoreS1, StationAir, StationS1, StationX2}
-use Rattle.s1x2_rec.specs.Fields.{InitialContext, ContextRelease, PathSwitchRequest, PathSwitchAnswer, HandoverRequired, HandoverRequest, HandoverRequestAck, HandoverCommand, HandoverNotify, HandoverCancel, X2Request, X2Ack, X2Cancel, X2Release}
+use Rattle.s1x2_rec.specs.Fields.{InitialContext, ContextRelease, PathSwitchRequest, PathSwitchAnswer, HandoverRequired, HandoverRequest, HandoverRequestAck, HandoverCommand, HandoverNotify, HandoverCancel, X2Request, X2Ack, X2Cancel, X2Release, ContextModification}
 use Rattle.lte_machine.specs.Wire.{Outgoing, SealedNas, PlainNas, SealedRrc, UserPacket, Between}
 use Rattle.lte_machine.specs.StationState.{Station, Context}
 use Rattle.lte_properties.specs.ChainBelow.{EachNumber, IsUnder}
@@ -84,3 +84,4 @@ module _ (s t : Station Term ℕ) (same : t.id ≡ s.id) (rises : s.next ≤ t.n
   flight_moves (Between to (X2Ack conn attempt cell algs air) key) h = tt
   flight_moves (Between to (X2Cancel conn source attempt) key) h = tt
   flight_moves (Between to (X2Release conn attempt) key) h = tt
+  flight_moves (Between to (ContextModification conn next) key) h = tt

@@ -1,5 +1,5 @@
 -- A record that comes supplies what its row needs, and the phone sends no pair.
-use Rattle.std.proofs.Common.{◌≡◌, refl, sym, ap, ◌∙◌, subst, ℕ, ◌≤◌, Bool, List, Option, Some, None, Err}
+use Rattle.std.proofs.Common.{◌≡◌, refl, sym, ap, ◌∙◌, subst, ℕ, ◌≤◌, Bool, List, Option, Some, None, Err, true, false}
 use Rattle.std.specs.Prelude.{⊤}
 use Rattle.alg_choice.specs.declared.algs.Algs.{Algs}
 use Rattle.annex_a_keys.specs.Cell.{Place}
@@ -13,16 +13,16 @@ use Rattle.lte_events.specs.declared.answers.Answer.TheVariants.{BadRecord}
 use Rattle.key_model.specs.Term.{Term}
 use Rattle.key_model.specs.HandoverTable.{NumberedKey}
 use Rattle.key_model.specs.Reading.{term_reading_by}
-use Rattle.s1x2_rec.specs.Fields.{Fields, InitialContext, ContextRelease, PathSwitchRequest, PathSwitchAnswer, HandoverRequired, HandoverRequest, HandoverRequestAck, HandoverCommand, HandoverNotify, HandoverCancel, X2Request, X2Ack, X2Cancel, X2Release}
+use Rattle.s1x2_rec.specs.Fields.{Fields, InitialContext, ContextRelease, PathSwitchRequest, PathSwitchAnswer, HandoverRequired, HandoverRequest, HandoverRequestAck, HandoverCommand, HandoverNotify, HandoverCancel, X2Request, X2Ack, X2Cancel, X2Release, ContextModification}
 use Rattle.lte_machine.specs.Bearers.{Srb, Drb, Which, which}
 use Rattle.lte_machine.specs.Opening.{Outcome}
 use Rattle.lte_machine.specs.Reply.{Origin, Reply, unseen}
 use Rattle.lte_machine.specs.Wire.{Outgoing, SealedNas, PlainNas, SealedRrc, UserPacket, Between, address_of}
 use Rattle.lte_machine.specs.PhoneState.{Phone, Partial, NasContext, Radio, Idle, Connecting, Connected}
-use Rattle.lte_machine.specs.PhoneRows.{Authenticated, NasRow, NasRefused, RejectedPlain, RejectedUnder, ContextTaken, ContextTakenConnected, NasOpened, AirRow, AirRefused, LinkSecured, HandedOver, RrcOpened, PacketOpened, ActRow, ActRefused, ServiceRequested, CompleteResent, WentIdle, PacketSent, RrcSent, NasSent, NasSkipped, BearerSkipped, PhoneRow, OfAuth, OfNas, OfAir, OfAct}
-use Rattle.lte_machine.specs.PhoneKeys.{authenticated, rejected_under, context_taken, context_taken_connected, nas_opened, nas_does, link_secured, handed_over, rrc_opened, packet_opened, air_does, service_requested, complete_resent, packet_sent, rrc_sent, nas_sent, nas_skipped, bearer_skipped, act_does, phone_does}
+use Rattle.lte_machine.specs.PhoneRows.{Authenticated, NasRow, NasRefused, RejectedPlain, RejectedUnder, ContextTaken, ContextTakenConnected, NasOpened, AirRow, AirRefused, LinkSecured, HandedOver, RrcOpened, PacketOpened, ActRow, ActRefused, ServiceRequested, CompleteResent, WentIdle, PacketSent, RrcSent, NasSent, NasSkipped, BearerSkipped, PhoneRow, OfAuth, OfNas, OfAir, OfAct, KeyChanged}
+use Rattle.lte_machine.specs.PhoneKeys.{authenticated, rejected_under, context_taken, context_taken_connected, nas_opened, nas_does, link_secured, handed_over, rrc_opened, packet_opened, air_does, service_requested, complete_resent, packet_sent, rrc_sent, nas_sent, nas_skipped, bearer_skipped, act_does, phone_does, key_changed, changed_unless, before_of}
 use Rattle.lte_machine.specs.StationState.{Station, Context, StationActs, AirPdu, StationRecord, Interface, OnS1, OnX2, map_read}
-use Rattle.lte_machine.specs.StationRows.{RecordRow, RecordRefused, ContextGiven, ContextReleased, PairTaken, PreparedByS1, PreparedByX2, AckedByS1, AckedByX2, PreparationCancelled, SourceReleased, OfRecord}
+use Rattle.lte_machine.specs.StationRows.{RecordRow, RecordRefused, ContextGiven, ContextReleased, PairTaken, PreparedByS1, PreparedByX2, AckedByS1, AckedByX2, PreparationCancelled, SourceReleased, OfRecord, KeyRenewed}
 use Rattle.lte_machine.specs.StationChoice.{x2_row, record_row}
 use Rattle.lte_machine.specs.StationStep.{plain_station, key_read, station_row_of, station_step}
 use Rattle.lte_machine.specs.Machines.{content_of}
@@ -52,6 +52,7 @@ record_draws s fields (AckedByS1 ncc algs air) h = tt
 record_draws s fields (AckedByX2 algs air) h = tt
 record_draws s fields (PreparationCancelled from) h = tt
 record_draws s fields SourceReleased h = tt
+record_draws s fields (KeyRenewed conn number air count) h = (h.2, h.3)
 
 -- what an answer in these fields tells of a context
 abbrev Answers : Option (Context Term ℕ) → Fields → ℕ → Type 0
@@ -74,6 +75,7 @@ module _ (top : ℕ → ℕ) (s : Station Term ℕ) (fields : Fields) (key : Num
   row_needs (AckedByX2 algs air) h f = tt
   row_needs (PreparationCancelled from) h f = tt
   row_needs SourceReleased h f = tt
+  row_needs (KeyRenewed conn number air count) h f = tt
 
 -- on S1 an answer fits the station that it goes to
 answers_on_s1 : (s : Station Term ℕ) (to : Address) (fields : Fields) (key : NumberedKey Term ℕ) → to ≡ StationS1 s.id → InFlight s (Between to fields (Some key)) → Answers s.context fields key.number
@@ -100,6 +102,7 @@ x2_needs top same s (X2Ack conn attempt cell algs air) key b =
     row_needs top s (X2Ack conn attempt cell algs air) key b _ (record_row_fits (term_reading_by same) s OnX2 (record { fields = X2Ack conn attempt cell algs air; key = Some key })) (λ asked number e. cc)
 x2_needs top same s (X2Cancel conn source attempt) key b =
     row_needs top s (X2Cancel conn source attempt) key b _ (record_row_fits (term_reading_by same) s OnX2 (record { fields = X2Cancel conn source attempt; key = Some key })) (λ asked number e. cc)
+x2_needs top same s (ContextModification conn next) key b = tt
 x2_needs top same s (X2Release conn attempt) key b =
     row_needs top s (X2Release conn attempt) key b _ (record_row_fits (term_reading_by same) s OnX2 (record { fields = X2Release conn attempt; key = Some key })) (λ asked number e. cc)
 
@@ -191,6 +194,16 @@ handed_over_plain same cell steps algs station air s Idle = ((λ top. tt), (λ u
 handed_over_plain same cell steps algs station air s (Connecting x) = ((λ top. tt), (λ u. tt))
 handed_over_plain same cell steps algs station air s (Connected l) = ((λ top. tt), (λ u. tt))
 
+key_changed_plain : (same : Term → Term → Bool) (cell : Place) (algs : Algs) (station air : ℕ) (s : Phone Term ℕ) (radio : Radio Term ℕ) (o : Option (NasContext Term)) → Plainly (key_changed (term_reading_by same) cell algs station air s radio o).1.sent
+key_changed_plain same cell algs station air s Idle o = ((λ top. tt), (λ u. tt))
+key_changed_plain same cell algs station air s (Connecting x) o = ((λ top. tt), (λ u. tt))
+key_changed_plain same cell algs station air s (Connected l) None = ((λ top. tt), (λ u. tt))
+key_changed_plain same cell algs station air s (Connected l) (Some c) = by_same (same c.root l.chain.root)
+  where
+    by_same : (b : Bool) → Plainly (changed_unless (term_reading_by same) cell algs station air s (before_of l) c.root b).1.sent
+    by_same true = ((λ top. tt), (λ u. tt))
+    by_same false = ((λ top. tt), (λ u. tt))
+
 rrc_opened_plain : (srb : Srb) (count : ℕ) (text : List ℕ) (s : Phone Term ℕ) (radio : Radio Term ℕ) → Plainly (rrc_opened srb count text s radio).1.sent
 rrc_opened_plain srb count text s Idle = ((λ top. tt), (λ u. tt))
 rrc_opened_plain srb count text s (Connecting x) = ((λ top. tt), (λ u. tt))
@@ -224,14 +237,14 @@ nas_sent_plain : (text : List ℕ) (s : Phone Term ℕ) (o : Option (NasContext 
 nas_sent_plain text s None = ((λ top. tt), (λ u. tt))
 nas_sent_plain text s (Some x) = ((λ top. tt), (λ u. tt))
 
-nas_left_out_plain : (n : ℕ) (s : Phone Term ℕ) (o : Option (NasContext Term)) → Plainly (nas_skipped n s o).1.sent
-nas_left_out_plain n s None = ((λ top. tt), (λ u. tt))
-nas_left_out_plain n s (Some x) = ((λ top. tt), (λ u. tt))
+nas_skipped_plain : (n : ℕ) (s : Phone Term ℕ) (o : Option (NasContext Term)) → Plainly (nas_skipped n s o).1.sent
+nas_skipped_plain n s None = ((λ top. tt), (λ u. tt))
+nas_skipped_plain n s (Some x) = ((λ top. tt), (λ u. tt))
 
-bearer_left_out_plain : (bearer : Which) (n : ℕ) (s : Phone Term ℕ) (radio : Radio Term ℕ) → Plainly (bearer_skipped bearer n s radio).1.sent
-bearer_left_out_plain bearer n s Idle = ((λ top. tt), (λ u. tt))
-bearer_left_out_plain bearer n s (Connecting x) = ((λ top. tt), (λ u. tt))
-bearer_left_out_plain bearer n s (Connected l) = ((λ top. tt), (λ u. tt))
+bearer_skipped_plain : (bearer : Which) (n : ℕ) (s : Phone Term ℕ) (radio : Radio Term ℕ) → Plainly (bearer_skipped bearer n s radio).1.sent
+bearer_skipped_plain bearer n s Idle = ((λ top. tt), (λ u. tt))
+bearer_skipped_plain bearer n s (Connecting x) = ((λ top. tt), (λ u. tt))
+bearer_skipped_plain bearer n s (Connected l) = ((λ top. tt), (λ u. tt))
 
 nas_does_plain : (same : Term → Term → Bool) (row : NasRow) (s : Phone Term ℕ) → Plainly (nas_does (term_reading_by same) row s).1.sent
 nas_does_plain same (NasRefused answer) s = ((λ top. tt), (λ u. tt))
@@ -245,6 +258,7 @@ air_does_plain : (same : Term → Term → Bool) (row : AirRow) (s : Phone Term 
 air_does_plain same (AirRefused answer) s = ((λ top. tt), (λ u. tt))
 air_does_plain same (LinkSecured station air algs count) s = link_secured_plain same station air algs count s s.radio
 air_does_plain same (HandedOver cell steps algs station air) s = handed_over_plain same cell steps algs station air s s.radio
+air_does_plain same (KeyChanged cell algs station air) s = key_changed_plain same cell algs station air s s.radio s.context
 air_does_plain same (RrcOpened srb count text) s = rrc_opened_plain srb count text s s.radio
 air_does_plain same (PacketOpened drb count text) s = packet_opened_plain drb count text s s.radio
 
@@ -256,8 +270,8 @@ act_does_plain same WentIdle s = ((λ top. tt), (λ u. tt))
 act_does_plain same (PacketSent drb text) s = packet_sent_plain drb text s s.radio
 act_does_plain same (RrcSent srb text) s = rrc_sent_plain srb text s s.radio
 act_does_plain same (NasSent text) s = nas_sent_plain text s s.context
-act_does_plain same (NasSkipped n) s = nas_left_out_plain n s s.context
-act_does_plain same (BearerSkipped bearer n) s = bearer_left_out_plain bearer n s s.radio
+act_does_plain same (NasSkipped n) s = nas_skipped_plain n s s.context
+act_does_plain same (BearerSkipped bearer n) s = bearer_skipped_plain bearer n s s.radio
 
 pub phone_does_plain : (same : Term → Term → Bool) (row : PhoneRow) (root : Option Term) (s : Phone Term ℕ) → Plainly (phone_does (term_reading_by same) row root s).1.sent
 phone_does_plain same (OfAuth (Authenticated ksi)) root s = authenticated_plain ksi s root

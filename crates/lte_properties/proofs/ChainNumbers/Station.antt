@@ -14,9 +14,9 @@ use Rattle.x2_handover.specs.declared.orders.Order.{Order}
 use Rattle.lte_machine.specs.Bearers.{Srb, Drb}
 use Rattle.lte_machine.specs.Wire.{Outgoing, Between}
 use Rattle.lte_machine.specs.Reply.{Origin, Reply}
-use Rattle.lte_machine.specs.StationState.{Station, Context, Attempt, OverX2, OverS1, Within, X2Open, X2Ready, X2Commanded, S1Open, S1Ready, S1Commanded}
-use Rattle.lte_machine.specs.StationRows.{Wanted, RecordRow, RecordRefused, ContextGiven, ContextReleased, PairTaken, PreparedByS1, PreparedByX2, AckedByS1, AckedByX2, PreparationCancelled, SourceReleased, AirRow, AirRefused, SecurityStarted, RrcOpened, PacketOpened, CompletedByS1, CompletedWithin, CompletedByX2, ActRow, ActRefused, StartedByX2, StartedByS1, StartedWithin, HandoverCommanded, CancelledByX2, CancelledByS1, CancelledWithin, PathSwitchAsked, PacketSent, RrcSent, BearerSkipped, StationRow, OfRecord, OfAir, OfAct}
-use Rattle.lte_machine.specs.StationKeys.{spent_in, s1_acked, x2_acked, commanded, given_up, with_pair, with_s1_ack, with_x2_ack, with_security, with_rrc_taken, with_packet_taken, with_skipped, with_wanted, source_release, context_given, pair_taken, prepared_by_s1, prepared_by_x2, completed_by_s1, completed_within, completed_by_x2, arrived, started_by_x2, started_by_s1, started_within, commands, asks_again, sends_packet, sends_rrc, record_does, air_does, act_does, station_does}
+use Rattle.lte_machine.specs.StationState.{Station, Context, Attempt, OverX2, OverS1, Within, X2Open, X2Ready, X2Commanded, S1Open, S1Ready, S1Commanded, Renewal, Renewing}
+use Rattle.lte_machine.specs.StationRows.{Wanted, RecordRow, RecordRefused, ContextGiven, ContextReleased, PairTaken, PreparedByS1, PreparedByX2, AckedByS1, AckedByX2, PreparationCancelled, SourceReleased, AirRow, AirRefused, SecurityStarted, RrcOpened, PacketOpened, CompletedByS1, CompletedWithin, CompletedByX2, ActRow, ActRefused, StartedByX2, StartedByS1, StartedWithin, HandoverCommanded, CancelledByX2, CancelledByS1, CancelledWithin, PathSwitchAsked, PacketSent, RrcSent, BearerSkipped, StationRow, OfRecord, OfAir, OfAct, KeyRenewed, ChangeCommanded}
+use Rattle.lte_machine.specs.StationKeys.{spent_in, s1_acked, x2_acked, commanded, given_up, with_pair, with_s1_ack, with_x2_ack, with_security, with_rrc_taken, with_packet_taken, with_skipped, with_wanted, source_release, context_given, pair_taken, prepared_by_s1, prepared_by_x2, completed_by_s1, completed_within, completed_by_x2, arrived, started_by_x2, started_by_s1, started_within, commands, asks_again, sends_packet, sends_rrc, record_does, air_does, act_does, station_does, key_renewed, commands_change}
 use Rattle.lte_properties.specs.ChainBelow.{AllOf, OfPair, star_in, EachNumber, AtMost, IsUnder, IsAbove, ContextBelow, PrepBelow, StationBelow, RecordBelow}
 use Rattle.lte_properties.specs.ChainAbove.{ContextAbove, HasNoPair, StationAbove, InFlight}
 use Rattle.lte_properties.specs.ChainHolds.{PairNeeds, RowNeeds}
@@ -52,6 +52,7 @@ s1_acked_star : (P : ℕ → Type 0) (ncc : ℕ) (algs : Algs) (air : ℕ) (o : 
 s1_acked_star P ncc algs air None h = h
 s1_acked_star P ncc algs air (Some (OverX2 state)) h = h
 s1_acked_star P ncc algs air (Some (Within state)) h = h
+s1_acked_star P ncc algs air (Some (Renewing renewal)) h = h
 s1_acked_star P ncc algs air (Some (OverS1 (S1Open start))) h = tt
 s1_acked_star P ncc algs air (Some (OverS1 (S1Ready acked))) h = tt
 s1_acked_star P ncc algs air (Some (OverS1 (S1Commanded sent))) h = tt
@@ -60,6 +61,7 @@ s1_acked_spent : (P : ℕ → Type 0) (ncc : ℕ) (algs : Algs) (air : ℕ) (o :
 s1_acked_spent P ncc algs air None h = h
 s1_acked_spent P ncc algs air (Some (OverX2 state)) h = h
 s1_acked_spent P ncc algs air (Some (Within state)) h = h
+s1_acked_spent P ncc algs air (Some (Renewing renewal)) h = h
 s1_acked_spent P ncc algs air (Some (OverS1 (S1Open start))) h = tt
 s1_acked_spent P ncc algs air (Some (OverS1 (S1Ready acked))) h = tt
 s1_acked_spent P ncc algs air (Some (OverS1 (S1Commanded sent))) h = tt
@@ -68,6 +70,7 @@ x2_acked_star : (P : ℕ → Type 0) (algs : Algs) (air : ℕ) (o : Option (Atte
 x2_acked_star P algs air None h = h
 x2_acked_star P algs air (Some (OverS1 state)) h = h
 x2_acked_star P algs air (Some (Within state)) h = h
+x2_acked_star P algs air (Some (Renewing renewal)) h = h
 x2_acked_star P algs air (Some (OverX2 (X2Open start))) h = h
 x2_acked_star P algs air (Some (OverX2 (X2Ready acked))) h = h
 x2_acked_star P algs air (Some (OverX2 (X2Commanded sent))) h = h
@@ -76,6 +79,7 @@ x2_acked_spent : (P : ℕ → Type 0) (algs : Algs) (air : ℕ) (o : Option (Att
 x2_acked_spent P algs air None h = h
 x2_acked_spent P algs air (Some (OverS1 state)) h = h
 x2_acked_spent P algs air (Some (Within state)) h = h
+x2_acked_spent P algs air (Some (Renewing renewal)) h = h
 x2_acked_spent P algs air (Some (OverX2 (X2Open start))) h = h
 x2_acked_spent P algs air (Some (OverX2 (X2Ready acked))) h = h
 x2_acked_spent P algs air (Some (OverX2 (X2Commanded sent))) h = h
@@ -83,6 +87,7 @@ x2_acked_spent P algs air (Some (OverX2 (X2Commanded sent))) h = h
 commanded_star : (P : ℕ → Type 0) (order : Order) (o : Option (Attempt Term ℕ)) → OfPair P (star_in o) → OfPair P (star_in (option_map (commanded order) o))
 commanded_star P order None h = h
 commanded_star P order (Some (OverS1 state)) h = h
+commanded_star P order (Some (Renewing renewal)) h = h
 commanded_star P order (Some (OverX2 (X2Open start))) h = h
 commanded_star P order (Some (OverX2 (X2Ready acked))) h = tt
 commanded_star P order (Some (OverX2 (X2Commanded sent))) h = tt
@@ -93,6 +98,7 @@ commanded_star P order (Some (Within (X2Commanded sent))) h = tt
 commanded_spent : (P : ℕ → Type 0) (order : Order) (o : Option (Attempt Term ℕ)) → OfPair P (spent_in o) → OfPair P (spent_in (option_map (commanded order) o))
 commanded_spent P order None h = h
 commanded_spent P order (Some (OverS1 state)) h = h
+commanded_spent P order (Some (Renewing renewal)) h = h
 commanded_spent P order (Some (OverX2 (X2Open start))) h = h
 commanded_spent P order (Some (OverX2 (X2Ready acked))) h = tt
 commanded_spent P order (Some (OverX2 (X2Commanded sent))) h = tt
@@ -205,6 +211,16 @@ module _ (top : ℕ → ℕ) (same : Term → Term → Bool) (s : Station Term �
   unchanged : ContextBelow top s.context → ContextAbove s.context → Kept top s.id s.next s.context s None
   unchanged h a = same_context top s s.next s.last s.seen s.preps None (omega arith) pb pa tt h a
 
+  idle : (o : Option (Context Term ℕ)) → s.context ≡ o → ContextBelow top o → ContextAbove o → Kept top s.id s.next o s None
+  idle o e h a = record {
+    below = (subst (ContextBelow top) (sym e) h, pb);
+    above = (subst ContextAbove (sym e) a, pa);
+    same = refl;
+    rises = omega arith;
+    moves = Stays (subst (λ c. Stands o c) (sym e) (stands_same o));
+    sends = tt;
+  }
+
   -- by a record
   context_given_kept : (conn : ℕ) (cell : Place) (caps : Caps) (algs : Algs) (air : ℕ) (key : Option (NumberedKey Term ℕ)) → air ≡ s.next →
       ContextBelow top s.context → ContextAbove s.context → After s.context (context_given (term_reading_by same) conn cell caps algs air key s)
@@ -265,6 +281,23 @@ module _ (top : ℕ → ℕ) (same : Term → Term → Bool) (s : Station Term �
   prepared_by_x2_kept w None n e h a = unchanged h a
   prepared_by_x2_kept w (Some star) n e h a = prepared_kept w _ _ e n refl (tt, tt, tt) h a
 
+  key_renewed_kept : (conn number air count : ℕ) (o : Option (Context Term ℕ)) (key : Option (NumberedKey Term ℕ)) →
+      RecordDraws s.next (KeyRenewed conn number air count) → s.context ≡ o →
+      ContextBelow top o → ContextAbove o → After o (key_renewed (term_reading_by same) conn number air count o key s)
+  key_renewed_kept conn number air count None key d e h a = idle None e h a
+  key_renewed_kept conn number air count (Some c) None d e h a = idle (Some c) e h a
+  key_renewed_kept conn number air count (Some c) (Some kenb) d e h a = record {
+    below = ((h.0, h.1, tt, tt), (omega arith, tt));
+    above = ((a.0, tt), (refl, tt));
+    same = refl;
+    rises = above_next d.1;
+    moves = Stays (refl, refl, λ n k. (k.0, k.1, tt, tt));
+    sends = (tt, tt, tt);
+  }
+    where
+      above_next : air ≡ s.next + 1 → s.next ≤ air + 1
+      above_next f = omega arith
+
   record_kept : (row : RecordRow) (key : Option (NumberedKey Term ℕ)) → RecordDraws s.next row → RowNeeds top s (OfRecord row) key →
       ContextBelow top s.context → ContextAbove s.context → After s.context (record_does (term_reading_by same) row key s)
   record_kept (RecordRefused answer) key d n h a = unchanged h a
@@ -300,6 +333,8 @@ module _ (top : ℕ → ℕ) (same : Term → Term → Bool) (s : Station Term �
     moves = Stays tt;
     sends = tt;
   }
+
+  record_kept (KeyRenewed conn number air count) key d n h a = key_renewed_kept conn number air count s.context key d refl h a
 
   -- by a PDU
   abbrev FoundOk : Option (Prep Term ℕ) → Type 0
@@ -352,16 +387,6 @@ module _ (top : ℕ → ℕ) (same : Term → Term → Bool) (s : Station Term �
   air_kept (CompletedByX2 air count number) d h a = completed_by_x2_kept count number (at_air air s.preps) d (found air) h a
 
   -- by an act
-  idle : (o : Option (Context Term ℕ)) → s.context ≡ o → ContextBelow top o → ContextAbove o → Kept top s.id s.next o s None
-  idle o e h a = record {
-    below = (subst (ContextBelow top) (sym e) h, pb);
-    above = (subst ContextAbove (sym e) a, pa);
-    same = refl;
-    rises = omega arith;
-    moves = Stays (subst (λ c. Stands o c) (sym e) (stands_same o));
-    sends = tt;
-  }
-
   started_by_x2_kept : (number target : ℕ) (cell : Place) (o : Option (Context Term ℕ)) → number ≡ s.next → s.context ≡ o →
       ContextBelow top o → ContextAbove o → After o (started_by_x2 (term_reading_by same) number target cell o s)
   started_by_x2_kept number target cell None d e h a = idle None e h a
@@ -398,6 +423,12 @@ module _ (top : ℕ → ℕ) (same : Term → Term → Bool) (s : Station Term �
       changed top s c _ s.next s.preps _ refl refl
       (λ P k. (k.0, k.1, commanded_star P order c.attempt k.2, commanded_spent P order c.attempt k.3))
       (λ k. (k.0, commanded_spent (IsAbove c.key.number) order c.attempt k.1)) (omega arith) pb pa (tt, tt, tt) h a
+
+  commands_change_kept : (renewal : Renewal) (count : ℕ) (o : Option (Context Term ℕ)) → s.context ≡ o →
+      ContextBelow top o → ContextAbove o → After o (commands_change renewal count o s)
+  commands_change_kept renewal count None e h a = idle None e h a
+  commands_change_kept renewal count (Some c) e h a =
+      changed top s c _ s.next s.preps _ refl refl (λ P k. k) (λ k. k) (omega arith) pb pa (tt, tt, tt) h a
 
   asks_again_kept : (number : ℕ) (o : Option (Context Term ℕ)) → number ≡ s.next → s.context ≡ o →
       ContextBelow top o → ContextAbove o → After o (asks_again number o s)
@@ -440,6 +471,7 @@ module _ (top : ℕ → ℕ) (same : Term → Term → Bool) (s : Station Term �
   act_kept (StartedByS1 number target cell) d h a = started_by_s1_kept number target cell s.context d refl h a
   act_kept (StartedWithin number air cell) d h a = started_within_kept number air cell s.context d refl h a
   act_kept (HandoverCommanded order count) d h a = commands_kept order count s.context refl h a
+  act_kept (ChangeCommanded renewal count) d h a = commands_change_kept renewal count s.context refl h a
   act_kept (CancelledByX2 conn number target) d h a = given_up_kept s.preps _ pb pa (tt, tt, tt) h a
   act_kept (CancelledByS1 conn number cell) d h a = given_up_kept s.preps _ pb pa (tt, tt, tt) h a
   act_kept (CancelledWithin number) d h a =

@@ -18,7 +18,7 @@ use Rattle.lte_events.specs.Site.{Site}
 use Rattle.key_model.specs.Term.{Term, Root}
 use Rattle.key_model.specs.HandoverTable.{NumberedKey}
 use Rattle.key_model.specs.Reading.{term_reading_by}
-use Rattle.s1x2_rec.specs.Fields.{Fields, InitialContext, ContextRelease, PathSwitchRequest, PathSwitchAnswer, HandoverRequired, HandoverRequest, HandoverRequestAck, HandoverCommand, HandoverNotify, HandoverCancel, X2Request, X2Ack, X2Cancel, X2Release}
+use Rattle.s1x2_rec.specs.Fields.{Fields, InitialContext, ContextRelease, PathSwitchRequest, PathSwitchAnswer, HandoverRequired, HandoverRequest, HandoverRequestAck, HandoverCommand, HandoverNotify, HandoverCancel, X2Request, X2Ack, X2Cancel, X2Release, ContextModification}
 use Rattle.s1x2_rec.specs.Content.{Content}
 use Rattle.lte_machine.specs.Wire.{KeyUse, Outgoing, SealedNas, PlainNas, SealedRrc, UserPacket, Between, address_of}
 use Rattle.lte_machine.specs.Ciphers.{Ciphers, octets_of}
@@ -29,8 +29,8 @@ use Rattle.lte_machine.specs.PhoneChoice.{phone_row}
 use Rattle.lte_machine.specs.PhoneStep.{plain_phone, front_of, phone_root, phone_opens, phone_pdu_in, phone_step}
 use Rattle.lte_machine.specs.StationState.{Station, Context, StationInput, StationActs, AirPdu, StationRecord, Interface, OnS1, OnX2, map_read}
 use Rattle.lte_machine.specs.StationStep.{station_opens, station_pdu_in, station_step}
-use Rattle.lte_machine.specs.CoreState.{Core, CoreInput, CoreAuth, CoreActs, CoreNasPdu, CoreRecord}
-use Rattle.lte_machine.specs.CoreRows.{CoreRecordRow, RecordRefused, PathSwitched, HandoverAsked, HandoverOrdered, HandoverNotified, HandoverCancelled, CoreRow, OfRecord, OfAuth}
+use Rattle.lte_machine.specs.CoreState.{Core, CoreInput, CoreAuth, CoreActs, CoreNasPdu, CoreRecord, CoreLink}
+use Rattle.lte_machine.specs.CoreRows.{CoreRecordRow, RecordRefused, PathSwitched, HandoverAsked, HandoverOrdered, HandoverNotified, HandoverCancelled, CoreRow, OfRecord, OfAuth, CoreNasRow, NasRefused, PlainReject, SmcComplete, SmcChange, ServiceAsked, NasOpened, SealedReject}
 use Rattle.lte_machine.specs.CoreChoice.{core_record_row, core_row}
 use Rattle.lte_machine.specs.CoreStep.{plain_core, core_root, core_front_of, core_opens, core_pdu_in, core_step}
 use Rattle.lte_machine.specs.World.{Machine, World, with_one, phone_after, core_after, station_after, by_world, phone_turn, core_turn, station_of_id, turn_of, station_turn, authenticated, auth_unless, known_root, next_root, content_in, arrives, chosen, delivered, class_of, is_sent, injected, happens}
@@ -39,12 +39,14 @@ use Rattle.lte_machine.specs.Run.{stations_of, first_world}
 use Rattle.lte_properties.specs.ChainBelow.{AllOf, AtMost, ContextBelow, PrepBelow, StationBelow, conn_of, RecordBelow}
 use Rattle.lte_properties.specs.ChainAbove.{StationAbove, InFlight}
 use Rattle.lte_properties.specs.ChainHolds.{machine_by, run, noted, core_numbers, Holds, ChainNumbersHold}
-use Rattle.lte_properties.specs.ChainRows.{CoreFits}
+use Rattle.lte_properties.specs.ChainRows.{CoreFits, LinkIs, NasDraws}
 use Rattle.lte_properties.proofs.ChainNumbers.Lists.{OfSome, all_one, all_find, all_map, all_both, all_put, all_chosen}
 use Rattle.lte_properties.proofs.ChainNumbers.Moves.{flight_moves}
 use Rattle.lte_properties.proofs.ChainNumbers.Station.{OwnRequest, SentOk}
 use Rattle.lte_properties.proofs.ChainNumbers.Core.{core_record_fits, core_act_draws, CoreKept, Asked, CoreNeeds, Plainly, each_weaker, core_does_kept, silent_kept}
 use Rattle.lte_properties.proofs.ChainNumbers.Needs.{StepKept, to_of, act_step_kept, air_step_kept, record_step_kept, unread_step_kept, phone_does_plain}
+use Rattle.lte_properties.proofs.NasWalk.{IfChange, nas_row, nas_walk}
+use Rattle.lte_properties.proofs.ChainNumbers.Choice.{none_some, by_some}
 
 -- a station's request is no other station's
 other_flies : (u : Station Term ℕ) (id : ℕ) (x : Outgoing Term ℕ) → (u.id ≡ id → ⊥) → OwnRequest id x → InFlight u x
@@ -67,6 +69,7 @@ other_flies u id (Between to (X2Request conn source attempt cell caps) key) f h 
 other_flies u id (Between to (X2Ack conn attempt cell algs air) key) f h = tt
 other_flies u id (Between to (X2Cancel conn source attempt) key) f h = tt
 other_flies u id (Between to (X2Release conn attempt) key) f h = tt
+other_flies u id (Between to (ContextModification conn next) key) f h = tt
 
 -- A GREATER NUMBER
 
@@ -297,7 +300,26 @@ module _ (same : Term → Term → Bool) (root : ℕ → List ℕ → Term) (oct
 
   core_nas_holds : (top : ℕ → ℕ) (w : TheWorld) (pdu : List ℕ) (came : Option (Outgoing Term ℕ)) → Holds top w → Now top (core_turn m w (CoreNasPdu pdu) came).0
   core_nas_holds top w pdu came h =
-      core_turn_holds top w (CoreNasPdu pdu) came (λ o. tt) (λ o. all_each (λ s. ⊤) (λ s. tt) w.stations) h
+      core_turn_holds top w (CoreNasPdu pdu) came (λ o. changes w.core pdu o) (λ o. all_each (λ s. ⊤) (λ s. tt) w.stations) h
+    where
+      link_is : (link : CoreLink Term ℕ) (o : Option (CoreLink Term ℕ)) → o ≡ Some link → LinkIs o link.conn
+      link_is link None e = absurd (none_some e)
+      link_is link (Some x) e = ap (λ l. l.conn) (by_some e)
+
+      draws : (s : Core Term ℕ) (row : CoreNasRow) → IfChange (λ count conn next station. LinkIs s.link conn × (next ≡ s.next)) row → NasDraws s.link s.next row
+      draws s (NasRefused answer) h = tt
+      draws s PlainReject h = tt
+      draws s (SmcComplete count) h = tt
+      draws s (SmcChange count conn next station) h = h
+      draws s (ServiceAsked count) h = tt
+      draws s (NasOpened count text) h = tt
+      draws s (SealedReject count) h = tt
+
+      changes : (s : Core Term ℕ) (pdu : List ℕ) (o : Outcome) → NasDraws s.link s.next (nas_row (term_reading_by same) s pdu o)
+      changes s pdu o =
+          draws s (nas_row (term_reading_by same) s pdu o)
+          (nas_walk (term_reading_by same) (λ count conn next station. LinkIs s.link conn × (next ≡ s.next)) s pdu o
+          (λ count text link e f g h i. (link_is link s.link g, refl)))
 
   -- AN EVENT
 

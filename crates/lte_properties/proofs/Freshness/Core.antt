@@ -14,8 +14,8 @@ use Rattle.nas_guard.specs.Seal.{nas_bearer}
 use Rattle.lte_machine.specs.Bearers.{skipped}
 use Rattle.lte_machine.specs.Wire.{KeyUse, Outgoing, nas_use}
 use Rattle.lte_machine.specs.CoreState.{Core, CorePartial, CoreContext, CoreLink}
-use Rattle.lte_machine.specs.CoreRows.{CoreNasRow, NasRefused, PlainReject, SmcComplete, ServiceAsked, NasOpened, SealedReject, CoreRecordRow, RecordRefused, PathSwitched, HandoverAsked, HandoverOrdered, HandoverNotified, HandoverCancelled, CoreActRow, ActRefused, SmcStarted, ContextSetUp, ContextReleased, NasSent, NasSkipped}
-use Rattle.lte_machine.specs.CoreKeys.{smc_started, smc_complete, nas_taken, nas_sent_to, service_asked, nas_opened, sealed_reject, nas_sent, nas_skipped, context_set_up, path_switched, handover_asked, handover_notified, core_does_nas, core_does_record, core_does_act, nas_text}
+use Rattle.lte_machine.specs.CoreRows.{CoreNasRow, NasRefused, PlainReject, SmcComplete, ServiceAsked, NasOpened, SealedReject, CoreRecordRow, RecordRefused, PathSwitched, HandoverAsked, HandoverOrdered, HandoverNotified, HandoverCancelled, CoreActRow, ActRefused, SmcStarted, ContextSetUp, ContextReleased, NasSent, NasSkipped, SmcChange}
+use Rattle.lte_machine.specs.CoreKeys.{smc_started, smc_complete, nas_taken, nas_sent_to, service_asked, nas_opened, sealed_reject, nas_sent, nas_skipped, context_set_up, path_switched, handover_asked, handover_notified, core_does_nas, core_does_record, core_does_act, nas_text, key_changed}
 use Rattle.lte_machine.specs.World.{uses_in}
 use Rattle.lte_properties.specs.ChainBelow.{AllOf}
 use Rattle.lte_properties.specs.FreshOrder.{authentication_of}
@@ -194,15 +194,33 @@ module _ (roots : ℕ) (given : Homes) where
       )
       (λ k n u. (u.0, tt, u.1)) tt tt (λ taken. tt)
 
+  -- and one while a connection stands: its KeNB is of the new authentication, and no station makes a context of it
+  changed_keeps : (same : Term → Term → Bool) (count conn next station : ℕ) (s : Core Term ℕ) (p : Option (CorePartial Term)) (keys : Option (Keys Term)) →
+      CoreStands roots given (record s { partial = p; procedure = keys }) →
+      let d = key_changed (term_reading_by same) count conn next station p keys (record s { partial = p; procedure = keys }) in
+      CoreKeeps roots given (record s { partial = p; procedure = keys }) d.0 d.1.sent
+  changed_keeps same count conn next station s None keys h = still (record s { partial = None; procedure = keys }) h
+  changed_keeps same count conn next station s (Some p) None h = still (record s { partial = Some p; procedure = None }) h
+  changed_keeps same count conn next station s (Some p) (Some keys) h =
+      keeps _ _ _ (
+        (tt, (h.0.0, tt)),
+        h.2,
+        tt,
+        tt,
+        λ t k e. let x = h.4 t k e in (x.0, tt, (let y = x.1 in omega arith, λ f. let y = x.1 in absurd (omega arith))),
+      )
+      (λ k n u. (u.0, tt, u.1)) tt tt (λ taken. tt)
+
   -- a row of a NAS message
-  pub core_nas_keeps : (row : CoreNasRow) (s : Core Term ℕ) → CoreNasNeeds s.context row → CoreStands roots given s →
-      let d = core_does_nas row s in CoreKeeps roots given s d.0 d.1.sent
-  core_nas_keeps (NasRefused answer) s n h = still s h
-  core_nas_keeps PlainReject s n h = keeps s (record s { procedure = None }) None (h.0, h.1, tt, h.3, h.4) (λ k count u. u) tt tt (λ taken. tt)
-  core_nas_keeps (SmcComplete count) s n h = complete_keeps count s s.partial s.procedure h
-  core_nas_keeps (ServiceAsked count) s n h = asked_keeps count s s.context n h
-  core_nas_keeps (NasOpened count text) s n h = opened_keeps count text s s.context n h
-  core_nas_keeps (SealedReject count) s n h = reject_keeps count s s.context n h
+  pub core_nas_keeps : (same : Term → Term → Bool) (row : CoreNasRow) (s : Core Term ℕ) → CoreNasNeeds s.context row → CoreStands roots given s →
+      let d = core_does_nas (term_reading_by same) row s in CoreKeeps roots given s d.0 d.1.sent
+  core_nas_keeps same (NasRefused answer) s n h = still s h
+  core_nas_keeps same PlainReject s n h = keeps s (record s { procedure = None }) None (h.0, h.1, tt, h.3, h.4) (λ k count u. u) tt tt (λ taken. tt)
+  core_nas_keeps same (SmcComplete count) s n h = complete_keeps count s s.partial s.procedure h
+  core_nas_keeps same (SmcChange count conn next station) s n h = changed_keeps same count conn next station s s.partial s.procedure h
+  core_nas_keeps same (ServiceAsked count) s n h = asked_keeps count s s.context n h
+  core_nas_keeps same (NasOpened count text) s n h = opened_keeps count text s s.context n h
+  core_nas_keeps same (SealedReject count) s n h = reject_keeps count s s.context n h
 
   -- records of S1 move the chain alone
 

@@ -1,6 +1,6 @@
 -- What the choice of the core's row established of COUNTs: the walk through its refusals.
 use Rattle.std.proofs.Common.{◌≡◌, refl, ℕ, ◌≤◌, ◌==◌, List, length, Option, Some, None, option_map, Result, Ok, Err, nat_le, nat_lt, arith}
-use Rattle.std.specs.Prelude.{IfSome, ⊤}
+use Rattle.std.specs.Prelude.{IfSome, ⊤, nat_le}
 use Rattle.alg_choice.specs.declared.algs.Algs.{Algs}
 use Rattle.alg_choice.specs.declared.algs.Eea.{Eea}
 use Rattle.alg_choice.specs.declared.choices.NoAlgorithm.{NoAlgorithm as NoneChosen}
@@ -23,10 +23,11 @@ use Rattle.nas_rec.specs.declared.records.NasRecord.TheVariants.{SecurityModeCom
 use Rattle.lte_machine.specs.Opening.{Outcome, Opened, Differs}
 use Rattle.lte_machine.specs.Reply.{unseen}
 use Rattle.lte_machine.specs.CoreState.{Core, CorePartial, CoreContext, CoreLink, map_core_context, map_core_partial}
-use Rattle.lte_machine.specs.CoreChoice.{PlainCore, CoreNasFront, NasSettled, OpensComplete, OpensProtected, plain_text_row, plain_row, opens_complete, complete_front, opens_protected, protected_front, core_nas_front, core_header, complete_row, reject_row, protected_row, core_nas_row, smc_row, start_smc_row, NUMBERS, connect_row, release_row, send_nas_row, skip_nas_row, core_act_row}
+use Rattle.lte_machine.specs.CoreChoice.{PlainCore, CoreNasFront, NasSettled, OpensComplete, OpensProtected, plain_text_row, plain_row, opens_complete, complete_front, opens_protected, protected_front, core_nas_front, core_header, complete_row, reject_row, protected_row, core_nas_row, smc_row, start_smc_row, NUMBERS, connect_row, release_row, send_nas_row, skip_nas_row, core_act_row, completed_row}
 use Rattle.lte_machine.specs.CoreStep.{plain_core}
 use Rattle.lte_properties.proofs.ChainNumbers.Choice.{by_test}
 use Rattle.lte_properties.proofs.Freshness.Core.{CoreNasNeeds, CoreActNeeds}
+use Rattle.lte_properties.proofs.NasWalk.{nas_row}
 
 -- a COUNT taken is not below the next one (TS 24.301 4.4.3.1)
 abbrev OfCount : (ℕ → Type 0) → Result ℕ NoneLeft → Type 0
@@ -79,13 +80,17 @@ module _ (ncc : ℕ → ℕ) (o : Option (CoreContext Term)) where
   complete_needs (Some keys) pdu = opens_complete_needs _
 
   -- and its row
-  complete_row_needs : (count : ℕ) (read : Result NasRecord RecFault) → CoreNasNeeds o (complete_row count read)
-  complete_row_needs count (Err fault) = tt
-  complete_row_needs count (Ok (SecurityModeCommand ksi algs caps)) = tt
-  complete_row_needs count (Ok SecurityModeComplete) = tt
-  complete_row_needs count (Ok (SecurityModeReject cause)) = tt
-  complete_row_needs count (Ok ServiceRequest) = tt
-  complete_row_needs count (Ok (NasData text)) = tt
+  completed_row_needs : (count next : ℕ) (link : Option (CoreLink (Unit {0}) ℕ)) → CoreNasNeeds o (completed_row count next link)
+  completed_row_needs count next None = tt
+  completed_row_needs count next (Some link) = by_test (CoreNasNeeds o) (nat_le NUMBERS next) _ _ (λ e. tt) (λ e. tt)
+
+  complete_row_needs : (count next : ℕ) (link : Option (CoreLink (Unit {0}) ℕ)) (read : Result NasRecord RecFault) → CoreNasNeeds o (complete_row count next link read)
+  complete_row_needs count next link (Err fault) = tt
+  complete_row_needs count next link (Ok (SecurityModeCommand ksi algs caps)) = tt
+  complete_row_needs count next link (Ok SecurityModeComplete) = completed_row_needs count next link
+  complete_row_needs count next link (Ok (SecurityModeReject cause)) = tt
+  complete_row_needs count next link (Ok ServiceRequest) = tt
+  complete_row_needs count next link (Ok (NasData text)) = tt
 
   -- a protected Reject takes the COUNT of its front
   reject_needs : (procedure : Option (Keys (Unit {0}))) (count : ℕ) → IfSome o (λ c. c.nas.receive ≤ count) → CoreNasNeeds o (reject_row procedure count)
@@ -103,10 +108,10 @@ module _ (ncc : ℕ → ℕ) (o : Option (CoreContext Term)) where
   protected_row_needs procedure count (Ok (NasData text)) h = h
 
   -- and each row of a NAS message
-  pub core_nas_row_needs : (s : PlainCore) (front : CoreNasFront) (outcome : Outcome) → FrontNeeds o front → CoreNasNeeds o (core_nas_row s front outcome)
+  pub core_nas_row_needs : (s : PlainCore) (front : CoreNasFront) (outcome : Outcome) → FrontNeeds o front → CoreNasNeeds o (core_nas_row s.procedure s.next s.link front outcome)
   core_nas_row_needs s (NasSettled row) outcome h = h
   core_nas_row_needs s (OpensComplete count) (Differs wanted got) h = tt
-  core_nas_row_needs s (OpensComplete count) (Opened text) h = complete_row_needs count (read_nas text)
+  core_nas_row_needs s (OpensComplete count) (Opened text) h = complete_row_needs count s.next s.link (read_nas text)
   core_nas_row_needs s (OpensProtected header count) (Differs wanted got) h = tt
   core_nas_row_needs s (OpensProtected header count) (Opened text) h = protected_row_needs s.procedure count (read_nas text) h
 
@@ -123,7 +128,7 @@ protected_needs (Some c) header pdu = opens_protected_needs c header _ (estimate
 
 module _ (r : Reading Term ℕ) (s : Core Term ℕ) where
   -- the front of a NAS message
-  nas_front_needs : (pdu : List ℕ) (header : Result ℕ Answer) → FrontNeeds s.context (core_nas_front (plain_core r s) pdu header)
+  nas_front_needs : (pdu : List ℕ) (header : Result ℕ Answer) → FrontNeeds s.context (core_nas_front (plain_core r s).procedure (plain_core r s).context pdu header)
   nas_front_needs pdu (Err answer) = tt
   nas_front_needs pdu (Ok header) =
       let P = FrontNeeds s.context in
@@ -133,7 +138,7 @@ module _ (r : Reading Term ℕ) (s : Core Term ℕ) where
 
   -- a NAS message
   pub nas_needs : (pdu : List ℕ) (outcome : Outcome) →
-      CoreNasNeeds s.context (core_nas_row (plain_core r s) (core_nas_front (plain_core r s) pdu (core_header pdu)) outcome)
+      CoreNasNeeds s.context (nas_row r s pdu outcome)
   nas_needs pdu outcome = core_nas_row_needs r.ncc s.context (plain_core r s) _ outcome (nas_front_needs pdu (core_header pdu))
 
   -- ACTS

@@ -16,19 +16,20 @@ use Rattle.nh_chain.specs.Chain.{begun}
 use Rattle.nh_chain.specs.Reach.{reached_after}
 use Rattle.pdcp_guard.specs.AsKeys.{AsKeys, as_keys_of}
 use Rattle.lte_machine.specs.Bearers.{Srb, Signalling1, Drb, Which, Bearers, of_srb, of_drb, srb_counts, drb_counts, srb_sent, drb_sent, srb_taken, skipped, new_bearers}
-use Rattle.lte_machine.specs.Wire.{KeyUse, Outgoing, SealedNas, PlainNas, UserPacket, uses_of, nas_use, drb_use}
-use Rattle.lte_machine.specs.Reply.{Took}
+use Rattle.lte_machine.specs.Wire.{KeyUse, Outgoing, SealedNas, PlainNas, UserPacket, uses_of, nas_use, drb_use, drb_ciphering, nas_ciphering}
+use Rattle.lte_machine.specs.Reply.{Took, Commanded}
 use Rattle.lte_machine.specs.PhoneState.{nas_keys_of, Partial, NasContext, Link, Radio, Idle, Connecting, Connected, Phone}
-use Rattle.lte_machine.specs.PhoneRows.{NasRow, NasRefused, RejectedPlain, RejectedUnder, ContextTaken, ContextTakenConnected, NasOpened, AirRow, AirRefused, LinkSecured, HandedOver, RrcOpened, PacketOpened, ActRow, ActRefused, ServiceRequested, CompleteResent, WentIdle, PacketSent, RrcSent, NasSent, NasSkipped, BearerSkipped}
-use Rattle.lte_machine.specs.PhoneKeys.{nas_ciphering_up, drb_ciphering_up, rrc_sealed, one_nas_sent, with_bearers, context_of, rejected_under, context_taken, context_taken_connected, nas_opened, nas_does, link_secured, arrived, handed_over, rrc_opened, packet_opened, air_does, service_requested, complete_resent, packet_sent, rrc_sent, nas_sent, nas_skipped, bearer_skipped, act_does}
+use Rattle.lte_machine.specs.PhoneRows.{NasRow, NasRefused, RejectedPlain, RejectedUnder, ContextTaken, ContextTakenConnected, NasOpened, AirRow, AirRefused, LinkSecured, HandedOver, RrcOpened, PacketOpened, ActRow, ActRefused, ServiceRequested, CompleteResent, WentIdle, PacketSent, RrcSent, NasSent, NasSkipped, BearerSkipped, KeyChanged}
+use Rattle.lte_machine.specs.PhoneKeys.{rrc_sealed, one_nas_sent, with_bearers, context_of, rejected_under, context_taken, context_taken_connected, nas_opened, nas_does, link_secured, arrived, handed_over, rrc_opened, packet_opened, air_does, service_requested, complete_resent, packet_sent, rrc_sent, nas_sent, nas_skipped, bearer_skipped, act_does, before_of, changed_unless, key_changed}
 use Rattle.lte_machine.specs.World.{uses_in}
 use Rattle.lte_properties.specs.ChainBelow.{AllOf}
 use Rattle.lte_properties.specs.FreshOrder.{authentication_of, IsBefore, IsNotAfter, IsLevel}
 use Rattle.lte_properties.specs.FreshUses.{Home, home_at, Homes, Grows, OnKey, IsNas, IsAs, NasUp, AsUp, UpUse, next_on, send_on, AllApart}
-use Rattle.lte_properties.specs.FreshHolds.{Mark, IsPast, AsKeysOf, partial_root, phone_mark, RadioStands, PhoneStands, RecordStands}
+use Rattle.lte_properties.specs.FreshHolds.{Mark, IsPast, AsKeysOf, partial_root, phone_mark, RadioStands, PhoneStands, RecordStands, KeyOlder, RadioOlder, kasme_in_use}
 use Rattle.lte_properties.proofs.Freshness.Order.{not_before_itself, before_is_not_after, not_after_itself, not_after_before, past_is_before, past_alike, star_is_later, homed, homed_here, homed_is, homed_grows}
 use Rattle.lte_properties.proofs.Freshness.Lists.{both_apart}
 use Rattle.lte_properties.proofs.Freshness.Bearers.{Rise, below_stays, srb_taken_rises, drb_taken_rises, srb_sent_rises, drb_sent_rises, left_out_rises, srb_is_next, srb_is_used, drb_is_next, drb_is_used}
+use Rattle.lte_properties.proofs.Opening.Opens.{IsReflexive}
 
 -- a use that the phone had not made before, and has made now
 abbrev pub NewUp : ℕ → Homes → Homes → Phone Term ℕ → Phone Term ℕ → KeyUse Term → Type 0
@@ -58,6 +59,9 @@ type_of (Star t pci earfcn) = 0
 -- uses of keys of two types are two
 pub types_apart : (u v : KeyUse Term) (m n : ℕ) → type_of u.key ≡ m → type_of v.key ≡ n → (m ≡ n → ⊥) → v ≡ u → ⊥
 types_apart u v m n e f d g = d (sym e ∙ sym (ap (λ (x : KeyUse Term). type_of x.key) g) ∙ f)
+
+true_false : true ≡ false → ⊥
+true_false e = cc
 
 module _ (roots : ℕ) (taken : Homes) where
   -- nothing changes
@@ -117,6 +121,8 @@ module _ (roots : ℕ) (taken : Homes) where
       h.1,
       λ t k e. later_mark (partial_root s.partial) (authentication_of c.root) c.send n t le (h.2 t k e),
       later_radio (partial_root s.partial) (authentication_of c.root) c.send n s.radio le h.3,
+      h.4,
+      let x = h.5 in omega arith,
     )
 
     -- uses stay below the next COUNT
@@ -148,7 +154,7 @@ module _ (roots : ℕ) (taken : Homes) where
     -- a NAS text takes the next COUNT
     sealed : (header : ℕ) (text : List ℕ) → PhoneStands roots taken (record s { context = Some c }) →
         PhoneKeeps roots taken (record s { context = Some c }) (record s { context = Some (one_nas_sent c) })
-        (Some (SealedNas Up header (nas_use Up c.keys.int c.send) (Some (nas_ciphering_up c.keys c.send)) text)) None
+        (Some (SealedNas Up header (nas_use Up c.keys.int c.send) (Some (nas_ciphering Up c.keys c.send)) text)) None
     sealed header text h = let b = both_nas s.radio h in record {
       new = taken;
       grows = λ t k e. e;
@@ -193,6 +199,8 @@ module _ (roots : ℕ) (taken : Homes) where
             h.1,
             λ t k e. later_mark (partial_root s.partial) (authentication_of c.root) c.send (c.send + 1) t (omega arith) (h.2 t k e),
             ((h.0.1.0, h.0.1.1, (omega arith, λ e. omega arith)), λ t k e. past_is_before roots (partial_root s.partial) c.root c.send t (h.2 t k e)),
+            (refl, inl refl),
+            omega arith,
           );
           nas = counts_nas (c.send + 1) (omega arith);
           link = λ k type count bearer u. (u.0, u.1, tt);
@@ -217,6 +225,15 @@ module _ (roots : ℕ) (taken : Homes) where
     taken_radio mark (Connecting w) h = (past_all mark w.kenb h.0, h.1)
     taken_radio mark (Connected l) h = h
 
+    -- and its KASME is of an older authentication
+    taken_older : (mark : Option Mark) (radio : Radio Term ℕ) (now : Option Term) →
+        ((t : Term) (k : Home) → taken t ≡ Some k → IsPast roots (Some (authentication_of p.root)) mark t) →
+        RadioStands roots (Some (authentication_of p.root)) mark taken radio → RadioOlder radio now → RadioOlder radio (Some p.root)
+    taken_older mark Idle now past h o = tt
+    taken_older mark (Connecting w) now past h o = (o.0, inr (let x = h.0.1 in let y = o.0 in omega arith))
+    taken_older mark (Connected l) now past h o =
+        (o.0, inr (let x = (past l.kenb (home_at l.station l.air) h.0).1 in let y = o.0 in omega arith))
+
     -- its first COUNT under a NAS key is new
     new_first : (radio : Radio Term ℕ) (type id bearer : ℕ) → IsNas type → PhoneStands roots taken (record s { partial = Some p }) →
         NewUp roots taken taken (record s { partial = Some p })
@@ -227,16 +244,16 @@ module _ (roots : ℕ) (taken : Homes) where
 
     -- the radio afterwards stands, and so does all
     first_sent : (radio : Radio Term ℕ) (header : ℕ) (text : List ℕ) → PhoneStands roots taken (record s { partial = Some p }) →
-        RadioStands roots None (Some (record { root = authentication_of p.root; count = 1 })) taken radio →
+        RadioStands roots None (Some (record { root = authentication_of p.root; count = 1 })) taken radio → RadioOlder radio (Some p.root) →
         ((k : Term) (type count bearer : ℕ) → AsUp taken s.radio k type count bearer → AsUp taken radio k type count bearer) →
         PhoneKeeps roots taken (record s { partial = Some p })
         (record s { partial = None; context = Some (context_of (term_reading_by same) algs count p.root); radio = radio })
         (Some (SealedNas Up header (nas_use Up (nas_keys_of (term_reading_by same) p.root algs).int 0)
-        (Some (nas_ciphering_up (nas_keys_of (term_reading_by same) p.root algs) 0)) text)) None
-    first_sent radio header text h r link = record {
+        (Some (nas_ciphering Up (nas_keys_of (term_reading_by same) p.root algs) 0)) text)) None
+    first_sent radio header text h r older link = record {
       new = taken;
       grows = λ t k e. e;
-      stands = ((tt, (h.0.0, tt)), refl, λ t k e. past_all (phone_mark s.context) t (h.2 t k e), r);
+      stands = ((tt, (h.0.0, tt)), refl, λ t k e. past_all (phone_mark s.context) t (h.2 t k e), r, older, omega arith);
       nas = λ k count u. (u.0, tt, λ e. absurd (u.1 e));
       link = link;
       uses = (new_first radio 1 (identity_of algs.eea) _ (omega arith) h, (new_first radio 2 eia2_identity _ (omega arith) h, tt));
@@ -282,14 +299,15 @@ module _ (roots : ℕ) (taken : Homes) where
       let d = context_taken (term_reading_by same) algs count (record s { partial = o }) o in PhoneKeeps roots taken (record s { partial = o }) d.0 d.1.sent d.1.took
   taken_keeps same algs count s None h = still (record s { partial = None }) h
   taken_keeps same algs count s (Some p) h =
-      first_sent same algs count s p (Connecting (record { root = p.root; kenb = Kenb p.root 0 })) 4 _ h (waits same algs count s p h) (λ k type count bearer u. (u.0, u.1, tt))
+      first_sent same algs count s p (Connecting (record { root = p.root; kenb = Kenb p.root 0 })) 4 _ h (waits same algs count s p h) (refl, inl refl) (λ k type count bearer u. (u.0, u.1, tt))
 
   -- and one on a connection
   taken_connected_keeps : (same : Term → Term → Bool) (algs : Algs) (count : ℕ) (s : Phone Term ℕ) (o : Option (Partial Term)) → PhoneStands roots taken (record s { partial = o }) →
       let d = context_taken_connected (term_reading_by same) algs count (record s { partial = o }) o in PhoneKeeps roots taken (record s { partial = o }) d.0 d.1.sent d.1.took
   taken_connected_keeps same algs count s None h = still (record s { partial = None }) h
   taken_connected_keeps same algs count s (Some p) h =
-      first_sent same algs count s p s.radio 4 _ h (taken_radio same algs count s p (phone_mark s.context) s.radio h.3) (λ k type count bearer u. u)
+      first_sent same algs count s p s.radio 4 _ h (taken_radio same algs count s p (phone_mark s.context) s.radio h.3)
+      (taken_older same algs count s p (phone_mark s.context) s.radio (kasme_in_use s.context) h.2 h.3 h.4) (λ k type count bearer u. u)
 
   -- a row of a NAS message
   pub nas_keeps : (same : Term → Term → Bool) (row : NasRow) (s : Phone Term ℕ) → PhoneStands roots taken s →
@@ -369,7 +387,7 @@ module _ (roots : ℕ) (taken : Homes) where
     -- a user packet
     packet_keeps : (drb : Drb) (text : List ℕ) → b ≡ drb_sent drb l.bearers → PhoneStands roots taken (record s { radio = Connected l }) →
         PhoneKeeps roots taken (record s { radio = Connected l }) (record s { radio = with_bearers l b })
-        (Some (UserPacket Up l.station l.air drb (drb_ciphering_up l.keys drb (drb_counts drb l.bearers).send) text)) None
+        (Some (UserPacket Up l.station l.air drb (drb_ciphering Up l.keys drb (drb_counts drb l.bearers).send) text)) None
     packet_keeps drb text e h =
         let k = subst (λ keys. NewUp roots taken taken (record s { radio = Connected l }) (record s { radio = with_bearers l b }) (drb_use Up keys.up_enc drb (drb_counts drb l.bearers).send))
         (sym h.3.2) (new_drb drb e (identity_of l.keys.algs.eea) h) in
@@ -391,13 +409,13 @@ module _ (roots : ℕ) (taken : Homes) where
     -- the phone is connected under a KeNB that comes after all that it took
     joins : (sent : Option (Outgoing Term ℕ)) (took : Option (Took Term ℕ)) → PhoneStands roots taken (record s { radio = radio }) → l.kenb ≡ kenb →
         IsPast roots (partial_root s.partial) (phone_mark s.context) kenb → ((t : Term) (h : Home) → taken t ≡ Some h → IsBefore t kenb) →
-        IsLevel l.kenb l.chain.sync → AsKeysOf l.kenb l.keys →
+        IsLevel l.kenb l.chain.sync → AsKeysOf l.kenb l.keys → KeyOlder l.chain.root l.kenb (kasme_in_use s.context) →
         AllOf (NewUp roots taken (homed taken kenb (home_at l.station l.air)) (record s { radio = radio }) (record s { radio = Connected l })) (uses_in sent) →
         AllApart (uses_in sent) → ((given : Homes) → IfSome sent (RecordStands (homed taken kenb (home_at l.station l.air)) given)) →
         IfSome took (λ x. homed taken kenb (home_at l.station l.air) x.key ≡ Some (home_at x.station x.air)) →
         IfSome took (λ x. (k : Term) (h : Home) → taken k ≡ Some h → IsBefore k x.key) →
         PhoneKeeps roots taken (record s { radio = radio }) (record s { radio = Connected l }) sent took
-    joins sent took h same past before level keys uses apart sends takes rises = record {
+    joins sent took h same past before level keys older uses apart sends takes rises = record {
       new = homed taken kenb (home_at l.station l.air);
       grows = homed_grows taken kenb (home_at l.station l.air) (not_taken kenb before);
       stands = (
@@ -411,6 +429,8 @@ module _ (roots : ℕ) (taken : Homes) where
           taken_all (λ t. IsNotAfter t l.kenb) (home_at l.station l.air) (subst (IsNotAfter kenb) (sym same) (not_after_itself kenb))
               (λ t k e. subst (IsNotAfter t) (sym same) (before_is_not_after t kenb (before t k e))),
         ),
+        older,
+        h.5,
       );
       nas = λ k count u. u;
       link = λ k type count bearer u. (
@@ -452,13 +472,13 @@ module _ (roots : ℕ) (taken : Homes) where
           bearers = srb_sent Signalling1 (srb_taken Signalling1 count new_bearers);
           by_handover = false;
         } in
-        joins s (Connecting w) w.kenb l _ _ h refl h.3.0 h.3.1 (refl, refl, refl) refl
+        joins s (Connecting w) w.kenb l _ _ h refl h.3.0 h.3.1 (refl, refl, refl) refl h.4
         (new_zero s (Connecting w) w.kenb l h h.3.1 4 eia2_identity 0 (omega arith) (omega arith), tt) (tt, tt)
         (λ given. homed_here taken w.kenb (home_at station air)) (homed_here taken w.kenb (home_at station air)) h.3.1
 
     -- a handover
     arrived_keeps : (l : Link Term ℕ) (steps : ℕ) (cell : Place) → PhoneStands roots taken (record s { radio = Connected l }) →
-        let d = arrived (term_reading_by same) algs station air (record s { radio = Connected l }) l (reached_after (term_reading_by same) l.chain l.kenb steps cell) in
+        let d = arrived (term_reading_by same) algs station air (record s { radio = Connected l }) (Commanded (before_of l)) (reached_after (term_reading_by same) l.chain l.kenb steps cell) in
         PhoneKeeps roots taken (record s { radio = Connected l }) d.0 d.1.sent d.1.took
     arrived_keeps l steps cell h =
         let star = (reached_after (term_reading_by same) l.chain l.kenb steps cell).star.key in
@@ -475,7 +495,7 @@ module _ (roots : ℕ) (taken : Homes) where
         let before : (t : Term) (h : Home) → taken t ≡ Some h → IsBefore t star = λ t g e. not_after_before t l.kenb star (h.3.3 t g e) k.0 in
         joins s (Connected l) star t _ _ h refl
         (past_alike roots (partial_root s.partial) (phone_mark s.context) l.kenb star k.1 k.2 (h.2 l.kenb (home_at l.station l.air) h.3.0))
-        before k.3 refl (
+        before k.3 refl (h.4.0 ∙ k.1, h.4.1) (
           new_zero s (Connected l) star t h before 3 (identity_of algs.eea) 0 (omega arith) (omega arith),
           (new_zero s (Connected l) star t h before 4 eia2_identity 0 (omega arith) (omega arith), tt),
         )
@@ -488,6 +508,49 @@ module _ (roots : ℕ) (taken : Homes) where
     handed_keeps cell steps Idle h = still (record s { radio = Idle }) h
     handed_keeps cell steps (Connecting w) h = still (record s { radio = Connecting w }) h
     handed_keeps cell steps (Connected l) h = arrived_keeps l steps cell h
+
+    -- a key change: all that was taken is of an older authentication than the KASME in use
+    module _ (itself : IsReflexive same) (cell : Place) where
+      another : (l : Link Term ℕ) (c : NasContext Term) → same c.root l.chain.root ≡ false → KeyOlder l.chain.root l.kenb (Some c.root) →
+          authentication_of l.kenb < authentication_of c.root
+      another l c differs (level, inl one) = absurd (true_false (sym (itself c.root) ∙ ap (same c.root) (sym one) ∙ differs))
+      another l c differs (level, inr older) = omega arith
+
+      changed_keeps : (l : Link Term ℕ) (c : NasContext Term) (b : Bool) → same c.root l.chain.root ≡ b →
+          PhoneStands roots taken (record s { context = Some c; radio = Connected l }) →
+          let d = changed_unless (term_reading_by same) cell algs station air (record s { context = Some c; radio = Connected l }) (before_of l) c.root b in
+          PhoneKeeps roots taken (record s { context = Some c; radio = Connected l }) d.0 d.1.sent d.1.took
+      changed_keeps l c true e h = still (record s { context = Some c; radio = Connected l }) h
+      changed_keeps l c false e h =
+          let star = Star (Kenb c.root 0) cell.pci cell.earfcn in
+          let newer = another l c e h.4 in
+          let t : Link Term ℕ = record {
+            station = station;
+            air = air;
+            chain = begun (term_reading_by same) c.root (Kenb c.root 0);
+            kenb = star;
+            keys = as_keys_of (term_reading_by same) star algs;
+            bearers = srb_sent Signalling1 new_bearers;
+            by_handover = true;
+          } in
+          let before : (t : Term) (h : Home) → taken t ≡ Some h → IsBefore t star =
+              λ t g f. let x = (h.3.3 t g f).0 in (omega arith, λ i. absurd (omega arith)) in
+          joins (record s { context = Some c }) (Connected l) star t _ _ h refl
+          (h.0.1.0, h.0.1.1, (omega arith, λ i. let x = h.5 in omega arith))
+          before (refl, refl, refl) refl (refl, inl refl) (
+            new_zero (record s { context = Some c }) (Connected l) star t h before 3 (identity_of algs.eea) 0 (omega arith) (omega arith),
+            (new_zero (record s { context = Some c }) (Connected l) star t h before 4 eia2_identity 0 (omega arith) (omega arith), tt),
+          )
+          (both_apart _ _ (types_apart _ _ 3 4 refl refl (λ g. absurd (omega arith))))
+          (λ given. homed_here taken star (home_at station air)) (homed_here taken star (home_at station air)) before
+
+      renewed_keeps : (o : Radio Term ℕ) (x : Option (NasContext Term)) → PhoneStands roots taken (record s { context = x; radio = o }) →
+          let d = key_changed (term_reading_by same) cell algs station air (record s { context = x; radio = o }) o x in
+          PhoneKeeps roots taken (record s { context = x; radio = o }) d.0 d.1.sent d.1.took
+      renewed_keeps Idle x h = still (record s { context = x; radio = Idle }) h
+      renewed_keeps (Connecting w) x h = still (record s { context = x; radio = Connecting w }) h
+      renewed_keeps (Connected l) None h = still (record s { context = None; radio = Connected l }) h
+      renewed_keeps (Connected l) (Some c) h = changed_keeps l c (same c.root l.chain.root) refl h
 
   module _ (s : Phone Term ℕ) where
     -- an RRC text that was taken
@@ -526,11 +589,11 @@ module _ (roots : ℕ) (taken : Homes) where
     rrc_sent_keeps srb text (Connected l) h = rrc_keeps s l _ srb _ refl h
 
     -- COUNTs of a bearer are left out
-    left_out_on_keeps : (on : Which) (n : ℕ) (o : Radio Term ℕ) → PhoneStands roots taken (record s { radio = o }) →
+    bearer_skipped_keeps : (on : Which) (n : ℕ) (o : Radio Term ℕ) → PhoneStands roots taken (record s { radio = o }) →
         let d = bearer_skipped on n (record s { radio = o }) o in PhoneKeeps roots taken (record s { radio = o }) d.0 d.1.sent d.1.took
-    left_out_on_keeps on n Idle h = still (record s { radio = Idle }) h
-    left_out_on_keeps on n (Connecting w) h = still (record s { radio = Connecting w }) h
-    left_out_on_keeps on n (Connected l) h = bearers_keep s l _ None (left_out_rises on n l.bearers) h tt tt (λ given. tt)
+    bearer_skipped_keeps on n Idle h = still (record s { radio = Idle }) h
+    bearer_skipped_keeps on n (Connecting w) h = still (record s { radio = Connecting w }) h
+    bearer_skipped_keeps on n (Connected l) h = bearers_keep s l _ None (left_out_rises on n l.bearers) h tt tt (λ given. tt)
 
     -- a SERVICE REQUEST
     requested_keeps : (same : Term → Term → Bool) (o : Option (NasContext Term)) → PhoneStands roots taken (record s { context = o }) →
@@ -545,17 +608,17 @@ module _ (roots : ℕ) (taken : Homes) where
     nas_sent_keeps text (Some c) h = sealed s c 2 _ h
 
     -- uplink NAS COUNTs are left out
-    nas_left_out_keeps : (n : ℕ) (o : Option (NasContext Term)) → PhoneStands roots taken (record s { context = o }) →
+    nas_skipped_keeps : (n : ℕ) (o : Option (NasContext Term)) → PhoneStands roots taken (record s { context = o }) →
         let d = nas_skipped n (record s { context = o }) o in PhoneKeeps roots taken (record s { context = o }) d.0 d.1.sent d.1.took
-    nas_left_out_keeps n None h = still (record s { context = None }) h
-    nas_left_out_keeps n (Some c) h = left_out s c (skipped n c.send NAS_LIMIT) (omega arith) h
+    nas_skipped_keeps n None h = still (record s { context = None }) h
+    nas_skipped_keeps n (Some c) h = left_out s c (skipped n c.send NAS_LIMIT) (omega arith) h
 
     -- the phone goes idle
     idle_keeps : PhoneStands roots taken s → PhoneKeeps roots taken s (record s { radio = Idle }) None None
     idle_keeps h = record {
       new = taken;
       grows = λ t k e. e;
-      stands = (h.0, h.1, h.2, tt);
+      stands = (h.0, h.1, h.2, tt, tt, h.5);
       nas = λ k count u. u;
       link = λ k type count bearer u. (u.0, u.1, tt);
       uses = tt;
@@ -566,13 +629,14 @@ module _ (roots : ℕ) (taken : Homes) where
     }
 
   -- a row of a PDU
-  pub air_keeps : (same : Term → Term → Bool) (row : AirRow) (s : Phone Term ℕ) → PhoneStands roots taken s →
+  pub air_keeps : (same : Term → Term → Bool) → IsReflexive same → (row : AirRow) (s : Phone Term ℕ) → PhoneStands roots taken s →
       let d = air_does (term_reading_by same) row s in PhoneKeeps roots taken s d.0 d.1.sent d.1.took
-  air_keeps same (AirRefused answer) s h = still s h
-  air_keeps same (LinkSecured station air algs count) s h = secured_keeps same algs station air s count s.radio h
-  air_keeps same (HandedOver cell steps algs station air) s h = handed_keeps same algs station air s cell steps s.radio h
-  air_keeps same (RrcOpened srb count text) s h = rrc_opened_keeps s srb count text s.radio h
-  air_keeps same (PacketOpened drb count text) s h = packet_opened_keeps s drb count text s.radio h
+  air_keeps same itself (AirRefused answer) s h = still s h
+  air_keeps same itself (LinkSecured station air algs count) s h = secured_keeps same algs station air s count s.radio h
+  air_keeps same itself (HandedOver cell steps algs station air) s h = handed_keeps same algs station air s cell steps s.radio h
+  air_keeps same itself (KeyChanged cell algs station air) s h = renewed_keeps same algs station air s itself cell s.radio s.context h
+  air_keeps same itself (RrcOpened srb count text) s h = rrc_opened_keeps s srb count text s.radio h
+  air_keeps same itself (PacketOpened drb count text) s h = packet_opened_keeps s drb count text s.radio h
 
   -- a row of an act
   pub act_keeps : (same : Term → Term → Bool) (row : ActRow) (s : Phone Term ℕ) → PhoneStands roots taken s →
@@ -584,5 +648,5 @@ module _ (roots : ℕ) (taken : Homes) where
   act_keeps same (PacketSent drb text) s h = packet_sent_keeps s drb text s.radio h
   act_keeps same (RrcSent srb text) s h = rrc_sent_keeps s srb text s.radio h
   act_keeps same (NasSent text) s h = nas_sent_keeps s text s.context h
-  act_keeps same (NasSkipped n) s h = nas_left_out_keeps s n s.context h
-  act_keeps same (BearerSkipped on n) s h = left_out_on_keeps s on n s.radio h
+  act_keeps same (NasSkipped n) s h = nas_skipped_keeps s n s.context h
+  act_keeps same (BearerSkipped on n) s h = bearer_skipped_keeps s on n s.radio h

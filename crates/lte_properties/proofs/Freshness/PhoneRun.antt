@@ -32,6 +32,7 @@ use Rattle.lte_properties.proofs.Freshness.Lists.{roots_kept, one_root_more}
 use Rattle.lte_properties.proofs.Freshness.Order.{not_before_itself}
 use Rattle.lte_properties.proofs.Freshness.World.{some_of}
 use Rattle.lte_properties.proofs.Freshness.Run.{IsTurn, turn_keeps, phone_more}
+use Rattle.lte_properties.proofs.Opening.Opens.{IsReflexive}
 
 -- one more key, that comes after all
 order_append : (xs : List (Took Term ℕ)) (x : Took Term ℕ) → TookInOrder xs → AllOf (λ y. IsBefore y.key x.key) xs → TookInOrder (xs ++ x ∷ [])
@@ -72,7 +73,7 @@ radio_in_order w h (Connected l) k = all_taken h.taken (λ t. IsNotAfter t l.ken
 pub in_order : (w : World Term ℕ (Outgoing Term ℕ)) → PhoneFresh w → PhoneInOrder w
 in_order w h = (h.order, radio_in_order w h w.phone.radio h.phone.3)
 
-module _ (same : Term → Term → Bool) (octets : Outgoing Term ℕ → List ℕ) (sender : Option (Outgoing Term ℕ) → Option (KeyUse Term))
+module _ (same : Term → Term → Bool) (itself : IsReflexive same) (octets : Outgoing Term ℕ → List ℕ) (sender : Option (Outgoing Term ℕ) → Option (KeyUse Term))
     (opener : Opening Term → List ℕ → Option (Outgoing Term ℕ) → Outcome) where
   -- the machine
   abbrev m : Machine Term ℕ (Outgoing Term ℕ)
@@ -83,7 +84,7 @@ module _ (same : Term → Term → Bool) (octets : Outgoing Term ℕ → List �
     phone_turn_order : (input : PhoneInput Term) (came : Option (Outgoing Term ℕ)) → IsTurn input → PhoneFresh (phone_turn m w input came).0
     phone_turn_order input came t =
         let d = phone_step (term_reading_by same) w.phone input (opener (phone_opens (term_reading_by same) w.phone input) (phone_pdu_in input) came) in
-        let k = turn_keeps same h.roots h.taken w.phone input (opener (phone_opens (term_reading_by same) w.phone input) (phone_pdu_in input) came) t h.phone in
+        let k = turn_keeps same itself h.roots h.taken w.phone input (opener (phone_opens (term_reading_by same) w.phone input) (phone_pdu_in input) came) t h.phone in
         record {
           roots = h.roots;
           taken = k.new;
@@ -163,7 +164,7 @@ module _ (same : Term → Term → Bool) (octets : Outgoing Term ℕ → List �
     roots = 0;
     taken = λ t. None;
     counted = refl;
-    phone = ((tt, tt), tt, (λ t k e. absurd (none_some e)), tt);
+    phone = ((tt, tt), tt, (λ t k e. absurd (none_some e)), tt, tt, tt);
     took = tt;
     order = tt;
   }

@@ -49,6 +49,7 @@ use Rattle.lte_properties.proofs.Freshness.CoreFront.{nas_needs, act_needs}
 use Rattle.lte_properties.proofs.Freshness.Station as station
 use Rattle.lte_properties.proofs.Freshness.StationFront.{act_row_counts, air_row_needs, record_needs, GoesHere, on_s1, on_x2}
 use Rattle.lte_properties.proofs.Freshness.World.{phone_fresh, core_fresh, station_fresh}
+use Rattle.lte_properties.proofs.Opening.Opens.{IsReflexive}
 
 -- AUTHENTICATIONS
 
@@ -81,6 +82,8 @@ module _ (roots : ℕ) (root : Term) (new : authentication_of root ≡ roots) wh
     h.1,
     λ t k e. past_more (partial_root s.partial) (phone_mark s.context) t (h.2 t k e),
     radio_more taken (partial_root s.partial) (phone_mark s.context) s.radio h.3,
+    h.4,
+    h.5,
   )
 
   -- and the core
@@ -196,14 +199,14 @@ IsCoreTurn (CoreNasPdu pdu) = ⊤
 IsCoreTurn (CoreRecord read) = ⊤
 
 -- a step of the phone needs nothing of what it opens
-pub turn_keeps : (same : Term → Term → Bool) (roots : ℕ) (taken : Homes) (s : Phone Term ℕ) (input : PhoneInput Term) (outcome : Outcome) → IsTurn input → PhoneStands roots taken s →
+pub turn_keeps : (same : Term → Term → Bool) → IsReflexive same → (roots : ℕ) (taken : Homes) (s : Phone Term ℕ) (input : PhoneInput Term) (outcome : Outcome) → IsTurn input → PhoneStands roots taken s →
     let d = phone_step (term_reading_by same) s input outcome in phone.PhoneKeeps roots taken s d.0 d.1.sent d.1.took
-turn_keeps same roots taken s (PhoneAuth ksi root) outcome t h = absurd t
-turn_keeps same roots taken s (PhoneActs act) outcome t h = phone.act_keeps roots taken same (act_row (plain_phone (term_reading_by same) s) act) s h
-turn_keeps same roots taken s (PhoneNasPdu pdu) outcome t h = phone.nas_keeps roots taken same _ s h
-turn_keeps same roots taken s (PhoneAirPdu station air bearer pdu) outcome t h = phone.air_keeps roots taken same _ s h
+turn_keeps same itself roots taken s (PhoneAuth ksi root) outcome t h = absurd t
+turn_keeps same itself roots taken s (PhoneActs act) outcome t h = phone.act_keeps roots taken same (act_row (plain_phone (term_reading_by same) s) act) s h
+turn_keeps same itself roots taken s (PhoneNasPdu pdu) outcome t h = phone.nas_keeps roots taken same _ s h
+turn_keeps same itself roots taken s (PhoneAirPdu station air bearer pdu) outcome t h = phone.air_keeps roots taken same itself _ s h
 
-module _ (same : Term → Term → Bool) (octets : Outgoing Term ℕ → List ℕ) (sender : Option (Outgoing Term ℕ) → Option (KeyUse Term))
+module _ (same : Term → Term → Bool) (itself : IsReflexive same) (octets : Outgoing Term ℕ → List ℕ) (sender : Option (Outgoing Term ℕ) → Option (KeyUse Term))
     (opener : Opening Term → List ℕ → Option (Outgoing Term ℕ) → Outcome) where
   -- the machine
   abbrev pub m : Machine Term ℕ (Outgoing Term ℕ)
@@ -218,7 +221,7 @@ module _ (same : Term → Term → Bool) (octets : Outgoing Term ℕ → List �
     phone_turn_fresh : (input : PhoneInput Term) (came : Option (Outgoing Term ℕ)) → IsTurn input → Fresh w → Fresh (phone_turn m w input came).0
     phone_turn_fresh input came t h =
         let outcome = opener (phone_opens r w.phone input) (phone_pdu_in input) came in
-        phone_fresh m w (λ o. refl) h (phone_step r w.phone input outcome) (turn_keeps same h.roots h.taken w.phone input outcome t h.phone)
+        phone_fresh m w (λ o. refl) h (phone_step r w.phone input outcome) (turn_keeps same itself h.roots h.taken w.phone input outcome t h.phone)
 
     -- nor does one of the core
     core_turn_fresh : (input : CoreInput Term ℕ) (came : Option (Outgoing Term ℕ)) → IsCoreTurn input → Fresh w → Fresh (core_turn m w input came).0
@@ -229,7 +232,7 @@ module _ (same : Term → Term → Bool) (octets : Outgoing Term ℕ → List �
     core_turn_fresh (CoreNasPdu pdu) came t h =
         let outcome = opener (core_opens r w.core (CoreNasPdu pdu)) pdu came in
         core_fresh m w (λ o. refl) h (core_step r w.core (CoreNasPdu pdu) outcome)
-        (core_nas_keeps h.roots h.given _ w.core (nas_needs r w.core pdu outcome) h.core)
+        (core_nas_keeps h.roots h.given same _ w.core (nas_needs r w.core pdu outcome) h.core)
     core_turn_fresh (CoreRecord read) came t h =
         core_fresh m w (λ o. refl) h (core_step r w.core (CoreRecord read) (opener (core_opens r w.core (CoreRecord read)) [] came))
         (core_record_keeps h.roots h.given same _ w.core h.core)

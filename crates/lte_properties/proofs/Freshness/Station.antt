@@ -22,9 +22,9 @@ use Rattle.x2_handover.specs.declared.orders.Order.{Order}
 use Rattle.lte_machine.specs.Bearers.{Srb, Signalling1, Drb, Bearers, of_srb, of_drb, srb_counts, drb_counts, srb_sent, drb_sent}
 use Rattle.lte_machine.specs.Wire.{KeyUse, Outgoing, uses_of, drb_use}
 use Rattle.lte_machine.specs.Reply.{Origin}
-use Rattle.lte_machine.specs.StationState.{Station, Context, Attempt}
-use Rattle.lte_machine.specs.StationRows.{Wanted, RecordRow, RecordRefused, ContextGiven, ContextReleased, PairTaken, PreparedByS1, PreparedByX2, AckedByS1, AckedByX2, PreparationCancelled, SourceReleased, AirRow, AirRefused, SecurityStarted, RrcOpened, PacketOpened, CompletedByS1, CompletedWithin, CompletedByX2, ActRow, ActRefused, StartedByX2, StartedByS1, StartedWithin, HandoverCommanded, CancelledByX2, CancelledByS1, CancelledWithin, PathSwitchAsked, PacketSent, RrcSent, BearerSkipped}
-use Rattle.lte_machine.specs.StationKeys.{signalling_sent, packet_sent, initial_context, context_given, with_pair, pair_taken, wanted_prep, prepared_by_s1, prepared_by_x2, with_wanted, with_s1_ack, with_x2_ack, record_does, with_security, with_rrc_taken, with_packet_taken, arrived, completed_by_s1, completed_within, completed_by_x2, air_does, started_by_x2, started_by_s1, started_within, own_prep, commands, commanded, order_text, given_up, spent_in, asks_again, sends_packet, sends_rrc, with_skipped, act_does}
+use Rattle.lte_machine.specs.StationState.{Station, Context, Attempt, Renewal}
+use Rattle.lte_machine.specs.StationRows.{Wanted, RecordRow, RecordRefused, ContextGiven, ContextReleased, PairTaken, PreparedByS1, PreparedByX2, AckedByS1, AckedByX2, PreparationCancelled, SourceReleased, AirRow, AirRefused, SecurityStarted, RrcOpened, PacketOpened, CompletedByS1, CompletedWithin, CompletedByX2, ActRow, ActRefused, StartedByX2, StartedByS1, StartedWithin, HandoverCommanded, CancelledByX2, CancelledByS1, CancelledWithin, PathSwitchAsked, PacketSent, RrcSent, BearerSkipped, KeyRenewed, ChangeCommanded}
+use Rattle.lte_machine.specs.StationKeys.{signalling_sent, packet_sent, initial_context, context_given, with_pair, pair_taken, wanted_prep, prepared_by_s1, prepared_by_x2, with_wanted, with_s1_ack, with_x2_ack, record_does, with_security, with_rrc_taken, with_packet_taken, arrived, completed_by_s1, completed_within, completed_by_x2, air_does, started_by_x2, started_by_s1, started_within, own_prep, commands, commanded, order_text, given_up, spent_in, asks_again, sends_packet, sends_rrc, with_skipped, act_does, key_renewed, commands_change, change_text}
 use Rattle.lte_machine.specs.World.{uses_in}
 use Rattle.lte_properties.specs.ChainBelow.{AllOf}
 use Rattle.lte_properties.specs.ChainRows.{AirDraws, ActDraws}
@@ -35,6 +35,7 @@ use Rattle.lte_properties.proofs.ChainNumbers.Lists.{OfSome, all_append, all_fil
 use Rattle.lte_properties.proofs.Freshness.Lists.{both_apart}
 use Rattle.lte_properties.proofs.Freshness.Bearers.{Rise, rise_same, below_stays, srb_taken_rises, drb_taken_rises, srb_sent_rises, drb_sent_rises, left_out_rises, srb_is_next, srb_is_used, drb_is_next, drb_is_used}
 use Rattle.lte_properties.proofs.Freshness.Phone.{types_apart}
+use Rattle.lte_properties.proofs.Freshness.Order.{on_key}
 
 -- STEPS
 
@@ -95,12 +96,14 @@ pub record StationKeeps (taken given : Homes) (s t : Station Term ℕ) (sent : O
 -- WHAT A ROW NEEDS
 
 -- a KeNB that is given is for this station and a newer connection; a preparation is of no older connection, draws the next
--- air address, and has a KeNB*
+-- air address, and has a KeNB*; a key change draws two numbers, and its order takes the next COUNT of SRB1
 abbrev pub RecordNeeds : Homes → Station Term ℕ → RecordRow → Option (NumberedKey Term ℕ) → Type 0
 RecordNeeds given s (ContextGiven conn cell caps algs air) key =
     IfSome key (λ k. (s.last < conn) × (air ≡ s.next) × (given k.key ≡ Some (home_at s.id conn)) × (is_star k.key ≡ false))
 RecordNeeds given s (PreparedByS1 w) key = (s.last ≤ w.conn) × (w.air ≡ s.next)
 RecordNeeds given s (PreparedByX2 w) key = (s.last ≤ w.conn) × (w.air ≡ s.next) × IfSome key (λ k. is_star k.key ≡ true)
+RecordNeeds given s (KeyRenewed conn number air count) key =
+    (s.last ≤ conn) × (number ≡ s.next) × (air ≡ s.next + 1) × IfSome s.context (λ c. count ≡ c.bearers.srb1.send)
 RecordNeeds given s other key = ⊤
 
 -- the phone took the key of a preparation that completes, at this station and its air address
@@ -116,6 +119,7 @@ AirNeeds taken s other = ⊤
 -- a COUNT sent with is the next one
 abbrev pub ActCounts : Option (Context Term ℕ) → ActRow → Type 0
 ActCounts o (HandoverCommanded order count) = IfSome o (λ c. count ≡ c.bearers.srb1.send)
+ActCounts o (ChangeCommanded renewal count) = IfSome o (λ c. count ≡ c.bearers.srb1.send)
 ActCounts o (PacketSent drb count text) = IfSome o (λ c. count ≡ (drb_counts drb c.bearers).send)
 ActCounts o (RrcSent srb count text) = IfSome o (λ c. count ≡ (srb_counts srb c.bearers).send)
 ActCounts o other = ⊤
@@ -231,6 +235,32 @@ module _ (taken given : Homes) where
         changes (record s { context = Some c }) s.next _ _ (omega arith)
         (refl, refl, subst (Rise c.bearers) (sym e) (drb_sent_rises drb c.bearers)) h (k, tt) (tt, tt) tt
 
+  -- a step that a station keeps, and that draws further numbers, is of a later connection and has other preparations
+  further : (s t : Station Term ℕ) (next last : ℕ) (preps : List (Prep Term ℕ)) (sent : Option (Outgoing Term ℕ)) →
+      t.next ≤ next → t.last ≤ last → ((air : ℕ) → air < t.next → NoneWaits air t.preps → NoneWaits air preps) →
+      AllOf (PrepStands next) preps → StationKeeps taken given s t sent →
+      StationKeeps taken given s (record t { next = next; last = last; preps = preps }) sent
+  further s t next last preps sent le up free ps k =
+      let l : Later t u = record { same = refl; next = le; last = up; free = free } in
+      record {
+        same = k.same;
+        stands = (context_later t u l t.context t.context (stays_same t.context) k.stands.0, ps);
+        old = λ key type count bearer x.
+            let y = k.old key type count bearer x in
+            (y.0, y.1, λ e. later_spent t u l (is_star key) y.0.place (y.2 e), y.3);
+        uses = all_map (NewAt taken given s t) (NewAt taken given s u) (λ x y. (y.0, y.1, later_use l x y.2, y.3)) (uses_in sent) k.uses;
+        apart = k.apart;
+        sends = k.sends;
+      }
+    where
+      u : Station Term ℕ
+      u = record t { next = next; last = last; preps = preps }
+
+      later_use : Later t u → (x : KeyUse Term) → StationUse taken given t x → StationUse taken given u x
+      later_use l x y =
+          on_key (λ k type. IsAs type → AsDown taken given t k type x.count x.bearer) (λ k type. IsAs type → AsDown taken given u k type x.count x.bearer)
+          (λ k type f a. let z = f a in (z.0, z.1, λ e. later_spent t u l (is_star k) z.0.place (z.2 (e ∙ l.same)), z.3)) x.key y
+
   -- A NEW CONTEXT
 
   -- of a KeNB whose home is here, at a place that was not spent and is now
@@ -340,6 +370,21 @@ module _ (taken given : Homes) where
   fewer s o preps c p f h =
       keeps s (record s { context = o; preps = preps }) None (record { same = refl; next = omega arith; last = omega arith; free = λ a lt. f a }) c p h tt tt tt
 
+  -- a key change: the order goes under the present keys, and the preparation with a KeNB* stands alone
+  renewed_keeps : (same : Term → Term → Bool) (conn number air count : ℕ) (s : Station Term ℕ) (o : Option (Context Term ℕ)) (key : Option (NumberedKey Term ℕ)) →
+      RecordNeeds given (record s { context = o }) (KeyRenewed conn number air count) key → StationStands taken given (record s { context = o }) →
+      let d = key_renewed (term_reading_by same) conn number air count o key (record s { context = o }) in
+      StationKeeps taken given (record s { context = o }) d.0 d.1.sent
+  renewed_keeps same conn number air count s None key n h = still (record s { context = None }) h
+  renewed_keeps same conn number air count s (Some c) None n h = still (record s { context = Some c }) h
+  renewed_keeps same conn number air count s (Some c) (Some kenb) n h =
+      subst (λ x. let d = key_renewed (term_reading_by same) conn number air x (Some c) (Some kenb) (record s { context = Some c }) in
+      StationKeeps taken given (record s { context = Some c }) d.0 d.1.sent) (sym n.3)
+      (further (record s { context = Some c }) _ (air + 1) conn _ _
+      (let x = n.2 in omega arith) n.0 (λ a lt f. ((λ e. let x = n.2 in absurd (omega arith)), tt))
+      ((refl, refl, omega arith), tt)
+      (rrc_keeps s c (srb_sent Signalling1 c.bearers) _ Signalling1 _ refl h))
+
   -- preparations of an attempt go
   filtered : (s : Station Term ℕ) (o : Option (Context Term ℕ)) (source attempt : ℕ) → ContextStays s.context o → StationStands taken given s →
       StationKeeps taken given s (record s { context = o; preps = without source attempt s.preps }) None
@@ -359,6 +404,7 @@ module _ (taken given : Homes) where
   record_keeps same (AckedByS1 ncc algs air) key s n h = mapped s (with_s1_ack ncc algs air) (λ c. (refl, refl, rise_same c.bearers)) h
   record_keeps same (AckedByX2 algs air) key s n h = mapped s (with_x2_ack algs air) (λ c. (refl, refl, rise_same c.bearers)) h
   record_keeps same (PreparationCancelled o) key s n h = filtered s s.context o.source o.attempt (stays_same s.context) h
+  record_keeps same (KeyRenewed conn number air count) key s n h = renewed_keeps same conn number air count s s.context key n h
   record_keeps same SourceReleased key s n h = changes s s.next None None (omega arith) tt h tt tt tt
 
   -- rows by a PDU
@@ -442,7 +488,7 @@ module _ (taken given : Homes) where
         let d = started_within (term_reading_by same) number air cell o (record s { context = o }) in StationKeeps taken given (record s { context = o }) d.0 d.1.sent
     within_start_keeps number air cell None e h = still (record s { context = None }) h
     within_start_keeps number air cell (Some c) e h =
-        let p = own_prep (term_reading_by same) s.id number air cell c (opened (term_reading_by same) c.key cell).star in
+        let p = own_prep (term_reading_by same) c.conn s.id number air cell c (opened (term_reading_by same) c.key cell).star in
         let le : s.next ≤ air = let x = e.1 in omega arith in
         keeps (record s { context = Some c }) _ None
         (record { same = refl; next = omega arith; last = omega arith; free = λ a lt f. waits_apart s p s.preps le a lt f })
@@ -464,6 +510,14 @@ module _ (taken given : Homes) where
     asks_keeps number None e h = still (record s { context = None }) h
     asks_keeps number (Some c) e h =
         changes (record s { context = Some c }) (number + 1) _ _ (omega arith) (refl, refl, rise_same c.bearers) h tt tt tt
+
+    -- the order of a key change is sent again
+    change_keeps : (renewal : Renewal) (count : ℕ) (o : Option (Context Term ℕ)) → IfSome o (λ c. count ≡ c.bearers.srb1.send) → StationStands taken given (record s { context = o }) →
+        let d = commands_change renewal count o (record s { context = o }) in StationKeeps taken given (record s { context = o }) d.0 d.1.sent
+    change_keeps renewal count None e h = still (record s { context = None }) h
+    change_keeps renewal count (Some c) e h =
+        subst (λ n. let d = commands_change renewal n (Some c) (record s { context = Some c }) in StationKeeps taken given (record s { context = Some c }) d.0 d.1.sent) (sym e)
+        (rrc_keeps s c (srb_sent Signalling1 c.bearers) c.attempt Signalling1 (change_text s.id renewal) refl h)
 
     -- a user packet is sent
     packets_keeps : (drb : Drb) (count : ℕ) (text : List ℕ) (o : Option (Context Term ℕ)) → IfSome o (λ c. count ≡ (drb_counts drb c.bearers).send) →
@@ -495,6 +549,7 @@ module _ (taken given : Homes) where
   act_keeps same (StartedByS1 number target cell) s d n h = by_s1_start_keeps same s number target cell s.context d h
   act_keeps same (StartedWithin number air cell) s d n h = within_start_keeps same s number air cell s.context d h
   act_keeps same (HandoverCommanded order count) s d n h = commands_keeps same s order count s.context n h
+  act_keeps same (ChangeCommanded renewal count) s d n h = change_keeps same s renewal count s.context n h
   act_keeps same (CancelledByX2 conn number target) s d n h =
       changes s s.next (option_map given_up s.context) _ (omega arith) (stays_map given_up gives_up s.context) h tt tt tt
   act_keeps same (CancelledByS1 conn number cell) s d n h =

@@ -1,5 +1,6 @@
 -- What the choice of a station's row established: the walk through its refusals.
-use Rattle.std.proofs.Common.{◌≡◌, refl, sym, ap, ◌∙◌, subst, ℕ, ◌<◌, ◌==◌, Bool, true, false, List, Option, Some, None, option_map, Result, Ok, Err}
+use Rattle.std.proofs.Common.{◌≡◌, refl, sym, ap, ◌∙◌, subst, ℕ, ◌<◌, ◌==◌, Bool, true, false, List, Option, Some, None, option_map, Result, Ok, Err, ◌≤◌, arith, IfSome}
+use Rattle.lte_events.specs.Site.{station_of}
 use Rattle.std.specs.Prelude.{⊤}
 use Rattle.alg_choice.specs.declared.algs.Algs.{Algs}
 use Rattle.alg_choice.specs.declared.caps.Caps.{Caps}
@@ -13,7 +14,7 @@ use Rattle.lte_events.specs.declared.addresses.Address.TheVariants.{StationS1, S
 use Rattle.pdcp_guard.specs.declared.pdus.PdcpFault.{PdcpFault}
 use Rattle.pdcp_guard.specs.Counts.{Counts}
 use Rattle.rrc_rec.specs.declared.records.RrcRecord.{RrcRecord}
-use Rattle.rrc_rec.specs.declared.records.RrcRecord.TheVariants.{SecurityModeCommand, SecurityModeComplete, Reconfiguration, ReconfigurationComplete, RrcData}
+use Rattle.rrc_rec.specs.declared.records.RrcRecord.TheVariants.{SecurityModeCommand, SecurityModeComplete, Reconfiguration, ReconfigurationComplete, RrcData, KeyChange}
 use Rattle.rrc_rec.specs.Reading.{read_rrc}
 use Rattle.s1x2_rec.specs.Content.{map_content}
 use Rattle.s1x2_rec.specs.Fields.{Fields, InitialContext}
@@ -26,13 +27,13 @@ use Rattle.lte_machine.specs.Bearers.{Srb, Signalling1, Signalling2, Which, OnSr
 use Rattle.lte_machine.specs.Wire.{KeyUse}
 use Rattle.lte_machine.specs.Opening.{Opening, Outcome, Opened, Differs}
 use Rattle.lte_machine.specs.Reply.{Origin, unseen}
-use Rattle.lte_machine.specs.StationState.{Station, Context, OverX2, OverS1, Within, X2State, X2Open, X2Ready, X2Commanded, S1State, S1Open, S1Ready, S1Commanded, Interface, map_context}
-use Rattle.lte_machine.specs.StationRows.{RecordRow, RecordRefused, ContextGiven, ContextReleased, PairTaken, PreparedByS1, PreparedByX2, AckedByS1, AckedByX2, PreparationCancelled, SourceReleased, ActRow}
+use Rattle.lte_machine.specs.StationState.{Station, Context, OverX2, OverS1, Within, X2State, X2Open, X2Ready, X2Commanded, S1State, S1Open, S1Ready, S1Commanded, Interface, map_context, Renewing}
+use Rattle.lte_machine.specs.StationRows.{RecordRow, RecordRefused, ContextGiven, ContextReleased, PairTaken, PreparedByS1, PreparedByX2, AckedByS1, AckedByX2, PreparationCancelled, SourceReleased, ActRow, KeyRenewed}
 use Rattle.lte_machine.specs.StationKeys.{air_expects, prepared_expects}
-use Rattle.lte_machine.specs.StationChoice.{PlainStation, PlainContext, PlainAttempt, AirFront, AirSettled, OnStarting, OnSignalling, OnUser, OnPrepared, counted, starting_front, active_front, context_front, prepared_front, air_front_by, air_front, starting_row, rrc_row, completed_row, prepared_row, air_row, runs_out, record_row, active_row, unless_spent, is_full, begun_row, alone_row, target_row, is_misplaced, station_of, start_row, x2_command_row, s1_command_row, attempt_command_row, command_row, attempt_cancel_row, give_up_row, came_row, ask_row, packet_row, send_rrc_row, skip_row, act_row}
+use Rattle.lte_machine.specs.StationChoice.{PlainStation, PlainContext, PlainAttempt, AirFront, AirSettled, OnStarting, OnSignalling, OnUser, OnPrepared, counted, starting_front, active_front, context_front, prepared_front, air_front_by, air_front, starting_row, rrc_row, completed_row, prepared_row, air_row, runs_out, record_row, active_row, unless_spent, is_full, begun_row, alone_row, target_row, is_misplaced, start_row, x2_command_row, s1_command_row, attempt_command_row, command_row, attempt_cancel_row, give_up_row, came_row, ask_row, packet_row, send_rrc_row, skip_row, act_row}
 use Rattle.lte_machine.specs.StationStep.{plain_station}
 use Rattle.lte_properties.specs.ChainBelow.{AllOf}
-use Rattle.lte_properties.specs.ChainRows.{RecordFits}
+use Rattle.lte_properties.specs.ChainRows.{RecordFits, RenewedFor}
 use Rattle.lte_properties.specs.Freshness.{srb_accepted}
 use Rattle.lte_properties.specs.FreshUses.{home_at, Homes, OnKey}
 use Rattle.lte_properties.specs.FreshHolds.{PrepStands, BetweenStands}
@@ -87,6 +88,7 @@ module _ (o : Option (Context Term ℕ)) where
   cancel_counts conn (Some (Within (X2Open start))) = tt
   cancel_counts conn (Some (Within (X2Ready acked))) = tt
   cancel_counts conn (Some (Within (X2Commanded sent))) = tt
+  cancel_counts conn (Some (Renewing renewal)) = tt
 
   -- the act of that
   give_up_counts : (c : Option PlainContext) → ActCounts o (give_up_row c)
@@ -128,6 +130,7 @@ module _ (ncc : ℕ → ℕ) where
   attempt_command_counts c (Some (OverX2 state)) = x2_command_counts c state
   attempt_command_counts c (Some (OverS1 state)) = s1_command_counts c state
   attempt_command_counts c (Some (Within state)) = x2_command_counts c state
+  attempt_command_counts c (Some (Renewing renewal)) = unspent_counts (Some c) c.bearers.srb1 _ refl
 
   -- the act of that
   command_counts : (o : Option (Context Term ℕ)) → ActCounts o (command_row (option_map (map_context unseen ncc) o))
@@ -207,6 +210,7 @@ module _ (taken : Homes) (s : Station Term ℕ) (air : ℕ) where
   starting_row_needs count (Ok (Reconfiguration cell ncc algs station a)) = tt
   starting_row_needs count (Ok ReconfigurationComplete) = tt
   starting_row_needs count (Ok (RrcData text)) = tt
+  starting_row_needs count (Ok (KeyChange cell algs station a)) = tt
 
   -- nor does an active one
   rrc_row_needs : (srb : Srb) (count : ℕ) (read : Result RrcRecord RecFault) → AirNeeds taken s (rrc_row srb count read)
@@ -216,6 +220,7 @@ module _ (taken : Homes) (s : Station Term ℕ) (air : ℕ) where
   rrc_row_needs srb count (Ok (Reconfiguration cell ncc algs station a)) = tt
   rrc_row_needs srb count (Ok ReconfigurationComplete) = tt
   rrc_row_needs srb count (Ok (RrcData text)) = tt
+  rrc_row_needs srb count (Ok (KeyChange cell algs station a)) = tt
 
   -- a completion is of a key that was taken here
   completed_needs : (next count : ℕ) (by : By) → TakenHere taken s.id air (at_air air s.preps) → AirNeeds taken s (completed_row next air count by)
@@ -232,6 +237,7 @@ module _ (taken : Homes) (s : Station Term ℕ) (air : ℕ) where
   prepared_row_needs next count by (Ok (Reconfiguration cell ncc algs station a)) h = tt
   prepared_row_needs next count by (Ok ReconfigurationComplete) h = completed_needs next count by h
   prepared_row_needs next count by (Ok (RrcData text)) h = tt
+  prepared_row_needs next count by (Ok (KeyChange cell algs station a)) h = tt
 
   -- a use that is accepted is of a KeNB that the phone took here
   abbrev OfTaken : Opening Term → Outcome → Type 0
@@ -318,6 +324,14 @@ module _ (given : Homes) (s : Station Term ℕ) (to : Address) (here : GoesHere 
   fits_needs fields key (AckedByX2 algs air) b f = tt
   fits_needs fields key (PreparationCancelled o) b f = tt
   fits_needs fields key SourceReleased b f = tt
+  fits_needs fields key (KeyRenewed conn number air count) b f = (above f.1, f.2, f.3, counts s.context f.0)
+    where
+      above : s.last < conn → s.last ≤ conn
+      above lt = omega arith
+
+      counts : (o : Option (Context Term ℕ)) → RenewedFor o conn count fields → IfSome o (λ c. count ≡ c.bearers.srb1.send)
+      counts None g = absurd g
+      counts (Some c) g = g.3
 
   -- a record that comes
   pub record_needs : (r : Reading Term ℕ) (interface : Interface) (fields : Fields) (key : Option (NumberedKey Term ℕ)) → BetweenStands given to fields key →

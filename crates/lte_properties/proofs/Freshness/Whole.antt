@@ -27,6 +27,7 @@ use Rattle.lte_properties.specs.FreshHolds.{StationStands, Fresh}
 use Rattle.lte_properties.proofs.ChainNumbers.Choice.{by_some, none_some, same_of}
 use Rattle.lte_properties.proofs.Freshness.Lists.{no_use_twice, no_value_twice}
 use Rattle.lte_properties.proofs.Freshness.Run.{run_fresh}
+use Rattle.lte_properties.proofs.Opening.Opens.{IsReflexive}
 
 -- THE FIRST WORLD
 
@@ -48,7 +49,7 @@ first_fresh setup = record {
   taken = λ t. None;
   given = λ t. None;
   counted = refl;
-  phone = ((tt, tt), tt, (λ t k e. absurd (none_some e)), tt);
+  phone = ((tt, tt), tt, (λ t k e. absurd (none_some e)), tt, tt, tt);
   core = ((tt, tt), tt, tt, tt, (λ t k e. absurd (none_some e)));
   stations = stations_stand setup.cells setup.stations;
   up = tt;
@@ -62,21 +63,21 @@ first_fresh setup = record {
 -- ALL RUNS
 
 -- in every run in which stations and core accept what was sealed so
-pub no_use_twice_ever : (same : Term → Term → Bool) (octets : Outgoing Term ℕ → List ℕ) (sender : Option (Outgoing Term ℕ) → Option (KeyUse Term))
+pub no_use_twice_ever : (same : Term → Term → Bool) → IsReflexive same → (octets : Outgoing Term ℕ → List ℕ) (sender : Option (Outgoing Term ℕ) → Option (KeyUse Term))
     (opener : Opening Term → List ℕ → Option (Outgoing Term ℕ) → Outcome) (setup : Setup) (es : List Event) →
     AllSentUnder (machine_by same Root octets sender opener) (first_world setup) es →
     NoUseTwice (run (machine_by same Root octets sender opener) (first_world setup) es).uses
-no_use_twice_ever same octets sender opener setup es honest =
-    no_use_twice _ (run_fresh same octets sender opener (first_world setup) es honest (first_fresh setup)).apart
+no_use_twice_ever same itself octets sender opener setup es honest =
+    no_use_twice _ (run_fresh same itself octets sender opener (first_world setup) es honest (first_fresh setup)).apart
 
 -- and in octets, where distinct keys of the run have distinct values
-pub no_value_twice_ever : (same : Term → Term → Bool) (octets : Outgoing Term ℕ → List ℕ) (sender : Option (Outgoing Term ℕ) → Option (KeyUse Term))
+pub no_value_twice_ever : (same : Term → Term → Bool) → IsReflexive same → (octets : Outgoing Term ℕ → List ℕ) (sender : Option (Outgoing Term ℕ) → Option (KeyUse Term))
     (opener : Opening Term → List ℕ → Option (Outgoing Term ℕ) → Outcome) (setup : Setup) (es : List Event) →
     AllSentUnder (machine_by same Root octets sender opener) (first_world setup) es →
     ValuesApart (run (machine_by same Root octets sender opener) (first_world setup) es).uses →
     NoUseTwice (map (map_use value_of) (run (machine_by same Root octets sender opener) (first_world setup) es).uses)
-no_value_twice_ever same octets sender opener setup es honest apart =
-    no_value_twice _ (no_use_twice_ever same octets sender opener setup es honest) apart
+no_value_twice_ever same itself octets sender opener setup es honest apart =
+    no_value_twice _ (no_use_twice_ever same itself octets sender opener setup es honest) apart
 
 -- COMPARISON OF TERMS
 
@@ -135,7 +136,7 @@ module _ (c : Ciphers Term) where
   sealed_so v e pdu (Some (Between to fields key)) u h = absurd (none_foreign v e pdu u h)
 
   -- a machine that opens PDUs of SRBs by the terms of their uses; how it opens anything else is open
-  module _ (same : Term → Term → Bool) (octets : Outgoing Term ℕ → List ℕ) (sender : Option (Outgoing Term ℕ) → Option (KeyUse Term))
+  module _ (same : Term → Term → Bool) (itself : IsReflexive same) (octets : Outgoing Term ℕ → List ℕ) (sender : Option (Outgoing Term ℕ) → Option (KeyUse Term))
       (opener : Opening Term → List ℕ → Option (Outgoing Term ℕ) → Outcome)
       (by_terms : (v : KeyUse Term) (e : Option (Ciphering Term)) (pdu : List ℕ) (came : Option (Outgoing Term ℕ)) →
       opener (OpensSrb v e) pdu came ≡ open_by_uses same_term c (OpensSrb v e) pdu came) where
@@ -162,7 +163,7 @@ module _ (c : Ciphers Term) where
 
     -- no use is made twice in any run from any setup
     pub no_use_twice_by_terms : (setup : Setup) (es : List Event) → NoUseTwice (run m (first_world setup) es).uses
-    no_use_twice_by_terms setup es = no_use_twice_ever same octets sender opener setup es (all_sent_under (first_world setup) es)
+    no_use_twice_by_terms setup es = no_use_twice_ever same itself octets sender opener setup es (all_sent_under (first_world setup) es)
 
     -- and in octets, where distinct keys of the run have distinct values
     pub no_value_twice_by_terms : (setup : Setup) (es : List Event) → ValuesApart (run m (first_world setup) es).uses →
@@ -173,4 +174,4 @@ module _ (c : Ciphers Term) where
 pub no_use_twice_of_terms : (c : Ciphers Term) (between : Fields → Option (NumberedKey Term ℕ) → List ℕ) (setup : Setup) (es : List Event) →
     NoUseTwice (run (machine_over same_term c between) (first_world setup) es).uses
 no_use_twice_of_terms c between setup es =
-    no_use_twice_by_terms c same_term (octets_of c between) sender_of (open_by_uses same_term c) (λ v e pdu came. refl) setup es
+    no_use_twice_by_terms c same_term (λ t. (same_term-Decides t t).1 refl) (octets_of c between) sender_of (open_by_uses same_term c) (λ v e pdu came. refl) setup es

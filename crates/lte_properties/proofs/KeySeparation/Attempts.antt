@@ -21,10 +21,10 @@ use Rattle.lte_machine.specs.Bearers.{Srb, Drb, which}
 use Rattle.lte_machine.specs.Wire.{KeyUse, Outgoing, SealedNas, PlainNas, SealedRrc, UserPacket, Between, address_of}
 use Rattle.lte_machine.specs.Opening.{Opening, Outcome}
 use Rattle.lte_machine.specs.Reply.{Origin, Tried, Reply, unseen}
-use Rattle.lte_machine.specs.StationState.{Station, Context, StationInput, StationActs, AirPdu, StationRecord, Interface, OnS1, OnX2, map_read}
-use Rattle.lte_machine.specs.StationRows.{Wanted, RecordRow, RecordRefused, ContextGiven, ContextReleased, PairTaken, PreparedByS1, PreparedByX2, AckedByS1, AckedByX2, PreparationCancelled, SourceReleased, AirRow, AirRefused, SecurityStarted, RrcOpened, PacketOpened, CompletedByS1, CompletedWithin, CompletedByX2, ActRow, ActRefused, StartedByX2, StartedByS1, StartedWithin, HandoverCommanded, CancelledByX2, CancelledByS1, CancelledWithin, PathSwitchAsked, PacketSent, RrcSent, BearerSkipped, StationRow, OfRecord, OfAir, OfAct}
+use Rattle.lte_machine.specs.StationState.{Station, Context, StationInput, StationActs, AirPdu, StationRecord, Interface, OnS1, OnX2, map_read, Renewal, Renewing}
+use Rattle.lte_machine.specs.StationRows.{Wanted, RecordRow, RecordRefused, ContextGiven, ContextReleased, PairTaken, PreparedByS1, PreparedByX2, AckedByS1, AckedByX2, PreparationCancelled, SourceReleased, AirRow, AirRefused, SecurityStarted, RrcOpened, PacketOpened, CompletedByS1, CompletedWithin, CompletedByX2, ActRow, ActRefused, StartedByX2, StartedByS1, StartedWithin, HandoverCommanded, CancelledByX2, CancelledByS1, CancelledWithin, PathSwitchAsked, PacketSent, RrcSent, BearerSkipped, StationRow, OfRecord, OfAir, OfAct, KeyRenewed, ChangeCommanded}
 use Rattle.lte_machine.specs.StationChoice.{record_row}
-use Rattle.lte_machine.specs.StationKeys.{context_given, pair_taken, prepared_by_s1, prepared_by_x2, completed_by_s1, completed_within, completed_by_x2, started_by_x2, started_by_s1, started_within, commands, asks_again, sends_packet, sends_rrc, record_does, air_does, act_does, station_does}
+use Rattle.lte_machine.specs.StationKeys.{context_given, pair_taken, prepared_by_s1, prepared_by_x2, completed_by_s1, completed_within, completed_by_x2, started_by_x2, started_by_s1, started_within, commands, asks_again, sends_packet, sends_rrc, record_does, air_does, act_does, station_does, key_renewed, commands_change}
 use Rattle.lte_machine.specs.StationStep.{plain_station, station_opens, station_pdu_in, station_row_of, station_key, station_step}
 use Rattle.lte_machine.specs.World.{Machine, World, with_one, station_after, station_of_id, turn_of, station_turn, auth_unless, known_root, next_root, content_in, arrives, chosen, delivered, class_of, is_sent, injected, happens}
 use Rattle.lte_machine.specs.Machines.{content_of}
@@ -74,6 +74,12 @@ module _ (same : Term → Term → Bool) (s : Station Term ℕ) where
   prepared_x2_numbered w None e = quiet _ _ refl refl refl
   prepared_x2_numbered w (Some key) e = drawn _ _ refl (one_on w.air e) refl
 
+  renewed_numbered : (conn number air count : ℕ) (o : Option (Context Term ℕ)) (key : Option (NumberedKey Term ℕ)) → (number ≡ s.next) × (air ≡ s.next + 1) →
+      Numbered s (key_renewed (term_reading_by same) conn number air count o key s)
+  renewed_numbered conn number air count None key e = quiet _ _ refl refl refl
+  renewed_numbered conn number air count (Some c) None e = quiet _ _ refl refl refl
+  renewed_numbered conn number air count (Some c) (Some kenb) e = let f = e.1 in drawn _ _ refl (omega (arith, f)) refl
+
   record_numbered : (row : RecordRow) (key : Option (NumberedKey Term ℕ)) → RecordDraws s.next row → Numbered s (record_does (term_reading_by same) row key s)
   record_numbered (RecordRefused answer) key e = quiet _ _ refl refl refl
   record_numbered (ContextGiven conn cell caps algs air) key e = given_numbered conn cell caps algs air key e
@@ -85,6 +91,7 @@ module _ (same : Term → Term → Bool) (s : Station Term ℕ) where
   record_numbered (AckedByX2 algs air) key e = quiet _ _ refl refl refl
   record_numbered (PreparationCancelled from) key e = quiet _ _ refl refl refl
   record_numbered SourceReleased key e = quiet _ _ refl refl refl
+  record_numbered (KeyRenewed conn number air count) key e = renewed_numbered conn number air count s.context key e
 
   completed_s1_numbered : (count : ℕ) (o : Option (Prep Term ℕ)) → Numbered s (completed_by_s1 (term_reading_by same) count o s)
   completed_s1_numbered count None = quiet _ _ refl refl refl
@@ -124,6 +131,10 @@ module _ (same : Term → Term → Bool) (s : Station Term ℕ) where
   commands_numbered order count None = quiet _ _ refl refl refl
   commands_numbered order count (Some c) = quiet _ _ refl refl refl
 
+  commands_change_numbered : (renewal : Renewal) (count : ℕ) (o : Option (Context Term ℕ)) → Numbered s (commands_change renewal count o s)
+  commands_change_numbered renewal count None = quiet _ _ refl refl refl
+  commands_change_numbered renewal count (Some c) = quiet _ _ refl refl refl
+
   asks_numbered : (number : ℕ) (o : Option (Context Term ℕ)) → number ≡ s.next → Numbered s (asks_again number o s)
   asks_numbered number None e = quiet _ _ refl refl refl
   asks_numbered number (Some c) e = drawn _ _ refl (one_on number e) refl
@@ -142,6 +153,7 @@ module _ (same : Term → Term → Bool) (s : Station Term ℕ) where
   act_numbered (StartedByS1 number target cell) e = started_s1_numbered number target cell s.context e
   act_numbered (StartedWithin number air cell) e = started_within_numbered number air cell s.context e
   act_numbered (HandoverCommanded order count) e = commands_numbered order count s.context
+  act_numbered (ChangeCommanded renewal count) e = commands_change_numbered renewal count s.context
   act_numbered (CancelledByX2 conn number target) e = quiet _ _ refl refl refl
   act_numbered (CancelledByS1 conn number cell) e = quiet _ _ refl refl refl
   act_numbered (CancelledWithin number) e = quiet _ _ refl refl refl
@@ -167,6 +179,7 @@ module _ (same : Term → Term → Bool) (s : Station Term ℕ) where
   fits_draw fields (AckedByX2 algs air) h = tt
   fits_draw fields (PreparationCancelled from) h = tt
   fits_draw fields SourceReleased h = tt
+  fits_draw fields (KeyRenewed conn number air count) h = (h.2, h.3)
 
   pub read_draws : (on : Interface) (x : Outgoing Term ℕ) → RecordDraws s.next (record_row (plain_station (term_reading_by same) s) on (map_read unseen (term_reading_by same).ncc (content_of x)))
   read_draws on (SealedNas dir header u e text) = tt

@@ -9,7 +9,7 @@ use Rattle.alg_choice.specs.declared.choices.NoAlgorithm.{NoAlgorithm as Unmatch
 use Rattle.alg_choice.specs.Choice.{choice_of}
 use Rattle.annex_a_keys.specs.Cell.{Place}
 use Rattle.rec_base.specs.declared.faults.RecFault.{RecFault}
-use Rattle.lte_events.specs.Site.{Site}
+use Rattle.lte_events.specs.Site.{Site, station_of}
 use Rattle.lte_events.specs.declared.acts.CoreAct.{CoreAct}
 use Rattle.lte_events.specs.declared.acts.StationAct.{StationAct}
 use Rattle.lte_events.specs.declared.acts.HoKind.{HoKind}
@@ -27,18 +27,19 @@ use Rattle.pdcp_guard.specs.Counts.{Counts}
 use Rattle.lte_machine.specs.Bearers.{Which, OnSrb, OnDrb, which, srb_counts, drb_counts, is_spent}
 use Rattle.lte_machine.specs.Opening.{Outcome, Opened, Differs}
 use Rattle.lte_machine.specs.Reply.{Origin}
-use Rattle.s1x2_rec.specs.Fields.{Fields, InitialContext, ContextRelease, PathSwitchRequest, PathSwitchAnswer, HandoverRequired, HandoverRequest, HandoverRequestAck, HandoverCommand, HandoverNotify, HandoverCancel, X2Request, X2Ack, X2Cancel, X2Release}
+use Rattle.s1x2_rec.specs.Fields.{Fields, InitialContext, ContextRelease, PathSwitchRequest, PathSwitchAnswer, HandoverRequired, HandoverRequest, HandoverRequestAck, HandoverCommand, HandoverNotify, HandoverCancel, X2Request, X2Ack, X2Cancel, X2Release, ContextModification}
 use Rattle.s1x2_rec.specs.Content.{Content}
 use Rattle.ho_prep.specs.Prep.{has_attempt}
-use Rattle.lte_machine.specs.StationState.{Interface, OnS1, OnX2, OverX2, OverS1, Within, X2State, X2Open, X2Ready, X2Commanded, S1State, S1Open, S1Ready, S1Commanded}
-use Rattle.lte_machine.specs.StationRows.{Wanted, RecordRow, PairTaken, PreparedByS1, PreparedByX2, AckedByS1, ActRow}
-use Rattle.lte_machine.specs.StationChoice.{PlainStation, PlainContext, PlainAttempt, station_of, is_full, runs_out, is_station, is_own, initial_chosen, initial_row, release_row as s1_release_row, answer_row_by, answer_row, wanted_chosen, wanted_row, acked_open, s1_acked_row, s1_ack_row, x2_acked_row, x2_ack_row, cancel_row, x2_released_row, x2_release_row, s1_row, x2_row, record_row, is_misplaced, active_row, unless_spent, begun_row, alone_row, target_row, start_row, x2_command_row, s1_command_row, attempt_command_row, command_row, attempt_cancel_row, give_up_row, came_row, ask_row, packet_row, send_rrc_row, skip_row, act_row}
+use Rattle.lte_machine.specs.StationState.{Interface, OnS1, OnX2, OverX2, OverS1, Within, X2State, X2Open, X2Ready, X2Commanded, S1State, S1Open, S1Ready, S1Commanded, Renewing}
+use Rattle.lte_machine.specs.StationRows.{Wanted, RecordRow, PairTaken, PreparedByS1, PreparedByX2, AckedByS1, ActRow, ContextGiven}
+use Rattle.lte_machine.specs.StationChoice.{PlainStation, PlainContext, PlainAttempt, is_full, runs_out, is_station, is_own, initial_chosen, initial_row, release_row as s1_release_row, answer_row_by, answer_row, wanted_chosen, wanted_row, acked_open, s1_acked_row, s1_ack_row, x2_acked_row, x2_ack_row, cancel_row, x2_released_row, x2_release_row, s1_row, x2_row, record_row, is_misplaced, active_row, unless_spent, begun_row, alone_row, target_row, start_row, x2_command_row, s1_command_row, attempt_command_row, command_row, attempt_cancel_row, give_up_row, came_row, ask_row, packet_row, send_rrc_row, skip_row, act_row, renewed_alone, modification_row}
 use Rattle.lte_machine.specs.CoreState.{CorePartial, CoreContext, CoreLink}
 use Rattle.lte_machine.specs.CoreRows.{CoreNasRow, ServiceAsked, NasOpened, SealedReject, CoreActRow, ContextSetUp}
-use Rattle.lte_machine.specs.CoreChoice.{PlainCore, CoreNasFront, NasSettled, OpensComplete, OpensProtected, plain_text_row, plain_row, opens_complete, complete_front, opens_protected, protected_front, core_nas_front, complete_row, reject_row, protected_row, core_nas_row, station_at_cell, smc_row, start_smc_row, NUMBERS, connect_row, release_row, send_nas_row, skip_nas_row, core_act_row}
+use Rattle.lte_machine.specs.CoreChoice.{PlainCore, CoreNasFront, NasSettled, OpensComplete, OpensProtected, plain_text_row, plain_row, opens_complete, complete_front, opens_protected, protected_front, core_nas_front, complete_row, reject_row, protected_row, core_nas_row, smc_row, start_smc_row, NUMBERS, connect_row, release_row, send_nas_row, skip_nas_row, core_act_row, completed_row}
 use Rattle.lte_properties.proofs.ChainNumbers.Choice.{by_test}
 use Rattle.lte_properties.proofs.ChainNumbers.Lists.{OfSome}
 use Rattle.lte_properties.proofs.KeySeparation.Station.{ActNeeds}
+use Rattle.lte_properties.proofs.KeySeparation.Keys.{OwnPlace}
 
 -- A STATION'S ACTS: KENB* GOES TO THE STATION OF ITS CELL
 
@@ -98,9 +99,11 @@ module _ (sites : List Site) (id : ℕ) where
     of_attempt (Some (OverX2 state)) = x2_command_goes state c.bearers.srb1
     of_attempt (Some (OverS1 state)) = s1_command_goes state c.bearers.srb1
     of_attempt (Some (Within state)) = x2_command_goes state c.bearers.srb1
+    of_attempt (Some (Renewing renewal)) = unspent_goes c.bearers.srb1 _ tt
 
   attempt_cancel_goes : (conn : ℕ) (o : Option PlainAttempt) → ActNeeds sites id (attempt_cancel_row conn o)
   attempt_cancel_goes conn None = tt
+  attempt_cancel_goes conn (Some (Renewing renewal)) = tt
   attempt_cancel_goes conn (Some (OverX2 (X2Open start))) = tt
   attempt_cancel_goes conn (Some (OverX2 (X2Ready acked))) = tt
   attempt_cancel_goes conn (Some (OverX2 (X2Commanded sent))) = tt
@@ -147,11 +150,19 @@ module _ (sites : List Site) (id : ℕ) where
   act_goes s (StationAct.SendRrc bearer text) i e = rrc_goes (which bearer) text s.context
   act_goes s (StationAct.Skip bearer n) i e = skip_goes (which bearer) n s.context
 
--- A STATION'S RECORDS: A CELL FOR WHICH IT PREPARES IS ITS OWN
+-- A STATION'S RECORDS: A CELL FOR WHICH IT GETS A CONTEXT OR PREPARES IS ITS OWN
 
 abbrev pub CellOwn : List Site → ℕ → RecordRow → Type 0
-CellOwn sites id (PreparedByS1 w) = station_of w.cell sites ≡ Some id
+CellOwn sites id (ContextGiven conn cell caps algs air) = OwnPlace sites id cell
+CellOwn sites id (PreparedByS1 w) = OwnPlace sites id w.cell
+CellOwn sites id (PreparedByX2 w) = OwnPlace sites id w.cell
 CellOwn sites id other = ⊤
+
+own_so : (id : ℕ) (o : Option ℕ) → is_station id o ≡ true → o ≡ Some id
+own_so id None e = absurd cc
+own_so id (Some station) e = ap Some (one station id e) where
+  one : (a b : ℕ) → (a == b) ≡ true → a ≡ b
+  one a b e = grind (arith, nat_tests)
 
 own_is : (id : ℕ) (o : Option ℕ) → not (is_station id o) ≡ false → o ≡ Some id
 own_is id None e = absurd cc
@@ -165,11 +176,11 @@ module _ (s : PlainStation) where
 
   initial_own : (conn : ℕ) (cell : Place) (caps : Caps) → Own (initial_row s conn cell caps)
   initial_own conn cell caps =
-      by_test Own (nat_le conn s.last) _ _ (λ e. tt) (λ e. by_test Own (is_own s cell) _ _ (λ f. chosen (choice_of s.priority caps)) (λ f. tt))
+      by_test Own (nat_le conn s.last) _ _ (λ e. tt) (λ e. by_test Own (is_own s cell) _ _ (λ f. chosen (own_so s.id (station_of cell s.cells) f) (choice_of s.priority caps)) (λ f. tt))
     where
-      chosen : (r : Result Algs Unmatched) → Own (initial_chosen s conn cell caps r)
-      chosen (Err none) = tt
-      chosen (Ok algs) = by_test Own (runs_out 1 s.next) _ _ (λ e. tt) (λ e. tt)
+      chosen : OwnPlace s.cells s.id cell → (r : Result Algs Unmatched) → Own (initial_chosen s conn cell caps r)
+      chosen own (Err none) = tt
+      chosen own (Ok algs) = by_test Own (runs_out 1 s.next) _ _ (λ e. tt) (λ e. own)
 
   release_own : (conn : ℕ) (o : Option PlainContext) → Own (s1_release_row conn o)
   release_own conn None = tt
@@ -205,12 +216,24 @@ module _ (s : PlainStation) where
     acked None = tt
     acked (Some (OverX2 state)) = tt
     acked (Some (Within state)) = tt
+    acked (Some (Renewing renewal)) = tt
     acked (Some (OverS1 (S1Open start))) = acked_own number start.number _ tt
     acked (Some (OverS1 (S1Ready ready))) = acked_own number ready.start.number _ tt
     acked (Some (OverS1 (S1Commanded sent))) = acked_own number sent.number _ tt
 
   cancel_own : (from : Origin) → Own (cancel_row s from)
   cancel_own from = by_test Own (has_attempt from.source from.attempt s.preps) _ _ (λ e. tt) (λ e. tt)
+
+  renewed_own : (next_conn : ℕ) (counts : Counts) (o : Option PlainAttempt) → Own (renewed_alone next_conn s.next counts o)
+  renewed_own next_conn counts (Some attempt) = tt
+  renewed_own next_conn counts None = by_test Own (runs_out 2 s.next) _ _ (λ e. tt) (λ e. by_test Own (is_spent counts) _ _ (λ f. tt) (λ f. tt))
+
+  modification_own : (conn next_conn : ℕ) (o : Option PlainContext) → Own (modification_row s conn next_conn o)
+  modification_own conn next_conn None = tt
+  modification_own conn next_conn (Some c) =
+      by_test Own (not (c.conn == conn)) _ _ (λ e. tt) (λ e.
+      by_test Own (nat_le next_conn s.last) _ _ (λ f. tt) (λ f.
+      by_test Own c.starting _ _ (λ g. tt) (λ g. renewed_own next_conn c.bearers.srb1 c.attempt)))
 
   s1_own : (fields : Fields) → Own (s1_row s fields)
   s1_own (InitialContext conn cell caps) = initial_own conn cell caps
@@ -223,6 +246,7 @@ module _ (s : PlainStation) where
   s1_own (HandoverCommand conn attempt cell ncc algs air) = s1_ack_own attempt ncc algs air s.context
   s1_own (HandoverNotify conn station cell) = tt
   s1_own (HandoverCancel conn source attempt cell) = cancel_own (record { source = source; attempt = attempt })
+  s1_own (ContextModification conn next) = modification_own conn next s.context
   s1_own (X2Request conn source attempt cell caps) = tt
   s1_own (X2Ack conn attempt cell algs air) = tt
   s1_own (X2Cancel conn source attempt) = tt
@@ -232,6 +256,7 @@ module _ (s : PlainStation) where
   x2_acked_own number row h None = tt
   x2_acked_own number row h (Some (OverS1 state)) = tt
   x2_acked_own number row h (Some (Within state)) = tt
+  x2_acked_own number row h (Some (Renewing renewal)) = tt
   x2_acked_own number row h (Some (OverX2 (X2Open start))) = acked_own number start.number row h
   x2_acked_own number row h (Some (OverX2 (X2Ready ready))) = acked_own number ready.start.number _ tt
   x2_acked_own number row h (Some (OverX2 (X2Commanded sent))) = acked_own number sent.number _ tt
@@ -247,6 +272,7 @@ module _ (s : PlainStation) where
     released None = tt
     released (Some (OverS1 state)) = tt
     released (Some (Within state)) = tt
+    released (Some (Renewing renewal)) = tt
     released (Some (OverX2 (X2Open start))) = tt
     released (Some (OverX2 (X2Ready ready))) = tt
     released (Some (OverX2 (X2Commanded sent))) = by_test Own (sent.number == number) _ _ (λ e. tt) (λ e. tt)
@@ -262,7 +288,8 @@ module _ (s : PlainStation) where
   x2_own (HandoverCommand conn attempt cell ncc algs air) = tt
   x2_own (HandoverNotify conn station cell) = tt
   x2_own (HandoverCancel conn source attempt cell) = tt
-  x2_own (X2Request conn source attempt cell caps) = wanted_own conn (record { source = source; attempt = attempt }) cell caps PreparedByX2 (λ algs own. tt)
+  x2_own (ContextModification conn next) = tt
+  x2_own (X2Request conn source attempt cell caps) = wanted_own conn (record { source = source; attempt = attempt }) cell caps PreparedByX2 (λ algs own. own)
   x2_own (X2Ack conn attempt cell algs air) = x2_ack_own attempt algs air s.context
   x2_own (X2Cancel conn source attempt) = cancel_own (record { source = source; attempt = attempt })
   x2_own (X2Release conn attempt) = x2_release_own attempt s.context
@@ -328,20 +355,25 @@ protected_next (Some c) header pdu = opens (estimate_of c.nas.receive (sn_in pdu
   opens (Err spent) e = tt
   opens (Ok count) e = estimate_at c.nas.receive (sn_in pdu) count e
 
-front_next : (s : PlainCore) (pdu : List ℕ) (header : Result ℕ Answer) → FrontNext s.context (core_nas_front s pdu header)
+front_next : (s : PlainCore) (pdu : List ℕ) (header : Result ℕ Answer) → FrontNext s.context (core_nas_front s.procedure s.context pdu header)
 front_next s pdu (Err answer) = tt
 front_next s pdu (Ok header) =
     by_test (FrontNext s.context) (header == 0) _ _ (λ e. plain_next s.context s.procedure s.context pdu) (λ e.
     by_test (FrontNext s.context) (nat_lt (length pdu) 6) _ _ (λ f. tt) (λ f.
     by_test (FrontNext s.context) (header == 4) _ _ (λ g. complete_next s.context s.procedure pdu) (λ g. protected_next s.context header pdu)))
 
-complete_row_next : (o : Option (CoreContext (Unit {0}))) (count : ℕ) (read : Result NasRecord RecFault) → RowNext o (complete_row count read)
-complete_row_next o count (Err fault) = tt
-complete_row_next o count (Ok (SecurityModeCommand ksi algs caps)) = tt
-complete_row_next o count (Ok SecurityModeComplete) = tt
-complete_row_next o count (Ok (SecurityModeReject cause)) = tt
-complete_row_next o count (Ok ServiceRequest) = tt
-complete_row_next o count (Ok (NasData text)) = tt
+completed_next : (o : Option (CoreContext (Unit {0}))) (count next : ℕ) (link : Option (CoreLink (Unit {0}) ℕ)) → RowNext o (completed_row count next link)
+completed_next o count next None = tt
+completed_next o count next (Some link) = by_test (RowNext o) (nat_le NUMBERS next) _ _ (λ e. tt) (λ e. tt)
+
+complete_row_next : (o : Option (CoreContext (Unit {0}))) (count next : ℕ) (link : Option (CoreLink (Unit {0}) ℕ)) (read : Result NasRecord RecFault) →
+    RowNext o (complete_row count next link read)
+complete_row_next o count next link (Err fault) = tt
+complete_row_next o count next link (Ok (SecurityModeCommand ksi algs caps)) = tt
+complete_row_next o count next link (Ok SecurityModeComplete) = completed_next o count next link
+complete_row_next o count next link (Ok (SecurityModeReject cause)) = tt
+complete_row_next o count next link (Ok ServiceRequest) = tt
+complete_row_next o count next link (Ok (NasData text)) = tt
 
 reject_next : (o : Option (CoreContext (Unit {0}))) (p : Option (Keys (Unit {0}))) (count : ℕ) → NextIn o count → RowNext o (reject_row p count)
 reject_next o None count h = tt
@@ -355,16 +387,16 @@ protected_row_next o p count (Ok (SecurityModeReject cause)) h = reject_next o p
 protected_row_next o p count (Ok ServiceRequest) h = h
 protected_row_next o p count (Ok (NasData text)) h = h
 
-nas_row_next : (s : PlainCore) (front : CoreNasFront) (outcome : Outcome) → FrontNext s.context front → RowNext s.context (core_nas_row s front outcome)
+nas_row_next : (s : PlainCore) (front : CoreNasFront) (outcome : Outcome) → FrontNext s.context front → RowNext s.context (core_nas_row s.procedure s.next s.link front outcome)
 nas_row_next s (NasSettled row) outcome h = h
 nas_row_next s (OpensComplete count) (Differs wanted got) h = tt
-nas_row_next s (OpensComplete count) (Opened text) h = complete_row_next s.context count (read_nas text)
+nas_row_next s (OpensComplete count) (Opened text) h = complete_row_next s.context count s.next s.link (read_nas text)
 nas_row_next s (OpensProtected header count) (Differs wanted got) h = tt
 nas_row_next s (OpensProtected header count) (Opened text) h = protected_row_next s.context s.procedure count (read_nas text) h
 
 -- a NAS message
-pub nas_next : (s : PlainCore) (pdu : List ℕ) (header : Result ℕ Answer) (outcome : Outcome) → RowNext s.context (core_nas_row s (core_nas_front s pdu header) outcome)
-nas_next s pdu header outcome = nas_row_next s (core_nas_front s pdu header) outcome (front_next s pdu header)
+pub nas_next : (s : PlainCore) (pdu : List ℕ) (header : Result ℕ Answer) (outcome : Outcome) → RowNext s.context (core_nas_row s.procedure s.next s.link (core_nas_front s.procedure s.context pdu header) outcome)
+nas_next s pdu header outcome = nas_row_next s (core_nas_front s.procedure s.context pdu header) outcome (front_next s pdu header)
 
 -- THE CORE'S ACTS: A CONNECTION NEEDS A TRIGGER
 
@@ -402,7 +434,7 @@ skip_nas_triggered trigger (Some context) n = tt
 -- an act
 pub act_triggered : (s : PlainCore) (act : CoreAct) → ActTriggered s.trigger (core_act_row s act)
 act_triggered s CoreAct.StartSmc = start_smc_triggered s.trigger s.priority s.partial s.procedure
-act_triggered s (CoreAct.Connect cell) = connect_triggered s.next cell (station_at_cell cell s.cells) s.context s.trigger
+act_triggered s (CoreAct.Connect cell) = connect_triggered s.next cell (station_of cell s.cells) s.context s.trigger
 act_triggered s CoreAct.Release = release_triggered s.trigger s.link
 act_triggered s (CoreAct.SendNas text) = send_nas_triggered s.trigger s.context text
 act_triggered s (CoreAct.Skip n) = skip_nas_triggered s.trigger s.context n

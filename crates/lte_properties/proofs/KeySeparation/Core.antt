@@ -11,14 +11,14 @@ use Rattle.nas_guard.specs.Keys.{Keys}
 use Rattle.key_model.specs.Term.{Term, Root, Kenb, Nh, Star, Alg, IsRoot, IsDerivationKey, IsWellFormed}
 use Rattle.key_model.specs.Number.{chain_number}
 use Rattle.key_model.specs.Reading.{term_reading_by}
-use Rattle.s1x2_rec.specs.Fields.{Fields, InitialContext, ContextRelease, PathSwitchAnswer, HandoverRequest}
+use Rattle.s1x2_rec.specs.Fields.{Fields, InitialContext, ContextRelease, PathSwitchAnswer, HandoverRequest, ContextModification}
 use Rattle.nh_chain.specs.Chain.{ChainState, stepped, present_pair}
 use Rattle.lte_machine.specs.Bearers.{skipped}
 use Rattle.lte_machine.specs.Wire.{Outgoing, Between}
 use Rattle.lte_machine.specs.Reply.{Reply, Tried}
 use Rattle.lte_machine.specs.CoreState.{Core, CorePartial, CoreContext, CoreLink}
-use Rattle.lte_machine.specs.CoreRows.{CoreNasRow, NasRefused, PlainReject, SmcComplete, ServiceAsked, NasOpened, SealedReject, CoreRecordRow, RecordRefused, PathSwitched, HandoverAsked, HandoverOrdered, HandoverNotified, HandoverCancelled, CoreActRow, ActRefused, SmcStarted, ContextSetUp, ContextReleased, NasSent, NasSkipped}
-use Rattle.lte_machine.specs.CoreKeys.{CoreDone, authenticated, smc_started, smc_complete, service_asked, nas_opened, sealed_reject, nas_sent, nas_skipped, context_set_up, path_switched, handover_asked, handover_notified, core_does_nas, core_does_record, core_does_act}
+use Rattle.lte_machine.specs.CoreRows.{CoreNasRow, NasRefused, PlainReject, SmcComplete, ServiceAsked, NasOpened, SealedReject, CoreRecordRow, RecordRefused, PathSwitched, HandoverAsked, HandoverOrdered, HandoverNotified, HandoverCancelled, CoreActRow, ActRefused, SmcStarted, ContextSetUp, ContextReleased, NasSent, NasSkipped, SmcChange}
+use Rattle.lte_machine.specs.CoreKeys.{CoreDone, authenticated, smc_started, smc_complete, service_asked, nas_opened, sealed_reject, nas_sent, nas_skipped, context_set_up, path_switched, handover_asked, handover_notified, core_does_nas, core_does_record, core_does_act, key_changed, new_context}
 use Rattle.lte_machine.specs.World.{with_one}
 use Rattle.lte_properties.specs.Separation.{GivenTo}
 use Rattle.lte_properties.proofs.ChainNumbers.Lists.{OfSome}
@@ -198,6 +198,46 @@ module _ (roots : ℕ) (xs : List (Outgoing Term ℕ)) (sites : List Site) (trie
       past : (u : Term) → Past roots (Some p) s.context s.trigger u → (root_number u < roots) × ⊤ × ((root_number u ≤ root_number p.root) × (root_number u ≡ root_number p.root → count_of u < count))
       past u k = (k.0, tt, least (root_number u) (root_number p.root) (count_of u) k.1)
 
+  -- the KeNB of the new context is of a later authentication than all that was given
+  changed_kept : (count conn next station : ℕ) (o : Option (CorePartial Term)) (k : Option (Keys Term)) → Before (record s { partial = o }) →
+      After (key_changed (term_reading_by same) count conn next station o k (record s { partial = o }))
+  changed_kept count conn next station None k h = calm _ _ h (λ u id g. g) tt tt
+  changed_kept count conn next station (Some p) None h = calm _ _ h (λ u id g. g) tt tt
+  changed_kept count conn next station (Some p) (Some keys) h = record {
+    ok = record {
+      partial = tt;
+      context = (h.partial.0, h.partial.1, tt);
+      trigger = tt;
+      link = (h.partial.0, h.partial.0, refl, kenb_past);
+      given = λ u id q. by u id (given_split (Some sent) xs u id q);
+    };
+    outs = (h.partial.0, tt);
+    sends = (((h.partial.0, given_new (Some sent) xs (Kenb p.root count) station (refl, refl)), tt), tt);
+    fresh = λ t a b g l. not_below (root_number p.root) (h.given (Kenb p.root count) a (subst (λ u. GivenTo xs u a) (sym l.0) g)).0.1;
+  } where
+    sent : Outgoing Term ℕ
+    sent = Between (StationS1 station) (ContextModification conn next) (Some (record { key = Kenb p.root count; number = 0 }))
+
+    kenb_past : Past roots None (Some (new_context p keys count)) None (Kenb p.root count)
+    kenb_past = (h.partial.1, tt, (omega arith, λ g. omega arith))
+
+    below : (m : ℕ) → m < root_number p.root → (m ≤ root_number p.root) × (m ≡ root_number p.root → ⊥)
+    below m lt = (omega arith, λ e. omega arith)
+
+    old : (u : Term) (id : ℕ) → GivenTo xs u id → Past roots None (Some (new_context p keys count)) None u × ((root_number u ≤ root_number p.root) × (root_number u ≡ root_number p.root →
+        (count_of u ≤ count) × (count_of u ≡ count → chain_number u ≤ 0)))
+    old u id g =
+        let q = (h.given u id g).0 in
+        let b = below (root_number u) q.1 in
+        ((q.0, tt, (b.0, λ e. absurd (b.1 e))), (b.0, λ e. absurd (b.1 e)))
+
+    by : (u : Term) (id : ℕ) → GivenTo xs u id ⊎ GivesIn (Some sent) u id → Past roots None (Some (new_context p keys count)) None u × ((root_number u ≤ root_number p.root) × (root_number u ≡ root_number p.root →
+        (count_of u ≤ count) × (count_of u ≡ count → chain_number u ≤ 0)))
+    by u id (inl g) = old u id g
+    by u id (inr g) =
+        subst (λ v. Past roots None (Some (new_context p keys count)) None v × ((root_number v ≤ root_number p.root) × (root_number v ≡ root_number p.root →
+        (count_of v ≤ count) × (count_of v ≡ count → chain_number v ≤ 0)))) g.0 (kenb_past, (omega arith, λ e. (omega arith, λ i. omega arith)))
+
   asked_kept : (count : ℕ) (o : Option (CoreContext Term)) → NextIn o count → Before (record s { context = o }) → After (service_asked count o (record s { context = o }))
   asked_kept count None n h = calm _ _ h (λ u id g. g) tt tt
   asked_kept count (Some c) n h =
@@ -243,10 +283,11 @@ module _ (roots : ℕ) (xs : List (Outgoing Term ℕ)) (sites : List Site) (trie
   reject_kept count None n h = calm _ _ h (λ u id g. g) tt tt
   reject_kept count (Some c) n h = count_kept count c n _ _ h refl refl refl refl refl refl
 
-  pub nas_kept : (row : CoreNasRow) → RowNext s.context row → Before s → After (core_does_nas row s)
+  pub nas_kept : (row : CoreNasRow) → RowNext s.context row → Before s → After (core_does_nas (term_reading_by same) row s)
   nas_kept (NasRefused answer) n h = calm _ _ h (λ u id g. g) tt tt
   nas_kept PlainReject n h = quiet s _ _ h refl h.partial h.context h.trigger (λ u k. k) (λ u id g. g) tt tt
   nas_kept (SmcComplete count) n h = complete_kept count s.partial s.procedure h
+  nas_kept (SmcChange count conn next station) n h = changed_kept count conn next station s.partial s.procedure h
   nas_kept (ServiceAsked count) n h = asked_kept count s.context n h
   nas_kept (NasOpened count text) n h = opened_kept count text s.context n h
   nas_kept (SealedReject count) n h = reject_kept count s.context n h

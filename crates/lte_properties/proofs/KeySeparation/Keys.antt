@@ -4,17 +4,16 @@ use Rattle.std.specs.Prelude.{⊤}
 use Rattle.annex_a_keys.specs.Cell.{Place}
 use Rattle.lte_events.specs.declared.addresses.Address.{Address}
 use Rattle.lte_events.specs.declared.addresses.Address.TheVariants.{Phone, PhoneNas, CoreNas, CoreS1, StationAir, StationS1, StationX2}
-use Rattle.lte_events.specs.Site.{Site}
+use Rattle.lte_events.specs.Site.{Site, station_of}
 use Rattle.key_model.specs.Term.{Term, Root, Kenb, Nh, Star, Alg, IsRoot, IsDerivationKey, IsWellFormed}
 use Rattle.key_model.specs.Derivation.{Derivation}
 use Rattle.key_model.specs.HandoverTable.{NumberedKey}
-use Rattle.s1x2_rec.specs.Fields.{Fields, InitialContext, ContextRelease, PathSwitchRequest, PathSwitchAnswer, HandoverRequired, HandoverRequest, HandoverRequestAck, HandoverCommand, HandoverNotify, HandoverCancel, X2Request, X2Ack, X2Cancel, X2Release}
+use Rattle.s1x2_rec.specs.Fields.{Fields, InitialContext, ContextRelease, PathSwitchRequest, PathSwitchAnswer, HandoverRequired, HandoverRequest, HandoverRequestAck, HandoverCommand, HandoverNotify, HandoverCancel, X2Request, X2Ack, X2Cancel, X2Release, ContextModification}
 use Rattle.ho_prep.specs.Prep.{Prep}
 use Rattle.lte_machine.specs.Wire.{Outgoing, SealedNas, PlainNas, SealedRrc, UserPacket, Between}
-use Rattle.lte_machine.specs.Reply.{Origin, Made, Tried}
+use Rattle.lte_machine.specs.Reply.{Origin, Made, Tried, From, BySetup, ByAttempt, ByChange}
 use Rattle.lte_machine.specs.StationState.{Station, Context}
 use Rattle.lte_machine.specs.StationKeys.{spent_in}
-use Rattle.lte_machine.specs.StationChoice.{station_of}
 use Rattle.lte_machine.specs.World.{Holder, AtPhone, AtCore, AtStation, Holding, with_one, holds}
 use Rattle.lte_properties.specs.ChainBelow.{AllOf}
 use Rattle.lte_properties.specs.Separation.{AnyOf, Gives, GivenTo}
@@ -200,37 +199,41 @@ module _ (G : Gifts) (sites : List Site) (id : ℕ) where
 abbrev pub OfPairKey : (Term → Type 0) → Option (NumberedKey Term ℕ) → Type 0
 OfPairKey P o = OfSome (λ pair. P pair.key) o
 
--- of a context: its KeNB, its stored pair, and the pair that its attempt used
-abbrev pub ContextHas : (Term → Type 0) → Context Term ℕ → Type 0
-ContextHas P c = P c.key.kenb × OfPairKey P c.key.pair × OfPairKey P (spent_in c.attempt)
+-- of a context: its KeNB, its stored pair, and the pair that its attempt used; and its cell
+abbrev pub ContextHas : (Term → Type 0) → (Place → Type 0) → Context Term ℕ → Type 0
+ContextHas P C c = P c.key.kenb × OfPairKey P c.key.pair × OfPairKey P (spent_in c.attempt) × C c.cell
 
-abbrev pub PrepHas : (Term → Type 0) → Prep Term ℕ → Type 0
-PrepHas P p = P p.key.kenb × OfPairKey P p.key.pair
+abbrev pub PrepHas : (Term → Type 0) → (Place → Type 0) → Prep Term ℕ → Type 0
+PrepHas P C p = P p.key.kenb × OfPairKey P p.key.pair × C p.cell
 
-pub record StationHas (P : Term → Type 0) (s : Station Term ℕ) : Type 0 where
-  pub context : OfSome (ContextHas P) s.context
-  pub preps : AllOf (PrepHas P) s.preps
+pub record StationHas (P : Term → Type 0) (C : Place → Type 0) (s : Station Term ℕ) : Type 0 where
+  pub context : OfSome (ContextHas P C) s.context
+  pub preps : AllOf (PrepHas P C) s.preps
+
+-- a cell of the station
+abbrev pub OwnPlace : List Site → ℕ → Place → Type 0
+OwnPlace sites id cell = station_of cell sites ≡ Some id
 
 module _ (P Q : Term → Type 0) (f : (t : Term) → P t → Q t) where
   pub pair_has_map : (o : Option (NumberedKey Term ℕ)) → OfPairKey P o → OfPairKey Q o
   pair_has_map None h = tt
   pair_has_map (Some pair) h = f pair.key h
 
-  context_has_map : (o : Option (Context Term ℕ)) → OfSome (ContextHas P) o → OfSome (ContextHas Q) o
-  context_has_map None h = tt
-  context_has_map (Some c) h = (f c.key.kenb h.0, pair_has_map c.key.pair h.1, pair_has_map (spent_in c.attempt) h.2)
+  context_has_map : (C : Place → Type 0) (o : Option (Context Term ℕ)) → OfSome (ContextHas P C) o → OfSome (ContextHas Q C) o
+  context_has_map C None h = tt
+  context_has_map C (Some c) h = (f c.key.kenb h.0, pair_has_map c.key.pair h.1, pair_has_map (spent_in c.attempt) h.2, h.3)
 
-  preps_have_map : (ps : List (Prep Term ℕ)) → AllOf (PrepHas P) ps → AllOf (PrepHas Q) ps
-  preps_have_map [] h = tt
-  preps_have_map (p ∷ ps) h = ((f p.key.kenb h.0.0, pair_has_map p.key.pair h.0.1), preps_have_map ps h.1)
+  preps_have_map : (C : Place → Type 0) (ps : List (Prep Term ℕ)) → AllOf (PrepHas P C) ps → AllOf (PrepHas Q C) ps
+  preps_have_map C [] h = tt
+  preps_have_map C (p ∷ ps) h = ((f p.key.kenb h.0.0, pair_has_map p.key.pair h.0.1, h.0.2), preps_have_map C ps h.1)
 
-  pub station_has_map : (s : Station Term ℕ) → StationHas P s → StationHas Q s
-  station_has_map s h = record { context = context_has_map s.context h.context; preps = preps_have_map s.preps h.preps }
+  pub station_has_map : (C : Place → Type 0) (s : Station Term ℕ) → StationHas P C s → StationHas Q C s
+  station_has_map C s h = record { context = context_has_map C s.context h.context; preps = preps_have_map C s.preps h.preps }
 
--- a station knows the cells of the run, and has such keys alone
+-- a station knows the cells of the run, and has such keys alone, for cells of its own
 pub record StationOk (G : Gifts) (sites : List Site) (s : Station Term ℕ) : Type 0 where
   pub cells : s.cells ≡ sites
-  pub keys : StationHas (May G sites s.id) s
+  pub keys : StationHas (May G sites s.id) (OwnPlace sites s.id) s
 
 -- RECORDS IN FLIGHT, ATTEMPTS, AND WHAT WAS MADE
 
@@ -279,12 +282,13 @@ abbrev pub MadeBy : Gifts → Made Term ℕ → Option (NumberedKey Term ℕ) �
 MadeBy G m (Some star) = star.key ≡ m.key
 MadeBy G m None = BaseGiven G m.station m.key
 
-abbrev pub MadeFrom : Gifts → List (Tried Term ℕ) → Made Term ℕ → Option Origin → Type 0
-MadeFrom G tried m None = IsKenb m.key
-MadeFrom G tried m (Some o) = AnyOf (λ e. (e.station ≡ o.source) × (e.attempt ≡ o.attempt) × MadeBy G m e.given) tried
+abbrev pub MadeFrom : Gifts → List (Tried Term ℕ) → Made Term ℕ → From Term → Type 0
+MadeFrom G tried m BySetup = IsKenb m.key
+MadeFrom G tried m (ByChange before) = BaseGiven G m.station m.key
+MadeFrom G tried m (ByAttempt o) = AnyOf (λ e. (e.station ≡ o.source) × (e.attempt ≡ o.attempt) × MadeBy G m e.given) tried
 
 abbrev pub MadeOk : Gifts → List Site → List (Tried Term ℕ) → Made Term ℕ → Type 0
-MadeOk G sites tried m = MadeFrom G tried m m.from_attempt × OwnCell sites m.station m.key
+MadeOk G sites tried m = MadeFrom G tried m m.from × OwnCell sites m.station m.key
 
 -- what somebody held is a key of Annex A; at a station one that it may have
 abbrev pub HolderMay : Gifts → List Site → Holder → Term → Type 0
@@ -319,7 +323,7 @@ module _ (G H : Gifts) (le : (t : Term) (a : ℕ) → G t a → H t a) (sites : 
   holder_may_grows (AtStation id) t h = may_hold_grows G sites id H le t h
 
   pub station_ok_grows : (s : Station Term ℕ) → StationOk G sites s → StationOk H sites s
-  station_ok_grows s h = record { cells = h.cells; keys = station_has_map (May G sites s.id) (May H sites s.id) (may_grows G sites s.id H le) s h.keys }
+  station_ok_grows s h = record { cells = h.cells; keys = station_has_map (May G sites s.id) (May H sites s.id) (may_grows G sites s.id H le) (OwnPlace sites s.id) s h.keys }
 
   pub base_grows : (id : ℕ) (t : Term) → BaseGiven G id t → BaseGiven H id t
   base_grows id (Root r octets) h = h
@@ -361,6 +365,7 @@ module _ (G H : Gifts) (le : (t : Term) (a : ℕ) → G t a → H t a) (sites : 
     fields_grow (HandoverCommand conn attempt cell ncc algs air) key h = h
     fields_grow (HandoverNotify conn station cell) key h = h
     fields_grow (HandoverCancel conn source attempt cell) key h = h
+    fields_grow (ContextModification conn next) key h = h
     fields_grow (X2Request conn source attempt cell caps) None h = h
     fields_grow (X2Request conn source attempt cell caps) (Some key) h = any_old (λ e. (e.station ≡ source) × (e.attempt ≡ attempt) × (e.given ≡ Some key)) one tried h
     fields_grow (X2Ack conn attempt cell algs air) key h = h
@@ -374,11 +379,12 @@ module _ (G H : Gifts) (le : (t : Term) (a : ℕ) → G t a → H t a) (sites : 
     fly_grows (UserPacket dir station air drb e text) h = tt
     fly_grows (Between to fields key) h = (pair_has_map (KeyGoes G sites to) (KeyGoes H sites to) (key_goes_grows to) key h.0, fields_grow fields key h.1)
 
-    made_from_grows : (m : Made Term ℕ) (o : Option Origin) → MadeFrom G tried m o → MadeFrom H (with_one one tried) m o
-    made_from_grows m None h = h
-    made_from_grows m (Some o) h =
+    made_from_grows : (m : Made Term ℕ) (o : From Term) → MadeFrom G tried m o → MadeFrom H (with_one one tried) m o
+    made_from_grows m BySetup h = h
+    made_from_grows m (ByChange before) h = base_grows m.station m.key h
+    made_from_grows m (ByAttempt o) h =
         let Q = λ (e : Tried Term ℕ). (e.station ≡ o.source) × (e.attempt ≡ o.attempt) × MadeBy H m e.given in
         any_old Q one tried (any_map (λ e. (e.station ≡ o.source) × (e.attempt ≡ o.attempt) × MadeBy G m e.given) Q (λ e k. (k.0, k.1, made_by_grows m e.given k.2)) tried h)
 
     pub made_ok_grows : (m : Made Term ℕ) → MadeOk G sites tried m → MadeOk H sites (with_one one tried) m
-    made_ok_grows m h = (made_from_grows m m.from_attempt h.0, h.1)
+    made_ok_grows m h = (made_from_grows m m.from h.0, h.1)

@@ -1,5 +1,5 @@
 -- What each row of the phone keeps of its keys: they are keys of TS 33.401 Annex A, and the phone sends none.
-use Rattle.std.proofs.Common.{ℕ, zero, suc, Bool, List, Option, Some, None}
+use Rattle.std.proofs.Common.{ℕ, zero, suc, Bool, List, Option, Some, None, true, false}
 use Rattle.std.specs.Prelude.{⊤}
 use Rattle.alg_choice.specs.declared.algs.Algs.{Algs}
 use Rattle.annex_a_keys.specs.Cell.{Place}
@@ -12,11 +12,11 @@ use Rattle.nh_chain.specs.Chain.{ChainState, nhs_made}
 use Rattle.nh_chain.specs.Reach.{phone_of, base_after}
 use Rattle.lte_machine.specs.Bearers.{Srb, Drb, Which}
 use Rattle.lte_machine.specs.Wire.{Outgoing, SealedNas, PlainNas, SealedRrc, UserPacket, Between}
-use Rattle.lte_machine.specs.Reply.{Reply, Tried}
+use Rattle.lte_machine.specs.Reply.{Reply, Tried, Before}
 use Rattle.lte_events.specs.Site.{Site}
 use Rattle.lte_machine.specs.PhoneState.{Partial, NasContext, Radio, Idle, Connecting, Connected, Phone}
-use Rattle.lte_machine.specs.PhoneRows.{AuthRow, Authenticated, NasRow, NasRefused, RejectedPlain, RejectedUnder, ContextTaken, ContextTakenConnected, NasOpened, AirRow, AirRefused, LinkSecured, HandedOver, RrcOpened, PacketOpened, ActRow, ActRefused, ServiceRequested, CompleteResent, WentIdle, PacketSent, RrcSent, NasSent, NasSkipped, BearerSkipped, PhoneRow, OfAuth, OfNas, OfAir, OfAct}
-use Rattle.lte_machine.specs.PhoneKeys.{authenticated, auth_does, rejected_under, context_taken, context_taken_connected, nas_opened, nas_does, link_secured, handed_over, rrc_opened, packet_opened, air_does, service_requested, complete_resent, packet_sent, rrc_sent, nas_sent, nas_skipped, bearer_skipped, act_does, phone_does}
+use Rattle.lte_machine.specs.PhoneRows.{AuthRow, Authenticated, NasRow, NasRefused, RejectedPlain, RejectedUnder, ContextTaken, ContextTakenConnected, NasOpened, AirRow, AirRefused, LinkSecured, HandedOver, RrcOpened, PacketOpened, ActRow, ActRefused, ServiceRequested, CompleteResent, WentIdle, PacketSent, RrcSent, NasSent, NasSkipped, BearerSkipped, PhoneRow, OfAuth, OfNas, OfAir, OfAct, KeyChanged}
+use Rattle.lte_machine.specs.PhoneKeys.{authenticated, auth_does, rejected_under, context_taken, context_taken_connected, nas_opened, nas_does, link_secured, handed_over, rrc_opened, packet_opened, air_does, service_requested, complete_resent, packet_sent, rrc_sent, nas_sent, nas_skipped, bearer_skipped, act_does, phone_does, key_changed, changed_unless, before_of}
 use Rattle.lte_properties.proofs.ChainNumbers.Lists.{OfSome, all_append}
 use Rattle.lte_properties.proofs.KeySeparation.Keys.{Gifts, FlyOk, OutsAre}
 
@@ -149,6 +149,23 @@ module _ (same : Term → Term → Bool) (s : Phone Term ℕ) where
         keyless = tt;
       }
 
+  changed_unless_kept : (cell : Place) (algs : Algs) (station air : ℕ) (before : Before Term ℕ) (root : Term) (b : Bool) → IsRoot root → PhoneOk s →
+      PhoneKept (changed_unless (term_reading_by same) cell algs station air s before root b)
+  changed_unless_kept cell algs station air before root true n h = record { ok = h; outs = tt; keyless = tt }
+  changed_unless_kept cell algs station air before root false n h = record {
+    ok = record { partial = h.partial; context = h.context; radio = (n, n, n) };
+    outs = (n, (n, (n, (n, (n, tt)))));
+    keyless = tt;
+  }
+
+  changed_kept : (cell : Place) (algs : Algs) (station air : ℕ) (radio : Radio Term ℕ) (o : Option (NasContext Term)) → HasContext o → PhoneOk s →
+      PhoneKept (key_changed (term_reading_by same) cell algs station air s radio o)
+  changed_kept cell algs station air Idle o n h = record { ok = h; outs = tt; keyless = tt }
+  changed_kept cell algs station air (Connecting w) o n h = record { ok = h; outs = tt; keyless = tt }
+  changed_kept cell algs station air (Connected l) None n h = record { ok = h; outs = tt; keyless = tt }
+  changed_kept cell algs station air (Connected l) (Some c) n h =
+      changed_unless_kept cell algs station air (before_of l) c.root (same c.root l.chain.root) n h
+
   rrc_opened_kept : (srb : Srb) (count : ℕ) (text : List ℕ) (o : Radio Term ℕ) → RadioOk o → PhoneOk s → PhoneKept (rrc_opened srb count text s o)
   rrc_opened_kept srb count text Idle n h = record { ok = h; outs = tt; keyless = tt }
   rrc_opened_kept srb count text (Connecting w) n h = record { ok = h; outs = tt; keyless = tt }
@@ -163,6 +180,7 @@ module _ (same : Term → Term → Bool) (s : Phone Term ℕ) where
   air_kept (AirRefused answer) h = record { ok = h; outs = tt; keyless = tt }
   air_kept (LinkSecured station air algs count) h = secured_kept station air algs count s.radio h.radio h
   air_kept (HandedOver cell steps algs station air) h = handed_kept cell steps algs station air s.radio h.radio h
+  air_kept (KeyChanged cell algs station air) h = changed_kept cell algs station air s.radio s.context h.context h
   air_kept (RrcOpened srb count text) h = rrc_opened_kept srb count text s.radio h.radio h
   air_kept (PacketOpened drb count text) h = packet_opened_kept drb count text s.radio h.radio h
 

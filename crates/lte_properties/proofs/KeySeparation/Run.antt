@@ -2,18 +2,17 @@
 use Rattle.std.proofs.Common.{◌≡◌, refl, ◌∙◌, subst, ℕ, zero, suc, ◌⊎◌, inl, inr, List, Option, Some, None}
 use Rattle.std.specs.Prelude.{⊤}
 use Rattle.annex_a_keys.specs.Cell.{Place}
-use Rattle.lte_events.specs.Site.{Site}
+use Rattle.lte_events.specs.Site.{Site, station_of}
 use Rattle.key_model.specs.Term.{Term, Root, Star, IsWellFormed}
 use Rattle.key_model.specs.Chain.{nh}
 use Rattle.key_model.specs.Derivable.{Derivable, HasNoRoot}
 use Rattle.key_model.specs.HandoverTable.{NumberedKey}
 use Rattle.key_model.proofs.DerivableFacts.{star_held, derivable_is}
 use Rattle.lte_machine.specs.Wire.{Outgoing}
-use Rattle.lte_machine.specs.Reply.{Origin, Made, Tried}
-use Rattle.lte_machine.specs.StationChoice.{station_of}
+use Rattle.lte_machine.specs.Reply.{Origin, Made, Tried, From, BySetup, ByAttempt, ByChange}
 use Rattle.lte_machine.specs.World.{World, Holder, AtPhone, AtCore, AtStation}
 use Rattle.lte_properties.specs.ChainBelow.{AllOf}
-use Rattle.lte_properties.specs.Separation.{IsStationOf, HeldBy, GivenTo, HasNeither, Those, AllBut, AllWellFormed, Separates, GivenAt, FromAttempt}
+use Rattle.lte_properties.specs.Separation.{IsStationOf, HeldBy, GivenTo, HasNeither, Those, AllBut, AllWellFormed, Separates, GivenAt, MadeAsGiven}
 use Rattle.lte_properties.proofs.ChainNumbers.Lists.{all_map}
 use Rattle.lte_properties.proofs.KeySeparation.Keys.{any_with, any_out, Gifts, MayHold, may_hold_well, BaseGiven, TriedOk, MadeBy, MadeFrom, MadeOk, HolderMay, HoldOk}
 use Rattle.lte_properties.proofs.KeySeparation.All.{HeldAll}
@@ -99,12 +98,13 @@ module _ (sites : List Site) (w : World Term ℕ (Outgoing Term ℕ)) (h : Holde
       OfGiven a None = ⊤
       OfGiven a (Some x) = BaseGiven G a x.key
 
-  pub from_attempt : (m : Made Term ℕ) (o : Option Origin) → MadeFrom G w.tried m o → FromAttempt w m o
-  from_attempt m None k = tt
-  from_attempt m (Some o) k = λ r octets n i pci earfcn is.
+  pub as_given : (m : Made Term ℕ) (o : From Term) → MadeFrom G w.tried m o → MadeAsGiven w m o
+  as_given m BySetup k = tt
+  as_given m (ByChange before) k = λ r octets n i pci earfcn is. base_given_is G m.station r octets n i pci earfcn (subst (BaseGiven G m.station) is k)
+  as_given m (ByAttempt o) k = λ r octets n i pci earfcn is.
       any_with (TriedOk G) (λ e. (e.station ≡ o.source) × (e.attempt ≡ o.attempt) × MadeBy G m e.given)
       (λ e. (e.station ≡ o.source) × (e.attempt ≡ o.attempt) × GivenAt w.sent (nh (Root r octets) n i) o.source m.station e.given)
       (λ e t q. (q.0, q.1, given_at m e o.source q.0 e.given refl t q.2 r octets n i pci earfcn is)) w.tried h.tried k
 
-  pub made_from : AllOf (λ m. FromAttempt w m m.from_attempt) w.made
-  made_from = all_map (MadeOk G sites w.tried) (λ m. FromAttempt w m m.from_attempt) (λ m k. from_attempt m m.from_attempt k.0) w.made h.made
+  pub made_from : AllOf (λ m. MadeAsGiven w m m.from) w.made
+  made_from = all_map (MadeOk G sites w.tried) (λ m. MadeAsGiven w m m.from) (λ m k. as_given m m.from k.0) w.made h.made

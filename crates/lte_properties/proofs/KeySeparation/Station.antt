@@ -4,7 +4,7 @@ use Rattle.std.specs.Prelude.{not, nat_le, Bool, ⊤}
 use Rattle.alg_choice.specs.declared.algs.Algs.{Algs}
 use Rattle.alg_choice.specs.declared.caps.Caps.{Caps}
 use Rattle.annex_a_keys.specs.Cell.{Place}
-use Rattle.lte_events.specs.Site.{Site}
+use Rattle.lte_events.specs.Site.{Site, station_of}
 use Rattle.key_model.specs.Term.{Term, Root, Kenb, Nh, Star, Alg}
 use Rattle.key_model.specs.Derivation.{Derivation}
 use Rattle.key_model.specs.Reading.{term_reading_by}
@@ -14,20 +14,20 @@ use Rattle.ho_prep.specs.Prep.{Prep, at_air, drop_below, without, is_of, is_at}
 use Rattle.x2_handover.specs.declared.orders.Order.{Order}
 use Rattle.lte_machine.specs.Bearers.{Srb, Drb}
 use Rattle.lte_machine.specs.Wire.{Outgoing}
-use Rattle.lte_machine.specs.Reply.{Origin, Made, Tried, Reply}
-use Rattle.lte_machine.specs.StationState.{Station, Context, Attempt, OverX2, OverS1, Within, X2Open, X2Ready, X2Commanded, S1Open, S1Ready, S1Commanded}
-use Rattle.lte_machine.specs.StationRows.{Wanted, RecordRow, RecordRefused, ContextGiven, ContextReleased, PairTaken, PreparedByS1, PreparedByX2, AckedByS1, AckedByX2, PreparationCancelled, SourceReleased, AirRow, AirRefused, SecurityStarted, RrcOpened, PacketOpened, CompletedByS1, CompletedWithin, CompletedByX2, ActRow, ActRefused, StartedByX2, StartedByS1, StartedWithin, HandoverCommanded, CancelledByX2, CancelledByS1, CancelledWithin, PathSwitchAsked, PacketSent, RrcSent, BearerSkipped, StationRow, OfRecord, OfAir, OfAct}
-use Rattle.lte_machine.specs.StationChoice.{station_of}
-use Rattle.lte_machine.specs.StationKeys.{spent_in, s1_acked, x2_acked, commanded, given_up, with_pair, with_s1_ack, with_x2_ack, with_security, with_rrc_taken, with_packet_taken, with_skipped, source_release, wanted_made, context_given, pair_taken, prepared_by_s1, prepared_by_x2, completed_by_s1, completed_within, completed_by_x2, started_by_x2, started_by_s1, started_within, commands, asks_again, sends_packet, sends_rrc, record_does, air_does, act_does, station_does}
+use Rattle.lte_machine.specs.Reply.{Origin, Made, Tried, Reply, ByAttempt}
+use Rattle.lte_machine.specs.StationState.{Station, Context, Attempt, OverX2, OverS1, Within, X2Open, X2Ready, X2Commanded, S1Open, S1Ready, S1Commanded, Renewal, Renewing}
+use Rattle.lte_machine.specs.StationRows.{Wanted, RecordRow, RecordRefused, ContextGiven, ContextReleased, PairTaken, PreparedByS1, PreparedByX2, AckedByS1, AckedByX2, PreparationCancelled, SourceReleased, AirRow, AirRefused, SecurityStarted, RrcOpened, PacketOpened, CompletedByS1, CompletedWithin, CompletedByX2, ActRow, ActRefused, StartedByX2, StartedByS1, StartedWithin, HandoverCommanded, CancelledByX2, CancelledByS1, CancelledWithin, PathSwitchAsked, PacketSent, RrcSent, BearerSkipped, StationRow, OfRecord, OfAir, OfAct, KeyRenewed, ChangeCommanded}
+use Rattle.lte_machine.specs.StationKeys.{spent_in, s1_acked, x2_acked, commanded, given_up, with_pair, with_s1_ack, with_x2_ack, with_security, with_rrc_taken, with_packet_taken, with_skipped, source_release, wanted_made, context_given, pair_taken, prepared_by_s1, prepared_by_x2, completed_by_s1, completed_within, completed_by_x2, started_by_x2, started_by_s1, started_within, commands, asks_again, sends_packet, sends_rrc, record_does, air_does, act_does, station_does, key_renewed, commands_change}
 use Rattle.lte_machine.specs.World.{with_one}
 use Rattle.lte_properties.proofs.ChainNumbers.Lists.{OfSome, all_append, all_filter, all_find}
-use Rattle.lte_properties.proofs.KeySeparation.Keys.{any_map, any_new, GivesIn, Gifts, May, MayHold, may_star, may_go, OfPairKey, ContextHas, PrepHas, StationHas, BaseGiven, TriedOk, HasTried, IsKenb, OwnCell, FlyOk, MadeBy, MadeOk, OutsAre}
+use Rattle.lte_properties.proofs.KeySeparation.Keys.{any_map, any_new, GivesIn, Gifts, May, MayHold, may_star, may_go, OfPairKey, ContextHas, PrepHas, StationHas, BaseGiven, TriedOk, HasTried, IsKenb, OwnCell, FlyOk, MadeBy, MadeOk, OutsAre, OwnPlace}
 
 -- CONTEXTS
 
 -- the pair of an attempt after a step of it
 s1_acked_spent : (P : Term → Type 0) (ncc : ℕ) (algs : Algs) (air : ℕ) (o : Option (Attempt Term ℕ)) → OfPairKey P (spent_in o) → OfPairKey P (spent_in (option_map (s1_acked ncc algs air) o))
 s1_acked_spent P ncc algs air None h = h
+s1_acked_spent P ncc algs air (Some (Renewing renewal)) h = h
 s1_acked_spent P ncc algs air (Some (OverX2 state)) h = h
 s1_acked_spent P ncc algs air (Some (Within state)) h = h
 s1_acked_spent P ncc algs air (Some (OverS1 (S1Open start))) h = tt
@@ -36,6 +36,7 @@ s1_acked_spent P ncc algs air (Some (OverS1 (S1Commanded sent))) h = tt
 
 x2_acked_spent : (P : Term → Type 0) (algs : Algs) (air : ℕ) (o : Option (Attempt Term ℕ)) → OfPairKey P (spent_in o) → OfPairKey P (spent_in (option_map (x2_acked algs air) o))
 x2_acked_spent P algs air None h = h
+x2_acked_spent P algs air (Some (Renewing renewal)) h = h
 x2_acked_spent P algs air (Some (OverS1 state)) h = h
 x2_acked_spent P algs air (Some (Within state)) h = h
 x2_acked_spent P algs air (Some (OverX2 (X2Open start))) h = h
@@ -44,6 +45,7 @@ x2_acked_spent P algs air (Some (OverX2 (X2Commanded sent))) h = h
 
 commanded_spent : (P : Term → Type 0) (order : Order) (o : Option (Attempt Term ℕ)) → OfPairKey P (spent_in o) → OfPairKey P (spent_in (option_map (commanded order) o))
 commanded_spent P order None h = h
+commanded_spent P order (Some (Renewing renewal)) h = h
 commanded_spent P order (Some (OverS1 state)) h = h
 commanded_spent P order (Some (OverX2 (X2Open start))) h = h
 commanded_spent P order (Some (OverX2 (X2Ready acked))) h = tt
@@ -67,13 +69,13 @@ restored_has : (P : Term → Type 0) (key : StationKey Term ℕ) (o : Option (Nu
 restored_has P key None n h k = (n, h)
 restored_has P key (Some back) n h k = (n, pair_after_has P key.pair back h k)
 
-given_up_has : (P : Term → Type 0) (c : Context Term ℕ) → ContextHas P c → ContextHas P (given_up c)
-given_up_has P c h = let k = restored_has P c.key (spent_in c.attempt) h.0 h.1 h.2 in (k.0, k.1, tt)
+given_up_has : (P : Term → Type 0) (C : Place → Type 0) (c : Context Term ℕ) → ContextHas P C c → ContextHas P C (given_up c)
+given_up_has P C c h = let k = restored_has P c.key (spent_in c.attempt) h.0 h.1 h.2 in (k.0, k.1, tt, h.3)
 
-context_map_has : (P : Term → Type 0) (f : Context Term ℕ → Context Term ℕ) → ((c : Context Term ℕ) → ContextHas P c → ContextHas P (f c)) →
-    (o : Option (Context Term ℕ)) → OfSome (ContextHas P) o → OfSome (ContextHas P) (option_map f o)
-context_map_has P f each None h = tt
-context_map_has P f each (Some c) h = each c h
+context_map_has : (P : Term → Type 0) (C : Place → Type 0) (f : Context Term ℕ → Context Term ℕ) → ((c : Context Term ℕ) → ContextHas P C c → ContextHas P C (f c)) →
+    (o : Option (Context Term ℕ)) → OfSome (ContextHas P C) o → OfSome (ContextHas P C) (option_map f o)
+context_map_has P C f each None h = tt
+context_map_has P C f each (Some c) h = each c h
 
 -- WHAT A STEP KEEPS
 
@@ -81,7 +83,7 @@ context_map_has P f each (Some c) h = each c h
 pub record StationKept (G : Gifts) (sites : List Site) (tried : List (Tried Term ℕ)) (id : ℕ) (t : Station Term ℕ) (sent : Option (Outgoing Term ℕ)) (derived : List (Derivation Term)) (one : Option (Tried Term ℕ)) (made : Option (Made Term ℕ)) : Type 0 where
   pub same : t.id ≡ id
   pub cells : t.cells ≡ sites
-  pub keys : StationHas (May G sites id) t
+  pub keys : StationHas (May G sites id) (OwnPlace sites id) t
   pub outs : OutsAre (MayHold G sites id) derived
   pub sends : OfSome (FlyOk G sites (with_one one tried)) sent
   pub gives : (u : Term) (a : ℕ) → GivesIn sent u a → ⊥
@@ -90,12 +92,14 @@ pub record StationKept (G : Gifts) (sites : List Site) (tried : List (Tried Term
 
 -- what a row needs of the key of the record that it read
 abbrev pub RecordNeeds : Gifts → List Site → List (Tried Term ℕ) → ℕ → RecordRow → NumberedKey Term ℕ → Type 0
-RecordNeeds G sites tried id (ContextGiven conn cell caps algs air) key = May G sites id key.key × IsKenb key.key
+RecordNeeds G sites tried id (ContextGiven conn cell caps algs air) key =
+    May G sites id key.key × IsKenb key.key × OwnPlace sites id cell
 RecordNeeds G sites tried id (PairTaken conn origin) key = May G sites id key.key
 RecordNeeds G sites tried id (PreparedByS1 w) key =
-    May G sites id key.key × HasTried tried w.from.source w.from.attempt None × (station_of w.cell sites ≡ Some id)
+    May G sites id key.key × HasTried tried w.from.source w.from.attempt None × OwnPlace sites id w.cell
 RecordNeeds G sites tried id (PreparedByX2 w) key =
-    May G sites id key.key × HasTried tried w.from.source w.from.attempt (Some key) × OwnCell sites id key.key
+    May G sites id key.key × HasTried tried w.from.source w.from.attempt (Some key) × OwnCell sites id key.key × OwnPlace sites id w.cell
+RecordNeeds G sites tried id (KeyRenewed conn number air count) key = May G sites id key.key
 RecordNeeds G sites tried id other key = ⊤
 
 -- and of its choice: KeNB* goes to the station of its cell
@@ -122,12 +126,15 @@ module _ (G : Gifts) (sites : List Site) (tried : List (Tried Term ℕ)) (same :
   abbrev P : Term → Type 0
   P = May G sites s.id
 
+  abbrev C : Place → Type 0
+  C = OwnPlace sites s.id
+
   abbrev After : Station Term ℕ × Reply Term ℕ → Type 0
   After d = StationKept G sites tried s.id d.0 d.1.sent d.1.derived d.1.tried d.1.made
 
   -- a step that derives nothing, opens no attempt and makes nothing
   calm : (t : Station Term ℕ) (x : Option (Outgoing Term ℕ)) → t.id ≡ s.id → t.cells ≡ s.cells → OfSome (FlyOk G sites tried) x →
-      ((u : Term) (a : ℕ) → GivesIn x u a → ⊥) → StationHas P t → StationKept G sites tried s.id t x [] None None
+      ((u : Term) (a : ℕ) → GivesIn x u a → ⊥) → StationHas P C t → StationKept G sites tried s.id t x [] None None
   calm t x e f k g h = record {
     same = e;
     cells = subst (λ l. l ≡ sites) (sym f) cells;
@@ -139,13 +146,13 @@ module _ (G : Gifts) (sites : List Site) (tried : List (Tried Term ℕ)) (same :
     makes = tt;
   }
 
-  quiet : (t : Station Term ℕ) → t.id ≡ s.id → t.cells ≡ s.cells → StationHas P t → StationKept G sites tried s.id t None [] None None
+  quiet : (t : Station Term ℕ) → t.id ≡ s.id → t.cells ≡ s.cells → StationHas P C t → StationKept G sites tried s.id t None [] None None
   quiet t e f h = calm t None e f tt (λ u a g. g) h
 
   -- the context, if there is one, changes so
-  mapped : (f : Context Term ℕ → Context Term ℕ) → ((c : Context Term ℕ) → ContextHas P c → ContextHas P (f c)) → StationHas P s →
+  mapped : (f : Context Term ℕ → Context Term ℕ) → ((c : Context Term ℕ) → ContextHas P C c → ContextHas P C (f c)) → StationHas P C s →
       StationKept G sites tried s.id (record s { context = option_map f s.context }) None [] None None
-  mapped f each h = quiet (record s { context = option_map f s.context }) refl refl (record { context = context_map_has P f each s.context h.context; preps = h.preps })
+  mapped f each h = quiet (record s { context = option_map f s.context }) refl refl (record { context = context_map_has P C f each s.context h.context; preps = h.preps })
 
   -- BY A RECORD
 
@@ -157,12 +164,12 @@ module _ (G : Gifts) (sites : List Site) (tried : List (Tried Term ℕ)) (same :
   kenb_own (Alg t type i) k = tt
 
   given_kept : (conn : ℕ) (cell : Place) (caps : Caps) (algs : Algs) (air : ℕ) (key : Option (NumberedKey Term ℕ)) →
-      RowNeeds G sites tried s.id (OfRecord (ContextGiven conn cell caps algs air)) key → StationHas P s → After (context_given (term_reading_by same) conn cell caps algs air key s)
+      RowNeeds G sites tried s.id (OfRecord (ContextGiven conn cell caps algs air)) key → StationHas P C s → After (context_given (term_reading_by same) conn cell caps algs air key s)
   given_kept conn cell caps algs air None n h = quiet s refl refl h
   given_kept conn cell caps algs air (Some key) n h = record {
     same = refl;
     cells = cells;
-    keys = record { context = (n.0, tt, tt); preps = tt };
+    keys = record { context = (n.0, tt, tt, n.2); preps = tt };
     outs = (n.0, (n.0, (n.0, tt)));
     sends = tt;
     gives = λ u a g. g;
@@ -179,18 +186,18 @@ module _ (G : Gifts) (sites : List Site) (tried : List (Tried Term ℕ)) (same :
   released_flies conn (Some o) = (tt, tt)
 
   taken_kept : (conn : ℕ) (origin : Option Origin) (key : Option (NumberedKey Term ℕ)) →
-      RowNeeds G sites tried s.id (OfRecord (PairTaken conn origin)) key → StationHas P s → After (pair_taken conn origin key s)
+      RowNeeds G sites tried s.id (OfRecord (PairTaken conn origin)) key → StationHas P C s → After (pair_taken conn origin key s)
   taken_kept conn origin None n h = quiet s refl refl h
   taken_kept conn origin (Some pair) n h =
       calm (record s { context = option_map (with_pair pair) s.context }) (source_release conn origin) refl refl (released_flies conn origin) (released_gives conn origin)
-      (record { context = context_map_has P (with_pair pair) (λ c k. (k.0, n, k.2)) s.context h.context; preps = h.preps })
+      (record { context = context_map_has P C (with_pair pair) (λ c k. (k.0, n, k.2, k.3)) s.context h.context; preps = h.preps })
 
   -- what a preparation was made of
   abbrev WantedBy : Wanted → NumberedKey Term ℕ → Option (NumberedKey Term ℕ) → Type 0
   WantedBy w key o = MadeBy G (wanted_made s.id w key) o
 
   prepared_s1_kept : (w : Wanted) (key : Option (NumberedKey Term ℕ)) →
-      RowNeeds G sites tried s.id (OfRecord (PreparedByS1 w)) key → StationHas P s → After (prepared_by_s1 (term_reading_by same) w key s)
+      RowNeeds G sites tried s.id (OfRecord (PreparedByS1 w)) key → StationHas P C s → After (prepared_by_s1 (term_reading_by same) w key s)
   prepared_s1_kept w None n h = quiet s refl refl h
   prepared_s1_kept w (Some key) n h =
       let k = may_star G sites s.id key.key w.cell.pci w.cell.earfcn n.0 in record {
@@ -198,7 +205,7 @@ module _ (G : Gifts) (sites : List Site) (tried : List (Tried Term ℕ)) (same :
         cells = cells;
         keys = record {
           context = h.context;
-          preps = all_append (PrepHas P) (drop_below w.conn s.preps) _ (all_filter (PrepHas P) (λ p. nat_le w.conn p.conn) s.preps h.preps) ((k, tt), tt);
+          preps = all_append (PrepHas P C) (drop_below w.conn s.preps) _ (all_filter (PrepHas P C) (λ p. nat_le w.conn p.conn) s.preps h.preps) ((k, tt, n.2), tt);
         };
         outs = (k, (k, (k, (k, tt))));
         sends = (tt, tt);
@@ -212,14 +219,14 @@ module _ (G : Gifts) (sites : List Site) (tried : List (Tried Term ℕ)) (same :
       }
 
   prepared_x2_kept : (w : Wanted) (key : Option (NumberedKey Term ℕ)) →
-      RowNeeds G sites tried s.id (OfRecord (PreparedByX2 w)) key → StationHas P s → After (prepared_by_x2 (term_reading_by same) w key s)
+      RowNeeds G sites tried s.id (OfRecord (PreparedByX2 w)) key → StationHas P C s → After (prepared_by_x2 (term_reading_by same) w key s)
   prepared_x2_kept w None n h = quiet s refl refl h
   prepared_x2_kept w (Some key) n h = record {
     same = refl;
     cells = cells;
     keys = record {
       context = h.context;
-      preps = all_append (PrepHas P) (drop_below w.conn s.preps) _ (all_filter (PrepHas P) (λ p. nat_le w.conn p.conn) s.preps h.preps) ((n.0, tt), tt);
+      preps = all_append (PrepHas P C) (drop_below w.conn s.preps) _ (all_filter (PrepHas P C) (λ p. nat_le w.conn p.conn) s.preps h.preps) ((n.0, tt, n.3), tt);
     };
     outs = (n.0, (n.0, (n.0, tt)));
     sends = (tt, tt);
@@ -232,7 +239,24 @@ module _ (G : Gifts) (sites : List Site) (tried : List (Tried Term ℕ)) (same :
     );
   }
 
-  record_kept : (row : RecordRow) (key : Option (NumberedKey Term ℕ)) → RowNeeds G sites tried s.id (OfRecord row) key → StationHas P s →
+  renewed_kept : (conn number air count : ℕ) (o : Option (Context Term ℕ)) (key : Option (NumberedKey Term ℕ)) →
+      RowNeeds G sites tried s.id (OfRecord (KeyRenewed conn number air count)) key → OfSome (ContextHas P C) o → StationHas P C s →
+      After (key_renewed (term_reading_by same) conn number air count o key s)
+  renewed_kept conn number air count None key n c h = quiet s refl refl h
+  renewed_kept conn number air count (Some context) None n c h = quiet s refl refl h
+  renewed_kept conn number air count (Some context) (Some kenb) n c h =
+      let k = may_star G sites s.id kenb.key context.cell.pci context.cell.earfcn n in record {
+        same = refl;
+        cells = cells;
+        keys = record { context = (c.0, c.1, tt, c.3); preps = ((k, tt, c.3), tt) };
+        outs = (k, (k, (k, (k, tt))));
+        sends = tt;
+        gives = λ u a g. g;
+        tries = tt;
+        makes = (base_given G sites s.id kenb.key context.cell.pci context.cell.earfcn n, c.3);
+      }
+
+  record_kept : (row : RecordRow) (key : Option (NumberedKey Term ℕ)) → RowNeeds G sites tried s.id (OfRecord row) key → StationHas P C s →
       After (record_does (term_reading_by same) row key s)
   record_kept (RecordRefused answer) key n h = quiet s refl refl h
   record_kept (ContextGiven conn cell caps algs air) key n h = given_kept conn cell caps algs air key n h
@@ -240,34 +264,35 @@ module _ (G : Gifts) (sites : List Site) (tried : List (Tried Term ℕ)) (same :
   record_kept (PairTaken conn origin) key n h = taken_kept conn origin key n h
   record_kept (PreparedByS1 w) key n h = prepared_s1_kept w key n h
   record_kept (PreparedByX2 w) key n h = prepared_x2_kept w key n h
-  record_kept (AckedByS1 ncc algs air) key n h = mapped (with_s1_ack ncc algs air) (λ c k. (k.0, k.1, s1_acked_spent P ncc algs air c.attempt k.2)) h
-  record_kept (AckedByX2 algs air) key n h = mapped (with_x2_ack algs air) (λ c k. (k.0, k.1, x2_acked_spent P algs air c.attempt k.2)) h
+  record_kept (AckedByS1 ncc algs air) key n h = mapped (with_s1_ack ncc algs air) (λ c k. (k.0, k.1, s1_acked_spent P ncc algs air c.attempt k.2, k.3)) h
+  record_kept (AckedByX2 algs air) key n h = mapped (with_x2_ack algs air) (λ c k. (k.0, k.1, x2_acked_spent P algs air c.attempt k.2, k.3)) h
   record_kept (PreparationCancelled from) key n h =
       quiet (record s { preps = without from.source from.attempt s.preps }) refl refl
-      (record { context = h.context; preps = all_filter (PrepHas P) (λ p. not (is_of from.source from.attempt p)) s.preps h.preps })
+      (record { context = h.context; preps = all_filter (PrepHas P C) (λ p. not (is_of from.source from.attempt p)) s.preps h.preps })
   record_kept SourceReleased key n h = quiet (record s { context = None }) refl refl (record { context = tt; preps = h.preps })
+  record_kept (KeyRenewed conn number air count) key n h = renewed_kept conn number air count s.context key n h.context h
 
   -- BY A PDU
 
-  completed_s1_kept : (count : ℕ) (o : Option (Prep Term ℕ)) → OfSome (PrepHas P) o → StationHas P s → After (completed_by_s1 (term_reading_by same) count o s)
+  completed_s1_kept : (count : ℕ) (o : Option (Prep Term ℕ)) → OfSome (PrepHas P C) o → StationHas P C s → After (completed_by_s1 (term_reading_by same) count o s)
   completed_s1_kept count None n h = quiet s refl refl h
-  completed_s1_kept count (Some p) n h = calm _ _ refl refl (tt, tt) (λ u a g. g) (record { context = (n.0, n.1, tt); preps = tt })
+  completed_s1_kept count (Some p) n h = calm _ _ refl refl (tt, tt) (λ u a g. g) (record { context = (n.0, n.1, tt, n.2); preps = tt })
 
-  completed_within_kept : (count : ℕ) (origin : Option Origin) (o : Option (Prep Term ℕ)) → OfSome (PrepHas P) o → StationHas P s → After (completed_within (term_reading_by same) count origin o s)
+  completed_within_kept : (count : ℕ) (origin : Option Origin) (o : Option (Prep Term ℕ)) → OfSome (PrepHas P C) o → StationHas P C s → After (completed_within (term_reading_by same) count origin o s)
   completed_within_kept count origin None n h = quiet s refl refl h
-  completed_within_kept count origin (Some p) n h = quiet _ refl refl (record { context = (n.0, n.1, tt); preps = tt })
+  completed_within_kept count origin (Some p) n h = quiet _ refl refl (record { context = (n.0, n.1, tt, n.2); preps = tt })
 
-  completed_x2_kept : (count number : ℕ) (o : Option (Prep Term ℕ)) → OfSome (PrepHas P) o → StationHas P s → After (completed_by_x2 (term_reading_by same) count number o s)
+  completed_x2_kept : (count number : ℕ) (o : Option (Prep Term ℕ)) → OfSome (PrepHas P C) o → StationHas P C s → After (completed_by_x2 (term_reading_by same) count number o s)
   completed_x2_kept count number None n h = quiet s refl refl h
-  completed_x2_kept count number (Some p) n h = calm _ _ refl refl (tt, tt) (λ u a g. g) (record { context = (n.0, n.1, tt); preps = tt })
+  completed_x2_kept count number (Some p) n h = calm _ _ refl refl (tt, tt) (λ u a g. g) (record { context = (n.0, n.1, tt, n.2); preps = tt })
 
-  found : (air : ℕ) → StationHas P s → OfSome (PrepHas P) (at_air air s.preps)
-  found air h = take (at_air air s.preps) (all_find (PrepHas P) (is_at air) s.preps h.preps) where
-    take : (o : Option (Prep Term ℕ)) → OfSome (λ p. PrepHas P p × (is_at air p ≡ Bool.true)) o → OfSome (PrepHas P) o
+  found : (air : ℕ) → StationHas P C s → OfSome (PrepHas P C) (at_air air s.preps)
+  found air h = take (at_air air s.preps) (all_find (PrepHas P C) (is_at air) s.preps h.preps) where
+    take : (o : Option (Prep Term ℕ)) → OfSome (λ p. PrepHas P C p × (is_at air p ≡ Bool.true)) o → OfSome (PrepHas P C) o
     take None k = tt
     take (Some p) k = k.0
 
-  air_kept : (row : AirRow) → StationHas P s → After (air_does (term_reading_by same) row s)
+  air_kept : (row : AirRow) → StationHas P C s → After (air_does (term_reading_by same) row s)
   air_kept (AirRefused answer) h = quiet s refl refl h
   air_kept (SecurityStarted count) h = mapped (with_security count) (λ c k. k) h
   air_kept (RrcOpened srb count text) h = mapped (with_rrc_taken srb count) (λ c k. k) h
@@ -279,9 +304,9 @@ module _ (G : Gifts) (sites : List Site) (tried : List (Tried Term ℕ)) (same :
   -- BY AN ACT
 
   abbrev Has : Option (Context Term ℕ) → Type 0
-  Has o = OfSome (ContextHas P) o
+  Has o = OfSome (ContextHas P C) o
 
-  started_x2_kept : (number target : ℕ) (cell : Place) (o : Option (Context Term ℕ)) → station_of cell sites ≡ Some target → Has o → StationHas P s →
+  started_x2_kept : (number target : ℕ) (cell : Place) (o : Option (Context Term ℕ)) → station_of cell sites ≡ Some target → Has o → StationHas P C s →
       After (started_by_x2 (term_reading_by same) number target cell o s)
   started_x2_kept number target cell None e c h = quiet s refl refl h
   started_x2_kept number target cell (Some context) e c h =
@@ -289,7 +314,7 @@ module _ (G : Gifts) (sites : List Site) (tried : List (Tried Term ℕ)) (same :
       let b = base_has P context.key.pair context.key.kenb context.key.number c.0 c.1 in record {
         same = refl;
         cells = cells;
-        keys = record { context = (c.0, tt, c.1); preps = h.preps };
+        keys = record { context = (c.0, tt, c.1, c.3); preps = h.preps };
         outs = (may_star G sites s.id base.key cell.pci cell.earfcn b, tt);
         sends = (
           (may_go G sites s.id base.key cell target e b, e),
@@ -300,12 +325,12 @@ module _ (G : Gifts) (sites : List Site) (tried : List (Tried Term ℕ)) (same :
         makes = tt;
       }
 
-  started_s1_kept : (number target : ℕ) (cell : Place) (o : Option (Context Term ℕ)) → Has o → StationHas P s → After (started_by_s1 number target cell o s)
+  started_s1_kept : (number target : ℕ) (cell : Place) (o : Option (Context Term ℕ)) → Has o → StationHas P C s → After (started_by_s1 number target cell o s)
   started_s1_kept number target cell None c h = quiet s refl refl h
   started_s1_kept number target cell (Some context) c h = record {
     same = refl;
     cells = cells;
-    keys = record { context = (c.0, c.1, tt); preps = h.preps };
+    keys = record { context = (c.0, c.1, tt, c.3); preps = h.preps };
     outs = tt;
     sends = (tt, any_new (λ t. (t.station ≡ s.id) × (t.attempt ≡ number) × (t.given ≡ None)) _ tried (refl, refl, refl));
     gives = λ u a g. g;
@@ -313,16 +338,16 @@ module _ (G : Gifts) (sites : List Site) (tried : List (Tried Term ℕ)) (same :
     makes = tt;
   }
 
-  started_within_kept : (number air : ℕ) (cell : Place) (o : Option (Context Term ℕ)) → station_of cell sites ≡ Some s.id → Has o → StationHas P s → After (started_within (term_reading_by same) number air cell o s)
+  started_within_kept : (number air : ℕ) (cell : Place) (o : Option (Context Term ℕ)) → station_of cell sites ≡ Some s.id → Has o → StationHas P C s → After (started_within (term_reading_by same) number air cell o s)
   started_within_kept number air cell None e c h = quiet s refl refl h
   started_within_kept number air cell (Some context) e c h =
       let base = base_of context.key.pair context.key.kenb context.key.number in
       let b = base_has P context.key.pair context.key.kenb context.key.number c.0 c.1 in
       let k = may_star G sites s.id base.key cell.pci cell.earfcn b in
-      let made : Made Term ℕ = record { station = s.id; air = air; conn = context.conn; cell = cell; key = Star base.key cell.pci cell.earfcn; number = base.number; algs = context.algs; from_attempt = Some (record { source = s.id; attempt = number }) } in record {
+      let made : Made Term ℕ = record { station = s.id; air = air; conn = context.conn; cell = cell; key = Star base.key cell.pci cell.earfcn; number = base.number; algs = context.algs; from = ByAttempt (record { source = s.id; attempt = number }) } in record {
         same = refl;
         cells = cells;
-        keys = record { context = (c.0, tt, c.1); preps = all_append (PrepHas P) s.preps _ h.preps ((k, tt), tt) };
+        keys = record { context = (c.0, tt, c.1, c.3); preps = all_append (PrepHas P C) s.preps _ h.preps ((k, tt, e), tt) };
         outs = (k, (k, (k, (k, tt))));
         sends = tt;
         gives = λ u a g. g;
@@ -330,36 +355,41 @@ module _ (G : Gifts) (sites : List Site) (tried : List (Tried Term ℕ)) (same :
         makes = (any_new (λ e. (e.station ≡ s.id) × (e.attempt ≡ number) × MadeBy G made e.given) _ tried (refl, refl, refl), e);
       }
 
-  commands_kept : (order : Order) (count : ℕ) (o : Option (Context Term ℕ)) → Has o → StationHas P s → After (commands order count o s)
+  commands_kept : (order : Order) (count : ℕ) (o : Option (Context Term ℕ)) → Has o → StationHas P C s → After (commands order count o s)
   commands_kept order count None c h = quiet s refl refl h
-  commands_kept order count (Some context) c h = calm _ _ refl refl tt (λ u a g. g) (record { context = (c.0, c.1, commanded_spent P order context.attempt c.2); preps = h.preps })
+  commands_kept order count (Some context) c h = calm _ _ refl refl tt (λ u a g. g) (record { context = (c.0, c.1, commanded_spent P order context.attempt c.2, c.3); preps = h.preps })
 
-  asks_kept : (number : ℕ) (o : Option (Context Term ℕ)) → Has o → StationHas P s → After (asks_again number o s)
+  commands_change_kept : (renewal : Renewal) (count : ℕ) (o : Option (Context Term ℕ)) → Has o → StationHas P C s → After (commands_change renewal count o s)
+  commands_change_kept renewal count None c h = quiet s refl refl h
+  commands_change_kept renewal count (Some context) c h = calm _ _ refl refl tt (λ u a g. g) (record { context = c; preps = h.preps })
+
+  asks_kept : (number : ℕ) (o : Option (Context Term ℕ)) → Has o → StationHas P C s → After (asks_again number o s)
   asks_kept number None c h = quiet s refl refl h
   asks_kept number (Some context) c h = calm _ _ refl refl (tt, tt) (λ u a g. g) (record { context = c; preps = h.preps })
 
-  packet_kept : (drb : Drb) (count : ℕ) (text : List ℕ) (o : Option (Context Term ℕ)) → Has o → StationHas P s → After (sends_packet drb count text o s)
+  packet_kept : (drb : Drb) (count : ℕ) (text : List ℕ) (o : Option (Context Term ℕ)) → Has o → StationHas P C s → After (sends_packet drb count text o s)
   packet_kept drb count text None c h = quiet s refl refl h
   packet_kept drb count text (Some context) c h = calm _ _ refl refl tt (λ u a g. g) (record { context = c; preps = h.preps })
 
-  rrc_kept : (srb : Srb) (count : ℕ) (text : List ℕ) (o : Option (Context Term ℕ)) → Has o → StationHas P s → After (sends_rrc srb count text o s)
+  rrc_kept : (srb : Srb) (count : ℕ) (text : List ℕ) (o : Option (Context Term ℕ)) → Has o → StationHas P C s → After (sends_rrc srb count text o s)
   rrc_kept srb count text None c h = quiet s refl refl h
   rrc_kept srb count text (Some context) c h = calm _ _ refl refl tt (λ u a g. g) (record { context = c; preps = h.preps })
 
-  act_kept : (row : ActRow) → ActNeeds sites s.id row → StationHas P s → After (act_does (term_reading_by same) row s)
+  act_kept : (row : ActRow) → ActNeeds sites s.id row → StationHas P C s → After (act_does (term_reading_by same) row s)
   act_kept (ActRefused answer) n h = quiet s refl refl h
   act_kept (StartedByX2 number target cell) n h = started_x2_kept number target cell s.context n h.context h
   act_kept (StartedByS1 number target cell) n h = started_s1_kept number target cell s.context h.context h
   act_kept (StartedWithin number air cell) n h = started_within_kept number air cell s.context n h.context h
   act_kept (HandoverCommanded order count) n h = commands_kept order count s.context h.context h
+  act_kept (ChangeCommanded renewal count) n h = commands_change_kept renewal count s.context h.context h
   act_kept (CancelledByX2 conn number target) n h =
-      calm _ _ refl refl (tt, tt) (λ u a g. g) (record { context = context_map_has P given_up (given_up_has P) s.context h.context; preps = h.preps })
+      calm _ _ refl refl (tt, tt) (λ u a g. g) (record { context = context_map_has P C given_up (given_up_has P C) s.context h.context; preps = h.preps })
   act_kept (CancelledByS1 conn number cell) n h =
-      calm _ _ refl refl (tt, tt) (λ u a g. g) (record { context = context_map_has P given_up (given_up_has P) s.context h.context; preps = h.preps })
+      calm _ _ refl refl (tt, tt) (λ u a g. g) (record { context = context_map_has P C given_up (given_up_has P C) s.context h.context; preps = h.preps })
   act_kept (CancelledWithin number) n h =
       quiet _ refl refl (record {
-        context = context_map_has P given_up (given_up_has P) s.context h.context;
-        preps = all_filter (PrepHas P) (λ p. not (is_of s.id number p)) s.preps h.preps;
+        context = context_map_has P C given_up (given_up_has P C) s.context h.context;
+        preps = all_filter (PrepHas P C) (λ p. not (is_of s.id number p)) s.preps h.preps;
       })
   act_kept (PathSwitchAsked number) n h = asks_kept number s.context h.context h
   act_kept (PacketSent drb count text) n h = packet_kept drb count text s.context h.context h
@@ -367,7 +397,7 @@ module _ (G : Gifts) (sites : List Site) (tried : List (Tried Term ℕ)) (same :
   act_kept (BearerSkipped on n) m h = mapped (with_skipped on n) (λ c k. k) h
 
   -- each row
-  pub station_kept : (row : StationRow) (key : Option (NumberedKey Term ℕ)) → RowNeeds G sites tried s.id row key → StationHas P s →
+  pub station_kept : (row : StationRow) (key : Option (NumberedKey Term ℕ)) → RowNeeds G sites tried s.id row key → StationHas P C s →
       After (station_does (term_reading_by same) row key s)
   station_kept (OfRecord row) key n h = record_kept row key n h
   station_kept (OfAir row) key n h = air_kept row h

@@ -15,7 +15,7 @@ use Rattle.lte_events.specs.declared.answers.Answer.TheVariants.{NoUe, NoRecord,
 use Rattle.lte_events.specs.declared.events.Event.{Event}
 use Rattle.lte_events.specs.declared.setups.Setup.{Setup}
 use Rattle.lte_events.specs.declared.setups.StationSetup.{StationSetup}
-use Rattle.lte_events.specs.Site.{Site}
+use Rattle.lte_events.specs.Site.{Site, station_of}
 use Rattle.key_model.specs.Term.{Term, Root, IsRoot, IsWellFormed}
 use Rattle.key_model.specs.Derivation.{Derivation}
 use Rattle.key_model.specs.HandoverTable.{NumberedKey}
@@ -32,11 +32,11 @@ use Rattle.lte_machine.specs.PhoneChoice.{phone_row}
 use Rattle.lte_machine.specs.PhoneRows.{Authenticated, OfAuth}
 use Rattle.lte_machine.specs.PhoneStep.{plain_phone, front_of, phone_root, phone_opens, phone_pdu_in, phone_step}
 use Rattle.lte_machine.specs.StationState.{Station, StationInput, StationActs, AirPdu, StationRecord, Interface, OnS1, OnX2, map_read}
-use Rattle.lte_machine.specs.StationRows.{RecordRow, RecordRefused, ContextGiven, ContextReleased, PairTaken, PreparedByS1, PreparedByX2, AckedByS1, AckedByX2, PreparationCancelled, SourceReleased, OfRecord, OfAir, OfAct}
-use Rattle.lte_machine.specs.StationChoice.{station_of, record_row, air_front, air_row, act_row}
+use Rattle.lte_machine.specs.StationRows.{RecordRow, RecordRefused, ContextGiven, ContextReleased, PairTaken, PreparedByS1, PreparedByX2, AckedByS1, AckedByX2, PreparationCancelled, SourceReleased, OfRecord, OfAir, OfAct, KeyRenewed}
+use Rattle.lte_machine.specs.StationChoice.{record_row, air_front, air_row, act_row}
 use Rattle.lte_machine.specs.StationStep.{plain_station, station_opens, station_pdu_in, station_step}
 use Rattle.lte_machine.specs.CoreState.{Core, CoreContext, CoreInput, CoreAuth, CoreActs, CoreNasPdu, CoreRecord, map_core_context}
-use Rattle.lte_machine.specs.CoreRows.{CoreNasRow, NasRefused, PlainReject, SmcComplete, ServiceAsked, NasOpened, SealedReject, CoreRecordRow, PathSwitched, HandoverAsked, HandoverOrdered, HandoverNotified, HandoverCancelled, CoreActRow, ActRefused, SmcStarted, ContextSetUp, NasSent, NasSkipped}
+use Rattle.lte_machine.specs.CoreRows.{CoreNasRow, NasRefused, PlainReject, SmcComplete, ServiceAsked, NasOpened, SealedReject, CoreRecordRow, PathSwitched, HandoverAsked, HandoverOrdered, HandoverNotified, HandoverCancelled, CoreActRow, ActRefused, SmcStarted, ContextSetUp, NasSent, NasSkipped, SmcChange}
 use Rattle.lte_machine.specs.CoreRows as core_rows
 use Rattle.lte_machine.specs.CoreChoice.{core_header, core_nas_front, core_nas_row, core_record_row, core_act_row}
 use Rattle.lte_machine.specs.CoreStep.{plain_core, core_opens, core_pdu_in, core_received, core_step}
@@ -50,12 +50,13 @@ use Rattle.lte_properties.specs.Separation.{Gives, GivenTo}
 use Rattle.lte_properties.proofs.ChainNumbers.Choice.{record_row_fits}
 use Rattle.lte_properties.proofs.ChainNumbers.Lists.{OfSome, all_append, all_one, all_find, all_map, all_put, all_chosen}
 use Rattle.lte_properties.proofs.ChainNumbers.Core.{core_record_fits}
-use Rattle.lte_properties.proofs.KeySeparation.Keys.{Gifts, GivesIn, given_old, given_split, May, MayHold, may_hold, StationHas, StationOk, OwnCell, TriedOk, KeyGoes, FieldsOk, FlyOk, MadeOk, HoldOk, OutsAre, step_held, holder_may_grows, station_ok_grows, tried_ok_grows, fly_grows, made_ok_grows}
+use Rattle.lte_properties.proofs.KeySeparation.Keys.{Gifts, GivesIn, given_old, given_split, May, MayHold, may_hold, StationHas, StationOk, OwnCell, TriedOk, KeyGoes, FieldsOk, FlyOk, MadeOk, HoldOk, OutsAre, step_held, holder_may_grows, station_ok_grows, tried_ok_grows, fly_grows, made_ok_grows, OwnPlace}
 use Rattle.lte_properties.proofs.KeySeparation.Station.{StationKept, RecordNeeds, station_kept}
 use Rattle.lte_properties.proofs.KeySeparation.Phone.{PhoneOk, PhoneKept, Keyless, keyless_flies, phone_kept}
 use Rattle.lte_properties.proofs.KeySeparation.Core as core
 use Rattle.lte_properties.proofs.KeySeparation.Core.{CoreOk, CoreKept, auth_kept}
 use Rattle.lte_properties.proofs.KeySeparation.Choice.{act_goes, CellOwn, record_own, RowNext, nas_next, act_triggered}
+use Rattle.annex_a_keys.specs.Cell.{Place}
 
 -- THE INVARIANT
 
@@ -217,19 +218,23 @@ module _ (G : Gifts) (sites : List Site) (tried : List (Tried Term ℕ)) (same :
   goes_may OnS1 to t e k = subst (λ a. KeyGoes G sites a t) e k
   goes_may OnX2 to t e k = subst (λ a. KeyGoes G sites a t) e k
 
+  own : (cell : Place) → OwnPlace s.cells s.id cell → OwnPlace sites s.id cell
+  own cell = subst (λ l. OwnPlace l s.id cell) h.cells
+
   row_needs : (fields : Fields) (key : NumberedKey Term ℕ) → May G sites s.id key.key × OwnCell sites s.id key.key → FieldsOk tried fields (Some key) → (row : RecordRow) → RecordFits s fields row →
       CellOwn s.cells s.id row → RecordNeeds G sites tried s.id row key
   row_needs fields key m f (RecordRefused answer) r c = tt
-  row_needs fields key m f (ContextGiven conn cell caps algs air) r c = (m.0, subst (λ g. FieldsOk tried g (Some key)) r.0 f)
+  row_needs fields key m f (ContextGiven conn cell caps algs air) r c = (m.0, subst (λ g. FieldsOk tried g (Some key)) r.0 f, own cell c)
   row_needs fields key m f ContextReleased r c = tt
   row_needs fields key m f (PairTaken conn origin) r c = m.0
   row_needs fields key m f (PreparedByS1 w) r c =
-      (m.0, subst (λ g. FieldsOk tried g (Some key)) r.0 f, subst (λ l. station_of w.cell l ≡ Some s.id) h.cells c)
-  row_needs fields key m f (PreparedByX2 w) r c = (m.0, subst (λ g. FieldsOk tried g (Some key)) r.0 f, m.1)
+      (m.0, subst (λ g. FieldsOk tried g (Some key)) r.0 f, own w.cell c)
+  row_needs fields key m f (PreparedByX2 w) r c = (m.0, subst (λ g. FieldsOk tried g (Some key)) r.0 f, m.1, own w.cell c)
   row_needs fields key m f (AckedByS1 ncc algs air) r c = tt
   row_needs fields key m f (AckedByX2 algs air) r c = tt
   row_needs fields key m f (PreparationCancelled from) r c = tt
   row_needs fields key m f SourceReleased r c = tt
+  row_needs fields key m f (KeyRenewed conn number air count) r c = m.0
 
   abbrev row_at : Interface → Outgoing Term ℕ → RecordRow
   row_at on x = record_row (plain_station (term_reading_by same) s) on (map_read unseen (term_reading_by same).ncc (content_of x))
@@ -297,7 +302,7 @@ module _ (sites : List Site) (same : Term → Term → Bool) (octets : Outgoing 
   station_after_holds w id s d e k h =
       let after = GivenTo (with_one d.1.sent w.sent) in
       let le = grows sites w d.1.sent None in
-      let new : StationOk (GivenTo w.sent) sites d.0 = record { cells = k.0.cells; keys = subst (λ n. StationHas (May (GivenTo w.sent) sites n) d.0) (sym k.0.same) k.0.keys } in record {
+      let new : StationOk (GivenTo w.sent) sites d.0 = record { cells = k.0.cells; keys = subst (λ n. StationHas (May (GivenTo w.sent) sites n) (OwnPlace sites n) d.0) (sym k.0.same) k.0.keys } in record {
         phone = h.phone;
         core = subst (λ n. CoreOk n after w.core) (sym (roots_stay w.history d.1.derived)) (core_stays d.1.sent w.sent (next_root w) w.core k.0.gives h.core);
         stations = all_put (StationOk (GivenTo w.sent) sites) (StationOk after sites) id d.0 w.stations (station_ok_grows (GivenTo w.sent) after le sites d.0 new)
@@ -403,12 +408,14 @@ module _ (sites : List Site) (same : Term → Term → Bool) (octets : Outgoing 
     none (NasRefused answer) = tt
     none PlainReject = tt
     none (SmcComplete count) = tt
+    none (SmcChange count conn next station) = tt
     none (ServiceAsked count) = tt
     none (NasOpened count text) = tt
     none (SealedReject count) = tt
   unseen_next (Some c) (NasRefused answer) h = tt
   unseen_next (Some c) PlainReject h = tt
   unseen_next (Some c) (SmcComplete count) h = tt
+  unseen_next (Some c) (SmcChange count conn next station) h = tt
   unseen_next (Some c) (ServiceAsked count) h = h
   unseen_next (Some c) (NasOpened count text) h = h
   unseen_next (Some c) (SealedReject count) h = h
@@ -416,7 +423,7 @@ module _ (sites : List Site) (same : Term → Term → Bool) (octets : Outgoing 
   core_nas_holds : (w : TheWorld) (pdu : List ℕ) (came : Option (Outgoing Term ℕ)) → Holders sites w → Holders sites (core_turn m w (CoreNasPdu pdu) came).0
   core_nas_holds w pdu came h =
       let plain = plain_core (term_reading_by same) w.core in
-      core_turn_holds w (CoreNasPdu pdu) came tt (λ outcome. let row = core_nas_row plain (core_nas_front plain pdu (core_header pdu)) outcome in
+      core_turn_holds w (CoreNasPdu pdu) came tt (λ outcome. let row = core_nas_row plain.procedure plain.next plain.link (core_nas_front plain.procedure plain.context pdu (core_header pdu)) outcome in
       let k = core.nas_kept (next_root w) w.sent sites w.tried same w.core row (unseen_next w.core.context row (nas_next plain pdu (core_header pdu) outcome)) h.core in
       record { ok = k.ok; outs = k.outs; sends = k.sends; fresh = k.fresh }) h
 

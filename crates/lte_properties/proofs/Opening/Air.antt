@@ -1,5 +1,5 @@
 -- The keys of packets on the air: those that the phone takes at the packet's station and air address.
-use Rattle.std.proofs.Common.{◌≡◌, ℕ, ◌≤◌, ◌<◌, Bool, List, length, drop, Option, Some, None, refl, ap, sym, subst, ◌∙◌, arith}
+use Rattle.std.proofs.Common.{◌≡◌, ℕ, ◌≤◌, ◌<◌, Bool, List, length, drop, Option, Some, None, refl, ap, sym, subst, ◌∙◌, arith, true, false}
 use Rattle.std.specs.Prelude.{⊤, slice_index}
 use Rattle.rec_base.specs.declared.uses.Dir.{Dir}
 use Rattle.alg_choice.specs.declared.algs.Algs.{Algs}
@@ -12,19 +12,19 @@ use Rattle.key_model.specs.Reading.{Reading, term_reading_by}
 use Rattle.pdcp_guard.specs.declared.counting.TheConstants.{LIMIT}
 use Rattle.pdcp_guard.specs.AsKeys.{AsKeys}
 use Rattle.rrc_rec.specs.declared.records.RrcRecord.{RrcRecord}
-use Rattle.rrc_rec.specs.declared.records.RrcRecord.TheVariants.{SecurityModeCommand, SecurityModeComplete, Reconfiguration, ReconfigurationComplete, RrcData}
+use Rattle.rrc_rec.specs.declared.records.RrcRecord.TheVariants.{SecurityModeCommand, SecurityModeComplete, Reconfiguration, ReconfigurationComplete, RrcData, KeyChange}
 use Rattle.rrc_rec.specs.Spelling.{spelling_of}
 use Rattle.ho_prep.specs.Prep.{Prep, at_air}
 use Rattle.x2_handover.specs.declared.orders.Order.{Order}
 use Rattle.lte_machine.specs.Bearers.{Srb, Drb, Which, srb_counts, drb_counts}
 use Rattle.lte_machine.specs.Wire.{KeyUse, Ciphering, Outgoing, SealedNas, PlainNas, SealedRrc, UserPacket, Between}
-use Rattle.lte_machine.specs.Reply.{Origin, Made}
+use Rattle.lte_machine.specs.Reply.{Origin, Made, Before}
 use Rattle.lte_machine.specs.PhoneState.{Partial, NasContext, Radio, Idle, Connecting, Connected, Phone}
 use Rattle.lte_machine.specs.PhoneRows as phone
 use Rattle.lte_machine.specs.PhoneRows.{PhoneRow}
 use Rattle.lte_machine.specs.PhoneKeys as phone_keys
 use Rattle.lte_machine.specs.PhoneKeys.{phone_does}
-use Rattle.lte_machine.specs.StationState.{Station, Context}
+use Rattle.lte_machine.specs.StationState.{Station, Context, Renewal}
 use Rattle.lte_machine.specs.StationRows as station
 use Rattle.lte_machine.specs.StationRows.{StationRow, Wanted}
 use Rattle.lte_machine.specs.StationKeys as station_keys
@@ -38,7 +38,7 @@ use Rattle.lte_properties.proofs.Opening.Delivered.{RrcUnder, PacketUnder}
 -- these are the AS keys of what the phone takes at a station and air address, for the algorithms of what was made there
 abbrev pub KeysAre : Ghost → ℕ → ℕ → AsKeys Term → Type 0
 KeysAre g id air keys =
-    (m : Made Term ℕ) × (t : Term) × (made_at g.made id air ≡ Some m) × FromIs g m t m.from_attempt × (keys ≡ keys_of t m.algs)
+    (m : Made Term ℕ) × (t : Term) × (made_at g.made id air ≡ Some m) × FromIs g m t m.from × (keys ≡ keys_of t m.algs)
 
 -- at one address they are the same
 pub one_keys : (g : Ghost) (id air : ℕ) (a b : AsKeys Term) → KeysAre g id air a → KeysAre g id air b → a ≡ b
@@ -48,7 +48,7 @@ one_keys g id air a b h k =
     h.4 ∙ (λ j. keys_of (term j) (made j).algs) ∙ sym k.4
 
 pub keys_later : (g h : Ghost) → Later g h → (id air : ℕ) (keys : AsKeys Term) → KeysAre g id air keys → KeysAre h id air keys
-keys_later g h l id air keys k = (k.0, k.1, l.made id air k.0 k.2, from_later g h l k.0 k.1 k.0.from_attempt k.3, k.4)
+keys_later g h l id air keys k = (k.0, k.1, l.made id air k.0 k.2, from_later g h l k.0 k.1 k.0.from k.3, k.4)
 
 -- an RRC text of data, and a user packet
 abbrev pub RrcSealed : Ghost → Dir → ℕ → ℕ → Srb → KeyUse Term → Option (Ciphering Term) → List ℕ → Type 0
@@ -102,19 +102,17 @@ data_in a b e = ap (drop 1) e
 abbrev first : List ℕ → ℕ
 first t = slice_index t 0
 
-differ : (kind : ℕ) → kind < 5 → kind ≡ 5 → ⊥
-differ kind low e = absurd (omega arith)
-
 abbrev NoData : RrcRecord → Type 0
 NoData (RrcData text) = ⊥
 NoData other = ⊤
 
 no_data : (x : RrcRecord) → NoData x → (sent : List ℕ) → spelling_of x ≡ spelling_of (RrcData sent) → ⊥
 unfolding spelling_of
-no_data (SecurityModeCommand algs id air) h sent e = differ 1 (omega arith) (ap first e)
-no_data SecurityModeComplete h sent e = differ 2 (omega arith) (ap first e)
-no_data (Reconfiguration cell ncc algs id air) h sent e = differ 3 (omega arith) (ap first e)
-no_data ReconfigurationComplete h sent e = differ 4 (omega arith) (ap first e)
+no_data (SecurityModeCommand algs id air) h sent e = let kind : 1 ≡ 5 = ap first e in absurd (omega (arith, kind))
+no_data SecurityModeComplete h sent e = let kind : 2 ≡ 5 = ap first e in absurd (omega (arith, kind))
+no_data (Reconfiguration cell ncc algs id air) h sent e = let kind : 3 ≡ 5 = ap first e in absurd (omega (arith, kind))
+no_data ReconfigurationComplete h sent e = let kind : 4 ≡ 5 = ap first e in absurd (omega (arith, kind))
+no_data (KeyChange cell algs id air) h sent e = let kind : 6 ≡ 5 = ap first e in absurd (omega (arith, kind))
 no_data (RrcData text) h sent e = absurd h
 
 -- WHAT A STATION SENDS
@@ -161,6 +159,12 @@ module _ (same : Term → Term → Bool) (g : Ghost) where
   x2_sends w None s = tt
   x2_sends w (Some star) s = tt
 
+  renewed_sends : (conn number air count : ℕ) (o : Option (Context Term ℕ)) (key : Option (NumberedKey Term ℕ)) (s : Station Term ℕ)
+      → FromStation g (station_keys.key_renewed r conn number air count o key s).1.sent
+  renewed_sends conn number air count None key s = tt
+  renewed_sends conn number air count (Some c) None s = tt
+  renewed_sends conn number air count (Some c) (Some kenb) s = λ sent e. absurd (no_data (KeyChange c.cell c.algs s.id air) tt sent e)
+
   record_sends : (row : station.RecordRow) (key : Option (NumberedKey Term ℕ)) (s : Station Term ℕ) → FromStation g (station_keys.record_does r row key s).1.sent
   record_sends (station.RecordRefused answer) key s = tt
   record_sends (station.ContextGiven conn cell caps algs air) key s = given_sends conn cell caps algs air key s
@@ -172,6 +176,7 @@ module _ (same : Term → Term → Bool) (g : Ghost) where
   record_sends (station.AckedByX2 algs air) key s = tt
   record_sends (station.PreparationCancelled from) key s = tt
   record_sends station.SourceReleased key s = tt
+  record_sends (station.KeyRenewed conn number air count) key s = renewed_sends conn number air count s.context key s
 
   by_s1_sends : (count : ℕ) (p : Option (Prep Term ℕ)) (s : Station Term ℕ) → FromStation g (station_keys.completed_by_s1 r count p s).1.sent
   by_s1_sends count None s = tt
@@ -210,6 +215,10 @@ module _ (same : Term → Term → Bool) (g : Ghost) where
   commands_sends order count None s = tt
   commands_sends order count (Some c) s = λ sent e. absurd (no_data (Reconfiguration order.cell order.ncc order.algs order.station order.air) tt sent e)
 
+  change_sends : (renewal : Renewal) (count : ℕ) (o : Option (Context Term ℕ)) (s : Station Term ℕ) → FromStation g (station_keys.commands_change renewal count o s).1.sent
+  change_sends renewal count None s = tt
+  change_sends renewal count (Some c) s = λ sent e. absurd (no_data (KeyChange renewal.cell renewal.algs s.id renewal.air) tt sent e)
+
   asks_sends : (number : ℕ) (o : Option (Context Term ℕ)) (s : Station Term ℕ) → FromStation g (station_keys.asks_again number o s).1.sent
   asks_sends number None s = tt
   asks_sends number (Some c) s = tt
@@ -231,6 +240,7 @@ module _ (same : Term → Term → Bool) (g : Ghost) where
   act_sends (station.StartedByS1 number target cell) s keys needs = started_s1_sends number target cell s.context s
   act_sends (station.StartedWithin number air cell) s keys needs = started_within_sends number air cell s.context s
   act_sends (station.HandoverCommanded order count) s keys needs = commands_sends order count s.context s
+  act_sends (station.ChangeCommanded renewal count) s keys needs = change_sends renewal count s.context s
   act_sends (station.CancelledByX2 conn number target) s keys needs = tt
   act_sends (station.CancelledByS1 conn number cell) s keys needs = tt
   act_sends (station.CancelledWithin number) s keys needs = tt
@@ -309,6 +319,19 @@ module _ (same : Term → Term → Bool) (g : Ghost) where
   handed_from cell steps algs id air s (Connecting w) = tt
   handed_from cell steps algs id air s (Connected l) = λ sent e. absurd (no_data ReconfigurationComplete tt sent e)
 
+  changed_unless_from : (cell : Place) (algs : Algs) (id air : ℕ) (s : Phone Term ℕ) (before : Before Term ℕ) (root : Term) (same_root : Bool)
+      → FromPhone (phone_keys.changed_unless r cell algs id air s before root same_root).1.sent
+  changed_unless_from cell algs id air s before root true = tt
+  changed_unless_from cell algs id air s before root false = λ sent e. absurd (no_data ReconfigurationComplete tt sent e)
+
+  changed_from : (cell : Place) (algs : Algs) (id air : ℕ) (s : Phone Term ℕ) (radio : Radio Term ℕ) (o : Option (NasContext Term))
+      → FromPhone (phone_keys.key_changed r cell algs id air s radio o).1.sent
+  changed_from cell algs id air s Idle o = tt
+  changed_from cell algs id air s (Connecting w) o = tt
+  changed_from cell algs id air s (Connected l) None = tt
+  changed_from cell algs id air s (Connected l) (Some c) =
+      changed_unless_from cell algs id air s (phone_keys.before_of l) c.root (r.same c.root l.chain.root)
+
   rrc_opened_from : (srb : Srb) (count : ℕ) (text : List ℕ) (s : Phone Term ℕ) (radio : Radio Term ℕ) → FromPhone (phone_keys.rrc_opened srb count text s radio).1.sent
   rrc_opened_from srb count text s Idle = tt
   rrc_opened_from srb count text s (Connecting w) = tt
@@ -323,6 +346,7 @@ module _ (same : Term → Term → Bool) (g : Ghost) where
   air_from (phone.AirRefused answer) s = tt
   air_from (phone.LinkSecured id air algs count) s = secured_from id air algs count s s.radio
   air_from (phone.HandedOver cell steps algs id air) s = handed_from cell steps algs id air s s.radio
+  air_from (phone.KeyChanged cell algs id air) s = changed_from cell algs id air s s.radio s.context
   air_from (phone.RrcOpened srb count text) s = rrc_opened_from srb count text s s.radio
   air_from (phone.PacketOpened drb count text) s = packet_opened_from drb count text s s.radio
 

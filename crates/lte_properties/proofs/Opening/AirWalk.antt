@@ -20,13 +20,14 @@ use Rattle.lte_machine.specs.PhoneState.{NasContext, Radio, Idle, Connecting, Co
 use Rattle.lte_machine.specs.PhoneRows as phone
 use Rattle.lte_machine.specs.PhoneChoice as phone_choice
 use Rattle.lte_machine.specs.PhoneStep.{plain_phone}
-use Rattle.lte_machine.specs.StationState.{OverX2, OverS1, Within, X2State, X2Open, X2Ready, X2Commanded, S1State, S1Open, S1Ready, S1Commanded}
+use Rattle.lte_machine.specs.StationState.{OverX2, OverS1, Within, X2State, X2Open, X2Ready, X2Commanded, S1State, S1Open, S1Ready, S1Commanded, Renewal, Renewing}
 use Rattle.lte_machine.specs.StationRows as station
 use Rattle.lte_machine.specs.StationChoice as choice
 use Rattle.lte_machine.specs.StationChoice.{PlainStation, PlainContext, PlainAttempt}
 use Rattle.lte_properties.proofs.ChainNumbers.Choice.{by_test, above_of}
 use Rattle.lte_properties.proofs.Agreement.Ghost.{Ghost}
 use Rattle.lte_properties.proofs.Opening.Air.{SendNeeds, ActNeeds}
+use Rattle.lte_events.specs.Site.{station_of}
 
 -- A STATION
 
@@ -54,7 +55,7 @@ target_needs s attempt cell kind (Some target) =
 
 start_needs : (s : PlainStation) (kind : HoKind) (cell : Place) (o : Option PlainContext) → SendNeeds (choice.start_row s kind cell o)
 start_needs s kind cell None = tt
-start_needs s kind cell (Some c) = active_needs c.starting _ (target_needs s c.attempt cell kind (choice.station_of cell s.cells))
+start_needs s kind cell (Some c) = active_needs c.starting _ (target_needs s c.attempt cell kind (station_of cell s.cells))
 
 ordered_needs : (order : Order) (counts : Counts) → SendNeeds (choice.ordered_row order counts)
 ordered_needs order counts = unless_needs counts (station.HandoverCommanded order counts.send) (λ e. tt)
@@ -74,6 +75,7 @@ command_needs_by None counts = tt
 command_needs_by (Some (OverX2 state)) counts = x2_command_needs state counts
 command_needs_by (Some (OverS1 state)) counts = s1_command_needs state counts
 command_needs_by (Some (Within state)) counts = x2_command_needs state counts
+command_needs_by (Some (Renewing renewal)) counts = unless_needs counts (station.ChangeCommanded renewal counts.send) (λ e. tt)
 
 command_needs : (o : Option PlainContext) → SendNeeds (choice.command_row o)
 command_needs None = tt
@@ -99,6 +101,7 @@ cancel_needs_by conn None = tt
 cancel_needs_by conn (Some (OverX2 state)) = x2_cancel_needs conn state
 cancel_needs_by conn (Some (OverS1 state)) = s1_cancel_needs conn state
 cancel_needs_by conn (Some (Within state)) = within_cancel_needs state
+cancel_needs_by conn (Some (Renewing renewal)) = tt
 
 give_up_needs : (o : Option PlainContext) → SendNeeds (choice.give_up_row o)
 give_up_needs None = tt

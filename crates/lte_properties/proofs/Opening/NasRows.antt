@@ -1,5 +1,5 @@
 -- What each row of the core and of the phone leaves of the NAS keys.
-use Rattle.std.proofs.Common.{◌≡◌, ℕ, ◌≤◌, ◌<◌, Bool, List, length, Option, Some, None, Ok, refl, ap, sym, subst, ◌∙◌}
+use Rattle.std.proofs.Common.{◌≡◌, ℕ, ◌≤◌, ◌<◌, Bool, List, length, Option, Some, None, Ok, refl, ap, sym, subst, ◌∙◌, true, false}
 use Rattle.std.specs.Prelude.{⊤}
 use Rattle.rec_base.specs.declared.uses.Dir.{Dir}
 use Rattle.rec_base.specs.declared.uses.Dir.TheVariants.{Up, Down}
@@ -29,6 +29,7 @@ use Rattle.lte_machine.specs.CoreRows.{CoreNasRow, CoreRecordRow, CoreActRow, Co
 use Rattle.lte_machine.specs.CoreKeys as core_keys
 use Rattle.lte_machine.specs.CoreKeys.{CoreDone, core_does}
 use Rattle.lte_properties.proofs.Opening.Nas.{Choices, nas_keys, IsRootOf, AnyNumber, ChosenIs, RootHas, ContextOk, PhoneContextOk, CoreContextOk, CorePartialOk, ProcedureOk, PhoneOk, CoreOk, SealedSo, SealedOk, OutOk}
+use Rattle.lte_machine.specs.Reply.{Before}
 
 -- THE CORE
 
@@ -79,6 +80,12 @@ module _ (same : Term → Term → Bool) (g : Choices) (next : ℕ) where
   smc_complete_goes count None procedure s h k = (h, tt)
   smc_complete_goes count (Some p) None s h k = (h, tt)
   smc_complete_goes count (Some p) (Some keys) s h k = ((tt, tt, k), tt)
+
+  key_changed_goes : (count conn after station : ℕ) (o : Option (CorePartial Term)) (procedure : Option (Keys Term)) (s : Core Term ℕ) → CoreOk g next s
+      → ProcedureOk g next o procedure → CoreGoes (core_keys.key_changed r count conn after station o procedure s)
+  key_changed_goes count conn after station None procedure s h k = (h, tt)
+  key_changed_goes count conn after station (Some p) None s h k = (h, tt)
+  key_changed_goes count conn after station (Some p) (Some keys) s h k = ((tt, tt, k), tt)
 
   service_goes : (count : ℕ) (o : Option (CoreContext Term)) (s : Core Term ℕ) → CoreOk g next s → CoreContextOk g next o
       → CoreGoes (core_keys.service_asked count o s)
@@ -131,10 +138,11 @@ module _ (same : Term → Term → Bool) (g : Choices) (next : ℕ) where
   notified_goes station None s h = (h, tt)
   notified_goes station (Some link) s h = (h, tt)
 
-  core_nas_goes : (row : CoreNasRow) (s : Core Term ℕ) → CoreOk g next s → CoreGoes (core_keys.core_does_nas row s)
+  core_nas_goes : (row : CoreNasRow) (s : Core Term ℕ) → CoreOk g next s → CoreGoes (core_keys.core_does_nas r row s)
   core_nas_goes (core.NasRefused answer) s h = (h, tt)
   core_nas_goes core.PlainReject s h = ((h.0, no_procedure s.partial, h.2), tt)
   core_nas_goes (core.SmcComplete count) s h = smc_complete_goes count s.partial s.procedure s h h.1
+  core_nas_goes (core.SmcChange count conn after station) s h = key_changed_goes count conn after station s.partial s.procedure s h h.1
   core_nas_goes (core.ServiceAsked count) s h = service_goes count s.context s h h.2
   core_nas_goes (core.NasOpened count text) s h = core_opened_goes count text s.context s h h.2
   core_nas_goes (core.SealedReject count) s h = sealed_reject_goes count s.context s h h.2
@@ -252,6 +260,19 @@ module _ (same : Term → Term → Bool) (g : Choices) (next : ℕ) where
   handed_goes cell steps algs station air s (Connecting w) h = (h, tt)
   handed_goes cell steps algs station air s (Connected l) h = (h, tt)
 
+  changed_unless_goes : (cell : Place) (algs : Algs) (station air : ℕ) (s : Phone Term ℕ) (before : Before Term ℕ) (root : Term) (same_root : Bool) → PhoneOk g next s
+      → PhoneGoes (phone_keys.changed_unless r cell algs station air s before root same_root)
+  changed_unless_goes cell algs station air s before root true h = (h, tt)
+  changed_unless_goes cell algs station air s before root false h = (h, tt)
+
+  changed_goes : (cell : Place) (algs : Algs) (station air : ℕ) (s : Phone Term ℕ) (radio : Radio Term ℕ) (o : Option (NasContext Term)) → PhoneOk g next s
+      → PhoneGoes (phone_keys.key_changed r cell algs station air s radio o)
+  changed_goes cell algs station air s Idle o h = (h, tt)
+  changed_goes cell algs station air s (Connecting w) o h = (h, tt)
+  changed_goes cell algs station air s (Connected l) None h = (h, tt)
+  changed_goes cell algs station air s (Connected l) (Some c) h =
+      changed_unless_goes cell algs station air s (phone_keys.before_of l) c.root (r.same c.root l.chain.root) h
+
   rrc_opened_goes : (srb : Srb) (count : ℕ) (text : List ℕ) (s : Phone Term ℕ) (radio : Radio Term ℕ) → PhoneOk g next s
       → PhoneGoes (phone_keys.rrc_opened srb count text s radio)
   rrc_opened_goes srb count text s Idle h = (h, tt)
@@ -268,6 +289,7 @@ module _ (same : Term → Term → Bool) (g : Choices) (next : ℕ) where
   air_goes (phone.AirRefused answer) s h = (h, tt)
   air_goes (phone.LinkSecured station air algs count) s h = secured_goes station air algs count s s.radio h
   air_goes (phone.HandedOver cell steps algs station air) s h = handed_goes cell steps algs station air s s.radio h
+  air_goes (phone.KeyChanged cell algs station air) s h = changed_goes cell algs station air s s.radio s.context h
   air_goes (phone.RrcOpened srb count text) s h = rrc_opened_goes srb count text s s.radio h
   air_goes (phone.PacketOpened drb count text) s h = packet_opened_goes drb count text s s.radio h
 

@@ -1,5 +1,7 @@
 -- What the choice of a row established: algorithms that are chosen for a KASME, and COUNTs that are left.
 use Rattle.std.proofs.Common.{◌≡◌, ℕ, ◌+◌, ◌*◌, ◌≤◌, Bool, true, false, List, [], ◌∷◌, ◌++◌, length, map, inl, inr, Option, Some, None, option_map, Result, Ok, Err, refl, ap, sym, subst, ◌∙◌, arith}
+use Rattle.lte_machine.specs.Kinds.{same_caps}
+use Rattle.lte_events.specs.Site.{station_of}
 use Rattle.std.specs.Prelude.{⊤, nat_le, ◌==◌}
 use Rattle.std.proofs.lemmas.Bool.Decides.{nat_tests}
 use Rattle.rec_base.specs.declared.faults.RecFault.{RecFault}
@@ -39,7 +41,7 @@ use Rattle.lte_machine.specs.Ranges.{IsCoreAct, IsPhoneAct}
 use Rattle.lte_machine.specs.PhoneState.{Partial, NasContext, Radio, Idle, Connecting, Connected, Phone, map_context}
 use Rattle.lte_machine.specs.PhoneRows as phone
 use Rattle.lte_machine.specs.PhoneChoice as choice
-use Rattle.lte_machine.specs.PhoneChoice.{PlainPhone, header_for_phone, same_caps}
+use Rattle.lte_machine.specs.PhoneChoice.{PlainPhone, header_for_phone}
 use Rattle.lte_machine.specs.PhoneKeys as keys
 use Rattle.lte_machine.specs.PhoneStep.{plain_phone}
 use Rattle.lte_machine.specs.CoreState.{Core, CorePartial, CoreContext, CoreLink, map_core_partial}
@@ -98,7 +100,7 @@ pub core_act_needs : (same : Term → Term → Bool) (s : Core Term ℕ) (act : 
 core_act_needs same s StartSmc h = start_needs s.priority s.partial (plain_core (term_reading_by same) s).procedure
 core_act_needs same s (Connect cell) h =
     let plain = plain_core (term_reading_by same) s in
-    connect_needs s.priority s.partial s.next cell (core_choice.station_at_cell cell s.cells) plain.context s.trigger
+    connect_needs s.priority s.partial s.next cell (station_of cell s.cells) plain.context s.trigger
 core_act_needs same s Release h = release_needs s.priority s.partial (plain_core (term_reading_by same) s).link
 core_act_needs same s (SendNas text) h = send_needs s.priority s.partial (plain_core (term_reading_by same) s).context text h.1
 core_act_needs same s (Skip n) h = skip_needs s.priority s.partial (plain_core (term_reading_by same) s).context n
@@ -248,7 +250,7 @@ module _ (same : Term → Term → Bool) (g : Choices) (next : ℕ) (c : Ciphers
     out front = opener (keys.nas_expects q front s) pdu came
 
     abbrev Walk : choice.NasFront → Type 0
-    Walk front = Granted (keys.nas_expects q front s) (out front) (choice.nas_row plain front (out front))
+    Walk front = Granted (keys.nas_expects q front s) (out front) (choice.nas_row plain.caps plain.context plain.radio front (out front))
 
     rejected_needs : (answer : Answer) (cause : ℕ) (o : Option (NasContext (Unit {0}))) → Needs (choice.rejected answer cause o)
     rejected_needs answer cause None = tt
@@ -299,7 +301,7 @@ module _ (same : Term → Term → Bool) (g : Choices) (next : ℕ) (c : Ciphers
     context_walk count algs text ksi caps type reads (Connected l) = λ h. connected_needs count algs text ksi caps type reads s.partial (h (connected_done algs count s.partial))
 
     command_walk : (count : ℕ) (algs : Algs) (ksi : ℕ) (caps : Caps) → header_for_phone pdu ≡ Ok 3 → read_nas (sent_in pdu) ≡ Ok (SecurityModeCommand ksi algs caps)
-        → (o : Outcome) → Granted (keys.command_expects q count algs s.partial) o (choice.command_row plain count algs caps o)
+        → (o : Outcome) → Granted (keys.command_expects q count algs s.partial) o (choice.command_row plain.caps plain.context plain.radio count algs caps o)
     command_walk count algs ksi caps type reads (Differs wanted got) = λ h. rejected_needs _ _ plain.context
     command_walk count algs ksi caps type reads (Opened text) =
         by_test (Granted (keys.command_expects q count algs s.partial) (Opened text)) (same_caps plain.caps caps) _ _
@@ -310,7 +312,7 @@ module _ (same : Term → Term → Bool) (g : Choices) (next : ℕ) (c : Ciphers
     command_at_walk algs ksi caps type reads (Err none) = λ h. tt
     command_at_walk algs ksi caps type reads (Ok count) = command_walk count algs ksi caps type reads (out (choice.AtCommand count algs caps))
 
-    command_read_walk : (held : ℕ) → header_for_phone pdu ≡ Ok 3 → (read : Result NasRecord RecFault) → read_nas (sent_in pdu) ≡ read → Walk (choice.command_read plain held pdu read)
+    command_read_walk : (held : ℕ) → header_for_phone pdu ≡ Ok 3 → (read : Result NasRecord RecFault) → read_nas (sent_in pdu) ≡ read → Walk (choice.command_read plain.caps plain.context held pdu read)
     command_read_walk held type (Err fault) e = λ h. tt
     command_read_walk held type (Ok (SecurityModeCommand ksi algs caps)) e =
         by_test Walk (ksi == held) _ _
@@ -321,7 +323,7 @@ module _ (same : Term → Term → Bool) (g : Choices) (next : ℕ) (c : Ciphers
     command_read_walk held type (Ok ServiceRequest) e = λ h. tt
     command_read_walk held type (Ok (NasData text)) e = λ h. tt
 
-    command_front_walk : header_for_phone pdu ≡ Ok 3 → (o : Option (Partial (Unit {0}))) → Walk (choice.command_front plain pdu o)
+    command_front_walk : header_for_phone pdu ≡ Ok 3 → (o : Option (Partial (Unit {0}))) → Walk (choice.command_front plain.caps plain.context pdu o)
     command_front_walk type None = λ h. tt
     command_front_walk type (Some p) = command_read_walk p.ksi type (read_nas (sent_in pdu)) refl
 
@@ -345,7 +347,7 @@ module _ (same : Term → Term → Bool) (g : Choices) (next : ℕ) (c : Ciphers
     message_front_walk header None = λ h. tt
     message_front_walk header (Some k) = message_at_walk header (estimate_of k.receive (sn_in pdu))
 
-    header_walk : (o : Result ℕ Answer) → header_for_phone pdu ≡ o → Walk (choice.nas_by_header plain pdu o)
+    header_walk : (o : Result ℕ Answer) → header_for_phone pdu ≡ o → Walk (choice.nas_by_header plain.caps plain.partial plain.context pdu o)
     header_walk (Err answer) e = λ h. tt
     header_walk (Ok header) e =
         by_test Walk (header == 3) _ _
@@ -353,5 +355,5 @@ module _ (same : Term → Term → Bool) (g : Choices) (next : ℕ) (c : Ciphers
         (λ f. message_front_walk header plain.context)
 
     -- the row of a message: where a command is taken, its algorithms are those chosen for its KASME
-    pub nas_pdu_needs : Walk (choice.nas_by_header plain pdu (header_for_phone pdu))
+    pub nas_pdu_needs : Walk (choice.nas_by_header plain.caps plain.partial plain.context pdu (header_for_phone pdu))
     nas_pdu_needs = header_walk (header_for_phone pdu) refl

@@ -16,7 +16,7 @@ use Rattle.pdcp_guard.specs.Srb.{srb_count}
 use Rattle.pdcp_guard.specs.Drb.{drb_count}
 use Rattle.ho_prep.specs.Prep.{at_air}
 use Rattle.lte_machine.specs.Bearers.{Srb, Signalling1, Signalling2, Drb, User1, User2, User3, User4, Which, OnSrb, OnDrb, which, of_srb, of_drb, srb_counts, drb_counts}
-use Rattle.lte_machine.specs.Wire.{nas_use, srb_use, Outgoing}
+use Rattle.lte_machine.specs.Wire.{nas_use, srb_use, Outgoing, drb_ciphering, nas_ciphering, srb_ciphering}
 use Rattle.lte_machine.specs.Opening.{Opening, OpensNas, OpensSrb, OpensDrb, Outcome, Opened}
 use Rattle.lte_machine.specs.Reply.{Reply, unseen}
 use Rattle.lte_machine.specs.PhoneState.{NasContext, Link, Connected, Phone, PhoneNasPdu, PhoneAirPdu, map_context, map_link, map_radio}
@@ -24,7 +24,6 @@ use Rattle.lte_machine.specs.PhoneRows.{NasOpened, AirRefused, RrcOpened, Packet
 use Rattle.lte_machine.specs.PhoneChoice as at_phone
 use Rattle.lte_machine.specs.PhoneChoice.{header_for_phone}
 use Rattle.lte_machine.specs.PhoneKeys as by_phone
-use Rattle.lte_machine.specs.PhoneKeys.{nas_ciphering_down, srb_ciphering_down, drb_ciphering_down}
 use Rattle.lte_machine.specs.PhoneStep.{plain_phone, phone_step, phone_opens}
 use Rattle.lte_machine.specs.StationState as station_state
 use Rattle.lte_machine.specs.StationState.{Station, Context, AirPdu}
@@ -38,7 +37,6 @@ use Rattle.lte_machine.specs.CoreRows as core_rows
 use Rattle.lte_machine.specs.CoreChoice as at_core
 use Rattle.lte_machine.specs.CoreChoice.{core_header}
 use Rattle.lte_machine.specs.CoreKeys as by_core
-use Rattle.lte_machine.specs.CoreKeys.{uplink_ciphering}
 use Rattle.lte_machine.specs.CoreStep.{plain_core, core_step, core_opens}
 
 -- a reply that is done and opens these data
@@ -87,29 +85,30 @@ module _ (same : Term → Term → Bool) (opener : Opener) (pdu : List ℕ) (cam
   -- the phone on a NAS message
   pub phone_nas_opens : (s : Phone Term ℕ) (c : NasContext Term) (count : ℕ) → s.context ≡ Some c → header_for_phone pdu ≡ Ok 2
       → estimate_of c.receive (sn_in pdu) ≡ Ok count
-      → opener (OpensNas (nas_use Down c.keys.int count) (Some (nas_ciphering_down c.keys count))) pdu came ≡ Opened text
+      → opener (OpensNas (nas_use Down c.keys.int count) (Some (nas_ciphering Down c.keys count))) pdu came ≡ Opened text
       → read_nas text ≡ Ok (NasData sent)
       → DoneWith (phone_step r s (PhoneNasPdu pdu) (opener (phone_opens r s (PhoneNasPdu pdu)) pdu came)).1 sent
   phone_nas_opens s c count context header counts opens reads =
       let plain = plain_phone r s in
-      let at = at_phone.nas_by_header plain pdu (header_for_phone pdu) in
+      let at = at_phone.nas_by_header plain.caps plain.partial plain.context pdu (header_for_phone pdu) in
       let front : at ≡ at_phone.AtMessage count 2 =
-      ap (at_phone.nas_by_header plain pdu) header ∙ ap (λ o. at_phone.message_front 2 pdu (option_map (map_context unseen) o)) context
+      ap (at_phone.nas_by_header plain.caps plain.partial plain.context pdu) header
+      ∙ ap (λ o. at_phone.message_front 2 pdu (option_map (map_context unseen) o)) context
       ∙ ap (at_phone.message_at 2) counts in
-      let expects : by_phone.nas_expects r at s ≡ OpensNas (nas_use Down c.keys.int count) (Some (nas_ciphering_down c.keys count)) =
+      let expects : by_phone.nas_expects r at s ≡ OpensNas (nas_use Down c.keys.int count) (Some (nas_ciphering Down c.keys count)) =
       ap (λ f. by_phone.nas_expects r f s) front ∙ ap (by_phone.message_expects count 2) context in
       let outcome = opener (by_phone.nas_expects r at s) pdu came in
       let out : outcome ≡ Opened text = ap (λ p. opener p pdu came) expects ∙ opens in
-      let row : at_phone.nas_row plain at outcome ≡ NasOpened count sent =
-      (λ j. at_phone.nas_row plain (front j) (out j)) ∙ ap (at_phone.message_read count) reads in
-      let reply : (by_phone.nas_does r (at_phone.nas_row plain at outcome) s).1 ≡ by_phone.opens sent =
+      let row : at_phone.nas_row plain.caps plain.context plain.radio at outcome ≡ NasOpened count sent =
+      (λ j. at_phone.nas_row plain.caps plain.context plain.radio (front j) (out j)) ∙ ap (at_phone.message_read count) reads in
+      let reply : (by_phone.nas_does r (at_phone.nas_row plain.caps plain.context plain.radio at outcome) s).1 ≡ by_phone.opens sent =
       ap (λ k. (by_phone.nas_does r k s).1) row ∙ ap (λ o. (by_phone.nas_opened count sent s o).1) context in
       (ap (λ y. y.answer) reply, ap (λ y. y.opened) reply)
 
   -- the phone on an RRC text
   pub phone_rrc_opens : (s : Phone Term ℕ) (l : Link Term ℕ) (station air : ℕ) (srb : Srb) (count : ℕ) → s.radio ≡ Connected l
       → l.station ≡ station → l.air ≡ air → srb_count (srb_counts srb l.bearers).receive pdu ≡ Ok count
-      → opener (OpensSrb (srb_use Down l.keys.rrc_int srb count) (Some (srb_ciphering_down l.keys srb count))) pdu came ≡ Opened text
+      → opener (OpensSrb (srb_use Down l.keys.rrc_int srb count) (Some (srb_ciphering Down l.keys srb count))) pdu came ≡ Opened text
       → read_rrc text ≡ Ok (RrcData sent)
       → DoneWith (phone_step r s (PhoneAirPdu station air (of_srb srb) pdu) (opener (phone_opens r s (PhoneAirPdu station air (of_srb srb) pdu)) pdu came)).1 sent
   phone_rrc_opens s l station air srb count radio here there counts opens reads =
@@ -119,7 +118,7 @@ module _ (same : Term → Term → Bool) (opener : Opener) (pdu : List ℕ) (cam
       (λ j. at_phone.air_front s.caps station air pdu (which_srb srb j) (map_radio unseen r.ncc (radio j)))
       ∙ ap (λ b. if b then at_phone.linked_front (map_link unseen r.ncc l) pdu (OnSrb srb) else not_there) (both_are l.station station l.air air here there)
       ∙ ap (at_phone.signalling_at srb own) counts in
-      let expects : by_phone.air_expects r at s ≡ OpensSrb (srb_use Down l.keys.rrc_int srb count) (Some (srb_ciphering_down l.keys srb count)) =
+      let expects : by_phone.air_expects r at s ≡ OpensSrb (srb_use Down l.keys.rrc_int srb count) (Some (srb_ciphering Down l.keys srb count)) =
       ap (λ f. by_phone.air_expects r f s) front ∙ ap (by_phone.signalling_expects srb count) radio in
       let outcome = opener (by_phone.air_expects r at s) pdu came in
       let out : outcome ≡ Opened text = ap (λ p. opener p pdu came) expects ∙ opens in
@@ -132,7 +131,7 @@ module _ (same : Term → Term → Bool) (opener : Opener) (pdu : List ℕ) (cam
   -- the phone on a user packet
   pub phone_packet_opens : (s : Phone Term ℕ) (l : Link Term ℕ) (station air : ℕ) (drb : Drb) (count : ℕ) → s.radio ≡ Connected l
       → l.station ≡ station → l.air ≡ air → drb_count (drb_counts drb l.bearers).receive pdu ≡ Ok count
-      → opener (OpensDrb (drb_ciphering_down l.keys drb count)) pdu came ≡ Opened text → text ≡ sent → length text ≤ 1500
+      → opener (OpensDrb (drb_ciphering Down l.keys drb count)) pdu came ≡ Opened text → text ≡ sent → length text ≤ 1500
       → DoneWith (phone_step r s (PhoneAirPdu station air (of_drb drb) pdu) (opener (phone_opens r s (PhoneAirPdu station air (of_drb drb) pdu)) pdu came)).1 sent
   phone_packet_opens s l station air drb count radio here there counts opens is short =
       let at = at_phone.air_front s.caps station air pdu (which (of_drb drb)) (map_radio unseen r.ncc s.radio) in
@@ -140,7 +139,7 @@ module _ (same : Term → Term → Bool) (opener : Opener) (pdu : List ℕ) (cam
       (λ j. at_phone.air_front s.caps station air pdu (which_drb drb j) (map_radio unseen r.ncc (radio j)))
       ∙ ap (λ b. if b then at_phone.linked_front (map_link unseen r.ncc l) pdu (OnDrb drb) else not_there) (both_are l.station station l.air air here there)
       ∙ ap (at_phone.packet_at drb) counts in
-      let expects : by_phone.air_expects r at s ≡ OpensDrb (drb_ciphering_down l.keys drb count) =
+      let expects : by_phone.air_expects r at s ≡ OpensDrb (drb_ciphering Down l.keys drb count) =
       ap (λ f. by_phone.air_expects r f s) front ∙ ap (by_phone.packet_expects drb count) radio in
       let outcome = opener (by_phone.air_expects r at s) pdu came in
       let out : outcome ≡ Opened text = ap (λ p. opener p pdu came) expects ∙ opens in
@@ -200,24 +199,24 @@ module _ (same : Term → Term → Bool) (opener : Opener) (pdu : List ℕ) (cam
   -- the core on a NAS message
   pub core_nas_opens : (s : Core Term ℕ) (c : CoreContext Term) (count : ℕ) → s.context ≡ Some c → core_header pdu ≡ Ok 2 → 6 ≤ length pdu
       → estimate_of c.nas.receive (sn_in pdu) ≡ Ok count
-      → opener (OpensNas (nas_use Up c.nas.keys.int count) (Some (uplink_ciphering c.nas.keys count))) pdu came ≡ Opened text
+      → opener (OpensNas (nas_use Up c.nas.keys.int count) (Some (nas_ciphering Up c.nas.keys count))) pdu came ≡ Opened text
       → read_nas text ≡ Ok (NasData sent)
       → DoneWith (core_step r s (CoreNasPdu pdu) (opener (core_opens r s (CoreNasPdu pdu)) pdu came)).1 sent
   core_nas_opens s c count context header long counts opens reads =
       let plain = plain_core r s in
       let enough : nat_lt (length pdu) 6 ≡ false = grind (arith, nat_tests) in
-      let at = at_core.core_nas_front plain pdu (core_header pdu) in
+      let at = at_core.core_nas_front plain.procedure plain.context pdu (core_header pdu) in
       let front : at ≡ at_core.OpensProtected 2 count =
-      ap (at_core.core_nas_front plain pdu) header
+      ap (at_core.core_nas_front plain.procedure plain.context pdu) header
       ∙ ap (λ b. if b then too_short else at_core.protected_front plain.context 2 pdu) enough
       ∙ ap (λ o. at_core.protected_front (option_map (map_core_context unseen) o) 2 pdu) context
       ∙ ap (at_core.opens_protected 2) counts in
-      let expects : by_core.core_nas_expects at s ≡ OpensNas (nas_use Up c.nas.keys.int count) (Some (uplink_ciphering c.nas.keys count)) =
+      let expects : by_core.core_nas_expects at s ≡ OpensNas (nas_use Up c.nas.keys.int count) (Some (nas_ciphering Up c.nas.keys count)) =
       ap (λ f. by_core.core_nas_expects f s) front ∙ ap (λ o. by_core.opens_by_context o 2 count) context in
       let outcome = opener (by_core.core_nas_expects at s) pdu came in
       let out : outcome ≡ Opened text = ap (λ p. opener p pdu came) expects ∙ opens in
-      let row : at_core.core_nas_row plain at outcome ≡ core_rows.NasOpened count sent =
-      (λ j. at_core.core_nas_row plain (front j) (out j)) ∙ ap (at_core.protected_row plain.procedure count) reads in
-      let reply : (by_core.core_does_nas (at_core.core_nas_row plain at outcome) s).1 ≡ (by_core.nas_opened count sent (Some c) s).1 =
-      ap (λ k. (by_core.core_does_nas k s).1) row ∙ ap (λ o. (by_core.nas_opened count sent o s).1) context in
+      let row : at_core.core_nas_row plain.procedure plain.next plain.link at outcome ≡ core_rows.NasOpened count sent =
+      (λ j. at_core.core_nas_row plain.procedure plain.next plain.link (front j) (out j)) ∙ ap (at_core.protected_row plain.procedure count) reads in
+      let reply : (by_core.core_does_nas r (at_core.core_nas_row plain.procedure plain.next plain.link at outcome) s).1 ≡ (by_core.nas_opened count sent (Some c) s).1 =
+      ap (λ k. (by_core.core_does_nas r k s).1) row ∙ ap (λ o. (by_core.nas_opened count sent o s).1) context in
       (ap (λ y. y.answer) reply, ap (λ y. y.opened) reply)

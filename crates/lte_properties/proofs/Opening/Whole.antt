@@ -38,12 +38,12 @@ use Rattle.lte_properties.proofs.ChainNumbers.World.{happens_holds, first_holds}
 use Rattle.lte_properties.proofs.Agreement.Ghost.{Ghost}
 use Rattle.lte_properties.proofs.Agreement.Later.{Later}
 use Rattle.lte_properties.proofs.Agreement.Told.{SiteOk}
-use Rattle.lte_properties.proofs.Agreement.World.{TheWorld, Conns, ghost, WorldOk}
+use Rattle.lte_properties.proofs.Agreement.World.{TheWorld, Conns, ghost, WorldOk, Settled}
 use Rattle.lte_properties.proofs.Agreement.Events.{happens_goes}
 use Rattle.lte_properties.proofs.Agreement.Holds.{cells_of, no_conns, first_ok}
-use Rattle.lte_properties.proofs.Agreement.Opener.{plain_reads}
-use Rattle.lte_properties.proofs.Agreement.Whole.{honest_along, calm_over}
-use Rattle.lte_properties.proofs.Opening.Opens.{OpensBack}
+use Rattle.lte_properties.proofs.Agreement.Opener.{octets_tell}
+use Rattle.lte_properties.proofs.Agreement.Whole.{honest_along, settled_from_first, calm_over}
+use Rattle.lte_properties.proofs.Opening.Opens.{IsReflexive, OpensBack}
 use Rattle.lte_properties.proofs.Opening.Delivered.{opens_where_fits}
 use Rattle.lte_properties.proofs.Opening.Nas.{Choices, SentOk, More, phone_more, core_more, sent_more}
 use Rattle.lte_properties.proofs.Opening.NasRows.{phone_goes, core_auth_goes}
@@ -165,14 +165,14 @@ module _ (same : Term → Term → Bool) (sender : Option (Outgoing Term ℕ) �
   Stands w = (k : Conns) × WorldOk cells k w × Keeps k w
 
   pub run_stands : AllOf SiteOk cells → (top : ℕ → ℕ) (w : TheWorld) (es : List Event) → Holds top w → Stands w → ranges.AllOf IsEvent es
-      → Along (Honest m) m w es → Along (Calm m) m w es → Along (SameRoot m) m w es → Stands (run m w es)
-  run_stands sites top w [] holds h is honest calm one = h
-  run_stands sites top w (e ∷ es) holds h is honest calm one =
+      → Along (λ v e. Settled v) m w es → Along (Honest m) m w es → Along (Calm m) m w es → Along (SameRoot m) m w es → Stands (run m w es)
+  run_stands sites top w [] holds h is settled honest calm one = h
+  run_stands sites top w (e ∷ es) holds h is settled honest calm one =
       let u = (happens m w e).0 in
-      let step = happens_goes same Root (octets_of c between) sender opener (plain_reads c good between) cells sites h.0 w e is.0 h.1 holds.above holds.flight honest.0 calm.0 in
+      let step = happens_goes same Root (octets_of c between) sender opener (octets_tell c good between) cells sites h.0 w e is.0 h.1 settled.0 holds.above holds.flight honest.0 calm.0 in
       let keeps = happens_keeps h.2.0 h.0 step.0 w e is.0 h.1 h.2.1 one.0 step.1 in
       run_stands sites (noted u.core.link top) u es (happens_holds same Root (octets_of c between) sender opener top w e holds) (step.0, step.2, keeps)
-      is.1 honest.1 calm.1 one.1
+      is.1 settled.1 honest.1 calm.1 one.1
 
 -- before the first event nothing was sent
 pub first_stands : (setup : Setup) → IsSetup setup → (k : Conns) × WorldOk setup.cells k (first_world setup) × Keeps k (first_world setup)
@@ -182,14 +182,15 @@ first_stands setup is =
 -- in every world of a run of a machine whose opener compares the uses of SRB records as terms, and whose NAS messages come
 -- of the KASME under which they are accepted, an opener that opens what comes under the uses it was sealed with opens
 -- packets to what was sent
-pub packets_open : (same : Term → Term → Bool) (c : Ciphers Term) → AreCiphers c → (between : Fields → Option (NumberedKey Term ℕ) → List ℕ) (opener : Opening Term → List ℕ → Option (Outgoing Term ℕ) → Outcome) → OpensByTerms c opener
+pub packets_open : (same : Term → Term → Bool) → IsReflexive same → (c : Ciphers Term) → AreCiphers c → (between : Fields → Option (NumberedKey Term ℕ) → List ℕ) (opener : Opening Term → List ℕ → Option (Outgoing Term ℕ) → Outcome) → OpensByTerms c opener
     → (setup : Setup) → IsSetup setup → (events : List Event) → ranges.AllOf IsEvent events
     → Along (SameRoot (record (machine_over same c between) { opener = opener })) (record (machine_over same c between) { opener = opener }) (first_world setup) events
     → (back : Opening Term → List ℕ → Option (Outgoing Term ℕ) → Outcome) → OpensBack c back
     → OpensToSent (record (machine_over same c between) { opener = back }) (run (record (machine_over same c between) { opener = opener }) (first_world setup) events)
-packets_open same c good between opener by_terms setup is events are one back opens =
+packets_open same itself c good between opener by_terms setup is events are one back opens =
     let u = run (record (machine_over same c between) { opener = opener }) (first_world setup) events in
     let honest = honest_along same Root (octets_of c between) sender_of opener c by_terms (first_world setup) events in
-    let calm = calm_over same c good between opener by_terms setup is events are in
-    let s = run_stands same sender_of opener c good between setup.cells (cells_of setup is) (λ conn. 0) (first_world setup) events (first_holds setup) (first_stands setup is) are honest calm one in
+    let calm = calm_over same itself c good between opener by_terms setup is events are in
+    let settled = settled_from_first same itself (octets_of c between) sender_of opener setup is events are in
+    let s = run_stands same sender_of opener c good between setup.cells (cells_of setup is) (λ conn. 0) (first_world setup) events (first_holds setup) (first_stands setup is) are settled honest calm one in
     opens_where_fits same Root sender_of back c good opens between u (packets_fit setup.cells s.0 s.2.0 u s.1 s.2.1)

@@ -153,6 +153,11 @@ module _ (same : Term → Term → Bool) where
   complete_air count (Some p) None s = tt
   complete_air count (Some p) (Some keys) s = tt
 
+  changed_air : (count conn next station : ℕ) (o : Option (CorePartial Term)) (procedure : Option (Keys Term)) (s : Core Term ℕ) → FromCore (core_keys.key_changed r count conn next station o procedure s).1.sent
+  changed_air count conn next station None procedure s = tt
+  changed_air count conn next station (Some p) None s = tt
+  changed_air count conn next station (Some p) (Some keys) s = tt
+
   service_air : (count : ℕ) (o : Option (CoreContext Term)) (s : Core Term ℕ) → FromCore (core_keys.service_asked count o s).1.sent
   service_air count None s = tt
   service_air count (Some c) s = tt
@@ -194,6 +199,7 @@ module _ (same : Term → Term → Bool) where
   core_sends (core.OfNas (core.NasRefused answer)) root s = tt
   core_sends (core.OfNas core.PlainReject) root s = tt
   core_sends (core.OfNas (core.SmcComplete count)) root s = complete_air count s.partial s.procedure s
+  core_sends (core.OfNas (core.SmcChange count conn next station)) root s = changed_air count conn next station s.partial s.procedure s
   core_sends (core.OfNas (core.ServiceAsked count)) root s = service_air count s.context s
   core_sends (core.OfNas (core.NasOpened count text)) root s = opened_air count text s.context s
   core_sends (core.OfNas (core.SealedReject count)) root s = reject_air count s.context s
