@@ -1,13 +1,23 @@
 ghost use Rattle.std.specs.Prelude.{◌≡◌};
 
 /// An EPS encryption algorithm (TS 33.401 5.1.3.2).
-#[derive(Clone, Copy, Debug, Default, PartialEq, Eq)]
+#[derive(Clone, Copy, Debug, PartialEq, Eq)]
 pub enum Eea {
     /// The null algorithm, which leaves a text as it is: identity 0.
-    #[default]
     Eea0,
     /// 128-EEA2, AES in counter mode: identity 2.
     Eea2,
+}
+
+impl Default for Eea {
+    ghost use Rattle.std.specs.Prelude.{◌≡◌};
+    ghost use Rattle.alg_choice.specs.declared.algs.Eea.TheVariants.{Eea0};
+
+    ghost is_default = { λ v. v ≡ Eea0 };
+
+    fn default() -> Eea {
+        Eea::Eea0
+    }
 }
 
 impl Eea {

@@ -8,7 +8,7 @@ use hmac_kdf::KdfInput;
 use std::marker::Model;
 
 /// An algorithm key (TS 33.401 A.7): 32 octets, of which a 128-bit algorithm takes the last 16.
-#[derive(Clone, Copy, Debug, Default, PartialEq, Eq)]
+#[derive(Clone, Copy, Debug, PartialEq, Eq)]
 pub struct AlgKey {
     octets: [u8; 32],
 }
@@ -21,6 +21,17 @@ impl Model for AlgKey {
     ghost view = { λ k. k.octets };
 
     ghost inverse = { λ octets. record { octets = octets } };
+}
+
+// What the unused places of a bounded list hold: zeros.
+impl Default for AlgKey {
+    ghost use Rattle.std.specs.Prelude.{◌≡◌, replicate};
+
+    ghost is_default = { λ v. v ≡ replicate 32 0 };
+
+    fn default() -> AlgKey {
+        AlgKey { octets: [0; 32] }
+    }
 }
 
 impl AlgKey {

@@ -8,7 +8,7 @@ use hmac_kdf::KdfInput;
 use std::marker::Model;
 
 /// KeNB, the key of a connection between phone and base station (TS 33.401 6.2): 32 octets.
-#[derive(Clone, Copy, Debug, Default, PartialEq, Eq)]
+#[derive(Clone, Copy, Debug, PartialEq, Eq)]
 pub struct Kenb {
     octets: [u8; 32],
 }
@@ -21,6 +21,17 @@ impl Model for Kenb {
     ghost view = { λ k. k.octets };
 
     ghost inverse = { λ octets. record { octets = octets } };
+}
+
+// What the unused places of a bounded list hold: zeros.
+impl Default for Kenb {
+    ghost use Rattle.std.specs.Prelude.{◌≡◌, replicate};
+
+    ghost is_default = { λ v. v ≡ replicate 32 0 };
+
+    fn default() -> Kenb {
+        Kenb { octets: [0; 32] }
+    }
 }
 
 impl Kenb {

@@ -6,10 +6,9 @@ use rec_base::RecFault;
 
 /// What an actor or the network answers to an input: done, or the first cause of refusal, with the
 /// values that tell the case.
-#[derive(Clone, Copy, Debug, Default, PartialEq, Eq)]
+#[derive(Clone, Copy, Debug, PartialEq, Eq)]
 pub enum Answer {
     /// Done.
-    #[default]
     Done,
     /// There is no NAS security context.
     NoContext,
@@ -81,6 +80,17 @@ pub enum Answer {
     Sent(u32),
     /// The root of an authentication is a row of the ladder: its number.
     RepeatedRoot(u32),
+}
+
+impl Default for Answer {
+    ghost use Rattle.std.specs.Prelude.{◌≡◌};
+    ghost use Rattle.lte_events.specs.declared.answers.Answer.TheVariants.{Done};
+
+    ghost is_default = { λ v. v ≡ Done };
+
+    fn default() -> Answer {
+        Answer::Done
+    }
 }
 
 impl Answer {

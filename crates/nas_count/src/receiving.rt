@@ -1,7 +1,6 @@
 ghost use Rattle.std.specs.Prelude.{◌≡◌, ◌+◌, ◌<◌, ◌≤◌, ◌↔◌, IfOk, IsErr};
 ghost use Rattle.key_model.specs.Least.{least};
-ghost use Rattle.nas_count.specs.Estimate.{estimate_of};
-ghost use Rattle.nas_count.specs.declared.sending.TheConstants.{LIMIT};
+ghost use Rattle.nas_count.specs.Estimate.{LIMIT, estimate_of};
 
 use crate::{CountSpent, LIMIT};
 use std::marker::Model;
@@ -15,7 +14,7 @@ pub struct RxCount {
 
 impl Model for RxCount {
     ghost use Rattle.std.specs.Prelude.{ℕ, ◌≤◌};
-    ghost use Rattle.nas_count.specs.declared.sending.TheConstants.{LIMIT};
+    ghost use Rattle.nas_count.specs.Estimate.{LIMIT};
 
     ghost Value = { ℕ };
 

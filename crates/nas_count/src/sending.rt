@@ -1,5 +1,5 @@
 ghost use Rattle.std.specs.Prelude.{◌≡◌, ◌+◌, ◌<◌, ◌↔◌, IfOk, IsErr, OnErr, min};
-ghost use Rattle.nas_count.specs.declared.sending.TheConstants.{LIMIT};
+ghost use Rattle.nas_count.specs.Estimate.{LIMIT};
 
 use std::marker::Model;
 
@@ -12,15 +12,15 @@ pub const LIMIT: u32 = 1 << 24;
 pub struct CountSpent;
 
 /// A sender's NAS COUNT (TS 24.301 4.4.3.1). A contract sees it as the next COUNT, 2^24 where none is
-/// left.
-#[derive(Clone, Copy, Debug, PartialEq, Eq)]
+/// left. It is not copied, so that no COUNT is taken twice.
+#[derive(Debug, PartialEq, Eq, Drop)]
 pub struct TxCount {
     next: u32,
 }
 
 impl Model for TxCount {
     ghost use Rattle.std.specs.Prelude.{ℕ, ◌≤◌};
-    ghost use Rattle.nas_count.specs.declared.sending.TheConstants.{LIMIT};
+    ghost use Rattle.nas_count.specs.Estimate.{LIMIT};
 
     ghost Value = { ℕ };
 

@@ -19,7 +19,7 @@ use Rattle.cmac_eia2.specs.Eia2.{eia2_of}
 use Rattle.key_model.specs.Least.{least}
 use Rattle.key_model.proofs.LeastFacts.{least_in_window, least_is}
 use Rattle.nas_guard.specs.declared.opening.Opened.{Opened}
-use Rattle.nas_count.specs.declared.sending.TheConstants.{LIMIT}
+use Rattle.nas_count.specs.Estimate.{LIMIT}
 use Rattle.nas_count.specs.Estimate.{estimate_of}
 use Rattle.nas_guard.specs.Cipher.{ciphered, mac_of}
 use Rattle.nas_guard.specs.Keys.{Keys}

@@ -1,5 +1,5 @@
 ghost use Rattle.std.specs.Prelude.{◌≡◌, ℕ, ◌+◌, ◌-◌, ◌<◌, ◌≤◌, ◌↔◌, IfOk, IsErr, OnErr, length};
-ghost use Rattle.nas_count.specs.declared.sending.TheConstants.{LIMIT};
+ghost use Rattle.nas_count.specs.Estimate.{LIMIT};
 ghost use Rattle.nas_guard.specs.Seal.{sealed};
 ghost use Rattle.nas_guard.specs.Open.{opened};
 

@@ -1,7 +1,7 @@
 // The expected octets come from HMAC-SHA-256, AES-CTR and AES-CMAC of other implementations, under the
 // KASME of octets 00, 01 and so on to 1f.
 ghost use Rattle.std.specs.Prelude.{◌≡◌, ◌<◌, ◌≤◌, length};
-ghost use Rattle.nas_count.specs.declared.sending.TheConstants.{LIMIT};
+ghost use Rattle.nas_count.specs.Estimate.{LIMIT};
 
 use crate::{NasKeys, OpenFault, open, seal};
 use alg_choice::{Algs, Eea};

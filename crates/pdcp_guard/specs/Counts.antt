@@ -1,9 +1,12 @@
 -- The COUNTs of a radio bearer (TS 36.323 6.3.5 and 7.1).
-use Rattle.std.specs.Prelude.{ℕ, ◌+◌, min, nat_lt, if◌then◌else◌, Result, Ok, Err}
+use Rattle.std.specs.Prelude.{ℕ, ◌+◌, ◌^◌, min, nat_lt, if◌then◌else◌, Result, Ok, Err}
 use Rattle.rec_base.specs.declared.bearers.Bearer.{Bearer}
 use Rattle.pdcp_guard.specs.declared.pdus.PdcpFault.{PdcpFault}
 use Rattle.pdcp_guard.specs.declared.pdus.PdcpFault.TheVariants.{CountSpent}
-pub use Rattle.pdcp_guard.specs.declared.counting.TheConstants.{LIMIT}
+
+-- every PDCP COUNT is below this: it has 32 bits (6.3.5)
+abbrev pub LIMIT : ℕ
+LIMIT = 2 ^ 32
 
 -- the next COUNT to send with, and the next one that a receiver expects; 2^32 where none is left
 pub record Counts : Type 0 where

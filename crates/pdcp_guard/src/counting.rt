@@ -1,6 +1,6 @@
 ghost use Rattle.std.specs.Prelude.{◌≡◌, ◌+◌, ◌<◌, ◌≤◌, ◌↔◌, IfErr, IfOk, IsErr};
 ghost use Rattle.key_model.specs.Least.{least};
-ghost use Rattle.pdcp_guard.specs.Counts.{in_32_bits, skipped};
+ghost use Rattle.pdcp_guard.specs.Counts.{LIMIT, in_32_bits, skipped};
 
 use crate::PdcpFault;
 use std::marker::Model;
@@ -18,8 +18,7 @@ pub(crate) struct Counts {
 
 impl Model for Counts {
     ghost use Rattle.std.specs.Prelude.{◌≤◌};
-    ghost use Rattle.pdcp_guard.specs.declared.counting.TheConstants.{LIMIT};
-    ghost use Rattle.pdcp_guard.specs.Counts.{Counts as NextCounts};
+    ghost use Rattle.pdcp_guard.specs.Counts.{Counts as NextCounts, LIMIT};
 
     ghost Value = { NextCounts };
 

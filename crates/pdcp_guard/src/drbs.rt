@@ -2,7 +2,7 @@ ghost use Rattle.std.specs.Prelude.{◌≡◌, ℕ, ◌+◌, ◌-◌, ◌/◌, �
 ghost use Rattle.pdcp_guard.specs.Counts.{after_receive, after_send, expects_next, new_bearer, send_count, sends_next, skipped};
 ghost use Rattle.key_model.specs.Least.{least};
 ghost use Rattle.pdcp_guard.specs.Drb.{IsDrb, DrbOpens, DrbRefuses, drb_ciphered, drb_count, drb_first, drb_opened, drb_opened_at, drb_sealed, drb_sent_by, drb_sn};
-ghost use Rattle.pdcp_guard.specs.declared.counting.TheConstants.{LIMIT};
+ghost use Rattle.pdcp_guard.specs.Counts.{LIMIT};
 
 use crate::counting::{Counts, LIMIT};
 use crate::{AsKeys, PdcpFault, PdcpOpened, PdcpSent};

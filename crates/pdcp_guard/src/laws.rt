@@ -3,7 +3,7 @@ ghost use Rattle.std.specs.Prelude.{◌≡◌, ℕ, ◌+◌, ◌-◌, ◌%◌, �
 ghost use Rattle.key_model.specs.Least.{least};
 ghost use Rattle.rec_base.specs.declared.bearers.Bearer.{Bearer};
 ghost use Rattle.rec_base.specs.declared.uses.Dir.{Dir};
-ghost use Rattle.pdcp_guard.specs.declared.counting.TheConstants.{LIMIT};
+ghost use Rattle.pdcp_guard.specs.Counts.{LIMIT};
 ghost use Rattle.alg_choice.specs.declared.algs.Algs.{Algs};
 ghost use Rattle.key_model.specs.Derivation.{map_derivation};
 ghost use Rattle.key_model.specs.Reading.{Carries, Reading};

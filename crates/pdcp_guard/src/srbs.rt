@@ -2,7 +2,7 @@ ghost use Rattle.std.specs.Prelude.{◌≡◌, ℕ, ◌+◌, ◌-◌, ◌%◌, �
 ghost use Rattle.pdcp_guard.specs.Counts.{after_send, expects_next, new_bearer, send_count, sends_next, skipped};
 ghost use Rattle.key_model.specs.Least.{least};
 ghost use Rattle.pdcp_guard.specs.Srb.{IsSrb, SrbHasNoCount, SrbOpens, SrbRefuses, srb_count, srb_first, srb_opened, srb_opened_at, srb_sealed, srb_sent_by, srb_sn};
-ghost use Rattle.pdcp_guard.specs.declared.counting.TheConstants.{LIMIT};
+ghost use Rattle.pdcp_guard.specs.Counts.{LIMIT};
 
 use crate::counting::{Counts, LIMIT};
 use crate::{AsKeys, PdcpFault, PdcpOpened, PdcpSent};

@@ -1,3 +1,4 @@
 pub mod Bearer
 pub mod BigEndian
 pub mod Header
+pub mod Lengths

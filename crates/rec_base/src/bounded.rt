@@ -1,5 +1,6 @@
 // Lists of octets of a bounded length, which take no memory.
 ghost use Rattle.std.specs.Prelude.{◌≡◌, ◌+◌, ◌≤◌, ◌<◌, ◌↔◌, [], ◌∷◌, ◌++◌, length, IsOk, OnOk, OnErr, IfErr};
+ghost use Rattle.rec_base.specs.Lengths.{longest_record, longest_packet, longest_text};
 
 use arrayvec::ArrayVec;
 use std::marker::Model;
@@ -41,6 +42,13 @@ impl<const N: usize> Bounded<N> {
         }
     }
 
+    /// How many octets the list holds at most.
+    pub fn capacity() -> usize
+        ensures { result ≡ N }
+    {
+        N
+    }
+
     /// Appends an octet, or hands it back where the list has `N` octets.
     pub fn try_push(&mut self, item: u8) -> Result<(), u8>
         ensures variant { IsOk result ↔ (length self.old < N) }
@@ -70,4 +78,17 @@ impl<const N: usize> Bounded<N> {
     {
         self.octets.as_slice()
     }
+}
+
+/// How many octets a record, a user packet and a short text have at most: 1,536, 1,500 and 200.
+pub fn greatest_lengths() -> (usize, usize, usize)
+    ensures record { result.0 ≡ longest_record }
+    ensures packet { result.1 ≡ longest_packet }
+    ensures text { result.2 ≡ longest_text }
+{
+    (
+        Octets::capacity(),
+        UserText::capacity(),
+        ShortText::capacity(),
+    )
 }

@@ -13,7 +13,7 @@ mod uses;
 mod ways;
 
 pub use crate::bearers::Bearer;
-pub use crate::bounded::{Bounded, Octets, ShortText, UserText};
+pub use crate::bounded::{Bounded, Octets, ShortText, UserText, greatest_lengths};
 pub use crate::faults::RecFault;
 pub use crate::fields::{key_at, same_from_number, u8_at, u16_at, u32_at, written_reads_back};
 pub use crate::headers::header;

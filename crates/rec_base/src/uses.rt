@@ -1,13 +1,23 @@
 // The direction of a message, and one use of a key.
 
 /// DIRECTION, of one bit: 0 for uplink, 1 for downlink (TS 33.401 B.1.1 and B.2.1).
-#[derive(Clone, Copy, PartialEq, Eq, Debug, Default)]
+#[derive(Clone, Copy, PartialEq, Eq, Debug)]
 pub enum Dir {
     /// From the phone.
-    #[default]
     Up,
     /// To the phone.
     Down,
+}
+
+impl Default for Dir {
+    ghost use Rattle.std.specs.Prelude.{◌≡◌};
+    ghost use Rattle.rec_base.specs.declared.uses.Dir.TheVariants.{Up};
+
+    ghost is_default = { λ v. v ≡ Up };
+
+    fn default() -> Dir {
+        Dir::Up
+    }
 }
 
 /// One use of an algorithm key: what a ciphering or an integrity algorithm takes beside the text
