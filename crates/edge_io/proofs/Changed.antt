@@ -29,10 +29,10 @@ IdleFrom-change started k f peers below idle peer from =
     let stays : slice_get (change k f peers) peer ≡ slice_get peers peer = slice_get-change k peer f peers (omega arith) in
     rw stays (idle peer from)
 
-pub IdleFrom-new : (replies : List (List ℕ)) → IdleFrom 0 (map new_peer replies)
-IdleFrom-new [] peer from = (refl, refl)
-IdleFrom-new (reply ∷ replies) zero from = (refl, refl)
-IdleFrom-new (reply ∷ replies) (suc peer) from = IdleFrom-new replies peer (omega arith)
+pub IdleFrom-new : (room : ℕ) (replies : List (List ℕ)) → IdleFrom 0 (map (new_peer room) replies)
+IdleFrom-new room [] peer from = (refl, refl)
+IdleFrom-new room (reply ∷ replies) zero from = (refl, refl)
+IdleFrom-new room (reply ∷ replies) (suc peer) from = IdleFrom-new room replies peer (omega arith)
 
 -- a change to the same changes nothing
 change-same : {X : Type 0} (k : ℕ) (f : X → X) → ((x : X) → f x ≡ x) → (xs : List X) → change k f xs ≡ xs

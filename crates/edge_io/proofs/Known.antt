@@ -3,7 +3,7 @@ use Rattle.std.proofs.Common.{◌≡◌, ℕ, ◌+◌, ◌-◌, ◌≤◌, min, 
 use Rattle.std.proofs.lemmas.List.{take_rest, take_at, take_min, drop_at, take-append-le}
 use Rattle.std.proofs.Math.Seq.{take-add}
 use Rattle.std.specs.Io.KnownBytes.{prepend_known, append_known}
-use Rattle.edge_io.specs.Octets.{Gives, Grows, GrowsByPrefix, LosesPrefix}
+use Rattle.edge_io.specs.Octets.{Gives, Grows, GrowsByPrefix, LosesPrefix, LosesWithin}
 use borrow.Rule.Slice.PartMut.{put_mid, post_of}
 
 -- nothing was taken
@@ -21,6 +21,14 @@ gives_twice old mid (Some xs) front octets first second =
 pub loses_on : (old mid new : Option (List ℕ)) (front octets : List ℕ) → Gives old mid front → Gives mid new octets → LosesPrefix old new
 loses_on old mid new front octets first second =
     record { taken = front ++ octets; gives = gives_twice old mid new front octets first second }
+
+-- and together these are at most so many
+pub loses_within : (limit : ℕ) (old mid new : Option (List ℕ)) (front octets : List ℕ) → length front + length octets ≤ limit → Gives old mid front → Gives mid new octets → LosesWithin limit old new
+loses_within limit old mid new front octets few first second = record {
+  taken = front ++ octets;
+  gives = gives_twice old mid new front octets first second;
+  within = omega (arith, length-append front octets, few);
+}
 
 -- a read into the rest of a buffer joins what it held, as `buf[filled..]` is written
 pub gives_on : (old mid new : Option (List ℕ)) (filled n : ℕ) (buf fresh : List ℕ) → filled ≤ length buf → n ≤ length fresh → Gives old mid (take filled buf) → Gives mid new (take n fresh) → Gives old new (take (filled + n) (put_mid filled (length buf - filled) buf fresh))

@@ -1,5 +1,5 @@
 -- How the octets left and the octets written change, where they are told.
-use Rattle.std.specs.Prelude.{◌≡◌, ℕ, Option, List, [], take, Result, Ok, Err}
+use Rattle.std.specs.Prelude.{◌≡◌, ℕ, ◌≤◌, Option, List, [], length, take, Result, Ok, Err}
 use Rattle.std.specs.Io.KnownBytes.{prepend_known, append_known}
 
 -- the octets that a read gave in its buffer, or that a write took of its piece
@@ -24,3 +24,9 @@ pub record GrowsByPrefix (old new : Option (List ℕ)) (octets : List ℕ) : Typ
 pub record LosesPrefix (old new : Option (List ℕ)) : Type 0 where
   pub taken : List ℕ
   pub gives : Gives old new taken
+
+-- the octets left lose some octets at their front, at most so many
+pub record LosesWithin (limit : ℕ) (old new : Option (List ℕ)) : Type 0 where
+  pub taken : List ℕ
+  pub gives : Gives old new taken
+  pub within : length taken ≤ limit

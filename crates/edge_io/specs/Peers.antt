@@ -1,5 +1,5 @@
 -- What is told of peers, and what each call does to it.
-use Rattle.std.specs.Prelude.{◌≡◌, ℕ, zero, suc, ◌<◌, ◌≤◌, Bool, true, false, Option, Some, None, List, [], ◌∷◌, ◌++◌, length, take, drop, slice_get, map, Result, Ok, Err}
+use Rattle.std.specs.Prelude.{◌≡◌, ℕ, zero, suc, ◌+◌, ◌<◌, ◌≤◌, Bool, true, false, Option, Some, None, List, [], ◌∷◌, ◌++◌, length, take, drop, slice_get, map, Result, Ok, Err}
 use Rattle.std.specs.Option.{option_map, option_map_or}
 use Rattle.edge_io.specs.declared.peers.Role.{Role}
 use Rattle.edge_io.specs.declared.peers.PeerCall.{PeerCall}
@@ -12,6 +12,7 @@ pub record PeerTold : Type 0 where
   pub sent : List ℕ  -- the octets that it was sent
   pub to_give : List ℕ  -- the octets that it has still to give
   pub stopped : Bool
+  pub room : ℕ  -- the greatest number of octets that it can be sent
 
 -- all peers
 pub record PeersTold : Type 0 where
@@ -26,6 +27,14 @@ sent_of peer peers = option_map_or (λ (p : PeerTold). p.sent) (slice_get peers 
 -- the octets that a peer has still to give
 abbrev pub to_give_of : ℕ → List PeerTold → List ℕ
 to_give_of peer peers = option_map_or (λ (p : PeerTold). p.to_give) (slice_get peers peer) []
+
+-- the greatest number of octets that a peer can be sent
+abbrev pub room_of : ℕ → List PeerTold → ℕ
+room_of peer peers = option_map_or (λ (p : PeerTold). p.room) (slice_get peers peer) 0
+
+-- a peer has no room for these octets behind those that it was sent
+abbrev pub IsPastRoom : ℕ → List ℕ → List PeerTold → Type 0
+IsPastRoom peer octets peers = room_of peer peers < length (sent_of peer peers) + length octets
 
 -- a peer was stopped
 abbrev pub is_stopped : ℕ → List PeerTold → Bool
@@ -79,10 +88,10 @@ pub record ReceiveFailed (peer size : ℕ) (old new : Option PeersTold) : Type 0
   pub count : ℕ
   pub told : new ≡ option_map (λ t. failed_at (Receive peer size) (taken_from peer count t)) old
 
--- a peer that was not started and gives these octets
-abbrev pub new_peer : List ℕ → PeerTold
-new_peer reply = record { sent = []; to_give = reply; stopped = false }
+-- a peer that was not started, has this room and gives these octets
+abbrev pub new_peer : ℕ → List ℕ → PeerTold
+new_peer room reply = record { sent = []; to_give = reply; stopped = false; room = room }
 
--- peers that give these octets, none of them started
-abbrev pub none_started : List (List ℕ) → PeersTold
-none_started replies = record { roles = []; peers = map new_peer replies; failed_last = None }
+-- peers that have this room and give these octets, none of them started
+abbrev pub none_started : ℕ → List (List ℕ) → PeersTold
+none_started room replies = record { roles = []; peers = map (new_peer room) replies; failed_last = None }

@@ -1,4 +1,4 @@
-ghost use Rattle.std.specs.Prelude.{◌≡◌, ◌++◌, ◌↔◌, ◌<◌, [], length, take, drop, IfOk, OnOk, OnErr, IsErr, true};
+ghost use Rattle.std.specs.Prelude.{◌≡◌, ◌+◌, ◌++◌, ◌↔◌, ◌<◌, [], length, take, drop, IfOk, OnOk, OnErr, IsErr, true};
 ghost use Rattle.edge_io.specs.Peers.{new_peer};
 
 use crate::failed::Failed;
@@ -26,6 +26,7 @@ impl Model for MemPeer {
       sent = p.sent.items;
       to_give = drop p.at p.reply.items;
       stopped = p.stopped;
+      room = p.room;
     } };
 
     ghost invariant = { λ p. (length p.sent.items ≤ p.room)
@@ -35,7 +36,7 @@ impl Model for MemPeer {
 
 impl MemPeer {
     pub(crate) fn new(alloc: Global, reply: Vec<u8>, room: usize) -> Result<MemPeer, AllocError>
-        ensures { IfOk result (λ peer. peer ≡ new_peer reply.items) }
+        ensures { IfOk result (λ peer. peer ≡ new_peer room reply.items) }
     {
         Ok(MemPeer {
             sent: Vec::with_capacity(alloc, room)?,
@@ -48,6 +49,7 @@ impl MemPeer {
 
     /// Keeps these octets, or fails where there is no room for all of them.
     pub(crate) fn send(&mut self, octets: &[u8]) -> Result<(), Failed>
+        ensures fails { IsErr result ↔ (self.old.room < length self.old.sent + length octets.now) }
         ensures ok { OnOk result
             (self.new ≡ record self.old { sent = self.old.sent ++ octets.now }) }
         ensures err { OnErr result (self.new ≡ self.old) }

@@ -1,8 +1,8 @@
-ghost use Rattle.std.specs.Prelude.{◌≡◌, ◌++◌, ◌≤◌, ◌<◌, ◌∷◌, ◌⊎◌, true, Some, [], map, length, take, drop, IfOk, OnOk, OnErr, IsErr, IsErrOf, IfSome, vec_capacity};
+ghost use Rattle.std.specs.Prelude.{◌≡◌, ◌++◌, ◌≤◌, ◌<◌, ◌∷◌, ◌↔◌, ◌⊎◌, true, Some, [], map, length, take, drop, IfOk, OnOk, OnErr, IsErr, IsErrOf, IfSome, vec_capacity};
 ghost use Rattle.std.specs.Option.{option_map};
 ghost use Rattle.edge_io.specs.Cause.{Rose, HasCause};
 ghost use Rattle.edge_io.specs.Script.{script_of, FailsNext, after_call};
-ghost use Rattle.edge_io.specs.Peers.{IdleFrom, IsRunning, SendFailed, ReceiveFailed, change, new_peer, none_started, started, sent_to, taken_from, stopped_at, sent_of, to_give_of};
+ghost use Rattle.edge_io.specs.Peers.{IdleFrom, IsRunning, SendFailed, ReceiveFailed, change, new_peer, none_started, started, sent_to, taken_from, stopped_at, failed_at, sent_of, to_give_of, IsPastRoom};
 
 use crate::failed::Failed;
 use crate::faults::Faults;
@@ -39,7 +39,7 @@ impl MemPeers {
         ensures calls { IfOk result (λ peers.
             ⟦<MemPeers as Scripted>⟧.peer_calls peers ≡ script_of failing.items) }
         ensures told { IfOk result (λ peers. ⟦<MemPeers as Peers>⟧.told peers
-            ≡ Some (none_started (map (λ reply. reply.items) replies.items))) }
+            ≡ Some (none_started room (map (λ reply. reply.items) replies.items))) }
     {
         let roles = Vec::with_capacity(alloc, replies.len())?;
         let peers = peers_of(alloc, replies, room)?;
@@ -63,7 +63,7 @@ impl MemPeers {
 
 fn peers_of(alloc: Global, replies: Vec<Vec<u8>>, room: usize) -> Result<Vec<MemPeer>, AllocError>
     ensures { IfOk result (λ peers.
-        peers.items ≡ map new_peer (map (λ reply. reply.items) replies.items)) }
+        peers.items ≡ map (new_peer room) (map (λ reply. reply.items) replies.items)) }
 {
     let mut peers = Vec::with_capacity(alloc, replies.len())?;
     for reply in replies {
@@ -75,6 +75,7 @@ fn peers_of(alloc: Global, replies: Vec<Vec<u8>>, room: usize) -> Result<Vec<Mem
 fn send_at(peers: &mut Vec<MemPeer>, place: usize, octets: &[u8]) -> Result<(), Failed>
     requires { place < length peers.old.items }
     ensures len { length peers.new.items ≡ length peers.old.items }
+    ensures fails { IsErr result ↔ IsPastRoom place octets.now peers.old.items }
     ensures ok { OnOk result (peers.new.items
         ≡ change place (λ p. record p { sent = p.sent ++ octets.now }) peers.old.items) }
     ensures err { OnErr result (peers.new.items ≡ peers.old.items) }
@@ -127,6 +128,7 @@ impl Peers for MemPeers {
         ensures memory { IsErrOf result StartFault.Memory → ⊥ }
         ensures cause { IsErrOf result StartFault.Failed →
             Rose (⟦<MemPeers as Peers>⟧.faults self.old) (⟦<MemPeers as Peers>⟧.faults self.new) }
+        ensures no_fault { OnOk result (⟦<MemPeers as Peers>⟧.faults self.new ≡ ⟦<MemPeers as Peers>⟧.faults self.old) }
         ensures count { ⟦<MemPeers as Peers>⟧.faults self.old ≤ ⟦<MemPeers as Peers>⟧.faults self.new }
 
         // Which starts fail.
@@ -160,10 +162,17 @@ impl Peers for MemPeers {
             (⟦<MemPeers as Peers>⟧.told self.old) (⟦<MemPeers as Peers>⟧.told self.new)) }
         ensures cause { HasCause (⟦<MemPeers as Peers>⟧.faults self.old)
             (⟦<MemPeers as Peers>⟧.faults self.new) result }
+        ensures no_fault { OnOk result (⟦<MemPeers as Peers>⟧.faults self.new ≡ ⟦<MemPeers as Peers>⟧.faults self.old) }
         ensures count { ⟦<MemPeers as Peers>⟧.faults self.old ≤ ⟦<MemPeers as Peers>⟧.faults self.new }
 
-        // Which sends fail.
+        // Which sends fail. These send nothing.
         ensures listed { FailsNext (⟦<MemPeers as Scripted>⟧.peer_calls self.old) → IsErr result }
+        ensures past { IfSome (⟦<MemPeers as Peers>⟧.told self.old) (λ t. IsPastRoom peer octets.now t.peers) →
+            IsErr result }
+        ensures fails { IsErr result → FailsNext (⟦<MemPeers as Scripted>⟧.peer_calls self.old)
+            ⊎ IfSome (⟦<MemPeers as Peers>⟧.told self.old) (λ t. IsPastRoom peer octets.now t.peers) }
+        ensures nothing { OnErr result (⟦<MemPeers as Peers>⟧.told self.new
+            ≡ option_map (failed_at (PeerCall.Send peer (length octets.now))) (⟦<MemPeers as Peers>⟧.told self.old)) }
         ensures call { ⟦<MemPeers as Scripted>⟧.peer_calls self.new
             ≡ after_call (⟦<MemPeers as Scripted>⟧.peer_calls self.old) }
     {
@@ -192,13 +201,16 @@ impl Peers for MemPeers {
             (⟦<MemPeers as Peers>⟧.told self.old) (⟦<MemPeers as Peers>⟧.told self.new)) }
         ensures cause { HasCause (⟦<MemPeers as Peers>⟧.faults self.old)
             (⟦<MemPeers as Peers>⟧.faults self.new) result }
+        ensures no_fault { OnOk result (⟦<MemPeers as Peers>⟧.faults self.new ≡ ⟦<MemPeers as Peers>⟧.faults self.old) }
         ensures count { ⟦<MemPeers as Peers>⟧.faults self.old ≤ ⟦<MemPeers as Peers>⟧.faults self.new }
 
-        // Which receives fail.
+        // Which receives fail. These take nothing.
         ensures listed { FailsNext (⟦<MemPeers as Scripted>⟧.peer_calls self.old) → IsErr result }
         ensures fails { IsErr result → FailsNext (⟦<MemPeers as Scripted>⟧.peer_calls self.old)
             ⊎ IfSome (⟦<MemPeers as Peers>⟧.told self.old) (λ t.
             length (to_give_of peer t.peers) < length buf.old) }
+        ensures nothing { OnErr result (⟦<MemPeers as Peers>⟧.told self.new
+            ≡ option_map (failed_at (PeerCall.Receive peer (length buf.old))) (⟦<MemPeers as Peers>⟧.told self.old)) }
         ensures call { ⟦<MemPeers as Scripted>⟧.peer_calls self.new
             ≡ after_call (⟦<MemPeers as Scripted>⟧.peer_calls self.old) }
     {
@@ -221,7 +233,7 @@ impl Peers for MemPeers {
         requires { IfSome (⟦<MemPeers as Peers>⟧.told self.old) (IsRunning peer) }
         ensures told { ⟦<MemPeers as Peers>⟧.told self.new
             ≡ option_map (stopped_at peer) (⟦<MemPeers as Peers>⟧.told self.old) }
-        ensures count { ⟦<MemPeers as Peers>⟧.faults self.old ≤ ⟦<MemPeers as Peers>⟧.faults self.new }
+        ensures no_fault { ⟦<MemPeers as Peers>⟧.faults self.new ≡ ⟦<MemPeers as Peers>⟧.faults self.old }
         ensures call { ⟦<MemPeers as Scripted>⟧.peer_calls self.new
             ≡ ⟦<MemPeers as Scripted>⟧.peer_calls self.old }
     {

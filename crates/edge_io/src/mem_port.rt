@@ -1,7 +1,7 @@
-ghost use Rattle.std.specs.Prelude.{◌≡◌, ◌+◌, ◌-◌, ◌≤◌, ◌<◌, ◌↔◌, ◌⊎◌, min, IsTrue, length, IfOk, IsErr, IfSome, false};
+ghost use Rattle.std.specs.Prelude.{◌≡◌, ◌+◌, ◌-◌, ◌≤◌, ◌<◌, ◌↔◌, ◌⊎◌, min, IsTrue, length, IfOk, OnOk, OnErr, IsOk, IsErr, IfSome, false};
 ghost use Rattle.std.specs.Io.KnownBytes.{IsAtEnd};
-ghost use Rattle.edge_io.specs.Told.{port_told};
-ghost use Rattle.edge_io.specs.Cause.{HasCause, NoCountFell};
+ghost use Rattle.edge_io.specs.Told.{port_told, sink_told};
+ghost use Rattle.edge_io.specs.Cause.{HasCause, NoCountFell, NoFault};
 ghost use Rattle.edge_io.specs.Octets.{Gives, Grows, octets_of};
 ghost use Rattle.edge_io.specs.Script.{FailsNext, IsFull, after_call};
 
@@ -42,10 +42,12 @@ impl MemPort {
 
     /// The sink that the port writes to.
     pub fn sink(&self) -> &MemSink
-        ensures written { (⟦<MemSink as Edge>⟧.told result.now).written
-            ≡ (⟦<MemPort as Edge>⟧.told self.now).written }
-        ensures write_faults { (⟦<MemSink as Edge>⟧.told result.now).write_faults
-            ≡ (⟦<MemPort as Edge>⟧.told self.now).write_faults }
+        ensures told { ⟦<MemSink as Edge>⟧.told result.now
+            ≡ sink_told (⟦<MemPort as Edge>⟧.told self.now).written
+            (⟦<MemPort as Edge>⟧.told self.now).write_faults }
+        ensures writes { ⟦<MemSink as Scripted>⟧.writes result.now
+            ≡ ⟦<MemPort as Scripted>⟧.writes self.now }
+        ensures room { ⟦<MemSink as Scripted>⟧.room result.now ≡ ⟦<MemPort as Scripted>⟧.room self.now }
     {
         &self.sink
     }
@@ -82,6 +84,8 @@ impl Source for MemPort {
             ≡ (⟦<MemPort as Edge>⟧.told self.old).written }
         ensures cause { HasCause (⟦<MemPort as Edge>⟧.told self.old).read_faults
             (⟦<MemPort as Edge>⟧.told self.new).read_faults result }
+        ensures no_fault { OnOk result (NoFault (⟦<MemPort as Edge>⟧.told self.old)
+            (⟦<MemPort as Edge>⟧.told self.new)) }
         ensures counts { NoCountFell (⟦<MemPort as Edge>⟧.told self.old)
             (⟦<MemPort as Edge>⟧.told self.new) }
 
@@ -116,6 +120,8 @@ impl Sink for MemPort {
             ≡ (⟦<MemPort as Edge>⟧.told self.old).most }
         ensures cause { HasCause (⟦<MemPort as Edge>⟧.told self.old).write_faults
             (⟦<MemPort as Edge>⟧.told self.new).write_faults result }
+        ensures no_fault { OnOk result (NoFault (⟦<MemPort as Edge>⟧.told self.old)
+            (⟦<MemPort as Edge>⟧.told self.new)) }
         ensures counts { NoCountFell (⟦<MemPort as Edge>⟧.told self.old)
             (⟦<MemPort as Edge>⟧.told self.new) }
 
@@ -137,7 +143,32 @@ impl Sink for MemPort {
 }
 
 impl Port for MemPort {
-    fn open(&mut self) -> Result<(), Failed> {
+    /// It never fails, and leaves both sides as they were.
+    fn open(&mut self) -> Result<(), Failed>
+        requires { (⟦<MemPort as Edge>⟧.told self.old).ready ≡ false }
+        ensures opened { OnOk result (IsTrue (⟦<MemPort as Edge>⟧.told self.new).ready) }
+        ensures closed { OnErr result ((⟦<MemPort as Edge>⟧.told self.new).ready ≡ false) }
+        ensures left { (⟦<MemPort as Edge>⟧.told self.new).left
+            ≡ (⟦<MemPort as Edge>⟧.told self.old).left }
+        ensures most { (⟦<MemPort as Edge>⟧.told self.new).most
+            ≡ (⟦<MemPort as Edge>⟧.told self.old).most }
+        ensures written { (⟦<MemPort as Edge>⟧.told self.new).written
+            ≡ (⟦<MemPort as Edge>⟧.told self.old).written }
+        ensures cause { HasCause (⟦<MemPort as Edge>⟧.told self.old).open_faults
+            (⟦<MemPort as Edge>⟧.told self.new).open_faults result }
+        ensures no_fault { OnOk result (NoFault (⟦<MemPort as Edge>⟧.told self.old)
+            (⟦<MemPort as Edge>⟧.told self.new)) }
+        ensures counts { NoCountFell (⟦<MemPort as Edge>⟧.told self.old)
+            (⟦<MemPort as Edge>⟧.told self.new) }
+
+        // No opening fails, and no later call fails by it.
+        ensures opens { IsOk result }
+        ensures reads { ⟦<MemPort as Scripted>⟧.reads self.new
+            ≡ ⟦<MemPort as Scripted>⟧.reads self.old }
+        ensures writes { ⟦<MemPort as Scripted>⟧.writes self.new
+            ≡ ⟦<MemPort as Scripted>⟧.writes self.old }
+        ensures room { ⟦<MemPort as Scripted>⟧.room self.new ≡ ⟦<MemPort as Scripted>⟧.room self.old }
+    {
         self.is_open = true;
         Ok(())
     }

@@ -1,6 +1,6 @@
-ghost use Rattle.std.specs.Prelude.{◌≡◌, ◌-◌, ◌≤◌, ◌<◌, ◌⊎◌, min, IsTrue, length, Some, [], IfOk, IsErr, IfSome, vec_capacity};
+ghost use Rattle.std.specs.Prelude.{◌≡◌, ◌-◌, ◌≤◌, ◌<◌, ◌⊎◌, min, IsTrue, length, Some, [], IfOk, OnOk, IsErr, IfSome, vec_capacity};
 ghost use Rattle.edge_io.specs.Told.{sink_told};
-ghost use Rattle.edge_io.specs.Cause.{HasCause, NoCountFell};
+ghost use Rattle.edge_io.specs.Cause.{HasCause, NoCountFell, NoFault};
 ghost use Rattle.edge_io.specs.Octets.{Grows, octets_of};
 ghost use Rattle.edge_io.specs.Script.{script_of, FailsNext, IsFull, after_call};
 
@@ -70,6 +70,8 @@ impl Sink for MemSink {
             ≡ (⟦<MemSink as Edge>⟧.told self.old).most }
         ensures cause { HasCause (⟦<MemSink as Edge>⟧.told self.old).write_faults
             (⟦<MemSink as Edge>⟧.told self.new).write_faults result }
+        ensures no_fault { OnOk result (NoFault (⟦<MemSink as Edge>⟧.told self.old)
+            (⟦<MemSink as Edge>⟧.told self.new)) }
         ensures counts { NoCountFell (⟦<MemSink as Edge>⟧.told self.old)
             (⟦<MemSink as Edge>⟧.told self.new) }
 

@@ -1,7 +1,7 @@
-ghost use Rattle.std.specs.Prelude.{◌≡◌, ◌+◌, ◌≤◌, ◌<◌, ◌↔◌, min, IsTrue, length, drop, IfOk, IsErr, Some};
+ghost use Rattle.std.specs.Prelude.{◌≡◌, ◌+◌, ◌≤◌, ◌<◌, ◌↔◌, min, IsTrue, length, drop, IfOk, OnOk, IsErr, Some};
 ghost use Rattle.std.specs.Io.KnownBytes.{IsAtEnd};
 ghost use Rattle.edge_io.specs.Told.{source_told};
-ghost use Rattle.edge_io.specs.Cause.{HasCause, NoCountFell};
+ghost use Rattle.edge_io.specs.Cause.{HasCause, NoCountFell, NoFault};
 ghost use Rattle.edge_io.specs.Octets.{Gives, octets_of};
 ghost use Rattle.edge_io.specs.Script.{script_of, FailsNext, after_call};
 
@@ -63,6 +63,8 @@ impl Source for MemSource {
             ≡ (⟦<MemSource as Edge>⟧.told self.old).written }
         ensures cause { HasCause (⟦<MemSource as Edge>⟧.told self.old).read_faults
             (⟦<MemSource as Edge>⟧.told self.new).read_faults result }
+        ensures no_fault { OnOk result (NoFault (⟦<MemSource as Edge>⟧.told self.old)
+            (⟦<MemSource as Edge>⟧.told self.new)) }
         ensures counts { NoCountFell (⟦<MemSource as Edge>⟧.told self.old)
             (⟦<MemSource as Edge>⟧.told self.new) }
 

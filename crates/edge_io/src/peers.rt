@@ -50,6 +50,7 @@ pub trait Peers {
         ensures told { told self.new ≡ option_map (started role result) (told self.old) }
         ensures memory { IsErrOf result StartFault.Memory → faults self.new ≡ faults self.old }
         ensures cause { IsErrOf result StartFault.Failed → Rose (faults self.old) (faults self.new) }
+        ensures no_fault { OnOk result (faults self.new ≡ faults self.old) }
         ensures count { faults self.old ≤ faults self.new };
 
     /// Sends all these octets to a peer. Where it fails, a prefix of them was sent.
@@ -60,6 +61,7 @@ pub trait Peers {
         ensures prefix { OnErr result
             (SendFailed peer octets.now (told self.old) (told self.new)) }
         ensures cause { HasCause (faults self.old) (faults self.new) result }
+        ensures no_fault { OnOk result (faults self.new ≡ faults self.old) }
         ensures count { faults self.old ≤ faults self.new };
 
     /// Fills the buffer with the next octets of a peer. An early end counts as a fault. Where it
@@ -73,13 +75,14 @@ pub trait Peers {
         ensures prefix { OnErr result
             (ReceiveFailed peer (length buf.old) (told self.old) (told self.new)) }
         ensures cause { HasCause (faults self.old) (faults self.new) result }
+        ensures no_fault { OnOk result (faults self.new ≡ faults self.old) }
         ensures count { faults self.old ≤ faults self.new };
 
-    /// Stops a peer.
+    /// Stops a peer. It counts no fault.
     fn stop(&mut self, peer: u8)
         requires { IfSome (told self.old) (IsRunning peer) }
         ensures told { told self.new ≡ option_map (stopped_at peer) (told self.old) }
-        ensures count { faults self.old ≤ faults self.new };
+        ensures no_fault { faults self.new ≡ faults self.old };
 
     ghost within: { (peers : Self) → IfSome (told peers) (λ t. length t.roles ≤ length t.peers) };
 

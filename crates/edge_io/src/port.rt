@@ -1,5 +1,5 @@
 ghost use Rattle.std.specs.Prelude.{◌≡◌, IsTrue, false, OnOk, OnErr};
-ghost use Rattle.edge_io.specs.Cause.{HasCause, NoCountFell};
+ghost use Rattle.edge_io.specs.Cause.{HasCause, NoCountFell, NoFault};
 
 use crate::failed::Failed;
 use crate::sink::Sink;
@@ -17,5 +17,6 @@ pub trait Port: Source + Sink {
         ensures written { (Self.told self.new).written ≡ (Self.told self.old).written }
         ensures cause { HasCause (Self.told self.old).open_faults (Self.told self.new).open_faults
             result }
+        ensures no_fault { OnOk result (NoFault (Self.told self.old) (Self.told self.new)) }
         ensures counts { NoCountFell (Self.told self.old) (Self.told self.new) };
 }

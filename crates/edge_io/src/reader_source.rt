@@ -1,8 +1,8 @@
-ghost use Rattle.std.specs.Prelude.{◌≡◌, ◌+◌, ◌^◌, ◌≤◌, ◌<◌, IsTrue, length, IfOk, None};
+ghost use Rattle.std.specs.Prelude.{◌≡◌, ◌+◌, ◌^◌, ◌≤◌, ◌<◌, IsTrue, length, IfOk, OnOk, None};
 ghost use Rattle.std.specs.Io.{ReadsAtMost};
 ghost use Rattle.std.specs.Io.KnownBytes.{IsAtEnd, ReadConsumes};
 ghost use Rattle.edge_io.specs.Told.{source_told};
-ghost use Rattle.edge_io.specs.Cause.{HasCause, NoCountFell};
+ghost use Rattle.edge_io.specs.Cause.{HasCause, NoCountFell, NoFault};
 ghost use Rattle.edge_io.specs.Octets.{Gives, octets_of};
 
 use crate::edge::Edge;
@@ -59,6 +59,8 @@ impl<R: Read + Drop> Source for ReaderSource<R> {
             ≡ (⟦<ReaderSource<R> as Edge>⟧.told self.old).written }
         ensures cause { HasCause (⟦<ReaderSource<R> as Edge>⟧.told self.old).read_faults
             (⟦<ReaderSource<R> as Edge>⟧.told self.new).read_faults result }
+        ensures no_fault { OnOk result (NoFault (⟦<ReaderSource<R> as Edge>⟧.told self.old)
+            (⟦<ReaderSource<R> as Edge>⟧.told self.new)) }
         ensures counts { NoCountFell (⟦<ReaderSource<R> as Edge>⟧.told self.old)
             (⟦<ReaderSource<R> as Edge>⟧.told self.new) }
         ensures passed { ReadConsumes (R.remaining self.old.reader) (R.remaining self.new.reader)

@@ -1,7 +1,7 @@
-ghost use Rattle.std.specs.Prelude.{◌≡◌, ◌+◌, ◌≤◌, ◌<◌, IsTrue, length, take, IfOk, OnOk, IsErrOf, IfSome};
+ghost use Rattle.std.specs.Prelude.{◌≡◌, ◌≢◌, ◌+◌, ◌≤◌, ◌<◌, IsTrue, length, take, IfOk, OnOk, Err, IsErrOf, IfSome};
 ghost use Rattle.std.specs.Io.KnownBytes.{IsAtEnd};
-ghost use Rattle.edge_io.specs.Cause.{Rose, HasCause, NoCountFell};
-ghost use Rattle.edge_io.specs.Octets.{Gives, LosesPrefix, octets_of};
+ghost use Rattle.edge_io.specs.Cause.{Rose, HasCause, NoCountFell, NoFault};
+ghost use Rattle.edge_io.specs.Octets.{Gives, LosesPrefix, LosesWithin, octets_of};
 
 use crate::failed::Failed;
 use crate::source::Source;
@@ -34,8 +34,14 @@ pub fn read_all<S: Source>(alloc: Global, src: &mut S, limit: usize) -> Result<V
     ensures within { IfOk result (λ octets. length octets.items ≤ limit) }
     ensures too_long { IsErrOf result ReadAll.TooLong →
         IfSome (S.told src.old).left (λ left. limit < length left) }
+    ensures past { IsErrOf result ReadAll.TooLong →
+        (S.told src.new).most + limit < (S.told src.old).most }
+    ensures not_past { result ≢ Err ReadAll.TooLong →
+        LosesWithin limit (S.told src.old).left (S.told src.new).left }
     ensures fault { IsErrOf result ReadAll.ReadFault →
         Rose (S.told src.old).read_faults (S.told src.new).read_faults }
+    ensures no_fault { result ≢ Err ReadAll.ReadFault →
+        NoFault (S.told src.old) (S.told src.new) }
 
     // What becomes of the source.
     ensures left { LosesPrefix (S.told src.old).left (S.told src.new).left }
@@ -73,6 +79,7 @@ pub fn read_fill<S: Source>(src: &mut S, buf: &mut [u8]) -> Result<usize, Failed
         Gives (S.told src.old).left (S.told src.new).left (take n buf.new)) }
     ensures end { IfOk result (λ n. n < length buf.old → IsAtEnd (S.told src.new).left) }
     ensures cause { HasCause (S.told src.old).read_faults (S.told src.new).read_faults result }
+    ensures no_fault { OnOk result (NoFault (S.told src.old) (S.told src.new)) }
 
     // What becomes of the source.
     ensures left { LosesPrefix (S.told src.old).left (S.told src.new).left }

@@ -1,5 +1,5 @@
-ghost use Rattle.std.specs.Prelude.{◌≡◌, ◌≤◌, ◌<◌, IsTrue, length, IfOk};
-ghost use Rattle.edge_io.specs.Cause.{HasCause, NoCountFell};
+ghost use Rattle.std.specs.Prelude.{◌≡◌, ◌≤◌, ◌<◌, IsTrue, length, IfOk, OnOk};
+ghost use Rattle.edge_io.specs.Cause.{HasCause, NoCountFell, NoFault};
 ghost use Rattle.edge_io.specs.Octets.{Grows, octets_of};
 
 use crate::edge::Edge;
@@ -20,5 +20,6 @@ pub trait Sink: Edge {
         ensures most { (Self.told self.new).most ≡ (Self.told self.old).most }
         ensures cause { HasCause (Self.told self.old).write_faults (Self.told self.new).write_faults
             result }
+        ensures no_fault { OnOk result (NoFault (Self.told self.old) (Self.told self.new)) }
         ensures counts { NoCountFell (Self.told self.old) (Self.told self.new) };
 }

@@ -1,5 +1,8 @@
-ghost use Rattle.std.specs.Prelude.{◌≡◌, length, Some};
+ghost use Rattle.std.specs.Prelude.{◌≡◌, ◌+◌, ◌≤◌, ◌<◌, min, IsTrue, length, IfOk, OnOk, IsOk, Some};
+ghost use Rattle.std.specs.Io.KnownBytes.{IsAtEnd};
 ghost use Rattle.edge_io.specs.Told.{source_told};
+ghost use Rattle.edge_io.specs.Cause.{HasCause, NoCountFell, NoFault};
+ghost use Rattle.edge_io.specs.Octets.{Gives, octets_of};
 
 use crate::copying::copy_front;
 use crate::edge::Edge;
@@ -22,14 +25,38 @@ impl<'a> SliceSource<'a> {
     }
 }
 
-impl Edge for SliceSource<'_> {
+impl<'a> Edge for SliceSource<'a> {
     ghost told = { λ s. source_told (Some s.rest.now) (length s.rest.now) 0 };
 }
 
-impl Source for SliceSource<'_> {
+impl<'a> Source for SliceSource<'a> {
     ghost use Rattle.std.proofs.Common.{rules};
 
-    fn read(&mut self, buf: &mut [u8]) -> Result<usize, Failed> {
+    /// It gives as many octets as are left, or as `buf` has room for.
+    fn read(&mut self, buf: &mut [u8]) -> Result<usize, Failed>
+        requires { IsTrue (⟦<SliceSource<'a> as Edge>⟧.told self.old).ready }
+        ensures ready { IsTrue (⟦<SliceSource<'a> as Edge>⟧.told self.new).ready }
+        ensures count { IfOk result (λ n. n ≤ length buf.old) }
+        ensures octets { Gives (⟦<SliceSource<'a> as Edge>⟧.told self.old).left
+            (⟦<SliceSource<'a> as Edge>⟧.told self.new).left (octets_of result buf.new) }
+        ensures end { IfOk result (λ n. n ≡ 0 → 0 < length buf.old →
+            IsAtEnd (⟦<SliceSource<'a> as Edge>⟧.told self.new).left) }
+        ensures most { (⟦<SliceSource<'a> as Edge>⟧.told self.new).most
+            + length (octets_of result buf.new) ≤ (⟦<SliceSource<'a> as Edge>⟧.told self.old).most }
+        ensures written { (⟦<SliceSource<'a> as Edge>⟧.told self.new).written
+            ≡ (⟦<SliceSource<'a> as Edge>⟧.told self.old).written }
+        ensures cause { HasCause (⟦<SliceSource<'a> as Edge>⟧.told self.old).read_faults
+            (⟦<SliceSource<'a> as Edge>⟧.told self.new).read_faults result }
+        ensures no_fault { OnOk result (NoFault (⟦<SliceSource<'a> as Edge>⟧.told self.old)
+            (⟦<SliceSource<'a> as Edge>⟧.told self.new)) }
+        ensures counts { NoCountFell (⟦<SliceSource<'a> as Edge>⟧.told self.old)
+            (⟦<SliceSource<'a> as Edge>⟧.told self.new) }
+
+        // No call fails, and each gives all it can.
+        ensures gives { IsOk result }
+        ensures all { IfOk result (λ n.
+            n ≡ min (⟦<SliceSource<'a> as Edge>⟧.told self.old).most (length buf.old)) }
+    {
         let count = copy_front(self.rest, buf);
         self.rest = &self.rest[count..];
         Ok(count)

@@ -1,6 +1,6 @@
-ghost use Rattle.std.specs.Prelude.{◌≡◌, ◌+◌, ◌≤◌, ◌<◌, IsTrue, length, IfOk, IfSome};
+ghost use Rattle.std.specs.Prelude.{◌≡◌, ◌+◌, ◌≤◌, ◌<◌, IsTrue, length, IfOk, OnOk, IfSome};
 ghost use Rattle.std.specs.Io.KnownBytes.{IsAtEnd};
-ghost use Rattle.edge_io.specs.Cause.{HasCause, NoCountFell};
+ghost use Rattle.edge_io.specs.Cause.{HasCause, NoCountFell, NoFault};
 ghost use Rattle.edge_io.specs.Octets.{Gives, octets_of};
 
 use crate::edge::Edge;
@@ -23,6 +23,7 @@ pub trait Source: Edge {
         ensures written { (Self.told self.new).written ≡ (Self.told self.old).written }
         ensures cause { HasCause (Self.told self.old).read_faults (Self.told self.new).read_faults
             result }
+        ensures no_fault { OnOk result (NoFault (Self.told self.old) (Self.told self.new)) }
         ensures counts { NoCountFell (Self.told self.old) (Self.told self.new) };
 
     ghost told_within: { (source : Self) →

@@ -1,8 +1,8 @@
-ghost use Rattle.std.specs.Prelude.{◌≡◌, ◌≤◌, ◌<◌, IsTrue, length, IfOk, None};
+ghost use Rattle.std.specs.Prelude.{◌≡◌, ◌≤◌, ◌<◌, IsTrue, length, IfOk, OnOk, None};
 ghost use Rattle.std.specs.Io.{WritesAtMost};
 ghost use Rattle.std.specs.Io.KnownBytes.{WriteAppends};
 ghost use Rattle.edge_io.specs.Told.{sink_told};
-ghost use Rattle.edge_io.specs.Cause.{HasCause, NoCountFell};
+ghost use Rattle.edge_io.specs.Cause.{HasCause, NoCountFell, NoFault};
 ghost use Rattle.edge_io.specs.Octets.{Grows, octets_of};
 
 use crate::edge::Edge;
@@ -48,6 +48,8 @@ impl<W: Write + Drop> Sink for WriterSink<W> {
             ≡ (⟦<WriterSink<W> as Edge>⟧.told self.old).most }
         ensures cause { HasCause (⟦<WriterSink<W> as Edge>⟧.told self.old).write_faults
             (⟦<WriterSink<W> as Edge>⟧.told self.new).write_faults result }
+        ensures no_fault { OnOk result (NoFault (⟦<WriterSink<W> as Edge>⟧.told self.old)
+            (⟦<WriterSink<W> as Edge>⟧.told self.new)) }
         ensures counts { NoCountFell (⟦<WriterSink<W> as Edge>⟧.told self.old)
             (⟦<WriterSink<W> as Edge>⟧.told self.new) }
         ensures passed { WriteAppends (W.contents self.old.writer) (W.contents self.new.writer)

@@ -1,5 +1,5 @@
 ghost use Rattle.std.specs.Prelude.{◌≡◌, IsTrue, OnOk, OnErr};
-ghost use Rattle.edge_io.specs.Cause.{HasCause, NoCountFell};
+ghost use Rattle.edge_io.specs.Cause.{HasCause, NoCountFell, NoFault};
 ghost use Rattle.edge_io.specs.Octets.{Grows, GrowsByPrefix};
 
 use crate::failed::Failed;
@@ -17,6 +17,7 @@ pub fn write_all<K: Sink>(sink: &mut K, octets: &[u8]) -> Result<(), Failed>
     ensures prefix { OnErr result
         (GrowsByPrefix (K.told sink.old).written (K.told sink.new).written octets.now) }
     ensures cause { HasCause (K.told sink.old).write_faults (K.told sink.new).write_faults result }
+    ensures no_fault { OnOk result (NoFault (K.told sink.old) (K.told sink.new)) }
 
     // What becomes of the sink.
     ensures left { (K.told sink.new).left ≡ (K.told sink.old).left }

@@ -1,5 +1,5 @@
-use Rattle.std.proofs.Common.{◌≡◌, ◌≤◌, IsTrue, length}
-use Rattle.edge_io.specs.Cause.{NoCountFell}
+use Rattle.std.proofs.Common.{◌≡◌, ◌+◌, ◌≤◌, IsTrue, length}
+use Rattle.edge_io.specs.Cause.{NoFault}
 use Rattle.edge_io.specs.Octets.{Gives}
 use Rattle.edge_io.proofs.reading.read_all.Given as goal
 
@@ -8,9 +8,9 @@ invariant-pieces g l =
     IsTrue (g.S.Edge.told l.src).ready
     × Gives (g.S.Edge.told l.initial.src).left (g.S.Edge.told l.src).left l.octets.items
     × (length l.octets.items ≤ l.limit)
-    × ((g.S.Edge.told l.src).most ≤ (g.S.Edge.told l.initial.src).most)
+    × ((g.S.Edge.told l.src).most + length l.octets.items ≤ (g.S.Edge.told l.initial.src).most)
     × ((g.S.Edge.told l.src).written ≡ (g.S.Edge.told l.initial.src).written)
-    × NoCountFell (g.S.Edge.told l.initial.src) (g.S.Edge.told l.src)
+    × NoFault (g.S.Edge.told l.initial.src) (g.S.Edge.told l.src)
 
 abbrev pub decreases-pieces : goal.decreases-pieces
 decreases-pieces g l = (g.S.Edge.told l.src).most

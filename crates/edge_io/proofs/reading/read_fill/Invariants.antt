@@ -1,5 +1,5 @@
 use Rattle.std.proofs.Common.{◌≡◌, ◌+◌, ◌-◌, ◌≤◌, IsTrue, length, take}
-use Rattle.edge_io.specs.Cause.{NoCountFell}
+use Rattle.edge_io.specs.Cause.{NoFault}
 use Rattle.edge_io.specs.Octets.{Gives}
 use Rattle.edge_io.proofs.reading.read_fill.Given as goal
 
@@ -10,7 +10,7 @@ invariant-pieces g l =
     × (l.filled ≤ length l.buf)
     × ((g.S.Edge.told l.src).most + l.filled ≤ (g.S.Edge.told l.initial.src).most)
     × ((g.S.Edge.told l.src).written ≡ (g.S.Edge.told l.initial.src).written)
-    × NoCountFell (g.S.Edge.told l.initial.src) (g.S.Edge.told l.src)
+    × NoFault (g.S.Edge.told l.initial.src) (g.S.Edge.told l.src)
 
 abbrev pub decreases-pieces : goal.decreases-pieces
 decreases-pieces g l = length l.buf - l.filled

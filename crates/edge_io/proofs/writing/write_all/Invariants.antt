@@ -1,5 +1,5 @@
 use Rattle.std.proofs.Common.{◌≡◌, ◌-◌, ◌≤◌, IsTrue, length, take}
-use Rattle.edge_io.specs.Cause.{NoCountFell}
+use Rattle.edge_io.specs.Cause.{NoFault}
 use Rattle.edge_io.specs.Octets.{Grows}
 use Rattle.edge_io.proofs.writing.write_all.Given as goal
 
@@ -10,7 +10,7 @@ invariant-pieces g l =
     × (l.sent ≤ length l.octets)
     × ((g.K.Edge.told l.sink).left ≡ (g.K.Edge.told l.initial.sink).left)
     × ((g.K.Edge.told l.sink).most ≡ (g.K.Edge.told l.initial.sink).most)
-    × NoCountFell (g.K.Edge.told l.initial.sink) (g.K.Edge.told l.sink)
+    × NoFault (g.K.Edge.told l.initial.sink) (g.K.Edge.told l.sink)
 
 abbrev pub decreases-pieces : goal.decreases-pieces
 decreases-pieces g l = length l.octets - l.sent
