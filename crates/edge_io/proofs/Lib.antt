@@ -1,3 +1,4 @@
 pub mod Known
 pub mod Changed
 pub mod Running
+pub mod Trying

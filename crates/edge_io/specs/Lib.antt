@@ -3,3 +3,4 @@ pub mod Cause
 pub mod Octets
 pub mod Peers
 pub mod Script
+pub mod Tries

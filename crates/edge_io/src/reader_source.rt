@@ -1,14 +1,16 @@
-ghost use Rattle.std.specs.Prelude.{◌≡◌, ◌+◌, ◌^◌, ◌≤◌, ◌<◌, IsTrue, length, IfOk, OnOk, None};
+ghost use Rattle.std.specs.Prelude.{◌≡◌, ◌+◌, ◌^◌, ◌≤◌, ◌<◌, ◌⊎◌, IsTrue, length, IfOk, OnOk, OnErr, Ok, None};
 ghost use Rattle.std.specs.Io.{ReadsAtMost};
 ghost use Rattle.std.specs.Io.KnownBytes.{IsAtEnd, ReadConsumes};
 ghost use Rattle.edge_io.specs.Told.{source_told};
 ghost use Rattle.edge_io.specs.Cause.{HasCause, NoCountFell, NoFault};
 ghost use Rattle.edge_io.specs.Octets.{Gives, octets_of};
+ghost use Rattle.edge_io.specs.Tries.{LastAnswers, GivesUp};
 
 use crate::edge::Edge;
 use crate::failed::Failed;
+use crate::interrupted::is_interrupted;
+use crate::reader::Reader;
 use crate::source::Source;
-use std::io::{ErrorKind, Read};
 
 /// The greatest number of octets that a reader's source gives.
 const MOST: usize = 1 << 62;
@@ -23,7 +25,7 @@ pub struct ReaderSource<R: Drop> {
     faults: u64,
 }
 
-impl<R: Read + Drop> ReaderSource<R> {
+impl<R: Reader + Drop> ReaderSource<R> {
     /// A source that gives what this reader gives.
     pub fn new(reader: R) -> ReaderSource<R>
         ensures told { ⟦<ReaderSource<R> as Edge>⟧.told result ≡ source_told None (2 ^ 62) 0 }
@@ -37,11 +39,11 @@ impl<R: Read + Drop> ReaderSource<R> {
     }
 }
 
-impl<R: Read + Drop> Edge for ReaderSource<R> {
+impl<R: Reader + Drop> Edge for ReaderSource<R> {
     ghost told = { λ s. source_told None s.most s.faults };
 }
 
-impl<R: Read + Drop> Source for ReaderSource<R> {
+impl<R: Reader + Drop> Source for ReaderSource<R> {
     ghost use Rattle.std.proofs.Common.{rules};
 
     /// It hands on what the reader gives.
@@ -65,6 +67,14 @@ impl<R: Read + Drop> Source for ReaderSource<R> {
             (⟦<ReaderSource<R> as Edge>⟧.told self.new) }
         ensures passed { ReadConsumes (R.remaining self.old.reader) (R.remaining self.new.reader)
             result buf.new }
+
+        // What is answered is what the reader answered. A read fails by itself only past 2^62 octets.
+        ensures spent { (⟦<ReaderSource<R> as Edge>⟧.told self.new).most
+            + length (octets_of result buf.new) ≡ (⟦<ReaderSource<R> as Edge>⟧.told self.old).most }
+        ensures answered { IfOk result (λ n.
+            LastAnswers R.answers (Ok n) self.old.reader self.new.reader) }
+        ensures failed { OnErr result (GivesUp R.answers self.old.reader self.new.reader
+            ⊎ ((⟦<ReaderSource<R> as Edge>⟧.told self.old).most ≡ 0)) }
     {
         if self.most > 0 {
             let room = buf.len().min(self.most);
@@ -81,15 +91,17 @@ impl<R: Read + Drop> Source for ReaderSource<R> {
 }
 
 // An interrupted read gave nothing: it is made again, as by the loops of std, and is no fault.
-fn read_once<R: Read>(reader: &mut R, buf: &mut [u8]) -> Result<usize, Failed>
+fn read_once<R: Reader>(reader: &mut R, buf: &mut [u8]) -> Result<usize, Failed>
     ensures bound { ReadsAtMost result buf.new }
     ensures bytes { ReadConsumes (R.remaining reader.old) (R.remaining reader.new) result buf.new }
+    ensures answered { IfOk result (λ n. LastAnswers R.answers (Ok n) reader.old reader.new) }
+    ensures failed { OnErr result (GivesUp R.answers reader.old reader.new) }
 {
-    for _ in 0..u64::MAX {
-        match reader.read(buf) {
+    for _tries in 0..u64::MAX {
+        match reader.try_read(buf) {
             Ok(count) => return Ok(count),
             Err(e) => {
-                if e.kind() != ErrorKind::Interrupted {
+                if !is_interrupted(&e) {
                     return Err(Failed);
                 }
             }

@@ -1,14 +1,16 @@
-ghost use Rattle.std.specs.Prelude.{◌≡◌, ◌≤◌, ◌<◌, IsTrue, length, IfOk, OnOk, None};
+ghost use Rattle.std.specs.Prelude.{◌≡◌, ◌≤◌, ◌<◌, ◌⊎◌, IsTrue, length, IfOk, OnOk, OnErr, Ok, None};
 ghost use Rattle.std.specs.Io.{WritesAtMost};
 ghost use Rattle.std.specs.Io.KnownBytes.{WriteAppends};
 ghost use Rattle.edge_io.specs.Told.{sink_told};
 ghost use Rattle.edge_io.specs.Cause.{HasCause, NoCountFell, NoFault};
 ghost use Rattle.edge_io.specs.Octets.{Grows, octets_of};
+ghost use Rattle.edge_io.specs.Tries.{LastAnswers, GivesUp};
 
 use crate::edge::Edge;
 use crate::failed::Failed;
+use crate::interrupted::is_interrupted;
 use crate::sink::Sink;
-use std::io::{ErrorKind, Write};
+use crate::writer::Writer;
 
 /// A sink over a writer, such as standard output. It counts each error of the writer, and each
 /// write of which the writer took nothing, and tells nothing of the octets. It doesn't flush.
@@ -19,7 +21,7 @@ pub struct WriterSink<W: Drop> {
     faults: u64,
 }
 
-impl<W: Write + Drop> WriterSink<W> {
+impl<W: Writer + Drop> WriterSink<W> {
     /// A sink that hands on to this writer.
     pub fn new(writer: W) -> WriterSink<W>
         ensures told { ⟦<WriterSink<W> as Edge>⟧.told result ≡ sink_told None 0 }
@@ -29,11 +31,11 @@ impl<W: Write + Drop> WriterSink<W> {
     }
 }
 
-impl<W: Write + Drop> Edge for WriterSink<W> {
+impl<W: Writer + Drop> Edge for WriterSink<W> {
     ghost told = { λ s. sink_told None s.faults };
 }
 
-impl<W: Write + Drop> Sink for WriterSink<W> {
+impl<W: Writer + Drop> Sink for WriterSink<W> {
     /// It hands on to the writer, which takes what this answers.
     fn write(&mut self, piece: &[u8]) -> Result<usize, Failed>
         requires { IsTrue (⟦<WriterSink<W> as Edge>⟧.told self.old).ready }
@@ -54,6 +56,13 @@ impl<W: Write + Drop> Sink for WriterSink<W> {
             (⟦<WriterSink<W> as Edge>⟧.told self.new) }
         ensures passed { WriteAppends (W.contents self.old.writer) (W.contents self.new.writer)
             result piece.now }
+
+        // What is answered is what the writer answered. Only a write that took nothing fails besides.
+        ensures answered { IfOk result (λ n.
+            LastAnswers W.answers (Ok n) self.old.writer self.new.writer) }
+        ensures failed { OnErr result (GivesUp W.answers self.old.writer self.new.writer
+            ⊎ (LastAnswers W.answers (Ok 0) self.old.writer self.new.writer
+            × (0 < length piece.now))) }
     {
         if let Ok(count) = write_once(&mut self.writer, piece) {
             if count > 0 || piece.is_empty() {
@@ -66,15 +75,17 @@ impl<W: Write + Drop> Sink for WriterSink<W> {
 }
 
 // An interrupted write took nothing: it is made again, as by the loops of std, and is no fault.
-fn write_once<W: Write>(writer: &mut W, piece: &[u8]) -> Result<usize, Failed>
+fn write_once<W: Writer>(writer: &mut W, piece: &[u8]) -> Result<usize, Failed>
     ensures bound { WritesAtMost result piece.now }
     ensures bytes { WriteAppends (W.contents writer.old) (W.contents writer.new) result piece.now }
+    ensures answered { IfOk result (λ n. LastAnswers W.answers (Ok n) writer.old writer.new) }
+    ensures failed { OnErr result (GivesUp W.answers writer.old writer.new) }
 {
-    for _ in 0..u64::MAX {
-        match writer.write(piece) {
+    for _tries in 0..u64::MAX {
+        match writer.try_write(piece) {
             Ok(count) => return Ok(count),
             Err(e) => {
-                if e.kind() != ErrorKind::Interrupted {
+                if !is_interrupted(&e) {
                     return Err(Failed);
                 }
             }

@@ -1,5 +1,8 @@
 use Rattle.std.specs.Io.KnownBytes.{Keeps}
+use Rattle.edge_io.specs.Tries.{Interruptions}
 use Rattle.edge_io.proofs.writer_sink.write_once.Given as goal
 
-abbrev pub invariant-loop : goal.invariant-loop
-invariant-loop g l = Keeps (g.W.Write.contents l.initial.writer) (g.W.Write.contents l.writer)
+abbrev pub invariant-loop-tries : goal.invariant-loop-tries
+invariant-loop-tries g l =
+    Keeps (g.W.Writer.contents l.initial.writer) (g.W.Writer.contents l.writer)
+    × Interruptions g.W.Writer.answers l._tries l.initial.writer l.writer
