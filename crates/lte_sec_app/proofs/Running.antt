@@ -4,20 +4,19 @@ use Rattle.std.specs.Io.KnownBytes.{IsAtEnd}
 use Rattle.std.specs.Option.{IfSome}
 use Rattle.edge_io.specs.Told.{Told}
 use Rattle.edge_io.specs.Octets.{Grows, GrowsByPrefix}
-use Rattle.lte_sec_app.specs.declared.app.TheConstants.{LIMIT}
 use Rattle.lte_sec_app.specs.declared.ladder_line.LadderLine.{LadderLine}
 use Rattle.lte_sec_app.specs.declared.status.Status.{Status}
 use Rattle.lte_sec_app.specs.declared.status.Status.TheVariants.{Done, Memory, Refused, ReadFault, WriteFault, Coincidence, TooLong}
 use Rattle.lte_sec_app.specs.LadderText.{reading_of}
 use Rattle.lte_sec_app.specs.LadderReport.{Output, output_of, refusal_text, output_from, Writes}
-use Rattle.lte_sec_app.specs.Run.{Answers, Answered, LadderAt, LadderIsComplete}
+use Rattle.lte_sec_app.specs.Run.{most_octets, Answers, Answered, LadderAt, LadderIsComplete}
 
 -- what is so of the octets that were read is so of those that were left
 of_left : (left : Option (List ℕ)) (octets : List ℕ) (P : List ℕ → Type 0) → IfSome left (λ l. octets ≡ l) → P octets → IfSome left P
 of_left None octets P same p = tt
 of_left (Some l) octets P same p = subst P same p
 
-answered : (ends : Status) (octets : List ℕ) (output : Output) (input input' out out' : Told) → IsAtEnd input'.left → IfSome input.left (λ l. octets ≡ l) → length octets ≤ LIMIT → output_of (reading_of octets) ≡ output → output.ends ≡ ends → Grows out.written out'.written output.text → Answered ends input input' out out'
+answered : (ends : Status) (octets : List ℕ) (output : Output) (input input' out out' : Told) → IsAtEnd input'.left → IfSome input.left (λ l. octets ≡ l) → length octets ≤ most_octets → output_of (reading_of octets) ≡ output → output.ends ≡ ends → Grows out.written out'.written output.text → Answered ends input input' out out'
 answered ends octets output input input' out out' end left within is status written = (
   end,
   of_left input.left octets (λ o. Answers ends o out out') left (record {
@@ -31,7 +30,7 @@ cut : (octets : List ℕ) (output : Output) (input out out' : Told) → IfSome i
 cut octets output input out out' left is written =
     of_left input.left octets (λ o. GrowsByPrefix out.written out'.written (output_of (reading_of o)).text) left (subst (λ o. GrowsByPrefix out.written out'.written o.text) (sym is) written)
 
-pub ladder_at : (status : Status) (octets : List ℕ) (output : Output) (input input' out out' : Told) → IsAtEnd input'.left → IfSome input.left (λ l. octets ≡ l) → length octets ≤ LIMIT → output_of (reading_of octets) ≡ output → Writes output status out out' → LadderAt status input input' out out'
+pub ladder_at : (status : Status) (octets : List ℕ) (output : Output) (input input' out out' : Told) → IsAtEnd input'.left → IfSome input.left (λ l. octets ≡ l) → length octets ≤ most_octets → output_of (reading_of octets) ≡ output → Writes output status out out' → LadderAt status input input' out out'
 ladder_at Done octets output input input' out out' end left within is written = answered Done octets output input input' out out' end left within is written.0 written.1
 ladder_at Refused octets output input input' out out' end left within is written = answered Refused octets output input input' out out' end left within is written.0 written.1
 ladder_at Coincidence octets output input input' out out' end left within is written = answered Coincidence octets output input input' out out' end left within is written.0 written.1
@@ -61,8 +60,8 @@ ladder_complete Refused input input' out out' at octets lines left within readin
     let no = sym ends ∙ (known Refused octets lines input out out' left reading at.1).0 in cc
 ladder_complete Coincidence input input' out out' at octets lines left within reading ends read write =
     let no = sym ends ∙ (known Coincidence octets lines input out out' left reading at.1).0 in cc
-ladder_complete ReadFault input input' out out' at octets lines left within reading ends read write = absurd (read at)
+ladder_complete ReadFault input input' out out' at octets lines left within reading ends read write = absurd (read at.0)
 ladder_complete WriteFault input input' out out' at octets lines left within reading ends read write = absurd (write at.0)
 ladder_complete TooLong input input' out out' at octets lines left within reading ends read write =
-    let long = subst (λ o. IfSome o (λ o'. LIMIT < length o')) left at in absurd (omega (arith, long, within))
+    let long = subst (λ o. IfSome o (λ o'. most_octets < length o')) left at.1 in absurd (omega (arith, long, within))
 ladder_complete status input input' out out' at octets lines left within reading ends read write = absurd at

@@ -1,4 +1,5 @@
-ghost use Rattle.std.specs.Prelude.{◌≡◌, ◌↔◌, false, Some, None, [], IfSome, IsTrue};
+ghost use Rattle.std.specs.Prelude.{◌≡◌, ◌≢◌, ◌↔◌, false, Some, None, [], IfSome, IsTrue};
+ghost use Rattle.edge_io.specs.Cause.{NoFault};
 ghost use Rattle.lte_sec_app.specs.Command.{named};
 ghost use Rattle.lte_sec_app.specs.Run.{LadderAt, LadderIsComplete, UsedAsSource, UsedAsSink};
 
@@ -44,6 +45,10 @@ pub fn run<R: Source, W: Sink, P: Peers, L: Port>(
     ensures unread { result ≡ Status.ReadFault → out.new ≡ out.old }
     ensures too_long { result ≡ Status.TooLong → out.new ≡ out.old }
 
+    // Each other status has met no fault, want of memory among them.
+    ensures no_read_fault { result ≢ Status.ReadFault → NoFault (R.told input.old) (R.told input.new) }
+    ensures no_write_fault { result ≢ Status.WriteFault → NoFault (W.told out.old) (W.told out.new) }
+
     // What stays of each object.
     ensures input { UsedAsSource (R.told input.old) (R.told input.new) }
     ensures out { UsedAsSink (W.told out.old) (W.told out.new) }
@@ -63,6 +68,8 @@ fn ladder<R: Source, W: Sink>(alloc: Global, input: &mut R, out: &mut W) -> Stat
     ensures ladder { LadderAt result (R.told input.old) (R.told input.new) (W.told out.old) (W.told out.new) }
     ensures unread { result ≡ Status.ReadFault → out.new ≡ out.old }
     ensures too_long { result ≡ Status.TooLong → out.new ≡ out.old }
+    ensures no_read_fault { result ≢ Status.ReadFault → NoFault (R.told input.old) (R.told input.new) }
+    ensures no_write_fault { result ≢ Status.WriteFault → NoFault (W.told out.old) (W.told out.new) }
     ensures input { UsedAsSource (R.told input.old) (R.told input.new) }
     ensures out { UsedAsSink (W.told out.old) (W.told out.new) }
 {

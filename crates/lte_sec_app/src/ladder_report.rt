@@ -1,5 +1,6 @@
-ghost use Rattle.std.specs.Prelude.{◌≡◌, ℕ, ◌+◌, ◌<◌, ◌≤◌, true, false, List, [], Some, length, map, IfOk, IsTrue};
+ghost use Rattle.std.specs.Prelude.{◌≡◌, ◌≢◌, ℕ, ◌+◌, ◌<◌, ◌≤◌, true, false, List, [], Some, length, map, IfOk, IsTrue};
 ghost use Rattle.std.specs.String.{string_bytes};
+ghost use Rattle.edge_io.specs.Cause.{NoFault};
 ghost use Rattle.hmac_kdf.specs.Kdf.{IsKdfInput};
 ghost use Rattle.hmac_kdf.specs.declared.input.KdfInput.{KdfInput};
 ghost use Rattle.annex_a_keys.specs.AlgType.{distinguisher};
@@ -23,6 +24,7 @@ pub fn write_report<W: Sink>(alloc: Global, lines: &[LadderLine], out: &mut W) -
     requires good { AreGood [] lines.now }
     requires few { length lines.now ≤ 4096 }
     ensures output { Writes (output_from [] 1 lines.now) result (W.told out.old) (W.told out.new) }
+    ensures no_fault { result ≢ Status.WriteFault → NoFault (W.told out.old) (W.told out.new) }
     ensures out { UsedAsSink (W.told out.old) (W.told out.new) }
 {
     let mut ladder = Ladder::new(alloc);
@@ -43,6 +45,7 @@ pub fn write_report<W: Sink>(alloc: Global, lines: &[LadderLine], out: &mut W) -
 pub fn write_refusal<W: Sink>(alloc: Global, line: u32, out: &mut W) -> Status
     requires { IsTrue (W.told out.old).ready }
     ensures output { Writes (record { text = refusal_text line; ends = Status.Refused }) result (W.told out.old) (W.told out.new) }
+    ensures no_fault { result ≢ Status.WriteFault → NoFault (W.told out.old) (W.told out.new) }
     ensures out { UsedAsSink (W.told out.old) (W.told out.new) }
 {
     write_text(refusal_line(alloc, line), Status::Refused, out)
@@ -65,6 +68,7 @@ fn write_line<W: Sink>(
     ensures rows { (rows : List KeyRow) → StandsFor rows ladder.old.rows → meets (map (λ r. r.line) rows) line.now ≡ true → StandsFor (rows_after (place_in rows line.now) rows line.now) ladder.new.rows }
     ensures spare { ladder.old.spare ≤ ladder.new.spare + 1 }
     ensures ladder { IsLadder ladder.new.rows }
+    ensures no_fault { result ≢ Status.WriteFault → NoFault (W.told out.old) (W.told out.new) }
     ensures out { UsedAsSink (W.told out.old) (W.told out.new) }
 {
     match place(ladder, line) {
@@ -85,6 +89,7 @@ fn write_text<W: Sink>(text: Result<String, AllocError>, ends: Status, out: &mut
     requires ready { IsTrue (W.told out.old).ready }
     requires reported { IsReported ends }
     ensures text { (octets : List ℕ) → IfOk text (λ t. string_bytes t ≡ octets) → TextAt result ends octets (W.told out.old) (W.told out.new) }
+    ensures no_fault { result ≢ Status.WriteFault → NoFault (W.told out.old) (W.told out.new) }
     ensures out { UsedAsSink (W.told out.old) (W.told out.new) }
 {
     match text {

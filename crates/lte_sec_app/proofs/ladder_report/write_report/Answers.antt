@@ -12,6 +12,7 @@ loop-index-init g c =
       printed = none_printed c.args.lines.now (g.W.Edge.told c.args.out.now) c.reserve.new.self.rows none c.requires.good;
       ladder = subst IsLadder (sym none) ladder_none;
       room = omega (arith, c.in-Ok.ensures.spare);
+      no_fault = search rules;
       out = search rules;
     }
 
@@ -34,6 +35,7 @@ loop-index-preserved g c =
       printed = next_printed lines i first mid now c.loop-index.ladder.rows c.write_line.new.ladder.rows line so_far.printed within is written (c.write_line.ensures.rows rows so_far.printed.stand met);
       ladder = c.write_line.ensures.ladder;
       room = omega (arith, so_far.room, c.write_line.ensures.spare);
+      no_fault = search rules;
       out = search rules;
     }
 
@@ -52,5 +54,6 @@ returns-in_default g c =
     let met = line_met lines i first mid c.loop-index.ladder.rows line so_far.printed within is in
     record {
       output = ended lines i first mid now c.loop-index.ladder.rows line c.write_line.result so_far.printed within is so_far.out.counts (c.write_line.ensures.line rows so_far.printed.stand met) c.in_default.not-Done;
+      no_fault = search rules;
       out = search rules;
     }

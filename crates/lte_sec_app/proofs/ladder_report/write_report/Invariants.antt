@@ -1,4 +1,5 @@
 use Rattle.std.proofs.Common.{◌+◌, ◌≤◌, length}
+use Rattle.edge_io.specs.Cause.{NoFault}
 use Rattle.key_terms.specs.Ladder.{IsLadder}
 use Rattle.lte_sec_app.specs.Run.{UsedAsSink}
 use Rattle.lte_sec_app.proofs.Printing.{Printed}
@@ -9,5 +10,6 @@ invariant-loop-index g l = record {
   printed : Printed l.lines l.index (g.W.Edge.told l.initial.out) (g.W.Edge.told l.out) l.ladder.rows;
   ladder : IsLadder l.ladder.rows;
   room : length l.lines ≤ l.index + l.ladder.spare;
+  no_fault : NoFault (g.W.Edge.told l.initial.out) (g.W.Edge.told l.out);
   out : UsedAsSink (g.W.Edge.told l.initial.out) (g.W.Edge.told l.out);
 }
