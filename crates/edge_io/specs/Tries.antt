@@ -4,7 +4,7 @@ use Rattle.std.specs.IoError.{error_kind}
 use Rattle.std.specs.declared.io.Error.{Error}
 use Rattle.std.specs.declared.io.ErrorKind.TheVariants.{Interrupted}
 
--- Here `answers` says of one call which object it leaves, by the object before it and its answer.
+-- Here `answers` is what one call does: the object before it, its answer, the object after it.
 
 -- a call was interrupted
 pub record IsInterrupted {X : Type 0} (answers : X → Result ℕ Error → X → Type 0) (before after : X) : Type 0 where

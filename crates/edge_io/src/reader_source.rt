@@ -1,4 +1,4 @@
-ghost use Rattle.std.specs.Prelude.{◌≡◌, ◌+◌, ◌^◌, ◌≤◌, ◌<◌, ◌⊎◌, IsTrue, length, IfOk, OnOk, OnErr, Ok, None};
+ghost use Rattle.std.specs.Prelude.{◌≡◌, ◌+◌, ◌^◌, ◌≤◌, ◌<◌, ◌⊎◌, min, IsTrue, length, IfOk, OnOk, OnErr, Ok, None};
 ghost use Rattle.std.specs.Io.{ReadsAtMost};
 ghost use Rattle.std.specs.Io.KnownBytes.{IsAtEnd, ReadConsumes};
 ghost use Rattle.edge_io.specs.Told.{source_told};
@@ -72,8 +72,10 @@ impl<R: Reader + Drop> Source for ReaderSource<R> {
         ensures spent { (⟦<ReaderSource<R> as Edge>⟧.told self.new).most
             + length (octets_of result buf.new) ≡ (⟦<ReaderSource<R> as Edge>⟧.told self.old).most }
         ensures answered { IfOk result (λ n.
-            LastAnswers R.answers (Ok n) self.old.reader self.new.reader) }
-        ensures failed { OnErr result (GivesUp R.answers self.old.reader self.new.reader
+            LastAnswers (R.answers (min (length buf.old) (⟦<ReaderSource<R> as Edge>⟧.told self.old).most)) (Ok n)
+            self.old.reader self.new.reader) }
+        ensures failed { OnErr result (GivesUp (R.answers (min (length buf.old) (⟦<ReaderSource<R> as Edge>⟧.told self.old).most))
+            self.old.reader self.new.reader
             ⊎ ((⟦<ReaderSource<R> as Edge>⟧.told self.old).most ≡ 0)) }
     {
         if self.most > 0 {
@@ -94,8 +96,8 @@ impl<R: Reader + Drop> Source for ReaderSource<R> {
 fn read_once<R: Reader>(reader: &mut R, buf: &mut [u8]) -> Result<usize, Failed>
     ensures bound { ReadsAtMost result buf.new }
     ensures bytes { ReadConsumes (R.remaining reader.old) (R.remaining reader.new) result buf.new }
-    ensures answered { IfOk result (λ n. LastAnswers R.answers (Ok n) reader.old reader.new) }
-    ensures failed { OnErr result (GivesUp R.answers reader.old reader.new) }
+    ensures answered { IfOk result (λ n. LastAnswers (R.answers (length buf.old)) (Ok n) reader.old reader.new) }
+    ensures failed { OnErr result (GivesUp (R.answers (length buf.old)) reader.old reader.new) }
 {
     for _tries in 0..u64::MAX {
         match reader.try_read(buf) {

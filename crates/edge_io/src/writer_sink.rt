@@ -59,9 +59,9 @@ impl<W: Writer + Drop> Sink for WriterSink<W> {
 
         // What is answered is what the writer answered. Only a write that took nothing fails besides.
         ensures answered { IfOk result (λ n.
-            LastAnswers W.answers (Ok n) self.old.writer self.new.writer) }
-        ensures failed { OnErr result (GivesUp W.answers self.old.writer self.new.writer
-            ⊎ (LastAnswers W.answers (Ok 0) self.old.writer self.new.writer
+            LastAnswers (W.answers piece.now) (Ok n) self.old.writer self.new.writer) }
+        ensures failed { OnErr result (GivesUp (W.answers piece.now) self.old.writer self.new.writer
+            ⊎ (LastAnswers (W.answers piece.now) (Ok 0) self.old.writer self.new.writer
             × (0 < length piece.now))) }
     {
         if let Ok(count) = write_once(&mut self.writer, piece) {
@@ -78,8 +78,8 @@ impl<W: Writer + Drop> Sink for WriterSink<W> {
 fn write_once<W: Writer>(writer: &mut W, piece: &[u8]) -> Result<usize, Failed>
     ensures bound { WritesAtMost result piece.now }
     ensures bytes { WriteAppends (W.contents writer.old) (W.contents writer.new) result piece.now }
-    ensures answered { IfOk result (λ n. LastAnswers W.answers (Ok n) writer.old writer.new) }
-    ensures failed { OnErr result (GivesUp W.answers writer.old writer.new) }
+    ensures answered { IfOk result (λ n. LastAnswers (W.answers piece.now) (Ok n) writer.old writer.new) }
+    ensures failed { OnErr result (GivesUp (W.answers piece.now) writer.old writer.new) }
 {
     for _tries in 0..u64::MAX {
         match writer.try_write(piece) {
