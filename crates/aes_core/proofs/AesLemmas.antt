@@ -55,7 +55,7 @@ pub octet-sub_byte : (x : ℕ) → sub_byte x < 256
 unfolding sub_byte affine
 octet-sub_byte x = eight_bits _ _ _ _ _ _ _ _
 
-octet-power_of_x : (n : ℕ) → power_of_x n < 256
+pub octet-power_of_x : (n : ℕ) → power_of_x n < 256
 octet-power_of_x zero = lit< tt
 octet-power_of_x (suc n) =
     let x : ℕ = power_of_x n in

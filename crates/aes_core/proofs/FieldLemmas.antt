@@ -1,4 +1,4 @@
--- The product in the field with 2 and with 3, at each octet.
+-- The product in the field with 2, at each octet.
 use Rattle.std.proofs.Common.{◌≡◌, ℕ, ◌*◌, ◌/◌, ◌%◌, ◌<◌, map, get_or, refl, ap, sym, ◌∙◌, arith}
 use Rattle.std.specs.Prelude.{bit_xor}
 use Rattle.std.specs.List.{range_with_len}
@@ -12,7 +12,7 @@ same_at f g n e x h =
     ∙ ap (λ xs. get_or xs x 0) e
     ∙ get_or-map-range_with_len g 0 n x x 0 h (omega arith)
 
--- what the code computes for the product with 2
+-- the octet one bit up, and less the modulus where that has x^8 (4.2.1)
 abbrev pub shifted : ℕ → ℕ
 shifted x = bit_xor (x * 2 % 256) (x / 128 * 27)
 
@@ -22,11 +22,3 @@ shifted_all = refl
 
 pub multiply-two : (x : ℕ) → x < 256 → multiply 2 x ≡ shifted x
 multiply-two = same_at (multiply 2) shifted 256 shifted_all
-
-three_all : map (multiply 3) (range_with_len 0 256) ≡ map (λ x. bit_xor (multiply 2 x) x) (range_with_len 0 256)
-unfolding multiply
-three_all = refl
-
--- 3 = x + 1
-pub multiply-three : (x : ℕ) → x < 256 → multiply 3 x ≡ bit_xor (multiply 2 x) x
-multiply-three = same_at (multiply 3) (λ x. bit_xor (multiply 2 x) x) 256 three_all

@@ -3,3 +3,4 @@ pub mod Examples
 pub mod FieldLemmas
 pub mod KeyExpansionLemmas
 pub mod SBoxTable
+pub mod WordLemmas

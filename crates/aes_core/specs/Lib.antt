@@ -2,3 +2,5 @@ pub mod Field
 pub mod SBox
 pub mod KeyExpansion
 pub mod Aes
+pub mod Word
+pub mod RoundTable

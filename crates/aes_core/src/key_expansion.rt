@@ -1,11 +1,12 @@
 // The key expansion (FIPS 197, 5.2).
-ghost use Rattle.std.specs.Prelude.{◌≡◌, ◌<◌, ◌≤◌};
+ghost use Rattle.std.specs.Prelude.{◌≡◌, ◌<◌, ◌≤◌, map};
 ghost use Rattle.aes_core.specs.KeyExpansion.{key_expansion, key_mask, key_word, next_word};
+ghost use Rattle.aes_core.specs.Word.{word_octets};
 
 use crate::s_box::sub_byte;
 
-/// A word of the key expansion.
-pub type Word = [u8; 4];
+/// A word of four octets, the first one highest (FIPS 197, 3.5).
+pub type Word = u32;
 
 // x^0 to x^9 in the field.
 static POWERS_OF_X: [u8; 10] = [0x01, 0x02, 0x04, 0x08, 0x10, 0x20, 0x40, 0x80, 0x1b, 0x36];
@@ -14,15 +15,16 @@ static POWERS_OF_X: [u8; 10] = [0x01, 0x02, 0x04, 0x08, 0x10, 0x20, 0x40, 0x80, 
 fn key_mask(word: Word, i: usize) -> Word
     requires from_four { 4 ≤ i }
     requires to_forty_three { i < 44 }
-    ensures { result ≡ key_mask word i }
+    ensures { word_octets result ≡ key_mask (word_octets word) i }
 {
     if i % 4 == 0 {
-        [
-            sub_byte(word[1]) ^ POWERS_OF_X[i / 4 - 1],
-            sub_byte(word[2]),
-            sub_byte(word[3]),
-            sub_byte(word[0]),
-        ]
+        let octets = word.to_be_bytes();
+        Word::from_be_bytes([
+            sub_byte(octets[1]) ^ POWERS_OF_X[i / 4 - 1],
+            sub_byte(octets[2]),
+            sub_byte(octets[3]),
+            sub_byte(octets[0]),
+        ])
     } else {
         word
     }
@@ -32,31 +34,24 @@ fn key_mask(word: Word, i: usize) -> Word
 fn next_word(words: &[Word; 44], i: usize) -> Word
     requires from_four { 4 ≤ i }
     requires to_forty_three { i < 44 }
-    ensures { result ≡ next_word words.now i }
+    ensures { word_octets result ≡ next_word (map word_octets words.now) i }
 {
-    let before = words[i - 4];
-    let mask = key_mask(words[i - 1], i);
-    [
-        before[0] ^ mask[0],
-        before[1] ^ mask[1],
-        before[2] ^ mask[2],
-        before[3] ^ mask[3],
-    ]
+    words[i - 4] ^ key_mask(words[i - 1], i)
 }
 
 // Word `i` of the key.
 fn key_word(key: &[u8; 16], i: usize) -> Word
     requires { i < 4 }
-    ensures { result ≡ key_word key.now i }
+    ensures { word_octets result ≡ key_word key.now i }
 {
-    [key[4 * i], key[4 * i + 1], key[4 * i + 2], key[4 * i + 3]]
+    Word::from_be_bytes([key[4 * i], key[4 * i + 1], key[4 * i + 2], key[4 * i + 3]])
 }
 
 /// The 44 words of the key expansion, four for each round key.
 pub fn expand_key(key: &[u8; 16]) -> [Word; 44]
-    ensures { result ≡ key_expansion key.now }
+    ensures { map word_octets result ≡ key_expansion key.now }
 {
-    let mut words = [[0; 4]; 44];
+    let mut words = [0; 44];
     words[0] = key_word(key, 0);
     words[1] = key_word(key, 1);
     words[2] = key_word(key, 2);

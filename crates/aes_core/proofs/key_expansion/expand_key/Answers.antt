@@ -1,18 +1,24 @@
-use Rattle.std.proofs.Common.{◌≡◌, ◌∙◌, length, refl, sym, arith, length-set}
-use Rattle.std.proofs.lemmas.List.{take_all}
+use Rattle.std.proofs.Common.{◌≡◌, ◌+◌, ◌∙◌, length, map, take, refl, sym, ap, arith, length-set}
+use Rattle.std.proofs.lemmas.List.{take_all, map-set, length-map}
 use Rattle.aes_core.specs.KeyExpansion.{first_words, key_expansion}
+use Rattle.aes_core.specs.Word.{word_octets}
 use Rattle.aes_core.proofs.KeyExpansionLemmas.{first_words_more}
+use Rattle.aes_core.proofs.WordLemmas.{four_lists}
 use Rattle.aes_core.proofs.key_expansion.expand_key.Goals as goal
 
 pub loop-i-init : goal.loop-i-init
 unfolding first_words
-loop-i-init c = (refl, cc)
+loop-i-init c = (refl, four_lists _ _ _ _ _ _ _ _ c.key_word.ensures c.key_word-2.ensures c.key_word-3.ensures c.key_word-4.ensures)
 
 pub loop-i-preserved : goal.loop-i-preserved
 loop-i-preserved c =
-    let long : length c.loop-i.words ≡ 44 = c.loop-i.invariant.0 in (
-      length-set c.loop-i.words c.loop-i.i c.next_word.result ∙ long,
-      first_words_more c.args.key.now c.loop-i.words c.next_word.result c.loop-i.i (omega arith) (omega arith)
+    let words = c.loop-i.words in
+    let i = c.loop-i.i in
+    let long : length words ≡ 44 = c.loop-i.invariant.0 in
+    let mapped : length (map word_octets words) ≡ 44 = length-map words word_octets ∙ long in (
+      length-set words i c.next_word.result ∙ long,
+      ap (take (i + 1)) (map-set word_octets words i c.next_word.result)
+          ∙ first_words_more c.args.key.now (map word_octets words) (word_octets c.next_word.result) i (omega arith) (omega arith)
           c.loop-i.invariant.1 c.next_word.ensures,
     )
 
@@ -20,5 +26,5 @@ pub returns : goal.returns
 unfolding key_expansion
 returns c =
     let end : c.loop-i.i ≡ 44 = omega arith in
-    let all = take_all 44 c.loop-i.words (omega arith) in
-    sym all ∙ rw end at c.loop-i.invariant.1
+    let mapped : length (map word_octets c.loop-i.words) ≡ 44 = length-map c.loop-i.words word_octets ∙ c.loop-i.invariant.0 in
+    sym (take_all 44 (map word_octets c.loop-i.words) (omega arith)) ∙ rw end at c.loop-i.invariant.1

@@ -1,6 +1,7 @@
-use Rattle.std.proofs.Common.{◌≡◌, ◌-◌, length, take}
+use Rattle.std.proofs.Common.{◌≡◌, ◌-◌, length, map, take}
 use Rattle.aes_core.specs.KeyExpansion.{first_words}
+use Rattle.aes_core.specs.Word.{word_octets}
 use Rattle.aes_core.proofs.key_expansion.expand_key.Given as goal
 
 abbrev pub invariant-loop-i : goal.invariant-loop-i
-invariant-loop-i l = (length l.words ≡ 44) × (take l.i l.words ≡ first_words l.key (l.i - 4))
+invariant-loop-i l = (length l.words ≡ 44) × (take l.i (map word_octets l.words) ≡ first_words l.key (l.i - 4))
