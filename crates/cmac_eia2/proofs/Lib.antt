@@ -1,2 +1,2 @@
 mod BlockLemmas
-pub mod StreamLemmas
+pub mod StateLemmas

@@ -1,3 +1,3 @@
 pub mod Cmac
 pub mod Eia2
-pub mod Stream
+pub mod State

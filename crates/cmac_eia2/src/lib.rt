@@ -7,10 +7,11 @@ ghost use Rattle.cmac_eia2.specs.Cmac.{cmac_of};
 ghost use Rattle.cmac_eia2.specs.Eia2.{eia2_of};
 
 mod blocks;
-mod streams;
+mod cmac;
+mod state;
 
-use crate::streams::Cmac;
 use aes_core::Aes128;
+pub use cmac::Cmac;
 use rec_base::{Dir, header};
 
 /// The CMAC of a text of any length, of 16 octets, under the key of `aes` (SP 800-38B, 6.2).

@@ -1,7 +1,7 @@
 // CMAC with AES-128: the examples of NIST SP 800-38B, which RFC 4493 has too.
 
 use aes_core::Aes128;
-use cmac_eia2::cmac_of;
+use cmac_eia2::{Cmac, cmac_of};
 use hex::FromHex;
 use std::test::Fail;
 
@@ -34,5 +34,50 @@ fn texts_of_sp_800_38b_have_their_cmac(rt: HostRuntime) -> Result<(), Fail> {
         let cmac = <[u8; 16] as FromHex>::from_hex(cmac)?;
         assert_eq!(rt; cmac_of(&aes, &octets), cmac, "of {text}");
     }
+    Ok(())
+}
+
+// The CMAC of a text that comes in two pieces.
+fn of_two(aes: &Aes128, first: &[u8], second: &[u8]) -> [u8; 16] {
+    let mut cmac = Cmac::start(aes);
+    cmac.feed(first);
+    cmac.feed(second);
+    cmac.end()
+}
+
+#[test]
+fn pieces_have_the_cmac_of_the_text(rt: HostRuntime) -> Result<(), Fail> {
+    let key = <[u8; 16] as FromHex>::from_hex("2b7e151628aed2a6abf7158809cf4f3c")?;
+    let aes = Aes128::new(&key);
+    let text = hex::decode(
+        rt.alloc(),
+        concat!(
+            "6bc1bee22e409f96e93d7e117393172aae2d8a571e03ac9c9eb76fac45af8e51",
+            "30c81c46a35ce411",
+        ),
+    )?;
+    let none = <[u8; 16] as FromHex>::from_hex("bb1d6929e95937287fa37d129b756746")?;
+    let block = <[u8; 16] as FromHex>::from_hex("070a16b46b4d4144f79bdd9dd04a287c")?;
+    let whole = <[u8; 16] as FromHex>::from_hex("dfa66747de9ae63030ca32611497c827")?;
+    assert_eq!(rt; Cmac::start(&aes).end(), none);
+    let octets = text.as_slice();
+    for cut in 0..=octets.len() {
+        let (first, second) = octets.split_at(cut);
+        assert_eq!(rt; of_two(&aes, first, second), whole, "cut at {cut}");
+    }
+    let Some((first, _)) = octets.split_first_chunk::<16>() else {
+        return Err(Fail::from("shorter than a block"));
+    };
+    let mut octet_by_octet = Cmac::start(&aes);
+    for octet in first {
+        octet_by_octet.feed(&[*octet]);
+    }
+    assert_eq!(rt; octet_by_octet.end(), block);
+    assert_eq!(rt; of_two(&aes, &first[..15], &first[15..]), block);
+    let mut between_empty_pieces = Cmac::start(&aes);
+    between_empty_pieces.feed(&[]);
+    between_empty_pieces.feed(first);
+    between_empty_pieces.feed(&[]);
+    assert_eq!(rt; between_empty_pieces.end(), block);
     Ok(())
 }

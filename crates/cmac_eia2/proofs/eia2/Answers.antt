@@ -1,10 +1,8 @@
-use Rattle.std.proofs.Common.{◌≡◌, ℕ, ◌≤◌, List, [], ◌∷◌, ◌++◌, length, get_or, take, fold, refl, sym, ap, ◌∙◌, arith, rules}
-use Rattle.std.proofs.lemmas.List.Sums.{fold-append}
+use Rattle.std.proofs.Common.{◌≡◌, ℕ, ◌≤◌, List, [], ◌∷◌, ◌++◌, length, get_or, take, refl, ap, ◌∙◌, arith, rules}
 use Rattle.rec_base.specs.Header.{header_of}
 use Rattle.cmac_eia2.specs.Cmac.{cmac_of}
-use Rattle.cmac_eia2.specs.Stream.{absorbed, ended, started}
 use Rattle.cmac_eia2.specs.Eia2.{eia2_of}
-use Rattle.cmac_eia2.proofs.StreamLemmas.{ended-fold}
+use Rattle.cmac_eia2.specs.State.{fed}
 use Rattle.cmac_eia2.proofs.eia2.Goals as goal
 
 first_four : (mac : List ℕ) → 4 ≤ length mac
@@ -22,9 +20,7 @@ returns c =
     let header = header_of c.args.count c.args.bearer c.args.dir in
     let text = c.args.text.now in
     let long : length c.end.result ≡ 16 = search rules in
-    let fed : c.feed-2.new.self ≡ fold absorbed (fold absorbed (started key) header) text =
-    rw (c.feed-2.ensures.value, c.feed.ensures.value, c.start-cmac.ensures, c.new.ensures, c.header.ensures) refl in
-    let mac : c.end.result ≡ cmac_of key (header ++ text) =
-    c.end.ensures ∙ ap ended (fed ∙ sym (fold-append absorbed (started key) header text))
-    ∙ ended-fold key (header ++ text) in
-    first_four c.end.result (omega arith) ∙ ap (take 4) mac
+    let start : c.start-cmac.result ≡ fed key [] = rw (c.start-cmac.ensures, c.new.ensures) refl in
+    let covered : c.header.result ++ text ≡ header ++ text = rw c.header.ensures refl in
+    let mac = c.end.ensures key (c.header.result ++ text) (c.feed-2.ensures key c.header.result (c.feed.ensures key [] start)) in
+    first_four c.end.result (omega arith) ∙ ap (take 4) (mac ∙ ap (cmac_of key) covered)

@@ -1,20 +1,20 @@
 -- The state of a CMAC after a text, against the definition by blocks.
-use Rattle.std.proofs.Common.{◌≡◌, ◌≢◌, ℕ, zero, suc, ◌+◌, ◌-◌, ◌*◌, ◌/◌, ◌<◌, ◌≤◌, List, [], ◌∷◌, ◌++◌, length, length-append, length-drop, get_or, take, drop, map, fold, replicate, refl, ap, sym, ◌∙◌, arith, append_assoc, inl, inr, eqb, false}
+use Rattle.std.proofs.Common.{◌≡◌, ◌≢◌, ℕ, zero, suc, ◌+◌, ◌-◌, ◌*◌, ◌/◌, ◌<◌, ◌≤◌, List, [], ◌∷◌, ◌++◌, length, length-append, length-drop, get_or, take, drop, map, fold, replicate, refl, ap, sym, ◌∙◌, arith, append_assoc, append-nil, inl, inr, eqb, false}
 use Rattle.std.specs.Int.Bits.{bit_xor, xor_assoc, xor_zero_r}
 use Rattle.std.specs.List.{range_with_len}
 use Rattle.std.proofs.lemmas.Bool.{cases_eq, cases_lt}
 use Rattle.std.proofs.lemmas.Bool.Decides.{nat_tests}
 use Rattle.std.proofs.lemmas.List.{ext_get_or, get_or-set_same, get_or-set_other, get_or_append_left, get_or_at, get_or_past, length-set, length-take-le, take_more, drop-append-le, drop-take, drop_at, take_all}
 use Rattle.std.proofs.lemmas.List.FromFn.{get_or-map-range_with_len, map-range_with_len_more}
-use Rattle.std.proofs.lemmas.List.Sums.{fold_push, fold_more}
+use Rattle.std.proofs.lemmas.List.Sums.{fold-append, fold_push, fold_more}
 use Rattle.aes_core.specs.Aes.{aes}
 use Rattle.aes_core.proofs.AesLemmas.{length-aes}
 use Rattle.rec_base.specs.Header.{header_of}
 use Rattle.rec_base.specs.declared.uses.Dir.{Dir}
 use Rattle.cmac_eia2.specs.Cmac.{block_at, blocks_before, chained, cmac_of, doubled, masked_last, padded, xor_blocks, zero_block}
 use Rattle.cmac_eia2.specs.Eia2.{eia2_of}
-use Rattle.cmac_eia2.specs.Stream.{absorbed, ended, mixed_with, started, with_room}
-use Rattle.cmac_eia2.specs.declared.streams.Cmac.{Cmac}
+use Rattle.cmac_eia2.specs.State.{absorbed, ended, fed, mixed_with, started, with_room}
+use Rattle.cmac_eia2.specs.declared.state.State.{State}
 
 -- ---- sums of blocks
 
@@ -98,7 +98,7 @@ length-after_blocks key text (suc m) =
     ∙ length-aes key (xor_blocks (after_blocks key text m) (block_at text m))
 
 -- what the state is after n octets of a text: all of their blocks but the last are chained
-abbrev state_at : List ℕ → List ℕ → ℕ → Cmac
+abbrev state_at : List ℕ → List ℕ → ℕ → State
 state_at key text n =
     let before = (n - 1) / 16 in
     record {
@@ -208,7 +208,7 @@ ended-is key mixed last n e h =
     ]
 
 -- the state after a whole text ends with its CMAC
-pub ended-fold : (key text : List ℕ) → ended (fold absorbed (started key) text) ≡ cmac_of key text
+ended-fold : (key text : List ℕ) → ended (fold absorbed (started key) text) ≡ cmac_of key text
 unfolding cmac_of
 ended-fold key text =
     let n = length text in
@@ -220,6 +220,65 @@ ended-fold key text =
     let blocks = map (block_at text) (range_with_len 0 b) in
     rw whole at (ap ended state) ∙ ended-is key (after_blocks key text b) last (n - 16 * b) long (omega arith)
     ∙ sym (fold_push (chained key) zero_block blocks (masked_last key last))
+
+-- pieces, and the end
+pub fed-append : (key text piece : List ℕ) → fold absorbed (fed key text) piece ≡ fed key (text ++ piece)
+unfolding fed
+fed-append key text piece = sym (fold-append absorbed (started key) text piece)
+
+pub ended-fed : (key text : List ℕ) → ended (fed key text) ≡ cmac_of key text
+unfolding fed
+ended-fed key text = ended-fold key text
+
+-- ---- a whole block behind a full one
+
+-- a block that has taken these octets
+abbrev with_octets : List ℕ → List ℕ → List ℕ → State
+with_octets key before octets =
+    record { aes = key; mixed = xor_blocks before octets; filled = length octets }
+
+with_octets-more : (key before octets : List ℕ) (x : ℕ) → length octets < 16
+    → absorbed (with_octets key before octets) x ≡ with_octets key before (octets ++ x ∷ [])
+unfolding absorbed with_room
+with_octets-more key before octets x h =
+    let test : eqb (length octets) 16 ≡ false = grind (arith, nat_tests) in
+    let mixed = xor_blocks-push before octets x h in
+    let filled : length octets + 1 ≡ length (octets ++ x ∷ []) = omega (arith, length-append octets (x ∷ [])) in
+    rw (test, mixed, filled) refl
+
+with_octets-fold : (key before octets xs : List ℕ) → length octets + length xs ≤ 16
+    → fold absorbed (with_octets key before octets) xs ≡ with_octets key before (octets ++ xs)
+with_octets-fold key before octets [] h = ap (with_octets key before) (sym (append-nil octets))
+with_octets-fold key before octets (x ∷ xs) h =
+    ap (λ s. fold absorbed s xs) (with_octets-more key before octets x (omega arith))
+    ∙ with_octets-fold key before (octets ++ x ∷ []) xs (omega (arith, length-append octets (x ∷ [])))
+    ∙ ap (with_octets key before) (append_assoc octets (x ∷ []) xs)
+
+-- the first octet behind a full block is the first of the next one
+next_block : (key mixed : List ℕ) (x : ℕ)
+    → absorbed (record { aes = key; mixed = mixed; filled = 16 }) x ≡ absorbed (with_octets key (aes key mixed) []) x
+unfolding absorbed with_room
+next_block key mixed x = rw (xor_blocks-nil (aes key mixed) (length-aes key mixed)) refl
+
+fold-block : (key mixed block : List ℕ) → length block ≡ 16
+    → fold absorbed (record { aes = key; mixed = mixed; filled = 16 }) block
+    ≡ record { aes = key; mixed = xor_blocks (aes key mixed) block; filled = 16 }
+fold-block key mixed [] h = absurd (omega arith)
+fold-block key mixed (x ∷ xs) h =
+    ap (λ s. fold absorbed s xs) (next_block key mixed x)
+    ∙ with_octets-fold key (aes key mixed) [] (x ∷ xs) (omega arith)
+    ∙ rw h refl
+
+abbrev filled_to : List ℕ → List ℕ → ℕ → State
+filled_to key mixed n = record { aes = key; mixed = mixed; filled = n }
+
+pub fold-next_block : (state : State) (block : List ℕ) → state.filled ≡ 16 → length block ≡ 16
+    → fold absorbed state block
+    ≡ record { aes = state.aes; mixed = xor_blocks (aes state.aes state.mixed) block; filled = state.filled }
+fold-next_block state block full long =
+    ap (λ n. fold absorbed (filled_to state.aes state.mixed n) block) full
+    ∙ fold-block state.aes state.mixed block long
+    ∙ ap (filled_to state.aes (xor_blocks (aes state.aes state.mixed) block)) (sym full)
 
 -- ---- lengths
 
