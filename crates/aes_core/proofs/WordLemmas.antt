@@ -7,7 +7,6 @@ use Rattle.std.proofs.lemmas.Nat.{xor_comm, xor_mod, xor_shr}
 use Rattle.std.proofs.lemmas.List.{get_or-map}
 use Rattle.std.specs.List.{range_with_len}
 use Rattle.std.proofs.lemmas.List.FromFn.{fill_by_all}
-use Rattle.aes_core.specs.Aes.{add_round_key}
 use Rattle.aes_core.specs.Field.{multiply}
 use Rattle.aes_core.specs.SBox.{sub_byte}
 use Rattle.aes_core.specs.KeyExpansion.{add_words}
@@ -111,21 +110,11 @@ four_words v w x y v' w' x' y' p q r s = cc
 pub sixteen : (block : List ℕ) → length block ≡ 16 → map (λ k. get_or block k 0) (range_with_len 0 16) ≡ block
 sixteen block long = sym (fill_by_all (λ k. get_or block k 0) block 16 0 long (λ k h. refl))
 
--- the sum of a state and a round key, column by column
-pub add_round_key-columns : (a b c d : ℕ) (words : List ℕ) (n : ℕ) → 4 * n + 3 < length words
-    → word_octets (bit_xor a (get_or words (4 * n) 0)) ++ (word_octets (bit_xor b (get_or words (4 * n + 1) 0)) ++ (word_octets (bit_xor c (get_or words (4 * n + 2) 0)) ++ word_octets (bit_xor d (get_or words (4 * n + 3) 0))))
-    ≡ add_round_key (word_octets a ++ (word_octets b ++ (word_octets c ++ word_octets d))) (map word_octets words) n
-unfolding add_round_key word_octets
-add_round_key-columns a b c d words n h =
-    four_words _ _ _ _ _ _ _ _
-    (column a 0 (4 * n) (omega arith) (omega arith)) (column b 1 (4 * n + 1) refl (omega arith))
-    (column c 2 (4 * n + 2) refl (omega arith)) (column d 3 (4 * n + 3) refl h)
-  where
-    column : (w i j : ℕ) → j ≡ 4 * n + i → j < length words
-        → word_octets (bit_xor w (get_or words j 0)) ≡ add_words (word_octets w) (get_or (map word_octets words) (4 * n + i) [])
-    column w i j e l =
-        word_octets-xor w (get_or words j 0)
-        ∙ ap (add_words (word_octets w)) (sym (get_or-map word_octets words j 0 [] l) ∙ ap (λ k. get_or (map word_octets words) k []) e)
+-- word i of round key n
+pub key_column : (words : List ℕ) (n i j : ℕ) → j ≡ 4 * n + i → j < length words
+    → word_octets (get_or words j 0) ≡ get_or (map word_octets words) (4 * n + i) []
+key_column words n i j e l =
+    sym (get_or-map word_octets words j 0 [] l) ∙ ap (λ k. get_or (map word_octets words) k []) e
 
 pub four_lists : (v w x y v' w' x' y' : List ℕ) → v ≡ v' → w ≡ w' → x ≡ x' → y ≡ y'
     → v ∷ w ∷ x ∷ y ∷ [] ≡ v' ∷ w' ∷ x' ∷ y' ∷ []
@@ -138,3 +127,9 @@ words_of_octets (w ∷ ws) h =
     let first : w < 2 ^ 32 = h 0 0 (omega arith) in
     let rest = words_of_octets ws (λ k d l. h (suc k) d (omega arith)) in
     rw (word_number-word_octets w first, ← rest) refl
+
+-- a sum of two words, the second one put first
+pub sums_turned : (v v' w : List ℕ) → v ≡ v' → add_words v w ≡ add_words w v'
+sums_turned v v' w e =
+    ap (λ u. add_words u w) e
+    ∙ four_same _ _ _ _ _ _ _ _ (xor_comm (get_or v' 0 0) (get_or w 0 0)) (xor_comm (get_or v' 1 0) (get_or w 1 0)) (xor_comm (get_or v' 2 0) (get_or w 2 0)) (xor_comm (get_or v' 3 0) (get_or w 3 0))

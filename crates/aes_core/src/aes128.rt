@@ -43,11 +43,19 @@ impl Aes128 {
     pub fn encrypt(&self, block: [u8; 16]) -> [u8; 16]
         ensures { result ≡ aes self.now block }
     {
-        let mut state = State::of_block(block).add_round_key(&self.words, 0);
-        for round in 1..10 {
-            state = state.mixed().add_round_key(&self.words, round);
-        }
-        let last = state.substituted().add_round_key(&self.words, 10);
+        let words = &self.words;
+        let first_rounds = State::of_block(block)
+            .add_round_key(words, 0)
+            .round(words, 1)
+            .round(words, 2)
+            .round(words, 3)
+            .round(words, 4)
+            .round(words, 5)
+            .round(words, 6)
+            .round(words, 7)
+            .round(words, 8)
+            .round(words, 9);
+        let last = first_rounds.substituted().add_round_key(words, 10);
         last.block()
     }
 }

@@ -1,5 +1,6 @@
 // The tables of a round: SubBytes and MixColumns of one octet in a word (FIPS 197, 5.1.1 and 5.1.3).
 ghost use Rattle.std.specs.Prelude.{◌≡◌, ◌<◌, ℕ, map, slice_index};
+ghost use Rattle.aes_core.specs.KeyExpansion.{add_words};
 ghost use Rattle.aes_core.specs.RoundTable.{table_entry};
 ghost use Rattle.aes_core.specs.SBox.{sub_byte};
 ghost use Rattle.aes_core.specs.Word.{diagonal, mixed_column, word_octets};
@@ -150,16 +151,16 @@ static ROUND_3: [Word; 256] = [
     0x4141c382, 0x9999b029, 0x2d2d775a, 0x0f0f111e, 0xb0b0cb7b, 0x5454fca8, 0xbbbbd66d, 0x16163a2c,
 ];
 
-/// The column that SubBytes and MixColumns make of one octet each of four columns: row 0 of `a`, row 1
-/// of `b`, row 2 of `c` and row 3 of `d`.
+/// The sum of a word of a round key and of the column that SubBytes and MixColumns make of one octet
+/// each of four columns: row 0 of `a`, row 1 of `b`, row 2 of `c` and row 3 of `d`.
 #[inline(always)]
-pub fn mixed_column(a: Word, b: Word, c: Word, d: Word) -> Word
-    ensures { word_octets result ≡ mixed_column (map sub_byte (diagonal a b c d)) }
+pub fn mixed_column(a: Word, b: Word, c: Word, d: Word, key: Word) -> Word
+    ensures { word_octets result ≡ add_words (word_octets key) (mixed_column (map sub_byte (diagonal a b c d))) }
 {
-    ROUND_0[(a >> 24) as usize]
+    key ^ (ROUND_0[(a >> 24) as usize]
         ^ ROUND_1[(b >> 16) as usize % 256]
         ^ ROUND_2[(c >> 8) as usize % 256]
-        ^ ROUND_3[d as usize % 256]
+        ^ ROUND_3[d as usize % 256])
 }
 
 /// A law: each entry of the tables that the code reads is the column product of the S-box at its index,

@@ -59,17 +59,19 @@ impl State {
         )
     }
 
-    /// SubBytes, ShiftRows and MixColumns.
+    /// A round: SubBytes, ShiftRows, MixColumns and AddRoundKey.
     #[inline(always)]
-    pub fn mixed(self) -> State
-        ensures { state_octets result ≡ mix_columns (shift_rows (sub_bytes (state_octets self))) }
+    pub fn round(self, words: &[Word; 44], round: usize) -> State
+        requires { round ≤ 10 }
+        ensures { state_octets result
+            ≡ add_round_key (mix_columns (shift_rows (sub_bytes (state_octets self)))) (map word_octets words.now) round }
     {
         let State(a, b, c, d) = self;
         State(
-            mixed_column(a, b, c, d),
-            mixed_column(b, c, d, a),
-            mixed_column(c, d, a, b),
-            mixed_column(d, a, b, c),
+            mixed_column(a, b, c, d, words[4 * round]),
+            mixed_column(b, c, d, a, words[4 * round + 1]),
+            mixed_column(c, d, a, b, words[4 * round + 2]),
+            mixed_column(d, a, b, c, words[4 * round + 3]),
         )
     }
 
