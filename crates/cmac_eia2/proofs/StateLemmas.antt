@@ -296,3 +296,22 @@ pub length-eia2_of : (key : List ℕ) (count bearer : ℕ) (dir : Dir) (text : L
 unfolding eia2_of
 length-eia2_of key count bearer dir text =
     length-take-le 4 (cmac_of key (header_of count bearer dir ++ text)) (omega (arith, length-cmac_of key (header_of count bearer dir ++ text)))
+
+-- ---- the code of 128-EIA2
+
+first_four : (mac : List ℕ) → 4 ≤ length mac
+    → get_or mac 0 0 ∷ get_or mac 1 0 ∷ get_or mac 2 0 ∷ get_or mac 3 0 ∷ [] ≡ take 4 mac
+first_four [] h = absurd (omega arith)
+first_four (a ∷ []) h = absurd (omega arith)
+first_four (a ∷ b ∷ []) h = absurd (omega arith)
+first_four (a ∷ b ∷ c ∷ []) h = absurd (omega arith)
+first_four (a ∷ b ∷ c ∷ d ∷ rest) h = refl
+
+-- the first four octets of the CMAC over the header and a text
+pub eia2_of-is : (key header : List ℕ) (count bearer : ℕ) (dir : Dir) (text mac : List ℕ)
+    → header ≡ header_of count bearer dir → mac ≡ cmac_of key (header ++ text)
+    → get_or mac 0 0 ∷ get_or mac 1 0 ∷ get_or mac 2 0 ∷ get_or mac 3 0 ∷ [] ≡ eia2_of key count bearer dir text
+unfolding eia2_of
+eia2_of-is key header count bearer dir text mac h e =
+    let long : 4 ≤ length mac = rw e (omega (arith, length-cmac_of key (header ++ text))) in
+    first_four mac long ∙ rw (e, h) refl

@@ -1,10 +1,10 @@
-ghost use Rattle.std.specs.Prelude.{◌≡◌, ◌≤◌, length};
+ghost use Rattle.std.specs.Prelude.{◌≡◌, ◌≤◌, ◌∷◌, length};
 ghost use Rattle.annex_a_keys.specs.AlgType.{IsOfNas};
 ghost use Rattle.nas_guard.specs.Cipher.{mac_of};
 ghost use Rattle.nas_guard.specs.Keys.{key_of};
 ghost use Rattle.nas_guard.specs.Seal.{nas_bearer, sent_text};
 
-use crate::{cipher, mac};
+use crate::{cipher, mac, mac_behind};
 use alg_choice::Algs;
 use annex_a_keys::{AlgKey, AlgType};
 use rec_base::{Dir, Octets};
@@ -53,6 +53,13 @@ impl NasKeys {
         ensures { result ≡ mac_of self.now.int count nas_bearer dir covered.now }
     {
         mac(&self.int, count, 0, dir, covered)
+    }
+
+    // The MAC over a sequence number and the text as sent behind it.
+    pub(crate) fn mac_behind(&self, count: u32, dir: Dir, sn: u8, sent: &[u8]) -> [u8; 4]
+        ensures { result ≡ mac_of self.now.int count nas_bearer dir (sn ∷ sent.now) }
+    {
+        mac_behind(&self.int, count, 0, dir, sn, sent)
     }
 
     // The text as sent of a text, and the text of a text as sent.

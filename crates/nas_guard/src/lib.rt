@@ -10,7 +10,7 @@ mod sealing;
 #[cfg(test)]
 mod tests;
 
-pub use ciphers::{cipher, mac};
+pub use ciphers::{cipher, mac, mac_behind};
 pub use keys::NasKeys;
 pub use laws::{ciphered_twice_is_the_text, sealed_opens};
 pub use opening::{OpenFault, Opened, open};

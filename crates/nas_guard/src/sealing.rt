@@ -48,13 +48,12 @@ fn octets_of(keys: &NasKeys, count: u32, header: u8, dir: Dir, text: &[u8]) -> N
     ensures { result ≡ sealed keys.now header count dir text.now }
 {
     let sent = keys.sent_text(header, count, dir, text);
-    let mut covered = NasPdu::new();
-    covered.append(&[(count % 256) as u8]);
-    covered.append(sent.as_slice());
-    let mac = keys.mac(count, dir, covered.as_slice());
+    let sn = (count % 256) as u8;
+    let mac = keys.mac_behind(count, dir, sn, sent.as_slice());
     let mut pdu = NasPdu::new();
     pdu.append(&[16 * header + 7]);
     pdu.append(&mac);
-    pdu.append(covered.as_slice());
+    pdu.append(&[sn]);
+    pdu.append(sent.as_slice());
     pdu
 }
