@@ -1,4 +1,4 @@
-ghost use Rattle.std.specs.Prelude.{◌≡◌, ◌≤◌, length, map};
+ghost use Rattle.std.specs.Prelude.{◌≡◌, ◌≤◌, ◌∷◌, length, map};
 ghost use Rattle.annex_a_keys.specs.AlgType.{IsOfAs};
 ghost use Rattle.key_model.specs.Reading.{octet_reading};
 ghost use Rattle.nas_guard.specs.Cipher.{ciphered};
@@ -11,7 +11,7 @@ ghost use Rattle.pdcp_guard.specs.Drb.{drb_ciphered};
 use alg_choice::{Algs, Eea};
 use annex_a_keys::{AlgKey, AlgType, Derived, Kenb};
 use arrayvec::ArrayVec;
-use nas_guard::{cipher, mac};
+use nas_guard::{cipher, mac_behind};
 use rec_base::{Bearer, Dir, Octets};
 use std::marker::Model;
 
@@ -75,11 +75,18 @@ impl AsKeys {
         self.algs
     }
 
-    // MAC-I over the header and the data of an SRB's PDU.
-    pub(crate) fn srb_mac(&self, bearer: Bearer, count: u32, dir: Dir, covered: &[u8]) -> [u8; 4]
-        ensures { result ≡ srb_mac self.now bearer count dir covered.now }
+    // MAC-I over the header octet and the data of an SRB's PDU.
+    pub(crate) fn srb_mac(
+        &self,
+        bearer: Bearer,
+        count: u32,
+        dir: Dir,
+        header: u8,
+        text: &[u8],
+    ) -> [u8; 4]
+        ensures { result ≡ srb_mac self.now bearer count dir (header ∷ text.now) }
     {
-        mac(&self.rrc_int, count, bearer.bearer5(), dir, covered)
+        mac_behind(&self.rrc_int, count, bearer.bearer5(), dir, header, text)
     }
 
     // Data and MAC-I of an SRB's PDU, ciphered or deciphered where the bearer is ciphered.

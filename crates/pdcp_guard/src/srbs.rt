@@ -152,14 +152,14 @@ impl Srb {
     }
 }
 
-// What MAC-I covers: the header octet and the data, which is the text.
-fn covered(header: u8, text: &[u8]) -> Octets
-    requires { length text.now < 1536 }
-    ensures { result ≡ header ∷ text.now }
+// A header octet and the octets behind it.
+fn with_header(header: u8, behind: &[u8]) -> Octets
+    requires { length behind.now < 1536 }
+    ensures { result ≡ header ∷ behind.now }
 {
     let mut octets = Octets::new();
     octets.append(&[header]);
-    octets.append(text);
+    octets.append(behind);
     octets
 }
 
@@ -170,12 +170,12 @@ fn sealed(keys: &AsKeys, cipher: bool, bearer: Bearer, count: u32, dir: Dir, tex
     ensures { result ≡ srb_sealed keys.now cipher bearer count dir text.now }
 {
     let header = (count % 32) as u8;
-    let mac = keys.srb_mac(bearer, count, dir, covered(header, text).as_slice());
+    let mac = keys.srb_mac(bearer, count, dir, header, text);
     let mut plain = Octets::new();
     plain.append(text);
     plain.append(&mac);
     let sent = keys.srb_ciphered(cipher, bearer, count, dir, plain.as_slice());
-    covered(header, sent.as_slice())
+    with_header(header, sent.as_slice())
 }
 
 // The text of a PDU at a COUNT, where its MAC-I is right.
@@ -194,7 +194,7 @@ fn opened_at(
 {
     let plain = keys.srb_ciphered(cipher, bearer, count, dir, &pdu[1..]);
     let (front, mac) = plain.as_slice().split_at(pdu.len() - 5);
-    let wanted = keys.srb_mac(bearer, count, dir, covered(pdu[0], front).as_slice());
+    let wanted = keys.srb_mac(bearer, count, dir, pdu[0], front);
     let mut got = [0; 4];
     got.copy_from_slice(mac);
     if wanted != got {
