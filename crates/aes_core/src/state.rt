@@ -31,17 +31,13 @@ impl State {
     pub fn block(self) -> [u8; 16]
         ensures { result ≡ state_octets self }
     {
-        let State(first, second, third, fourth) = self;
-        let (a, b, c, d) = (
-            first.to_be_bytes(),
-            second.to_be_bytes(),
-            third.to_be_bytes(),
-            fourth.to_be_bytes(),
-        );
-        [
-            a[0], a[1], a[2], a[3], b[0], b[1], b[2], b[3], c[0], c[1], c[2], c[3], d[0], d[1],
-            d[2], d[3],
-        ]
+        let State(a, b, c, d) = self;
+        let mut block = [0; 16];
+        block[..4].copy_from_slice(&a.to_be_bytes());
+        block[4..8].copy_from_slice(&b.to_be_bytes());
+        block[8..12].copy_from_slice(&c.to_be_bytes());
+        block[12..].copy_from_slice(&d.to_be_bytes());
+        block
     }
 
     /// The sum with a round key (AddRoundKey).
