@@ -1,3 +1,4 @@
 pub mod Answer
 pub mod Site
 pub mod Reply
+pub mod Conditions
