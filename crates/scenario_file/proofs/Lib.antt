@@ -1,0 +1,6 @@
+pub mod TableKeys
+pub mod Elements
+pub mod Documents
+pub mod FirstFault
+pub mod SetupLaws
+pub mod Ranges

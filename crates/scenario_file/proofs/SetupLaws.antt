@@ -1,0 +1,234 @@
+-- A setup that was read is one that a system can start with.
+use Rattle.std.proofs.Common.{◌≡◌, ℕ, ◌==◌, ◌<◌, ◌≤◌, ◌^◌, ◌-◌, true, false, ◌&&◌, List, [], ◌∷◌, ◌++◌, refl, sym, ◌∙◌, subst, Some, None, Result, Ok, Err, All, arith, ⊎_elim}
+use Rattle.std.specs.Prelude.{IsTrue, IfOk, nat_le, nat_lt, if◌then◌else◌}
+use Rattle.std.specs.Option.{ok_or}
+use Rattle.std.specs.List.{list_any, IsDistinct}
+use Rattle.std.specs.Cmp.{IsEquivalence}
+use Rattle.std.proofs.lemmas.Bool.{cases_Bool}
+use Rattle.std.proofs.lemmas.Bool.Decides.{nat_tests}
+use Rattle.std.proofs.lemmas.List.Elements.{All-push, All-nil}
+use Rattle.std.proofs.lemmas.List.Folds.{list_any-append}
+use Rattle.std.proofs.lemmas.Map.Keys.{IsDistinct-push}
+use Rattle.toml.specs.Data.{Items, no_items, item, Members, as_table}
+use Rattle.alg_choice.specs.declared.caps.Caps.{Caps}
+use Rattle.annex_a_keys.specs.Cell.{Place}
+use Rattle.lte_events.specs.Site.{Site, is_site}
+use Rattle.lte_events.specs.declared.setups.Setup.{Setup}
+use Rattle.lte_events.specs.declared.setups.StationSetup.{StationSetup}
+use Rattle.lte_events.specs.Conditions.{has_station, IsStation, CanStart, AreCaps, IsPlace, SetupFits}
+use Rattle.scenario_file.specs.declared.fields.Field.TheVariants.{Caps as CapsField, Phone, Core, Station, Step, First, Priority, Id, Cells}
+use Rattle.scenario_file.specs.declared.faults.Refusal.{Refusal}
+use Rattle.scenario_file.specs.declared.faults.Refusal.TheVariants.{Missing, Wrong}
+use Rattle.scenario_file.specs.declared.setup.Network.{Network}
+use Rattle.scenario_file.specs.declared.setup.Numbers.{Numbers}
+use Rattle.scenario_file.specs.Keys.{only_in}
+use Rattle.scenario_file.specs.Values.{or_default, number_in, first_in, priority_in, array_in, table_in, tables_in, cell_of, count_of}
+use Rattle.scenario_file.specs.Setup.{usual_priority, phone_of, numbers_in, core_in, core_of, id_in, with_site, sites_from, cells_in, with_station, station_from, stations_from, network_of, setup_of}
+use Rattle.scenario_file.proofs.FirstFault.{then_ok, then_some, ok_or_ok, ok_same, not_read, default_ok, number_in_range}
+use Rattle.scenario_file.proofs.Ranges.{caps_fit, cell_of_place}
+
+-- the core and a station draw from 1 on, and no further than 32 bits go
+abbrev IsFirst : ℕ → Type 0
+IsFirst n = (1 ≤ n) × (n < 2 ^ 32)
+
+first_good : (table : Members) (n : ℕ) → first_in First table ≡ Ok n → IsFirst n
+first_good table n given =
+    let range = number_in_range 1 (2 ^ 32 - 1) First table n given in
+    (range.0, omega (arith, range.1))
+
+numbers_good : (table : Members) (numbers : Numbers) → numbers_in table ≡ Ok numbers → IsFirst numbers.first
+unfolding numbers_in
+numbers_good table numbers =
+    then_ok (IsFirst numbers.first) (or_default usual_priority priority_in Priority table) _ numbers (λ priority e more.
+    then_ok (IsFirst numbers.first) (or_default 1 first_in First table) _ numbers (λ first read whole.
+    let least : IsFirst first = default_ok IsFirst 1 first_in First table first (omega arith, omega arith) (λ n given. first_good table n given) read in
+    subst (λ (n : Numbers). IsFirst n.first) (ok_same _ _ numbers refl whole) least) more)
+
+core_in_good : (document : Members) (core : Numbers) → core_in Core document ≡ Ok core → IsFirst core.first
+unfolding core_in
+core_in_good document core =
+    then_ok (IsFirst core.first) (table_in Core document) _ core (λ table e more.
+    then_ok (IsFirst core.first) (only_in (Priority ∷ First ∷ []) table) _ core (λ known e read. numbers_good table core read) more)
+
+core_good : (document : Members) (core : Numbers) → core_of document ≡ Ok core → IsFirst core.first
+unfolding core_of
+core_good document core = default_ok (λ (n : Numbers). IsFirst n.first) _ core_in Core document core (omega arith, omega arith) (core_in_good document)
+
+-- what holds of the stations read so far and of their cells
+record GoodNetwork (network : Network) : Type 0 where
+  stations : All IsStation network.stations
+  ids_differ : IsDistinct (λ s t. s.id == t.id) network.stations
+  cells_have_stations : All (λ site. IsTrue (has_station network.stations site.station)) network.cells
+  firsts_fit : All (λ s. s.first < 2 ^ 32) network.stations
+  cells_fit : All (λ site. IsPlace site.cell) network.cells
+
+same_id : IsEquivalence {K = StationSetup} (λ s t. s.id == t.id)
+same_id = record {
+  refl = λ a. grind (arith, nat_tests);
+  symm = λ a b. grind (arith, nat_tests);
+  congr = λ a b c e. grind (arith, nat_tests);
+}
+
+-- a station that stands stands among one more, and so does the one more
+stands_on : (stations : List StationSetup) (s : StationSetup) (id : ℕ) → IsTrue (has_station stations id) → IsTrue (has_station (stations ++ s ∷ []) id)
+stands_on stations s id stands = rw (list_any-append, stands) refl
+
+stands_itself : (stations : List StationSetup) (s : StationSetup) → IsTrue (has_station (stations ++ s ∷ []) s.id)
+stands_itself stations s = rw list_any-append (grind (arith, nat_tests))
+
+-- what holds of the cells so far and of each cell of a station holds of both
+with_site_good : (P : Site → Type 0) (sites : List Site) (id : ℕ) (cell : Place) (more : List Site)
+    → All P sites → P (record { station = id; cell = cell }) → with_site sites id cell ≡ Some more → All P more
+with_site_good P sites id cell more old new = ⊎_elim
+    (λ (yes : list_any (is_site cell) sites ≡ true). λ (found : with_site sites id cell ≡ Some more). let lost : None ≡ Some more = rw yes at found in absurd cc)
+    (λ (no : list_any (is_site cell) sites ≡ false). λ (found : with_site sites id cell ≡ Some more).
+    let kept : Some (sites ++ record { station = id; cell = cell } ∷ []) ≡ Some more = rw no at found in
+    let same : sites ++ record { station = id; cell = cell } ∷ [] ≡ more = cc in
+    subst (All P) same (All-push P sites _ old new))
+    (cases_Bool (list_any (is_site cell) sites))
+
+sites_good : (P : Site → Type 0) (sites : List Site) (id : ℕ) (values : Items) (more : List Site)
+    → All P sites → ((cell : Place) → IsPlace cell → P (record { station = id; cell = cell })) → sites_from sites id values ≡ Some more → All P more
+sites_good P sites id no_items more old new found = let same : sites ≡ more = cc in subst (All P) same old
+sites_good P sites id (item value values) more old new found =
+    then_some (All P more) (cell_of value) _ more (λ cell e rest.
+    then_some (All P more) (with_site sites id cell) _ more (λ next one last.
+    sites_good P next id values more (with_site_good P sites id cell next old (new cell (cell_of_place value cell e)) one) new last) rest) found
+
+few_good : (P : Site → Type 0) (sites : List Site) (id : ℕ) (values : Items) (more : List Site)
+    → All P sites → ((cell : Place) → IsPlace cell → P (record { station = id; cell = cell }))
+    → (if nat_le 1 (count_of values) && nat_le (count_of values) 4 then sites_from sites id values else None) ≡ Some more → All P more
+few_good P sites id values more old new = ⊎_elim
+    (λ (yes : (nat_le 1 (count_of values) && nat_le (count_of values) 4) ≡ true). λ (found : (if nat_le 1 (count_of values) && nat_le (count_of values) 4 then sites_from sites id values else None) ≡ Some more). sites_good P sites id values more old new (rw yes at found))
+    (λ (no : (nat_le 1 (count_of values) && nat_le (count_of values) 4) ≡ false). λ (found : (if nat_le 1 (count_of values) && nat_le (count_of values) 4 then sites_from sites id values else None) ≡ Some more). let lost : None ≡ Some more = rw no at found in absurd cc)
+    (cases_Bool (nat_le 1 (count_of values) && nat_le (count_of values) 4))
+
+cells_good : (P : Site → Type 0) (sites : List Site) (id : ℕ) (table : Members) (more : List Site)
+    → All P sites → ((cell : Place) → IsPlace cell → P (record { station = id; cell = cell })) → cells_in sites id table ≡ Ok more → All P more
+unfolding cells_in
+cells_good P sites id table more old new =
+    then_ok (All P more) (array_in Cells table) _ more (λ values e read. few_good P sites id values more old new (ok_or_ok _ _ more read))
+
+-- a number of a station is new, and 0 to 7
+id_good : (stations : List StationSetup) (table : Members) (id : ℕ) → id_in stations table ≡ Ok id → (id ≤ 7) × (has_station stations id ≡ false)
+unfolding id_in
+id_good stations table id =
+    then_ok ((id ≤ 7) × (has_station stations id ≡ false)) (number_in 0 7 Id table) _ id (λ n read new. ⊎_elim
+    (λ (yes : has_station stations n ≡ true). not_read _ (Wrong Id) id refl (rw yes at new))
+    (λ (no : has_station stations n ≡ false).
+    subst (λ m. (m ≤ 7) × (has_station stations m ≡ false)) (ok_same _ n id refl (rw no at new)) ((number_in_range 0 7 Id table n read).1, no))
+    (cases_Bool (has_station stations n)))
+
+equal_turned : (a b : ℕ) → (a == b) ≡ (b == a)
+equal_turned a b = grind (arith, nat_tests)
+
+-- no station has a new number, asked from the one side or the other
+apart : (stations : List StationSetup) (id : ℕ) → list_any (λ t. id == t.id) stations ≡ has_station stations id
+apart [] id = refl
+apart (s ∷ stations) id = rw (equal_turned id s.id, apart stations id) refl
+
+one_more_good : (network : Network) (id : ℕ) (numbers : Numbers) (cells : List Site) → GoodNetwork network → (id ≤ 7) × (has_station network.stations id ≡ false) → IsFirst numbers.first
+    → All (λ site. IsTrue (has_station (network.stations ++ record { id = id; priority = numbers.priority; first = numbers.first } ∷ []) site.station)) cells
+    → All (λ site. IsPlace site.cell) cells
+    → GoodNetwork (record { stations = network.stations ++ record { id = id; priority = numbers.priority; first = numbers.first } ∷ []; cells = cells })
+one_more_good network id numbers cells good new least stand fit = record {
+  stations = All-push IsStation network.stations _ good.stations (new.0, least.0);
+  ids_differ = IsDistinct-push same_id network.stations _ good.ids_differ (apart network.stations id ∙ new.1);
+  cells_have_stations = stand;
+  firsts_fit = All-push (λ s. s.first < 2 ^ 32) network.stations _ good.firsts_fit least.1;
+  cells_fit = fit;
+}
+
+-- one station more
+with_station_good : (network : Network) (table : Members) (next : Network) → GoodNetwork network → with_station network table ≡ Ok next → GoodNetwork next
+unfolding with_station
+with_station_good network table next good =
+    then_ok (GoodNetwork next) (only_in (Id ∷ Priority ∷ First ∷ Cells ∷ []) table) _ next (λ known e1.
+    then_ok (GoodNetwork next) (id_in network.stations table) _ next (λ id read_id.
+    then_ok (GoodNetwork next) (numbers_in table) _ next (λ numbers read_numbers.
+    then_ok (GoodNetwork next) (cells_in network.cells id table) _ next (λ cells read_cells whole.
+    subst GoodNetwork (ok_same _ _ next refl whole)
+    (one_more_good network id numbers cells good (id_good network.stations table id read_id) (numbers_good table numbers read_numbers)
+    (cells_good (λ site. IsTrue (has_station (network.stations ++ record { id = id; priority = numbers.priority; first = numbers.first } ∷ []) site.station)) network.cells id table cells
+    (λ k d below. stands_on network.stations _ _ (good.cells_have_stations k d below))
+    (λ cell fits. stands_itself network.stations (record { id = id; priority = numbers.priority; first = numbers.first }))
+    read_cells)
+    (cells_good (λ site. IsPlace site.cell) network.cells id table cells good.cells_fit (λ cell fits. fits) read_cells))))))
+
+stations_good : (network : Network) (values : Items) (next : Network) → GoodNetwork network → stations_from network values ≡ Ok next → GoodNetwork next
+stations_good network no_items next good read = subst GoodNetwork (ok_same _ network next refl read) good
+stations_good network (item value values) next good read =
+    then_ok (GoodNetwork next) (station_from network value) _ next (λ one first rest.
+    stations_good one values next
+    (then_ok (GoodNetwork one) (ok_or (as_table value) (Wrong Station)) _ one (λ table e more. with_station_good network table one good more) first)
+    rest) read
+
+no_station : GoodNetwork (record { stations = []; cells = [] })
+unfolding IsDistinct
+no_station = record { stations = All-nil _; ids_differ = tt; cells_have_stations = All-nil _; firsts_fit = All-nil _; cells_fit = All-nil _ }
+
+abbrev from_tables : Items → Result Network Refusal
+from_tables values = if count_of values == 0 then Err (Missing Station) else (if nat_lt 8 (count_of values) then Err (Wrong Station) else stations_from (record { stations = []; cells = [] }) values)
+
+some_good : (values : Items) (network : Network) → from_tables values ≡ Ok network
+    → GoodNetwork network
+some_good values network = ⊎_elim
+    (λ (none : (count_of values == 0) ≡ true). λ (read : from_tables values ≡ Ok network). not_read _ (Missing Station) network refl (rw none at read))
+    (λ (some : (count_of values == 0) ≡ false). λ (read : from_tables values ≡ Ok network). ⊎_elim
+    (λ (many : nat_lt 8 (count_of values) ≡ true). not_read _ (Wrong Station) network refl (rw many at (rw some at read)))
+    (λ (few : nat_lt 8 (count_of values) ≡ false). stations_good _ values network no_station (rw few at (rw some at read)))
+    (cases_Bool (nat_lt 8 (count_of values))))
+    (cases_Bool (count_of values == 0))
+
+network_good : (document : Members) (network : Network) → network_of document ≡ Ok network → GoodNetwork network
+unfolding network_of
+network_good document network = then_ok (GoodNetwork network) (tables_in Station document) _ network (λ values e read. some_good values network read)
+
+phone_good : (document : Members) (caps : Caps) → phone_of document ≡ Ok caps → AreCaps caps
+unfolding phone_of
+phone_good document caps =
+    then_ok (AreCaps caps) (table_in Phone document) _ caps (λ phone e more.
+    then_ok (AreCaps caps) (only_in (CapsField ∷ []) phone) _ caps (λ known e read.
+    caps_fit CapsField phone (Ok caps) (sym read)) more)
+
+-- what holds of a setup that was read
+record GoodSetup (setup : Setup) : Type 0 where
+  can : CanStart setup
+  fits : SetupFits setup
+
+of_parts : (caps : Caps) (core : Numbers) (network : Network) → AreCaps caps → IsFirst core.first → GoodNetwork network
+    → GoodSetup (record { caps = caps; core_priority = core.priority; core_first = core.first; stations = network.stations; cells = network.cells })
+of_parts caps core network caps_good core_good good = record {
+  can = record {
+    core_first = core_good.0;
+    stations = good.stations;
+    ids_differ = good.ids_differ;
+    cells_have_stations = good.cells_have_stations;
+  };
+  fits = record {
+    caps = caps_good;
+    core_first = core_good.1;
+    stations = good.firsts_fit;
+    cells = good.cells_fit;
+  };
+}
+
+setup_good_of : (document : Members) (setup : Setup) → setup_of document ≡ Ok setup → GoodSetup setup
+unfolding setup_of
+setup_good_of document setup =
+    then_ok (GoodSetup setup) (only_in (Phone ∷ Core ∷ Station ∷ Step ∷ []) document) _ setup (λ known e1.
+    then_ok (GoodSetup setup) (phone_of document) _ setup (λ caps read_caps.
+    then_ok (GoodSetup setup) (core_of document) _ setup (λ core read_core.
+    then_ok (GoodSetup setup) (network_of document) _ setup (λ network read_network whole.
+    subst GoodSetup (ok_same _ _ setup refl whole)
+    (of_parts caps core network (phone_good document caps read_caps) (core_good document core read_core) (network_good document network read_network))))))
+
+-- what is read of a setup is one that a system can start with
+pub setup_can : (document : Members) (r : Result Setup Refusal) → r ≡ setup_of document → IfOk r CanStart
+setup_can document (Ok setup) read = (setup_good_of document setup (sym read)).can
+setup_can document (Err refusal) read = tt
+
+-- and each number is in its range
+pub setup_fits : (document : Members) (r : Result Setup Refusal) → r ≡ setup_of document → IfOk r SetupFits
+setup_fits document (Ok setup) read = (setup_good_of document setup (sym read)).fits
+setup_fits document (Err refusal) read = tt

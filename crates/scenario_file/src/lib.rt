@@ -1,0 +1,18 @@
+//! Scenarios: a TOML text that says what a system of one phone, its stations and one core starts with,
+//! and the events that then happen to it, one after the other.
+#![tactic(auto)]
+
+mod faults;
+mod fields;
+mod keys;
+mod reading;
+mod setup;
+mod steps;
+#[cfg(test)]
+mod tests;
+mod values;
+mod words;
+
+pub use faults::ScenarioFault;
+pub use fields::Field;
+pub use reading::{Scenario, read};

@@ -1,0 +1,254 @@
+// What a system starts with: the tables of the phone, the core and the stations.
+ghost use Rattle.std.specs.Prelude.{◌≡◌, ◌≤◌, ◌<◌, ◌+◌, ◌*◌, [], ◌∷◌, length, IfOk, IfSome};
+ghost use Rattle.toml.specs.View.{table_view, items_view, view};
+ghost use Rattle.scenario_file.specs.declared.fields.Field.TheVariants.{Priority as PriorityField, First};
+ghost use Rattle.scenario_file.specs.Values.{count_of, or_default, priority_in, first_in};
+ghost use Rattle.scenario_file.specs.Setup.{usual_priority, phone_of, numbers_in, core_in, core_of, id_in, with_site, sites_from, cells_in, with_station, station_from, stations_from, network_of, setup_of};
+
+use crate::faults::Refusal;
+use crate::keys::only;
+use crate::{Field, values};
+use alg_choice::{Caps, Eea, Priority};
+use annex_a_keys::Cell;
+use lte_events::{Cells, Few, Setup, StationSetup};
+use toml::{Table, Value};
+
+// The algorithms that the core or a station may choose, and the first number that it draws.
+#[derive(Clone, Copy, Debug, PartialEq, Eq)]
+pub(crate) struct Numbers {
+    pub(crate) priority: Priority,
+    pub(crate) first: u32,
+}
+
+// The stations read so far, and their cells.
+#[derive(Debug, PartialEq, Eq, Drop)]
+pub(crate) struct Network {
+    pub(crate) stations: Few<StationSetup, 8>,
+    pub(crate) cells: Cells,
+}
+
+// The setup of a document.
+#[tactic(auto, unfolding(crate::specs::Setup::setup_of))]
+pub(crate) fn setup(document: &Table) -> Result<Setup, Refusal>
+    ensures { result ≡ setup_of (table_view document.now) }
+{
+    only(
+        document,
+        &[Field::Phone, Field::Core, Field::Station, Field::Step],
+    )?;
+    let caps = phone(document)?;
+    let core = core(document)?;
+    let network = network_in(document)?;
+    Ok(Setup {
+        caps,
+        core_priority: core.priority,
+        core_first: core.first,
+        stations: network.stations,
+        cells: network.cells,
+    })
+}
+
+// The table of the phone.
+#[tactic(auto, unfolding(crate::specs::Setup::phone_of))]
+fn phone(document: &Table) -> Result<Caps, Refusal>
+    ensures { result ≡ phone_of (table_view document.now) }
+{
+    let phone = values::table(document, Field::Phone)?;
+    only(phone, &[Field::Caps])?;
+    values::caps(phone, Field::Caps)
+}
+
+// The table of the core, which need not stand.
+#[tactic(auto, unfolding(crate::specs::Setup::core_of))]
+fn core(document: &Table) -> Result<Numbers, Refusal>
+    ensures { result ≡ core_of (table_view document.now) }
+{
+    match values::found(document, Field::Core) {
+        None => Ok(Numbers {
+            priority: usual_priority(),
+            first: 1,
+        }),
+        Some(_) => core_in(document, Field::Core),
+    }
+}
+
+#[tactic(auto, unfolding(crate::specs::Setup::core_in))]
+fn core_in(document: &Table, field: Field) -> Result<Numbers, Refusal>
+    ensures { result ≡ core_in field (table_view document.now) }
+{
+    let core = values::table(document, field)?;
+    only(core, &[Field::Priority, Field::First])?;
+    numbers_in(core)
+}
+
+// The fields that the core and a station share.
+#[tactic(auto, unfolding(crate::specs::Setup::numbers_in))]
+fn numbers_in(table: &Table) -> Result<Numbers, Refusal>
+    ensures { result ≡ numbers_in (table_view table.now) }
+{
+    let priority = priority_in(table)?;
+    let first = first_in(table)?;
+    Ok(Numbers { priority, first })
+}
+
+fn priority_in(table: &Table) -> Result<Priority, Refusal>
+    ensures { result ≡ or_default usual_priority priority_in PriorityField (table_view table.now) }
+{
+    match values::found(table, Field::Priority) {
+        None => Ok(usual_priority()),
+        Some(_) => values::priority(table, Field::Priority),
+    }
+}
+
+fn first_in(table: &Table) -> Result<u32, Refusal>
+    ensures { result ≡ or_default 1 first_in First (table_view table.now) }
+{
+    match values::found(table, Field::First) {
+        None => Ok(1),
+        Some(_) => values::first(table, Field::First),
+    }
+}
+
+// 128-EEA2 before EEA0.
+fn usual_priority() -> Priority
+    ensures { result ≡ usual_priority }
+{
+    Priority::new(Eea::Eea2, Some(Eea::Eea0))
+}
+
+// The tables of the stations.
+#[tactic(auto, unfolding(crate::specs::Setup::network_of))]
+fn network_in(document: &Table) -> Result<Network, Refusal>
+    ensures { result ≡ network_of (table_view document.now) }
+{
+    let values = values::tables(document, Field::Station)?;
+    match count(values) {
+        0 => Err(Refusal::Missing(Field::Station)),
+        1..=8 => stations(values),
+        _ => Err(Refusal::Wrong(Field::Station)),
+    }
+}
+
+// How many there are.
+#[tactic(auto, using(crate::proofs::Elements::count_of_values))]
+pub(crate) fn count(values: &[Value]) -> usize
+    ensures value { result ≡ count_of (items_view values.now) }
+    ensures len { result ≡ length values.now }
+{
+    values.len()
+}
+
+// The stations in their order.
+fn stations(values: &[Value]) -> Result<Network, Refusal>
+    requires { length values.now ≤ 8 }
+    ensures { result ≡ stations_from (record { stations = []; cells = [] }) (items_view values.now) }
+{
+    let mut network = Network {
+        stations: Few::new(),
+        cells: Cells::new(),
+    };
+    for value in values {
+        match station(network, value) {
+            Ok(next) => network = next,
+            Err(refusal) => return Err(refusal),
+        }
+    }
+    Ok(network)
+}
+
+// The stations with one more.
+fn station(network: Network, value: &Value) -> Result<Network, Refusal>
+    requires stations { length network.stations ≤ 7 }
+    requires cells { length network.cells ≤ 28 }
+    ensures value { result ≡ station_from network (view value.now) }
+    ensures one_more { IfOk result (λ next. length next.stations ≡ length network.stations + 1) }
+    ensures few { IfOk result (λ next. length next.cells ≤ length network.cells + 4) }
+{
+    match value.as_table() {
+        Some(table) => with_station(network, table),
+        None => Err(Refusal::Wrong(Field::Station)),
+    }
+}
+
+#[tactic(auto, unfolding(crate::specs::Setup::with_station))]
+fn with_station(network: Network, table: &Table) -> Result<Network, Refusal>
+    requires stations { length network.stations ≤ 7 }
+    requires cells { length network.cells ≤ 28 }
+    ensures value { result ≡ with_station network (table_view table.now) }
+    ensures one_more { IfOk result (λ next. length next.stations ≡ length network.stations + 1) }
+    ensures few { IfOk result (λ next. length next.cells ≤ length network.cells + 4) }
+{
+    let Network {
+        mut stations,
+        cells,
+    } = network;
+    only(
+        table,
+        &[Field::Id, Field::Priority, Field::First, Field::Cells],
+    )?;
+    let id = id_in(table, stations.as_slice())?;
+    let numbers = numbers_in(table)?;
+    let cells = cells_in(table, cells, id)?;
+    stations.push(StationSetup {
+        id,
+        priority: numbers.priority,
+        first: numbers.first,
+    });
+    Ok(Network { stations, cells })
+}
+
+// The number of a station, which none before it has.
+#[tactic(auto, unfolding(crate::specs::Setup::id_in))]
+fn id_in(table: &Table, stations: &[StationSetup]) -> Result<u8, Refusal>
+    ensures value { result ≡ id_in stations.now (table_view table.now) }
+    ensures within { IfOk result (λ id. id ≤ 7) }
+{
+    let id = values::number(table, Field::Id, 0, 7)? as u8;
+    if values::has_station(stations, id) {
+        Err(Refusal::Wrong(Field::Id))
+    } else {
+        Ok(id)
+    }
+}
+
+// The cells with those of a station.
+#[tactic(auto, unfolding(crate::specs::Setup::cells_in))]
+fn cells_in(table: &Table, cells: Cells, id: u8) -> Result<Cells, Refusal>
+    requires id { id ≤ 7 }
+    requires few { length cells ≤ 28 }
+    ensures value { result ≡ cells_in cells id (table_view table.now) }
+    ensures few { IfOk result (λ more. length more ≤ length cells + 4) }
+{
+    let values = values::array(table, Field::Cells)?;
+    let more = match count(values) {
+        1..=4 => sites_from(cells, id, values),
+        _ => None,
+    };
+    more.ok_or(Refusal::Wrong(Field::Cells))
+}
+
+fn sites_from(mut cells: Cells, id: u8, values: &[Value]) -> Option<Cells>
+    requires id { id ≤ 7 }
+    requires few { length cells + length values.now ≤ 32 }
+    ensures value { result ≡ sites_from cells id (items_view values.now) }
+    ensures few { IfSome result (λ more. length more ≤ length cells + length values.now) }
+{
+    for value in values {
+        let cell = values::cell_at(value)?;
+        cells = with_site(cells, id, cell)?;
+    }
+    Some(cells)
+}
+
+// One cell more, which no station has.
+fn with_site(mut cells: Cells, id: u8, cell: Cell) -> Option<Cells>
+    requires id { id ≤ 7 }
+    requires few { length cells ≤ 31 }
+    ensures value { result ≡ with_site cells id cell }
+    ensures one_more { IfSome result (λ more. length more ≡ length cells + 1) }
+{
+    match cells.add(id, cell) {
+        Ok(()) => Some(cells),
+        Err(_) => None,
+    }
+}
