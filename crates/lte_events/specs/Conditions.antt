@@ -2,11 +2,9 @@
 use Rattle.std.specs.Prelude.{◌≡◌, ℕ, ◌<◌, ◌≤◌, ◌^◌, ◌==◌, Bool, IsTrue, List, length, All}
 use Rattle.std.specs.List.{list_any, IsDistinct}
 use Rattle.alg_choice.specs.declared.caps.Caps.{Caps}
-use Rattle.annex_a_keys.specs.Cell.{Place}
-use Rattle.annex_a_keys.specs.declared.cell.TheConstants.{GREATEST_PCI, GREATEST_EARFCN}
+use Rattle.annex_a_keys.specs.Cell.{IsCell}
 use Rattle.rec_base.specs.declared.bearers.Bearer.{Bearer}
 use Rattle.rec_base.specs.declared.bearers.Bearer.TheVariants.{Srb1, Srb2}
-use Rattle.lte_events.specs.Site.{Site}
 use Rattle.lte_events.specs.declared.acts.PhoneAct.{PhoneAct}
 use Rattle.lte_events.specs.declared.acts.PhoneAct.TheVariants as phone
 use Rattle.lte_events.specs.declared.acts.CoreAct.{CoreAct}
@@ -73,7 +71,7 @@ CanHappen setup (event.Core act) = Unit {0}
 CanHappen setup (event.Deliver i) = Unit {0}
 CanHappen setup (event.Inject to octets) = TakesInjected setup to
 
--- what the types say: octets; a text of at most so many; a key of 32; capabilities, two octets; a cell
+-- what the types say: octets; a text of at most so many; a key of 32; capabilities, two octets
 abbrev pub AreOctets : List ℕ → Type 0
 AreOctets octets = All (λ octet. octet < 256) octets
 
@@ -86,15 +84,12 @@ IsKey key = AreOctets key × (length key ≡ 32)
 abbrev pub AreCaps : Caps → Type 0
 AreCaps caps = (caps.eea < 256) × (caps.eia < 256)
 
-abbrev pub IsPlace : Place → Type 0
-IsPlace cell = (cell.pci ≤ GREATEST_PCI) × (cell.earfcn ≤ GREATEST_EARFCN)
-
 -- of a setup
 pub record SetupFits (setup : Setup) : Type 0 where
   pub caps : AreCaps setup.caps
   pub core_first : setup.core_first < 2 ^ 32
   pub stations : All (λ s. s.first < 2 ^ 32) setup.stations
-  pub cells : All (λ site. IsPlace site.cell) setup.cells
+  pub cells : All (λ site. IsCell site.cell) setup.cells
 
 -- and of an event
 abbrev pub PhoneActFits : PhoneAct → Type 0
@@ -104,13 +99,13 @@ PhoneActFits (phone.SendNas text) = IsText 200 text
 PhoneActFits other = Unit {0}
 
 abbrev pub StationActFits : StationAct → Type 0
-StationActFits (station.Start kind cell) = IsPlace cell
+StationActFits (station.Start kind cell) = IsCell cell
 StationActFits (station.SendUser bearer text) = IsText 1500 text
 StationActFits (station.SendRrc bearer text) = IsText 200 text
 StationActFits other = Unit {0}
 
 abbrev pub CoreActFits : CoreAct → Type 0
-CoreActFits (core.Connect cell) = IsPlace cell
+CoreActFits (core.Connect cell) = IsCell cell
 CoreActFits (core.SendNas text) = IsText 200 text
 CoreActFits other = Unit {0}
 

@@ -9,9 +9,8 @@ use Rattle.hex.specs.declared.error.FromHexError.{FromHexError}
 use Rattle.hex.proofs.HexLemmas.{decode_of-ok, decode_sized-ok, decode_sized-twice}
 use Rattle.toml.specs.Data.{Data, Items, no_items, item, Members, as_array, as_integer}
 use Rattle.alg_choice.specs.declared.caps.Caps.{Caps}
-use Rattle.annex_a_keys.specs.Cell.{Place}
-use Rattle.annex_a_keys.specs.declared.cell.TheConstants.{GREATEST_PCI, GREATEST_EARFCN}
-use Rattle.lte_events.specs.Conditions.{AreOctets, IsText, IsKey, AreCaps, IsPlace}
+use Rattle.annex_a_keys.specs.Cell.{Place, greatest_pci, greatest_earfcn, IsCell}
+use Rattle.lte_events.specs.Conditions.{AreOctets, IsText, IsKey, AreCaps}
 use Rattle.scenario_file.specs.declared.fields.Field.{Field}
 use Rattle.scenario_file.specs.declared.faults.Refusal.{Refusal}
 use Rattle.scenario_file.specs.Words.{caps_from, caps_of, key_of, octets_of, natural, place_of}
@@ -77,30 +76,30 @@ pub caps_fit : (field : Field) (table : Members) (r : Result Caps Refusal) → r
 unfolding caps_in
 caps_fit field table r = by_word_ok AreCaps caps_of field table r caps_are
 
-place_is : (pci earfcn : ℕ) (cell : Place) → place_of pci earfcn ≡ Some cell → IsPlace cell
+place_is : (pci earfcn : ℕ) (cell : Place) → place_of pci earfcn ≡ Some cell → IsCell cell
 place_is pci earfcn cell = ⊎_elim
-    (λ (yes : (nat_le pci GREATEST_PCI && nat_le earfcn GREATEST_EARFCN) ≡ true). λ (read : place_of pci earfcn ≡ Some cell).
+    (λ (yes : (nat_le pci greatest_pci && nat_le earfcn greatest_earfcn) ≡ true). λ (read : place_of pci earfcn ≡ Some cell).
     let kept : Some (record { pci = pci; earfcn = earfcn }) ≡ Some cell = rw yes at read in
     let same : record { pci = pci; earfcn = earfcn } ≡ cell = cc in
     let both = and_parts _ _ yes in
-    subst IsPlace same (leb-true _ _ both.0, leb-true _ _ both.1))
-    (λ (no : (nat_le pci GREATEST_PCI && nat_le earfcn GREATEST_EARFCN) ≡ false). λ (read : place_of pci earfcn ≡ Some cell).
+    subst IsCell same (leb-true _ _ both.0, leb-true _ _ both.1))
+    (λ (no : (nat_le pci greatest_pci && nat_le earfcn greatest_earfcn) ≡ false). λ (read : place_of pci earfcn ≡ Some cell).
     let lost : None ≡ Some cell = rw no at read in absurd cc)
-    (cases_Bool (nat_le pci GREATEST_PCI && nat_le earfcn GREATEST_EARFCN))
+    (cases_Bool (nat_le pci greatest_pci && nat_le earfcn greatest_earfcn))
 
-items_place : (values : Items) (cell : Place) → cell_of_items values ≡ Some cell → IsPlace cell
+items_place : (values : Items) (cell : Place) → cell_of_items values ≡ Some cell → IsCell cell
 items_place (item pci (item earfcn no_items)) cell =
-    then_some (IsPlace cell) (option_and_then natural (as_integer pci)) _ cell (λ p e more.
-    then_some (IsPlace cell) (option_and_then natural (as_integer earfcn)) _ cell (λ q e last. place_is p q cell last) more)
+    then_some (IsCell cell) (option_and_then natural (as_integer pci)) _ cell (λ p e more.
+    then_some (IsCell cell) (option_and_then natural (as_integer earfcn)) _ cell (λ q e last. place_is p q cell last) more)
 items_place no_items cell = λ (read : None ≡ Some cell). absurd cc
 items_place (item pci no_items) cell = λ (read : None ≡ Some cell). absurd cc
 items_place (item pci (item earfcn (item more values))) cell = λ (read : None ≡ Some cell). absurd cc
 
-pub cell_of_place : (value : Data) (cell : Place) → cell_of value ≡ Some cell → IsPlace cell
-cell_of_place value cell = then_some (IsPlace cell) (as_array value) cell_of_items cell (λ values e read. items_place values cell read)
+pub cell_of_place : (value : Data) (cell : Place) → cell_of value ≡ Some cell → IsCell cell
+cell_of_place value cell = then_some (IsCell cell) (as_array value) cell_of_items cell (λ values e read. items_place values cell read)
 
-pub cell_fits : (field : Field) (table : Members) (r : Result Place Refusal) → r ≡ cell_in field table → IfOk r IsPlace
+pub cell_fits : (field : Field) (table : Members) (r : Result Place Refusal) → r ≡ cell_in field table → IfOk r IsCell
 unfolding cell_in
 cell_fits field table (Ok cell) read =
-    then_ok (IsPlace cell) (value_in field table) _ cell (λ value e more. cell_of_place value cell (ok_or_ok _ _ cell more)) (sym read)
+    then_ok (IsCell cell) (value_in field table) _ cell (λ value e more. cell_of_place value cell (ok_or_ok _ _ cell more)) (sym read)
 cell_fits field table (Err fault) read = tt

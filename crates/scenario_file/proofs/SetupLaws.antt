@@ -11,11 +11,11 @@ use Rattle.std.proofs.lemmas.List.Folds.{list_any-append}
 use Rattle.std.proofs.lemmas.Map.Keys.{IsDistinct-push}
 use Rattle.toml.specs.Data.{Items, no_items, item, Members, as_table}
 use Rattle.alg_choice.specs.declared.caps.Caps.{Caps}
-use Rattle.annex_a_keys.specs.Cell.{Place}
+use Rattle.annex_a_keys.specs.Cell.{Place, IsCell}
 use Rattle.lte_events.specs.Site.{Site, is_site}
 use Rattle.lte_events.specs.declared.setups.Setup.{Setup}
 use Rattle.lte_events.specs.declared.setups.StationSetup.{StationSetup}
-use Rattle.lte_events.specs.Conditions.{has_station, IsStation, CanStart, AreCaps, IsPlace, SetupFits}
+use Rattle.lte_events.specs.Conditions.{has_station, IsStation, CanStart, AreCaps, SetupFits}
 use Rattle.scenario_file.specs.declared.fields.Field.TheVariants.{Caps as CapsField, Phone, Core, Station, Step, First, Priority, Id, Cells}
 use Rattle.scenario_file.specs.declared.faults.Refusal.{Refusal}
 use Rattle.scenario_file.specs.declared.faults.Refusal.TheVariants.{Missing, Wrong}
@@ -60,7 +60,7 @@ record GoodNetwork (network : Network) : Type 0 where
   ids_differ : IsDistinct (λ s t. s.id == t.id) network.stations
   cells_have_stations : All (λ site. IsTrue (has_station network.stations site.station)) network.cells
   firsts_fit : All (λ s. s.first < 2 ^ 32) network.stations
-  cells_fit : All (λ site. IsPlace site.cell) network.cells
+  cells_fit : All (λ site. IsCell site.cell) network.cells
 
 same_id : IsEquivalence {K = StationSetup} (λ s t. s.id == t.id)
 same_id = record {
@@ -88,7 +88,7 @@ with_site_good P sites id cell more old new = ⊎_elim
     (cases_Bool (list_any (is_site cell) sites))
 
 sites_good : (P : Site → Type 0) (sites : List Site) (id : ℕ) (values : Items) (more : List Site)
-    → All P sites → ((cell : Place) → IsPlace cell → P (record { station = id; cell = cell })) → sites_from sites id values ≡ Some more → All P more
+    → All P sites → ((cell : Place) → IsCell cell → P (record { station = id; cell = cell })) → sites_from sites id values ≡ Some more → All P more
 sites_good P sites id no_items more old new found = let same : sites ≡ more = cc in subst (All P) same old
 sites_good P sites id (item value values) more old new found =
     then_some (All P more) (cell_of value) _ more (λ cell e rest.
@@ -96,7 +96,7 @@ sites_good P sites id (item value values) more old new found =
     sites_good P next id values more (with_site_good P sites id cell next old (new cell (cell_of_place value cell e)) one) new last) rest) found
 
 few_good : (P : Site → Type 0) (sites : List Site) (id : ℕ) (values : Items) (more : List Site)
-    → All P sites → ((cell : Place) → IsPlace cell → P (record { station = id; cell = cell }))
+    → All P sites → ((cell : Place) → IsCell cell → P (record { station = id; cell = cell }))
     → (if nat_le 1 (count_of values) && nat_le (count_of values) 4 then sites_from sites id values else None) ≡ Some more → All P more
 few_good P sites id values more old new = ⊎_elim
     (λ (yes : (nat_le 1 (count_of values) && nat_le (count_of values) 4) ≡ true). λ (found : (if nat_le 1 (count_of values) && nat_le (count_of values) 4 then sites_from sites id values else None) ≡ Some more). sites_good P sites id values more old new (rw yes at found))
@@ -104,7 +104,7 @@ few_good P sites id values more old new = ⊎_elim
     (cases_Bool (nat_le 1 (count_of values) && nat_le (count_of values) 4))
 
 cells_good : (P : Site → Type 0) (sites : List Site) (id : ℕ) (table : Members) (more : List Site)
-    → All P sites → ((cell : Place) → IsPlace cell → P (record { station = id; cell = cell })) → cells_in sites id table ≡ Ok more → All P more
+    → All P sites → ((cell : Place) → IsCell cell → P (record { station = id; cell = cell })) → cells_in sites id table ≡ Ok more → All P more
 unfolding cells_in
 cells_good P sites id table more old new =
     then_ok (All P more) (array_in Cells table) _ more (λ values e read. few_good P sites id values more old new (ok_or_ok _ _ more read))
@@ -129,7 +129,7 @@ apart (s ∷ stations) id = rw (equal_turned id s.id, apart stations id) refl
 
 one_more_good : (network : Network) (id : ℕ) (numbers : Numbers) (cells : List Site) → GoodNetwork network → (id ≤ 7) × (has_station network.stations id ≡ false) → IsFirst numbers.first
     → All (λ site. IsTrue (has_station (network.stations ++ record { id = id; priority = numbers.priority; first = numbers.first } ∷ []) site.station)) cells
-    → All (λ site. IsPlace site.cell) cells
+    → All (λ site. IsCell site.cell) cells
     → GoodNetwork (record { stations = network.stations ++ record { id = id; priority = numbers.priority; first = numbers.first } ∷ []; cells = cells })
 one_more_good network id numbers cells good new least stand fit = record {
   stations = All-push IsStation network.stations _ good.stations (new.0, least.0);
@@ -153,7 +153,7 @@ with_station_good network table next good =
     (λ k d below. stands_on network.stations _ _ (good.cells_have_stations k d below))
     (λ cell fits. stands_itself network.stations (record { id = id; priority = numbers.priority; first = numbers.first }))
     read_cells)
-    (cells_good (λ site. IsPlace site.cell) network.cells id table cells good.cells_fit (λ cell fits. fits) read_cells))))))
+    (cells_good (λ site. IsCell site.cell) network.cells id table cells good.cells_fit (λ cell fits. fits) read_cells))))))
 
 stations_good : (network : Network) (values : Items) (next : Network) → GoodNetwork network → stations_from network values ≡ Ok next → GoodNetwork next
 stations_good network no_items next good read = subst GoodNetwork (ok_same _ network next refl read) good

@@ -6,8 +6,7 @@ use Rattle.hex.specs.Hex.{decode_of, decode_sized}
 use Rattle.alg_choice.specs.declared.caps.Caps.{Caps}
 use Rattle.alg_choice.specs.declared.algs.Eea.{Eea}
 use Rattle.alg_choice.specs.declared.algs.Eea.TheVariants.{Eea0, Eea2}
-use Rattle.annex_a_keys.specs.Cell.{Place}
-use Rattle.annex_a_keys.specs.declared.cell.TheConstants.{GREATEST_PCI, GREATEST_EARFCN}
+use Rattle.annex_a_keys.specs.Cell.{Place, greatest_pci, greatest_earfcn}
 use Rattle.rec_base.specs.declared.bearers.Bearer.{Bearer}
 use Rattle.rec_base.specs.declared.bearers.Bearer.TheVariants.{Srb1, Srb2, Drb1, Drb2, Drb3, Drb4}
 use Rattle.scenario_file.specs.declared.words.Act.{Act}
@@ -133,4 +132,4 @@ eea_of (negsuc n) = None
 -- PCI and EARFCN-DL, both in their ranges
 abbrev pub place_of : ℕ → ℕ → Option Place
 place_of pci earfcn =
-    if nat_le pci GREATEST_PCI && nat_le earfcn GREATEST_EARFCN then Some (record { pci = pci; earfcn = earfcn }) else None
+    if nat_le pci greatest_pci && nat_le earfcn greatest_earfcn then Some (record { pci = pci; earfcn = earfcn }) else None

@@ -4,7 +4,8 @@ ghost use Rattle.std.specs.Option.{option_map};
 ghost use Rattle.std.specs.List.{list_all};
 ghost use Rattle.toml.specs.Data.{get_member, as_table};
 ghost use Rattle.toml.specs.View.{table_view, array_view, items_view, view};
-ghost use Rattle.lte_events.specs.Conditions.{has_station, IsSrb, IsDrb, IsText, IsKey, AreCaps, IsPlace};
+ghost use Rattle.annex_a_keys.specs.Cell.{IsCell};
+ghost use Rattle.lte_events.specs.Conditions.{has_station, IsSrb, IsDrb, IsText, IsKey, AreCaps};
 ghost use Rattle.scenario_file.specs.Field.{name_of};
 ghost use Rattle.scenario_file.specs.Words.{natural, in_range};
 ghost use Rattle.scenario_file.specs.Values.{result_map, value_in, word_in, integer_in, array_in, table_in, are_tables, tables_in, number_in, any_number_in, first_in, station_in, act_in, actor_in, radio_end_in, nas_end_in, srb_in, drb_in, bearer_in, nas_in, path_in, caps_in, key_in, octets_in, cell_of_items, cell_of, cell_in, eea_at, both_of, priority_of_items, priority_in};
@@ -240,7 +241,7 @@ pub(crate) fn octets<const N: usize>(table: &Table, field: Field) -> Result<Boun
 #[tactic(auto, unfolding(crate::specs::Values::cell_in))]
 pub(crate) fn cell(table: &Table, field: Field) -> Result<Cell, Refusal>
     ensures value { result ≡ cell_in field (table_view table.now) }
-    ensures fits { IfOk result IsPlace }
+    ensures fits { IfOk result IsCell }
 {
     cell_at(value(table, field)?).ok_or(Refusal::Wrong(field))
 }
