@@ -1,0 +1,347 @@
+-- Laws of fields: what is read at a place is spelled there, and what is spelled there is read.
+use Rattle.std.proofs.Common.{◌≡◌, ℕ, zero, suc, ◌+◌, ◌-◌, ◌<◌, ◌≤◌, ◌^◌, Bool, true, false, cond, ltb, eqb, List, [], ◌∷◌, ◌++◌, length, take, drop, Option, Some, None, Result, Ok, Err, refl, sym, ap, subst, ◌∙◌, append_assoc, arith, length-drop, length-append, drop-drop, lit<}
+use Rattle.std.specs.Prelude.{nat_lt, ◌||◌}
+use Rattle.std.specs.Option.{ok_or}
+use Rattle.std.proofs.lemmas.Bool.{ltb-false, le-ltb, eqb-true}
+use Rattle.std.proofs.lemmas.List.{take-append-drop, nil_from_length}
+use Rattle.std.proofs.Math.Seq.{drop-append_seam, take-append_seam}
+use Rattle.rec_base.specs.BigEndian.{number_of, octets_of, field_at, number_at}
+use Rattle.rec_base.proofs.Numbers.{AreOctets, number_of-one, number_of-octets_of, length-octets_of}
+use Rattle.rec_fields.proofs.Fields.{octet_takes, octet_is, number_takes}
+use Rattle.rec_fields.specs.Spelled.{cell_octets}
+use Rattle.alg_choice.specs.declared.caps.Caps.{Caps}
+use Rattle.annex_a_keys.specs.Cell.{Place}
+use Rattle.annex_a_keys.specs.declared.cell.TheConstants.{GREATEST_PCI, GREATEST_EARFCN}
+use Rattle.role_wire.specs.Codes.{Codes, coded}
+use Rattle.role_wire.specs.Field.{◌>>=◌, number_in, coded_at, key_at, caps_at, cell_at, rest_at, ends_at}
+use Rattle.role_wire.specs.Ranges.{IsCell}
+
+-- the value of a step that did not fail
+pub bind_ok : {A B : Type 0} (r : Result A ℕ) (f : A → Result B ℕ) (y : B) → (r >>= f) ≡ Ok y → (x : A) × (r ≡ Ok x) × (f x ≡ Ok y)
+bind_ok (Ok x) f y e = (x, refl, e)
+bind_ok (Err d) f y e = absurd cc
+
+abbrev done : {A : Type 0} → A → Result A ℕ
+done x = Ok x
+
+pub ok_is : {A : Type 0} (x y : A) → done x ≡ done y → x ≡ y
+ok_is x y e = cc
+
+-- a test that refuses
+pub passes : {A : Type 0} (b : Bool) (place : ℕ) (r : Result A ℕ) (y : A) → cond b (Err place) r ≡ Ok y → (b ≡ false) × (r ≡ Ok y)
+passes true place r y e = absurd cc
+passes false place r y e = (refl, e)
+
+-- two such tests
+both_pass : {A : Type 0} (b c : Bool) (place : ℕ) (x y : A) → cond (b || c) (Err place) (done x) ≡ Ok y → (b ≡ false) × (c ≡ false) × (x ≡ y)
+both_pass true c place x y e = absurd cc
+both_pass false true place x y e = absurd cc
+both_pass false false place x y e = (refl, refl, cc)
+
+-- A field of a body: what is read at a place, its spelling, its width and its range.
+pub record Field (A : Type 0) : Type 1 where
+  pub read : List ℕ → ℕ → Result A ℕ
+  pub spell : A → List ℕ
+  pub width : ℕ
+  pub Fits : A → Type 0
+  -- what is read is spelled there
+  pub takes : (octets : List ℕ) (place : ℕ) (x : A) → AreOctets octets → read octets place ≡ Ok x
+      → (drop place octets ≡ spell x ++ drop (place + width) octets) × (place + width ≤ length octets) × Fits x
+  -- what is spelled there is read
+  pub again : (octets rest : List ℕ) (place : ℕ) (x : A) → Fits x → drop place octets ≡ spell x ++ rest
+      → (read octets place ≡ Ok x) × (drop (place + width) octets ≡ rest)
+
+-- so many octets stand at a place where they are spelled
+pub stands : (octets front rest : List ℕ) (place : ℕ) → 0 < length front → drop place octets ≡ front ++ rest → place + length front ≤ length octets
+stands octets front rest place some e =
+    let size : length (drop place octets) ≡ length front + length rest = ap length e ∙ length-append front rest in
+    omega (arith, length-drop place octets)
+
+-- what stands behind them
+pub behind : (octets front rest : List ℕ) (place width : ℕ) → length front ≡ width → drop place octets ≡ front ++ rest → drop (place + width) octets ≡ rest
+behind octets front rest place width size e =
+    sym (drop-drop width place octets) ∙ ap (drop width) e ∙ ap (λ w. drop w (front ++ rest)) (sym size) ∙ drop-append_seam front rest
+
+-- the field there
+pub field_is : (octets front rest : List ℕ) (place width : ℕ) → length front ≡ width → drop place octets ≡ front ++ rest → field_at octets place width ≡ front
+unfolding field_at
+field_is octets front rest place width size e =
+    ap (take width) e ∙ ap (λ w. take w (front ++ rest)) (sym size) ∙ take-append_seam front rest
+
+pub number_is : (octets rest : List ℕ) (place width n : ℕ) → n < 256 ^ width → drop place octets ≡ octets_of width n ++ rest → number_at octets place width ≡ n
+unfolding number_at
+number_is octets rest place width n h e =
+    ap number_of (field_is octets (octets_of width n) rest place width (length-octets_of width n) e) ∙ number_of-octets_of width n h
+
+pub octet_there : (octets rest : List ℕ) (place n : ℕ) → drop place octets ≡ n ∷ rest → number_at octets place 1 ≡ n
+unfolding number_at
+octet_there octets rest place n e =
+    ap number_of (field_is octets (n ∷ []) rest place 1 refl e) ∙ number_of-one (n ∷ []) (omega arith)
+
+-- a number in its range
+pub number_takes_in : (low high width : ℕ) (octets : List ℕ) (place n : ℕ) → number_in low high octets place width ≡ Ok n
+    → (place + width ≤ length octets) × (number_at octets place width ≡ n) × (low ≤ n) × (n ≤ high)
+unfolding number_in
+number_takes_in low high width octets place n e =
+    let m = number_at octets place width in
+    let room = passes (nat_lt (length octets) (place + width)) (length octets) (cond (nat_lt m low || nat_lt high m) (Err place) (Ok m)) n e in
+    let tests = both_pass (nat_lt m low) (nat_lt high m) place m n room.1 in
+    let within : place + width ≤ length octets = ltb-false _ _ room.0 in
+    let above : low ≤ m = ltb-false _ _ tests.0 in
+    let below : m ≤ high = ltb-false _ _ tests.1 in
+    let same : m ≡ n = tests.2 in
+    (within, same, omega arith, omega arith)
+
+pub number_reads : (low high width : ℕ) (octets : List ℕ) (place n : ℕ) → place + width ≤ length octets → number_at octets place width ≡ n
+    → low ≤ n → n ≤ high → number_in low high octets place width ≡ Ok n
+unfolding number_in
+number_reads low high width octets place n h e above below =
+    let room : ltb (length octets) (place + width) ≡ false = le-ltb _ _ h in
+    let a : ltb n low ≡ false = le-ltb _ _ above in
+    let b : ltb high n ≡ false = le-ltb _ _ below in
+    rw (room, e, a, b) refl
+
+-- an octet, at most this
+pub small_takes : (high : ℕ) (octets : List ℕ) (place n : ℕ) → AreOctets octets → number_in 0 high octets place 1 ≡ Ok n
+    → (drop place octets ≡ n ∷ drop (place + 1) octets) × (place + 1 ≤ length octets) × (n ≤ high)
+small_takes high octets place n fit e =
+    let is = number_takes_in 0 high 1 octets place n e in
+    (octet_takes octets place (omega arith) ∙ ap (λ m. m ∷ drop (place + 1) octets) is.1, is.0, is.3)
+
+pub small_again : (high : ℕ) (octets rest : List ℕ) (place n : ℕ) → n ≤ high → drop place octets ≡ n ∷ rest
+    → (number_in 0 high octets place 1 ≡ Ok n) × (drop (place + 1) octets ≡ rest)
+small_again high octets rest place n h e = (
+  number_reads 0 high 1 octets place n (stands octets (n ∷ []) rest place (lit< tt) e) (octet_there octets rest place n e) (omega arith) h,
+  behind octets (n ∷ []) rest place 1 refl e,
+)
+
+abbrev pub small : ℕ → Field ℕ
+small high = record {
+  read = λ octets place. number_in 0 high octets place 1;
+  spell = λ n. n ∷ [];
+  width = 1;
+  Fits = λ n. n ≤ high;
+  takes = small_takes high;
+  again = small_again high;
+}
+
+-- a number of four octets, at least this
+pub word_takes : (low : ℕ) (octets : List ℕ) (place n : ℕ) → AreOctets octets → number_in low (2 ^ 32 - 1) octets place 4 ≡ Ok n
+    → (drop place octets ≡ octets_of 4 n ++ drop (place + 4) octets) × (place + 4 ≤ length octets) × ((low ≤ n) × (n < 2 ^ 32))
+word_takes low octets place n fit e =
+    let is = number_takes_in low (2 ^ 32 - 1) 4 octets place n e in
+    (number_takes 4 octets place fit is.0 ∙ ap (λ m. octets_of 4 m ++ drop (place + 4) octets) is.1, is.0, (is.2, omega arith))
+
+pub word_again : (low : ℕ) (octets rest : List ℕ) (place n : ℕ) → (low ≤ n) × (n < 2 ^ 32) → drop place octets ≡ octets_of 4 n ++ rest
+    → (number_in low (2 ^ 32 - 1) octets place 4 ≡ Ok n) × (drop (place + 4) octets ≡ rest)
+word_again low octets rest place n h e =
+    let size = length-octets_of 4 n in
+    let within = stands octets (octets_of 4 n) rest place (omega arith) e in (
+      number_reads low (2 ^ 32 - 1) 4 octets place n (omega arith) (number_is octets rest place 4 n (omega arith) e) h.0 (omega arith),
+      behind octets (octets_of 4 n) rest place 4 size e,
+    )
+
+abbrev pub word : ℕ → Field ℕ
+word low = record {
+  read = λ octets place. number_in low (2 ^ 32 - 1) octets place 4;
+  spell = octets_of 4;
+  width = 4;
+  Fits = λ n. (low ≤ n) × (n < 2 ^ 32);
+  takes = word_takes low;
+  again = word_again low;
+}
+
+-- what an octet stands for, each with the octet that it is spelled by
+abbrev pub AreCodes : {A : Type 0} → (A → ℕ) → (A → Type 0) → Codes A → Type 0
+AreCodes octet Fits [] = Unit {0}
+AreCodes octet Fits (row ∷ rows) = (octet row.1 ≡ row.0) × Fits row.1 × AreCodes octet Fits rows
+
+coded_by : {A : Type 0} (octet : A → ℕ) (Fits : A → Type 0) (b : Bool) (n k : ℕ) (x y : A) (r : Option A)
+    → (b ≡ true → n ≡ k) → octet x ≡ k → Fits x → (r ≡ Some y → (octet y ≡ n) × Fits y)
+    → cond b (Some x) r ≡ Some y → (octet y ≡ n) × Fits y
+coded_by octet Fits true n k x y r same is fits rest e =
+    let here : x ≡ y = cc in
+    subst (λ z. (octet z ≡ n) × Fits z) here (is ∙ sym (same refl), fits)
+coded_by octet Fits false n k x y r same is fits rest e = rest e
+
+pub coded_is : {A : Type 0} (octet : A → ℕ) (Fits : A → Type 0) (codes : Codes A) (n : ℕ) (x : A) → AreCodes octet Fits codes
+    → coded codes n ≡ Some x → (octet x ≡ n) × Fits x
+coded_is octet Fits [] n x are e = absurd cc
+coded_is octet Fits (row ∷ rows) n x are e =
+    coded_by octet Fits (eqb n row.0) n row.0 row.1 x (coded rows n) (λ h. eqb-true n row.0 h) are.0 are.1 (λ later. coded_is octet Fits rows n x are.2 later) e
+
+ok_or_is : {A : Type 0} (o : Option A) (place : ℕ) (x : A) → ok_or o place ≡ Ok x → o ≡ Some x
+ok_or_is (Some y) place x e = cc
+ok_or_is None place x e = absurd cc
+
+-- the laws of a table
+pub record IsCoding {A : Type 0} (octet : A → ℕ) (Fits : A → Type 0) (codes : Codes A) : Type 0 where
+  pub are : AreCodes octet Fits codes
+  pub again : (x : A) → Fits x → coded codes (octet x) ≡ Some x
+
+pub code_takes : {A : Type 0} (octet : A → ℕ) (Fits : A → Type 0) (codes : Codes A) → IsCoding octet Fits codes
+    → (octets : List ℕ) (place : ℕ) (x : A) → AreOctets octets → coded_at codes octets place ≡ Ok x
+    → (drop place octets ≡ octet x ∷ drop (place + 1) octets) × (place + 1 ≤ length octets) × Fits x
+unfolding coded_at
+code_takes octet Fits codes is octets place x fit e =
+    let n = number_at octets place 1 in
+    let room = passes (nat_lt (length octets) (place + 1)) (length octets) (ok_or (coded codes n) place) x e in
+    let within : place + 1 ≤ length octets = ltb-false _ _ room.0 in
+    let t = coded_is octet Fits codes n x is.are (ok_or_is (coded codes n) place x room.1) in
+    (octet_takes octets place (omega arith) ∙ ap (λ m. m ∷ drop (place + 1) octets) (sym t.0), within, t.1)
+
+pub code_again : {A : Type 0} (octet : A → ℕ) (Fits : A → Type 0) (codes : Codes A) → IsCoding octet Fits codes
+    → (octets rest : List ℕ) (place : ℕ) (x : A) → Fits x → drop place octets ≡ octet x ∷ rest
+    → (coded_at codes octets place ≡ Ok x) × (drop (place + 1) octets ≡ rest)
+unfolding coded_at
+code_again octet Fits codes is octets rest place x fits e =
+    let within = stands octets (octet x ∷ []) rest place (lit< tt) e in
+    let room : ltb (length octets) (place + 1) ≡ false = le-ltb _ _ (omega arith) in
+    let there = octet_there octets rest place (octet x) e in
+    (rw (room, there, is.again x fits) refl, behind octets (octet x ∷ []) rest place 1 refl e)
+
+abbrev pub code : {A : Type 0} (octet : A → ℕ) (Fits : A → Type 0) (codes : Codes A) → IsCoding octet Fits codes → Field A
+code octet Fits codes is = record {
+  read = coded_at codes;
+  spell = λ x. octet x ∷ [];
+  width = 1;
+  Fits = Fits;
+  takes = code_takes octet Fits codes is;
+  again = code_again octet Fits codes is;
+}
+
+-- a key
+pub key_takes : (octets : List ℕ) (place : ℕ) (x : List ℕ) → AreOctets octets → key_at octets place ≡ Ok x
+    → (drop place octets ≡ x ++ drop (place + 32) octets) × (place + 32 ≤ length octets) × (length x ≡ 32)
+unfolding key_at field_at
+key_takes octets place x fit e =
+    let rest = drop place octets in
+    let room = passes (nat_lt (length octets) (place + 32)) (length octets) (Ok (take 32 rest)) x e in
+    let within : place + 32 ≤ length octets = ltb-false _ _ room.0 in
+    let is : take 32 rest ≡ x = ok_is (take 32 rest) x room.1 in
+    let parts : rest ≡ x ++ drop (place + 32) octets =
+    sym (take-append-drop 32 rest) ∙ (λ j. is j ++ drop-drop 32 place octets j) in
+    let size : length rest ≡ length x + length (drop (place + 32) octets) = ap length parts ∙ length-append x (drop (place + 32) octets) in
+    (parts, within, omega (arith, length-drop place octets, length-drop (place + 32) octets))
+
+pub key_again : (octets rest : List ℕ) (place : ℕ) (x : List ℕ) → length x ≡ 32 → drop place octets ≡ x ++ rest
+    → (key_at octets place ≡ Ok x) × (drop (place + 32) octets ≡ rest)
+unfolding key_at
+key_again octets rest place x size e =
+    let within = stands octets x rest place (omega arith) e in
+    let room : ltb (length octets) (place + 32) ≡ false = le-ltb _ _ (omega arith) in
+    (rw (room, field_is octets x rest place 32 size e) refl, behind octets x rest place 32 size e)
+
+abbrev pub key : Field (List ℕ)
+key = record { read = key_at; spell = λ x. x; width = 32; Fits = λ x. length x ≡ 32; takes = key_takes; again = key_again }
+
+-- the capabilities
+pub caps_takes : (octets : List ℕ) (place : ℕ) (x : Caps) → AreOctets octets → caps_at octets place ≡ Ok x
+    → (drop place octets ≡ x.eea ∷ x.eia ∷ drop (place + 2) octets) × (place + 2 ≤ length octets) × ((x.eea < 256) × (x.eia < 256))
+unfolding caps_at
+caps_takes octets place x fit e =
+    let made : Caps = record { eea = number_at octets place 1; eia = number_at octets (place + 1) 1 } in
+    let room = passes (nat_lt (length octets) (place + 2)) (length octets) (Ok made) x e in
+    let within : place + 2 ≤ length octets = ltb-false _ _ room.0 in
+    let two : place + 1 + 1 ≡ place + 2 = omega arith in
+    let first = octet_is octets place (omega arith) in
+    let second = octet_is octets (place + 1) (omega arith) in
+    let parts : drop place octets ≡ made.eea ∷ made.eia ∷ drop (place + 2) octets =
+    octet_takes octets place (omega arith)
+    ∙ ap (λ t. made.eea ∷ t) (octet_takes octets (place + 1) (omega arith) ∙ ap (λ n. made.eia ∷ drop n octets) two) in
+    subst (λ (c : Caps). (drop place octets ≡ c.eea ∷ c.eia ∷ drop (place + 2) octets) × (place + 2 ≤ length octets) × ((c.eea < 256) × (c.eia < 256)))
+    (ok_is made x room.1) (parts, within, (rw first (fit place), rw second (fit (place + 1))))
+
+pub caps_again : (octets rest : List ℕ) (place : ℕ) (x : Caps) → (x.eea < 256) × (x.eia < 256) → drop place octets ≡ x.eea ∷ x.eia ∷ rest
+    → (caps_at octets place ≡ Ok x) × (drop (place + 2) octets ≡ rest)
+unfolding caps_at
+caps_again octets rest place x fits e =
+    let within = stands octets (x.eea ∷ x.eia ∷ []) rest place (lit< tt) e in
+    let room : ltb (length octets) (place + 2) ≡ false = le-ltb _ _ (omega arith) in
+    let first = octet_there octets (x.eia ∷ rest) place x.eea e in
+    let next = behind octets (x.eea ∷ []) (x.eia ∷ rest) place 1 refl e in
+    let second = octet_there octets rest (place + 1) x.eia next in
+    (rw (room, first, second) refl, behind octets (x.eea ∷ x.eia ∷ []) rest place 2 refl e)
+
+abbrev pub caps : Field Caps
+caps = record {
+  read = caps_at;
+  spell = λ x. x.eea ∷ x.eia ∷ [];
+  width = 2;
+  Fits = λ x. (x.eea < 256) × (x.eia < 256);
+  takes = caps_takes;
+  again = caps_again;
+}
+
+-- a cell
+pub cell_takes : (octets : List ℕ) (place : ℕ) (x : Place) → AreOctets octets → cell_at octets place ≡ Ok x
+    → (drop place octets ≡ cell_octets x ++ drop (place + 6) octets) × (place + 6 ≤ length octets) × IsCell x
+unfolding cell_at
+cell_takes octets place x fit e =
+    let a = bind_ok (number_in 0 GREATEST_PCI octets place 2) (λ pci. number_in 0 GREATEST_EARFCN octets (place + 2) 4 >>= λ earfcn. Ok (record { pci = pci; earfcn = earfcn })) x e in
+    let b = bind_ok (number_in 0 GREATEST_EARFCN octets (place + 2) 4) (λ earfcn. Ok (record { pci = a.0; earfcn = earfcn })) x a.2 in
+    let p = number_takes_in 0 GREATEST_PCI 2 octets place a.0 a.1 in
+    let q = number_takes_in 0 GREATEST_EARFCN 4 octets (place + 2) b.0 b.1 in
+    let six : place + 2 + 4 ≡ place + 6 = omega arith in
+    let made : Place = record { pci = a.0; earfcn = b.0 } in
+    let front : drop place octets ≡ octets_of 2 a.0 ++ drop (place + 2) octets =
+    number_takes 2 octets place fit p.0 ∙ ap (λ m. octets_of 2 m ++ drop (place + 2) octets) p.1 in
+    let back : drop (place + 2) octets ≡ octets_of 4 b.0 ++ drop (place + 6) octets =
+    number_takes 4 octets (place + 2) fit q.0 ∙ (λ j. octets_of 4 (q.1 j) ++ drop (six j) octets) in
+    let parts : drop place octets ≡ cell_octets made ++ drop (place + 6) octets =
+    front ∙ ap (λ t. octets_of 2 a.0 ++ t) back ∙ sym (append_assoc (octets_of 2 a.0) (octets_of 4 b.0) (drop (place + 6) octets)) in
+    subst (λ (c : Place). (drop place octets ≡ cell_octets c ++ drop (place + 6) octets) × (place + 6 ≤ length octets) × IsCell c)
+    (ok_is made x b.2) (parts, omega arith, (p.3, q.3))
+
+pub cell_again : (octets rest : List ℕ) (place : ℕ) (x : Place) → IsCell x → drop place octets ≡ cell_octets x ++ rest
+    → (cell_at octets place ≡ Ok x) × (drop (place + 6) octets ≡ rest)
+unfolding cell_at
+cell_again octets rest place x fits e =
+    let small_pci : x.pci < 256 ^ 2 = omega arith in
+    let small_earfcn : x.earfcn < 256 ^ 4 = omega arith in
+    let split : drop place octets ≡ octets_of 2 x.pci ++ (octets_of 4 x.earfcn ++ rest) =
+    e ∙ append_assoc (octets_of 2 x.pci) (octets_of 4 x.earfcn) rest in
+    let next = behind octets (octets_of 2 x.pci) (octets_of 4 x.earfcn ++ rest) place 2 (length-octets_of 2 x.pci) split in
+    let size = length-octets_of 4 x.earfcn in
+    let within = stands octets (octets_of 4 x.earfcn) rest (place + 2) (omega arith) next in
+    let six : place + 2 + 4 ≡ place + 6 = omega arith in
+    let pci = number_reads 0 GREATEST_PCI 2 octets place x.pci (omega arith) (number_is octets (octets_of 4 x.earfcn ++ rest) place 2 x.pci small_pci split) (omega arith) fits.0 in
+    let earfcn = number_reads 0 GREATEST_EARFCN 4 octets (place + 2) x.earfcn (omega arith) (number_is octets rest (place + 2) 4 x.earfcn small_earfcn next) (omega arith) fits.1 in (
+      λ j. pci j >>= λ pci. earfcn j >>= λ earfcn. Ok (record { pci = pci; earfcn = earfcn }),
+      ap (λ n. drop n octets) (sym six) ∙ behind octets (octets_of 4 x.earfcn) rest (place + 2) 4 size next,
+    )
+
+abbrev pub cell : Field Place
+cell = record { read = cell_at; spell = cell_octets; width = 6; Fits = IsCell; takes = cell_takes; again = cell_again }
+
+-- what stands to the end
+pub rest_takes : (most : ℕ) (octets : List ℕ) (place : ℕ) (x : List ℕ) → rest_at most octets place ≡ Ok x → (drop place octets ≡ x) × (length x ≤ most)
+unfolding rest_at
+rest_takes most octets place x e =
+    let room = passes (nat_lt (place + most) (length octets)) (place + most) (Ok (drop place octets)) x e in
+    let within : length octets ≤ place + most = ltb-false _ _ room.0 in
+    let is = ok_is (drop place octets) x room.1 in
+    let size : length (drop place octets) ≡ length x = ap length is in
+    (is, omega (arith, length-drop place octets))
+
+pub rest_again : (most : ℕ) (octets : List ℕ) (place : ℕ) (x : List ℕ) → length x ≤ most → drop place octets ≡ x → rest_at most octets place ≡ Ok x
+unfolding rest_at
+rest_again most octets place x h e =
+    let size : length (drop place octets) ≡ length x = ap length e in
+    let room : ltb (place + most) (length octets) ≡ false = le-ltb _ _ (omega (arith, length-drop place octets)) in
+    rw (room, e) refl
+
+-- the end
+pub end_takes : (octets : List ℕ) (place : ℕ) (x : Unit {0}) → ends_at octets place ≡ Ok x → drop place octets ≡ []
+unfolding ends_at
+end_takes octets place x e =
+    let room = passes (nat_lt place (length octets)) place (Ok tt) x e in
+    let within : length octets ≤ place = ltb-false _ _ room.0 in
+    nil_from_length (drop place octets) (omega (arith, length-drop place octets))
+
+pub end_again : (octets : List ℕ) (place : ℕ) → drop place octets ≡ [] → ends_at octets place ≡ Ok tt
+unfolding ends_at
+end_again octets place e =
+    let size : length (drop place octets) ≡ 0 = ap length e in
+    let room : ltb place (length octets) ≡ false = le-ltb _ _ (omega (arith, length-drop place octets)) in
+    rw room refl

@@ -1,0 +1,6 @@
+pub mod FieldLaws
+pub mod Layouts
+pub mod Forms
+pub mod SetupForm
+pub mod Grammar
+pub mod FrameLaws

@@ -1,0 +1,7 @@
+pub mod Codes
+pub mod Field
+pub mod Body
+pub mod Spelling
+pub mod Ranges
+pub mod Frame
+pub mod Reading

@@ -1,0 +1,12 @@
+//! Frames: how the inputs of an actor and its replies are written as octets and read, over one grammar.
+#![tactic(auto)]
+
+mod bodies;
+mod fields;
+mod frames;
+mod inputs;
+mod reading;
+mod setups;
+
+pub use frames::{Frame, FrameFault, FrameIn, GREATEST_BODY, RoleSetup};
+pub use reading::read_frame;
