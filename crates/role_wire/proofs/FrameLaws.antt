@@ -17,7 +17,7 @@ use Rattle.role_wire.specs.Spelling.{body_spelling}
 use Rattle.role_wire.specs.Reading.{body_of}
 use Rattle.role_wire.specs.Ranges.{IsFrame, IsRole}
 use Rattle.role_wire.specs.Frame.{framed, frame_spelling, size_of, of_body, frame_at, IsWhole, IsCut, IsTaken, FrameRead, IsBodyTaken, BodyRead}
-use Rattle.role_wire.proofs.FieldLaws.{field_is}
+use Rattle.role_wire.proofs.FieldLaws.{field_is, number_is}
 use Rattle.role_wire.proofs.Grammar.{body_found, body_again}
 
 -- what a body reader answered
@@ -151,3 +151,17 @@ exact role first result (Some octets) None read h = let no = read.gives in absur
 exact role first result (Some octets) (Some rest) read h =
     let is : octets ≡ read.taken ++ rest = some_is octets (read.taken ++ rest) read.gives in
     answers role first result read.taken rest read.is h ∙ ap (frame_at role first) (sym is)
+
+-- what is written is read again
+pub written_again : (role : Role) (first : Bool) (frame : FrameIn) (octets rest : List ℕ) → octets ≡ frame_spelling frame → length octets ≤ 4098
+    → IsFrame role first frame → frame_at role first (octets ++ rest) ≡ Ok frame
+unfolding framed
+written_again role first frame octets rest spelled short is =
+    let body = body_spelling frame in
+    let head : List ℕ = octets_of 2 (length body) in
+    let two : length head ≡ 2 = length-octets_of 2 (length body) in
+    let size : length octets ≡ 2 + length body = ap length spelled ∙ length-append head body ∙ ap (λ n. n + length body) two in
+    let number : size_of octets ≡ length body = number_is octets body 0 2 (length body) (omega arith) spelled in
+    let behind : drop 2 octets ≡ body = ap (drop 2) spelled ∙ drop_at head body 2 two in
+    whole_answers role first octets rest (Ok frame) (record { has_length = omega arith; allowed = omega arith; whole = omega arith })
+    (ap (body_of role first) behind ∙ body_again role first frame is)

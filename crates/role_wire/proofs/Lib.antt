@@ -4,3 +4,4 @@ pub mod Forms
 pub mod SetupForm
 pub mod Grammar
 pub mod FrameLaws
+pub mod WritingLaws

@@ -5,3 +5,4 @@ pub mod Spelling
 pub mod Ranges
 pub mod Frame
 pub mod Reading
+pub mod Reply

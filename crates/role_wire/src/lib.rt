@@ -6,7 +6,11 @@ mod fields;
 mod frames;
 mod inputs;
 mod reading;
+mod replies;
 mod setups;
+mod writing;
 
 pub use frames::{Frame, FrameFault, FrameIn, GREATEST_BODY, RoleSetup};
 pub use reading::read_frame;
+pub use replies::{reply_frame, setup_reply};
+pub use writing::{actor_frame, input_frame, setup_frame};
