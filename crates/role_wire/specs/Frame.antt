@@ -20,6 +20,14 @@ framed body = octets_of 2 (length body) ++ body
 abbrev pub frame_spelling : FrameIn → List ℕ
 frame_spelling frame = framed (body_spelling frame)
 
+-- the number of a fault
+abbrev pub fault_number : FrameFault → ℕ
+fault_number Ended = 1
+fault_number Truncated = 2
+fault_number (TooLong size) = 3
+fault_number (BadBody place) = 4
+fault_number ReadFault = 5
+
 -- the length that octets begin with
 abbrev pub size_of : List ℕ → ℕ
 size_of octets = number_at octets 0 2

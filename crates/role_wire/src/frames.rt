@@ -46,3 +46,21 @@ pub enum FrameFault {
     /// A read of the source failed.
     ReadFault,
 }
+
+impl FrameFault {
+    ghost use Rattle.std.specs.Prelude.{◌≡◌};
+    ghost use Rattle.role_wire.specs.Frame.{fault_number};
+
+    /// The number of the fault, 1 to 5 in the order above.
+    pub fn number(&self) -> u8
+        ensures { result ≡ fault_number self.now }
+    {
+        match self {
+            FrameFault::Ended => 1,
+            FrameFault::Truncated => 2,
+            FrameFault::TooLong(_) => 3,
+            FrameFault::BadBody(_) => 4,
+            FrameFault::ReadFault => 5,
+        }
+    }
+}

@@ -8,6 +8,8 @@ mod inputs;
 mod reading;
 mod replies;
 mod setups;
+#[cfg(test)]
+mod tests;
 mod writing;
 
 pub use frames::{Frame, FrameFault, FrameIn, GREATEST_BODY, RoleSetup};
