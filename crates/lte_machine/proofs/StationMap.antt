@@ -24,6 +24,7 @@ use Rattle.lte_machine.specs.StationState.{Station, Context, Attempt, OverX2, Ov
 use Rattle.lte_machine.specs.StationRows.{Wanted, RecordRow, RecordRefused, ContextGiven, ContextReleased, PairTaken, PreparedByS1, PreparedByX2, AckedByS1, AckedByX2, PreparationCancelled, SourceReleased, AirRow, AirRefused, SecurityStarted, RrcOpened, PacketOpened, CompletedByS1, CompletedWithin, CompletedByX2, ActRow, ActRefused, StartedByX2, StartedByS1, StartedWithin, HandoverCommanded, CancelledByX2, CancelledByS1, CancelledWithin, PathSwitchAsked, PacketSent, RrcSent, BearerSkipped, StationRow, OfRecord, OfAir, OfAct, KeyRenewed, ChangeCommanded}
 use Rattle.lte_machine.specs.StationChoice.{AirFront, AirSettled, OnStarting, OnSignalling, OnUser, OnPrepared, StationFront, Settled, FromAir, station_front, station_row}
 use Rattle.lte_machine.specs.StationKeys as keys
+use Rattle.lte_machine.specs.StationRecords as record_keys
 use Rattle.lte_machine.specs.StationStep.{key_read, station_key, station_front_of, station_opens, station_row_of, station_step, map_station_done}
 use Rattle.lte_machine.proofs.StationPlain.{station_plain, input_plain}
 use Rattle.lte_machine.proofs.StationLists.{at_air_map, without_map, drop_below_map, push_map}
@@ -95,46 +96,46 @@ module _ {K C L D : Type 0} {r : Reading K C} {q : Reading L D} {f : K → L} {g
 
   context_given_map : (conn : ℕ) (cell : Place) (caps : Caps) (algs : Algs) (air : ℕ) (key : Option (NumberedKey K C))
       (s : Station K C) →
-      map_station_done f g (keys.context_given r conn cell caps algs air key s)
-      ≡ keys.context_given q conn cell caps algs air (option_map (map_numbered f g) key) (map_station f g s)
+      map_station_done f g (record_keys.context_given r conn cell caps algs air key s)
+      ≡ record_keys.context_given q conn cell caps algs air (option_map (map_numbered f g) key) (map_station f g s)
   context_given_map conn cell caps algs air None s = refl
   context_given_map conn cell caps algs air (Some x) s =
       rw (c.alg x.key 3 (identity_of algs.eea), c.alg x.key 4 eia2_identity, c.alg x.key 5 (identity_of algs.eea), ← c.ncc r.first, c.first) refl
 
   with_pair_map : (pair : NumberedKey K C) (o : Option (Context K C)) →
-      option_map (map_context f g) (option_map (keys.with_pair pair) o)
-      ≡ option_map (keys.with_pair (map_numbered f g pair)) (option_map (map_context f g) o)
+      option_map (map_context f g) (option_map (record_keys.with_pair pair) o)
+      ≡ option_map (record_keys.with_pair (map_numbered f g pair)) (option_map (map_context f g) o)
   with_pair_map pair None = refl
   with_pair_map pair (Some x) = refl
 
   release_map : (conn : ℕ) (o : Option Origin) →
-      option_map (map_outgoing f g) (keys.source_release conn o) ≡ keys.source_release conn o
+      option_map (map_outgoing f g) (record_keys.source_release conn o) ≡ record_keys.source_release conn o
   release_map conn None = refl
   release_map conn (Some o) = refl
 
   pair_taken_map : (conn : ℕ) (origin : Option Origin) (key : Option (NumberedKey K C)) (s : Station K C) →
-      map_station_done f g (keys.pair_taken conn origin key s)
-      ≡ keys.pair_taken conn origin (option_map (map_numbered f g) key) (map_station f g s)
+      map_station_done f g (record_keys.pair_taken conn origin key s)
+      ≡ record_keys.pair_taken conn origin (option_map (map_numbered f g) key) (map_station f g s)
   pair_taken_map conn origin None s = refl
   pair_taken_map conn origin (Some pair) s = rw (with_pair_map pair s.context, release_map conn origin) refl
 
   wanted_preps_map : (w : Wanted) (p : Prep K C) (s : Station K C) →
-      map_station f g (keys.with_wanted w p s) ≡ keys.with_wanted w (map_prep f g p) (map_station f g s)
+      map_station f g (record_keys.with_wanted w p s) ≡ record_keys.with_wanted w (map_prep f g p) (map_station f g s)
   wanted_preps_map w p s =
       rw (push_map f g (drop_below w.conn s.preps) p, ← drop_below_map f g w.conn s.preps) refl
 
   prepared_by_x2_map : (w : Wanted) (key : Option (NumberedKey K C)) (s : Station K C) →
-      map_station_done f g (keys.prepared_by_x2 r w key s)
-      ≡ keys.prepared_by_x2 q w (option_map (map_numbered f g) key) (map_station f g s)
+      map_station_done f g (record_keys.prepared_by_x2 r w key s)
+      ≡ record_keys.prepared_by_x2 q w (option_map (map_numbered f g) key) (map_station f g s)
   prepared_by_x2_map w None s = refl
   prepared_by_x2_map w (Some star) s =
-      rw (wanted_preps_map w (keys.wanted_prep r w By.X2 star) s, c.alg star.key 3 (identity_of w.algs.eea), c.alg star.key 4 eia2_identity, c.alg star.key 5 (identity_of w.algs.eea), c.ncc star.number) refl
+      rw (wanted_preps_map w (record_keys.wanted_prep r w By.X2 star) s, c.alg star.key 3 (identity_of w.algs.eea), c.alg star.key 4 eia2_identity, c.alg star.key 5 (identity_of w.algs.eea), c.ncc star.number) refl
 
   prepared_by_s1_with_map : (w : Wanted) (made : Derivation K) (star : NumberedKey K C) (s : Station K C) →
-      map_station_done f g (keys.prepared_by_s1_with r w made star s)
-      ≡ keys.prepared_by_s1_with q w (map_derivation f made) (map_numbered f g star) (map_station f g s)
+      map_station_done f g (record_keys.prepared_by_s1_with r w made star s)
+      ≡ record_keys.prepared_by_s1_with q w (map_derivation f made) (map_numbered f g star) (map_station f g s)
   prepared_by_s1_with_map w made star s =
-      rw (wanted_preps_map w (keys.wanted_prep r w By.S1 star) s, c.alg star.key 3 (identity_of w.algs.eea), c.alg star.key 4 eia2_identity, c.alg star.key 5 (identity_of w.algs.eea), c.ncc star.number) refl
+      rw (wanted_preps_map w (record_keys.wanted_prep r w By.S1 star) s, c.alg star.key 3 (identity_of w.algs.eea), c.alg star.key 4 eia2_identity, c.alg star.key 5 (identity_of w.algs.eea), c.ncc star.number) refl
 
   star_line_map : (base : NumberedKey K C) (cell : Place) →
       map_numbered f g (star_line r base cell.pci cell.earfcn) ≡ star_line q (map_numbered f g base) cell.pci cell.earfcn
@@ -145,18 +146,18 @@ module _ {K C L D : Type 0} {r : Reading K C} {q : Reading L D} {f : K → L} {g
   star_made_map base cell = rw (c.star base cell.pci cell.earfcn) refl
 
   prepared_by_s1_map : (w : Wanted) (key : Option (NumberedKey K C)) (s : Station K C) →
-      map_station_done f g (keys.prepared_by_s1 r w key s)
-      ≡ keys.prepared_by_s1 q w (option_map (map_numbered f g) key) (map_station f g s)
+      map_station_done f g (record_keys.prepared_by_s1 r w key s)
+      ≡ record_keys.prepared_by_s1 q w (option_map (map_numbered f g) key) (map_station f g s)
   prepared_by_s1_map w None s = refl
   prepared_by_s1_map w (Some pair) s =
       prepared_by_s1_with_map w (star_made r pair.key w.cell.pci w.cell.earfcn)
       (star_line r pair w.cell.pci w.cell.earfcn) s
-      ∙ (λ j. keys.prepared_by_s1_with q w (star_made_map pair.key w.cell j) (star_line_map pair w.cell j)
+      ∙ (λ j. record_keys.prepared_by_s1_with q w (star_made_map pair.key w.cell j) (star_line_map pair w.cell j)
       (map_station f g s))
 
   s1_acked_map : (ncc : ℕ) (algs : Algs) (air : ℕ) (o : Option (Attempt K C)) →
-      option_map (map_attempt f g) (option_map (keys.s1_acked ncc algs air) o)
-      ≡ option_map (keys.s1_acked ncc algs air) (option_map (map_attempt f g) o)
+      option_map (map_attempt f g) (option_map (record_keys.s1_acked ncc algs air) o)
+      ≡ option_map (record_keys.s1_acked ncc algs air) (option_map (map_attempt f g) o)
   s1_acked_map ncc algs air None = refl
   s1_acked_map ncc algs air (Some (OverX2 state)) = refl
   s1_acked_map ncc algs air (Some (OverS1 (S1Open start))) = refl
@@ -166,8 +167,8 @@ module _ {K C L D : Type 0} {r : Reading K C} {q : Reading L D} {f : K → L} {g
   s1_acked_map ncc algs air (Some (Renewing renewal)) = refl
 
   x2_acked_map : (algs : Algs) (air : ℕ) (o : Option (Attempt K C)) →
-      option_map (map_attempt f g) (option_map (keys.x2_acked algs air) o)
-      ≡ option_map (keys.x2_acked algs air) (option_map (map_attempt f g) o)
+      option_map (map_attempt f g) (option_map (record_keys.x2_acked algs air) o)
+      ≡ option_map (record_keys.x2_acked algs air) (option_map (map_attempt f g) o)
   x2_acked_map algs air None = refl
   x2_acked_map algs air (Some (OverX2 (X2Open start))) = refl
   x2_acked_map algs air (Some (OverX2 (X2Ready acked))) = refl
@@ -177,20 +178,20 @@ module _ {K C L D : Type 0} {r : Reading K C} {q : Reading L D} {f : K → L} {g
   x2_acked_map algs air (Some (Renewing renewal)) = refl
 
   with_s1_ack_map : (ncc : ℕ) (algs : Algs) (air : ℕ) (o : Option (Context K C)) →
-      option_map (map_context f g) (option_map (keys.with_s1_ack ncc algs air) o)
-      ≡ option_map (keys.with_s1_ack ncc algs air) (option_map (map_context f g) o)
+      option_map (map_context f g) (option_map (record_keys.with_s1_ack ncc algs air) o)
+      ≡ option_map (record_keys.with_s1_ack ncc algs air) (option_map (map_context f g) o)
   with_s1_ack_map ncc algs air None = refl
   with_s1_ack_map ncc algs air (Some x) = rw (s1_acked_map ncc algs air x.attempt) refl
 
   with_x2_ack_map : (algs : Algs) (air : ℕ) (o : Option (Context K C)) →
-      option_map (map_context f g) (option_map (keys.with_x2_ack algs air) o)
-      ≡ option_map (keys.with_x2_ack algs air) (option_map (map_context f g) o)
+      option_map (map_context f g) (option_map (record_keys.with_x2_ack algs air) o)
+      ≡ option_map (record_keys.with_x2_ack algs air) (option_map (map_context f g) o)
   with_x2_ack_map algs air None = refl
   with_x2_ack_map algs air (Some x) = rw (x2_acked_map algs air x.attempt) refl
 
   own_prep_map : (conn id number air : ℕ) (cell : Place) (x : Context K C) (star : NumberedKey K C) →
-      map_prep f g (keys.own_prep r conn id number air cell x star)
-      ≡ keys.own_prep q conn id number air cell (map_context f g x) (map_numbered f g star)
+      map_prep f g (record_keys.own_prep r conn id number air cell x star)
+      ≡ record_keys.own_prep q conn id number air cell (map_context f g x) (map_numbered f g star)
   own_prep_map conn id number air cell x star =
       rw (c.alg star.key 3 (identity_of x.algs.eea), c.alg star.key 4 eia2_identity, c.alg star.key 5 (identity_of x.algs.eea)) refl
 
@@ -199,25 +200,25 @@ module _ {K C L D : Type 0} {r : Reading K C} {q : Reading L D} {f : K → L} {g
   change_line_map kenb cell = rw (c.star kenb cell.pci cell.earfcn, c.first) refl
 
   key_renewed_with_map : (conn number air count : ℕ) (x : Context K C) (made : Derivation K) (star : NumberedKey K C) (s : Station K C) →
-      map_station_done f g (keys.key_renewed_with r conn number air count x made star s)
-      ≡ keys.key_renewed_with q conn number air count (map_context f g x) (map_derivation f made) (map_numbered f g star) (map_station f g s)
+      map_station_done f g (record_keys.key_renewed_with r conn number air count x made star s)
+      ≡ record_keys.key_renewed_with q conn number air count (map_context f g x) (map_derivation f made) (map_numbered f g star) (map_station f g s)
   key_renewed_with_map conn number air count x made star s =
       rw (own_prep_map conn s.id number air x.cell x star, c.alg star.key 3 (identity_of x.algs.eea), c.alg star.key 4 eia2_identity, c.alg star.key 5 (identity_of x.algs.eea), c.ncc star.number) refl
 
   key_renewed_map : (conn number air count : ℕ) (o : Option (Context K C)) (key : Option (NumberedKey K C)) (s : Station K C) →
-      map_station_done f g (keys.key_renewed r conn number air count o key s)
-      ≡ keys.key_renewed q conn number air count (option_map (map_context f g) o) (option_map (map_numbered f g) key) (map_station f g s)
+      map_station_done f g (record_keys.key_renewed r conn number air count o key s)
+      ≡ record_keys.key_renewed q conn number air count (option_map (map_context f g) o) (option_map (map_numbered f g) key) (map_station f g s)
   key_renewed_map conn number air count None key s = refl
   key_renewed_map conn number air count (Some x) None s = refl
   key_renewed_map conn number air count (Some x) (Some kenb) s =
       key_renewed_with_map conn number air count x (star_made r kenb.key x.cell.pci x.cell.earfcn)
       (change_line r kenb.key x.cell.pci x.cell.earfcn) s
-      ∙ (λ j. keys.key_renewed_with q conn number air count (map_context f g x) (star_made_map kenb.key x.cell j)
+      ∙ (λ j. record_keys.key_renewed_with q conn number air count (map_context f g x) (star_made_map kenb.key x.cell j)
       (change_line_map kenb.key x.cell j) (map_station f g s))
 
   record_does_map : (row : RecordRow) (key : Option (NumberedKey K C)) (s : Station K C) →
-      map_station_done f g (keys.record_does r row key s)
-      ≡ keys.record_does q row (option_map (map_numbered f g) key) (map_station f g s)
+      map_station_done f g (record_keys.record_does r row key s)
+      ≡ record_keys.record_does q row (option_map (map_numbered f g) key) (map_station f g s)
   record_does_map (RecordRefused answer) key s = refl
   record_does_map (ContextGiven conn cell caps algs air) key s = context_given_map conn cell caps algs air key s
   record_does_map ContextReleased key s = refl
@@ -315,7 +316,7 @@ module _ {K C L D : Type 0} {r : Reading K C} {q : Reading L D} {f : K → L} {g
       map_station_done f g (keys.started_within_with r number air cell x o s)
       ≡ keys.started_within_with q number air cell (map_context f g x) (map_opened f g o) (map_station f g s)
   started_within_with_map number air cell x o s =
-      rw (push_map f g s.preps (keys.own_prep r x.conn s.id number air cell x o.star), c.alg o.star.key 3 (identity_of x.algs.eea), c.alg o.star.key 4 eia2_identity, c.alg o.star.key 5 (identity_of x.algs.eea), c.ncc o.star.number) refl
+      rw (push_map f g s.preps (record_keys.own_prep r x.conn s.id number air cell x o.star), c.alg o.star.key 3 (identity_of x.algs.eea), c.alg o.star.key 4 eia2_identity, c.alg o.star.key 5 (identity_of x.algs.eea), c.ncc o.star.number) refl
 
   started_within_map : (number air : ℕ) (cell : Place) (o : Option (Context K C)) (s : Station K C) →
       map_station_done f g (keys.started_within r number air cell o s)

@@ -13,6 +13,7 @@ use Rattle.lte_machine.specs.Reply.{Origin, Reply, only, finished}
 use Rattle.lte_machine.specs.StationState.{Station, Context, StationInput, Renewal}
 use Rattle.lte_machine.specs.StationRows.{RecordRow, RecordRefused, ContextGiven, ContextReleased, PairTaken, PreparedByS1, PreparedByX2, AckedByS1, AckedByX2, PreparationCancelled, SourceReleased, AirRow, AirRefused, SecurityStarted, RrcOpened, PacketOpened, CompletedByS1, CompletedWithin, CompletedByX2, ActRow, ActRefused, StartedByX2, StartedByS1, StartedWithin, HandoverCommanded, CancelledByX2, CancelledByS1, CancelledWithin, PathSwitchAsked, PacketSent, RrcSent, BearerSkipped, StationRow, OfRecord, OfAir, OfAct, KeyRenewed, ChangeCommanded}
 use Rattle.lte_machine.specs.StationKeys as keys
+use Rattle.lte_machine.specs.StationRecords as record_keys
 use Rattle.lte_machine.specs.StationStep.{station_key, station_row_of, station_step}
 
 -- a row that is not done leaves the station, and gives out its answer alone
@@ -25,7 +26,7 @@ done s d h = absurd (h refl)
 
 module _ {K C : Type 0} (r : Reading K C) where
   record_unchanged : (row : RecordRow) (key : Option (NumberedKey K C)) (s : Station K C) →
-      Unchanged s (keys.record_does r row key s)
+      Unchanged s (record_keys.record_does r row key s)
   record_unchanged (RecordRefused answer) key s = λ h. refl
   record_unchanged (ContextGiven conn cell caps algs air) None s = λ h. refl
   record_unchanged (ContextGiven conn cell caps algs air) (Some x) s = done s _
@@ -42,7 +43,7 @@ module _ {K C : Type 0} (r : Reading K C) where
   record_unchanged SourceReleased key s = done s _
   record_unchanged (KeyRenewed conn number air count) key s = renewed s.context key
     where
-      renewed : (o : Option (Context K C)) (key : Option (NumberedKey K C)) → Unchanged s (keys.key_renewed r conn number air count o key s)
+      renewed : (o : Option (Context K C)) (key : Option (NumberedKey K C)) → Unchanged s (record_keys.key_renewed r conn number air count o key s)
       renewed None key = λ h. refl
       renewed (Some c) None = λ h. refl
       renewed (Some c) (Some x) = done s _

@@ -14,6 +14,7 @@ pub mod StationState
 pub mod StationRows
 pub mod StationChoice
 pub mod StationKeys
+pub mod StationRecords
 pub mod StationStep
 pub mod CoreState
 pub mod CoreRows

@@ -8,5 +8,6 @@ pub mod PhoneRun
 pub mod Run
 pub mod Station
 pub mod StationFront
+pub mod StationKeeps
 pub mod Whole
 pub mod World

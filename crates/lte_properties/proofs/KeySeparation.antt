@@ -2,7 +2,9 @@ pub mod All
 pub mod Attempts
 pub mod Choice
 pub mod Core
+pub mod CoreKeeps
 pub mod Ever
+pub mod Holders
 pub mod Keys
 pub mod Phone
 pub mod Run

@@ -22,7 +22,8 @@ use Rattle.lte_machine.specs.Reply.{Note, Origin, Reply}
 use Rattle.lte_machine.specs.StationState.{Station, Context, Renewal, StationInput, StationActs, AirPdu, StationRecord, OnS1, OnX2}
 use Rattle.x2_handover.specs.declared.orders.Order.{Order}
 use Rattle.lte_machine.specs.StationRows.{Wanted, RecordRow, RecordRefused, ContextGiven, ContextReleased, PairTaken, PreparedByS1, PreparedByX2, AckedByS1, AckedByX2, PreparationCancelled, SourceReleased, KeyRenewed, AirRow, AirRefused, SecurityStarted, RrcOpened, PacketOpened, CompletedByS1, CompletedWithin, CompletedByX2, ActRow, ActRefused, StartedByX2, StartedByS1, StartedWithin, HandoverCommanded, ChangeCommanded, CancelledByX2, CancelledByS1, CancelledWithin, PathSwitchAsked, PacketSent, RrcSent, BearerSkipped, StationRow, OfRecord, OfAir, OfAct}
-use Rattle.lte_machine.specs.StationKeys.{context_given, pair_taken, prepared_by_s1, prepared_by_x2, key_renewed, record_does, completed_by_s1, completed_within, completed_by_x2, air_does, started_by_x2, started_by_s1, started_within, commands, commands_change, asks_again, sends_packet, sends_rrc, act_does, station_does}
+use Rattle.lte_machine.specs.StationKeys.{completed_by_s1, completed_within, completed_by_x2, air_does, started_by_x2, started_by_s1, started_within, commands, commands_change, asks_again, sends_packet, sends_rrc, act_does, station_does}
+use Rattle.lte_machine.specs.StationRecords.{context_given, pair_taken, prepared_by_s1, prepared_by_x2, key_renewed, record_does}
 use Rattle.lte_machine.specs.StationStep.{station_opens, station_pdu_in, station_row_of, station_key, station_step}
 use Rattle.lte_machine.specs.World.{Machine, put_station, station_after, station_of_id, turn_of, auth_unless, known_root, next_root, content_in, arrives, chosen, delivered, class_of, is_sent, injected, happens}
 use Rattle.lte_properties.specs.ChainBelow.{AllOf}

@@ -24,7 +24,8 @@ use Rattle.lte_machine.specs.World.{Machine, phone_turn, core_turn, station_of_i
 use Rattle.lte_machine.specs.PhoneChoice.{phone_row}
 use Rattle.lte_machine.specs.PhoneStep.{plain_phone, front_of, phone_root, phone_opens, phone_pdu_in}
 use Rattle.lte_machine.specs.StationRows.{Wanted, RecordRow, RecordRefused, ContextGiven, ContextReleased, PairTaken, PreparedByS1, PreparedByX2, AckedByS1, AckedByX2, PreparationCancelled, SourceReleased, KeyRenewed, AirRow, AirRefused, SecurityStarted, RrcOpened, PacketOpened, CompletedByS1, CompletedWithin, CompletedByX2, ActRow, ActRefused, StartedByX2, StartedByS1, StartedWithin, HandoverCommanded, ChangeCommanded, CancelledByX2, CancelledByS1, CancelledWithin, PathSwitchAsked, PacketSent, RrcSent, BearerSkipped, StationRow, OfRecord, OfAir, OfAct}
-use Rattle.lte_machine.specs.StationKeys.{context_given, pair_taken, prepared_by_s1, prepared_by_x2, key_renewed, record_does, completed_by_s1, completed_within, completed_by_x2, air_does, started_by_x2, started_by_s1, started_within, commands, commands_change, asks_again, sends_packet, sends_rrc, act_does, station_does}
+use Rattle.lte_machine.specs.StationKeys.{completed_by_s1, completed_within, completed_by_x2, air_does, started_by_x2, started_by_s1, started_within, commands, commands_change, asks_again, sends_packet, sends_rrc, act_does, station_does}
+use Rattle.lte_machine.specs.StationRecords.{context_given, pair_taken, prepared_by_s1, prepared_by_x2, key_renewed, record_does}
 use Rattle.std.specs.Prelude.{◌⊎◌}
 use Rattle.std.proofs.Common.{inl, inr}
 use Rattle.std.proofs.lemmas.Bool.{eqb-true}

@@ -16,7 +16,8 @@ use Rattle.lte_machine.specs.Bearers.{Signalling1}
 use Rattle.lte_machine.specs.Reply.{Origin, BySetup, ByAttempt, ByChange, Made, Tried, Reply}
 use Rattle.lte_machine.specs.StationState.{Station, Context, Attempt, OverX2, OverS1, Within, Renewal, Renewing, X2Open, X2Ready, X2Commanded, S1Open, S1Ready, S1Commanded}
 use Rattle.lte_machine.specs.StationRows.{Wanted, RecordRow, RecordRefused, ContextGiven, ContextReleased, PairTaken, PreparedByS1, PreparedByX2, AckedByS1, AckedByX2, PreparationCancelled, SourceReleased, KeyRenewed, AirRow, AirRefused, SecurityStarted, RrcOpened, PacketOpened, CompletedByS1, CompletedWithin, CompletedByX2}
-use Rattle.lte_machine.specs.StationKeys.{context_given, with_pair, source_release, pair_taken, wanted_prep, prepared_by_s1, prepared_by_x2, s1_acked, x2_acked, with_s1_ack, with_x2_ack, change_text, key_renewed, record_does, with_security, with_rrc_taken, with_packet_taken, completed_by_s1, completed_within, completed_by_x2, air_does}
+use Rattle.lte_machine.specs.StationKeys.{with_security, with_rrc_taken, with_packet_taken, completed_by_s1, completed_within, completed_by_x2, air_does}
+use Rattle.lte_machine.specs.StationRecords.{context_given, with_pair, source_release, pair_taken, wanted_prep, prepared_by_s1, prepared_by_x2, s1_acked, x2_acked, with_s1_ack, with_x2_ack, change_text, key_renewed, record_does}
 use Rattle.lte_properties.specs.ChainBelow.{AllOf}
 use Rattle.lte_properties.specs.Agreement.{made_at, HadTaken}
 use Rattle.lte_properties.proofs.Agreement.Terms.{base, base_nh}

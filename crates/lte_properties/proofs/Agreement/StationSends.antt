@@ -8,7 +8,7 @@ use Rattle.rrc_rec.specs.declared.records.RrcRecord.TheVariants.{Reconfiguration
 use Rattle.x2_handover.specs.declared.orders.Order.{Order}
 use Rattle.lte_machine.specs.Bearers.{Srb}
 use Rattle.lte_machine.specs.Reply.{ByChange}
-use Rattle.lte_machine.specs.StationKeys.{signalling_sent, order_text, change_text}
+use Rattle.lte_machine.specs.StationRecords.{signalling_sent, order_text, change_text}
 use Rattle.lte_machine.specs.StationState.{Context, Renewal}
 use Rattle.lte_machine.specs.Wire.{srb_use, srb_ciphering}
 use Rattle.lte_properties.specs.ChainBelow.{AllOf}

@@ -1,6 +1,6 @@
 -- What each row of a station keeps of the keys that it has and uses.
 use Rattle.std.proofs.Common.{◌≡◌, refl, sym, ap, ◌∙◌, subst, subst₂, ℕ, ◌+◌, ◌<◌, ◌≤◌, Bool, true, false, not, nat_le, List, [], ◌∷◌, ◌++◌, Option, Some, None, option_map, arith}
-use Rattle.std.specs.Prelude.{IfSome, ⊤}
+use Rattle.std.specs.Prelude.{IfSome}
 use Rattle.std.proofs.lemmas.Bool.Decides.{nat_tests}
 use Rattle.alg_choice.specs.declared.algs.Algs.{Algs}
 use Rattle.alg_choice.specs.declared.caps.Caps.{Caps}
@@ -12,7 +12,7 @@ use Rattle.key_model.specs.Term.{Term, Alg}
 use Rattle.key_model.specs.Reading.{term_reading, term_reading_by}
 use Rattle.key_model.specs.HandoverTable.{NumberedKey}
 use Rattle.key_model.specs.HandoverLines.{star_line}
-use Rattle.nh_chain.specs.Station.{StationKey, restored_if, opened}
+use Rattle.nh_chain.specs.Station.{opened}
 use Rattle.pdcp_guard.specs.AsKeys.{AsKeys, as_keys_of}
 use Rattle.rrc_rec.specs.declared.records.RrcRecord.TheVariants.{RrcData}
 use Rattle.rrc_rec.specs.Spelling.{spelling_of}
@@ -24,11 +24,12 @@ use Rattle.lte_machine.specs.Wire.{KeyUse, Outgoing, uses_of, drb_use}
 use Rattle.lte_machine.specs.Reply.{Origin}
 use Rattle.lte_machine.specs.StationState.{Station, Context, Attempt, Renewal}
 use Rattle.lte_machine.specs.StationRows.{Wanted, RecordRow, RecordRefused, ContextGiven, ContextReleased, PairTaken, PreparedByS1, PreparedByX2, AckedByS1, AckedByX2, PreparationCancelled, SourceReleased, AirRow, AirRefused, SecurityStarted, RrcOpened, PacketOpened, CompletedByS1, CompletedWithin, CompletedByX2, ActRow, ActRefused, StartedByX2, StartedByS1, StartedWithin, HandoverCommanded, CancelledByX2, CancelledByS1, CancelledWithin, PathSwitchAsked, PacketSent, RrcSent, BearerSkipped, KeyRenewed, ChangeCommanded}
-use Rattle.lte_machine.specs.StationKeys.{signalling_sent, packet_sent, initial_context, context_given, with_pair, pair_taken, wanted_prep, prepared_by_s1, prepared_by_x2, with_wanted, with_s1_ack, with_x2_ack, record_does, with_security, with_rrc_taken, with_packet_taken, arrived, completed_by_s1, completed_within, completed_by_x2, air_does, started_by_x2, started_by_s1, started_within, own_prep, commands, commanded, order_text, given_up, spent_in, asks_again, sends_packet, sends_rrc, with_skipped, act_does, key_renewed, commands_change, change_text}
+use Rattle.lte_machine.specs.StationKeys.{with_security, with_rrc_taken, with_packet_taken, arrived, completed_by_s1, completed_within, completed_by_x2, air_does, started_by_x2, started_by_s1, started_within, commands, commanded, given_up, spent_in, asks_again, sends_packet, sends_rrc, with_skipped, act_does, commands_change}
+use Rattle.lte_machine.specs.StationRecords.{signalling_sent, packet_sent, initial_context, context_given, with_pair, pair_taken, wanted_prep, prepared_by_s1, prepared_by_x2, with_wanted, with_s1_ack, with_x2_ack, record_does, own_prep, order_text, key_renewed, change_text}
 use Rattle.lte_machine.specs.World.{uses_in}
 use Rattle.lte_properties.specs.ChainBelow.{AllOf}
 use Rattle.lte_properties.specs.ChainRows.{AirDraws, ActDraws}
-use Rattle.lte_properties.specs.FreshUses.{Home, home_at, Homes, OnKey, IsAs, is_star, home_of, home, NoneWaits, IsSpent, next_on, send_on, ContextAhead, AsDown, StationUse, AllApart}
+use Rattle.lte_properties.specs.FreshUses.{Home, home_at, Homes, IsAs, is_star, home_of, home, NoneWaits, IsSpent, next_on, send_on, ContextAhead, AsDown, StationUse, AllApart}
 use Rattle.lte_properties.specs.FreshHolds.{AsKeysOf, ContextStands, PrepStands, StationStands, RecordStands}
 use Rattle.lte_properties.proofs.ChainNumbers.Choice.{by_some}
 use Rattle.lte_properties.proofs.ChainNumbers.Lists.{OfSome, all_append, all_filter, all_find, all_map}
@@ -36,93 +37,7 @@ use Rattle.lte_properties.proofs.Freshness.Lists.{both_apart}
 use Rattle.lte_properties.proofs.Freshness.Bearers.{Rise, rise_same, below_stays, srb_taken_rises, drb_taken_rises, srb_sent_rises, drb_sent_rises, left_out_rises, srb_is_next, srb_is_used, drb_is_next, drb_is_used}
 use Rattle.lte_properties.proofs.Freshness.Phone.{types_apart}
 use Rattle.lte_properties.proofs.Freshness.Order.{on_key}
-
--- STEPS
-
--- a place that is spent stays so
-pub record Later (s t : Station Term ℕ) : Type 0 where
-  pub same : t.id ≡ s.id
-  pub next : s.next ≤ t.next
-  pub last : s.last ≤ t.last
-  pub free : (air : ℕ) → air < s.next → NoneWaits air s.preps → NoneWaits air t.preps
-
--- by the kind of the place
-later_spent : (s t : Station Term ℕ) → Later s t → (b : Bool) (place : ℕ) → IsSpent b place s.next s.last s.preps → IsSpent b place t.next t.last t.preps
-later_spent s t l true place h = (let k = l.next in let x = h.0 in omega arith, l.free place h.0 h.1)
-later_spent s t l false place h = let k = l.last in omega arith
-
--- a context goes, or stays with its KeNB and keys, and no COUNT falls
-abbrev pub Stays : Context Term ℕ → Context Term ℕ → Type 0
-Stays c d = (d.key.kenb ≡ c.key.kenb) × (d.keys ≡ c.keys) × Rise c.bearers d.bearers
-
--- by whether there is one
-abbrev pub ContextStays : Option (Context Term ℕ) → Option (Context Term ℕ) → Type 0
-ContextStays o None = ⊤
-ContextStays None (Some d) = ⊥
-ContextStays (Some c) (Some d) = Stays c d
-
--- a context that does not change stays
-stays_same : (o : Option (Context Term ℕ)) → ContextStays o o
-stays_same None = tt
-stays_same (Some c) = (refl, refl, rise_same c.bearers)
-
--- so does one that changes in other parts
-stays_map : (f : Context Term ℕ → Context Term ℕ) → ((c : Context Term ℕ) → Stays c (f c)) → (o : Option (Context Term ℕ)) → ContextStays o (option_map f o)
-stays_map f h None = tt
-stays_map f h (Some c) = h c
-
--- a pair that goes back leaves the KeNB
-restored_kenb : (key : StationKey Term ℕ) (o : Option (NumberedKey Term ℕ)) → (restored_if key o).kenb ≡ key.kenb
-restored_kenb key None = refl
-restored_kenb key (Some back) = refl
-
--- a use that the station had not made before, and has made now, of a key whose home it is
-abbrev pub IsOwn : Homes → Homes → ℕ → KeyUse Term → Type 0
-IsOwn taken given id u = OnKey (λ k type. IsAs type × ((h : Home) × (home taken given k ≡ Some h) × (h.station ≡ id))) u.key
-
--- a use that is new at a station
-abbrev pub NewAt : Homes → Homes → Station Term ℕ → Station Term ℕ → KeyUse Term → Type 0
-NewAt taken given s t u = (u.dir ≡ Down) × IsOwn taken given s.id u × StationUse taken given t u × (StationUse taken given s u → ⊥)
-
--- what a step of a station keeps
-pub record StationKeeps (taken given : Homes) (s t : Station Term ℕ) (sent : Option (Outgoing Term ℕ)) : Type 0 where
-  pub same : t.id ≡ s.id
-  pub stands : StationStands taken given t
-  pub old : (k : Term) (type count bearer : ℕ) → AsDown taken given s k type count bearer → AsDown taken given t k type count bearer
-  pub uses : AllOf (NewAt taken given s t) (uses_in sent)
-  pub apart : AllApart (uses_in sent)
-  pub sends : IfSome sent (RecordStands taken given)
-
--- WHAT A ROW NEEDS
-
--- a KeNB that is given is for this station and a newer connection; a preparation is of no older connection, draws the next
--- air address, and has a KeNB*; a key change draws two numbers, and its order takes the next COUNT of SRB1
-abbrev pub RecordNeeds : Homes → Station Term ℕ → RecordRow → Option (NumberedKey Term ℕ) → Type 0
-RecordNeeds given s (ContextGiven conn cell caps algs air) key =
-    IfSome key (λ k. (s.last < conn) × (air ≡ s.next) × (given k.key ≡ Some (home_at s.id conn)) × (is_star k.key ≡ false))
-RecordNeeds given s (PreparedByS1 w) key = (s.last ≤ w.conn) × (w.air ≡ s.next)
-RecordNeeds given s (PreparedByX2 w) key = (s.last ≤ w.conn) × (w.air ≡ s.next) × IfSome key (λ k. is_star k.key ≡ true)
-RecordNeeds given s (KeyRenewed conn number air count) key =
-    (s.last ≤ conn) × (number ≡ s.next) × (air ≡ s.next + 1) × IfSome s.context (λ c. count ≡ c.bearers.srb1.send)
-RecordNeeds given s other key = ⊤
-
--- the phone took the key of a preparation that completes, at this station and its air address
-abbrev pub TakenHere : Homes → ℕ → ℕ → Option (Prep Term ℕ) → Type 0
-TakenHere taken id air o = IfSome o (λ p. taken p.key.kenb ≡ Some (home_at id air))
-
-abbrev pub AirNeeds : Homes → Station Term ℕ → AirRow → Type 0
-AirNeeds taken s (CompletedByS1 air count) = TakenHere taken s.id air (at_air air s.preps)
-AirNeeds taken s (CompletedWithin air count origin) = TakenHere taken s.id air (at_air air s.preps)
-AirNeeds taken s (CompletedByX2 air count number) = TakenHere taken s.id air (at_air air s.preps)
-AirNeeds taken s other = ⊤
-
--- a COUNT sent with is the next one
-abbrev pub ActCounts : Option (Context Term ℕ) → ActRow → Type 0
-ActCounts o (HandoverCommanded order count) = IfSome o (λ c. count ≡ c.bearers.srb1.send)
-ActCounts o (ChangeCommanded renewal count) = IfSome o (λ c. count ≡ c.bearers.srb1.send)
-ActCounts o (PacketSent drb count text) = IfSome o (λ c. count ≡ (drb_counts drb c.bearers).send)
-ActCounts o (RrcSent srb count text) = IfSome o (λ c. count ≡ (srb_counts srb c.bearers).send)
-ActCounts o other = ⊤
+use Rattle.lte_properties.proofs.Freshness.StationKeeps.{Later, later_spent, Stays, ContextStays, stays_same, stays_map, restored_kenb, NewAt, StationKeeps, RecordNeeds, TakenHere, AirNeeds, ActCounts}
 
 module _ (taken given : Homes) where
   -- CONTEXTS THAT STAY

@@ -39,7 +39,7 @@ use Rattle.lte_properties.specs.FreshUses.{home_at, Homes, OnKey}
 use Rattle.lte_properties.specs.FreshHolds.{PrepStands, BetweenStands}
 use Rattle.lte_properties.proofs.ChainNumbers.Choice.{by_test, record_row_fits}
 use Rattle.lte_properties.proofs.ChainNumbers.Lists.{OfSome, all_find}
-use Rattle.lte_properties.proofs.Freshness.Station.{RecordNeeds, TakenHere, AirNeeds, ActCounts}
+use Rattle.lte_properties.proofs.Freshness.StationKeeps.{RecordNeeds, TakenHere, AirNeeds, ActCounts}
 
 -- ACTS
 

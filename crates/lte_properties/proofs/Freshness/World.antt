@@ -23,7 +23,7 @@ use Rattle.lte_properties.proofs.Freshness.Order.{home_grows, on_key}
 use Rattle.lte_properties.proofs.Freshness.Lists.{apart_append, apart_by, roots_kept}
 use Rattle.lte_properties.proofs.Freshness.Phone.{PhoneKeeps, NewUp}
 use Rattle.lte_properties.proofs.Freshness.Core.{CoreKeeps, NewDown}
-use Rattle.lte_properties.proofs.Freshness.Station.{StationKeeps, NewAt, IsOwn}
+use Rattle.lte_properties.proofs.Freshness.StationKeeps.{StationKeeps, NewAt, IsOwn}
 
 -- DIRECTIONS
 

@@ -16,7 +16,8 @@ use Rattle.lte_properties.specs.Agreement.{ObeysAgreement}
 use Rattle.lte_properties.specs.Separation.{SeparationHolds, GivingHolds}
 use Rattle.lte_properties.specs.SharedKeys.{SharedApart}
 use Rattle.lte_properties.proofs.KeySeparation.All.{HeldAll, run_held, first_held}
-use Rattle.lte_properties.proofs.KeySeparation.World.{Holders, run_holds, first_holds}
+use Rattle.lte_properties.proofs.KeySeparation.Holders.{Holders}
+use Rattle.lte_properties.proofs.KeySeparation.World.{run_holds, first_holds}
 use Rattle.lte_properties.proofs.KeySeparation.Run.{separates, made_from}
 use Rattle.lte_properties.proofs.KeySeparation.Attempts.{run_apart, first_apart}
 use Rattle.lte_properties.proofs.KeySeparation.Shared.{shared_apart}

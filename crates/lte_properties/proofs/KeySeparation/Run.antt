@@ -16,7 +16,7 @@ use Rattle.lte_properties.specs.Separation.{IsStationOf, HeldBy, GivenTo, HasNei
 use Rattle.lte_properties.proofs.ChainNumbers.Lists.{all_map}
 use Rattle.lte_properties.proofs.KeySeparation.Keys.{any_with, any_out, Gifts, MayHold, may_hold_well, BaseGiven, TriedOk, MadeBy, MadeFrom, MadeOk, HolderMay, HoldOk}
 use Rattle.lte_properties.proofs.KeySeparation.All.{HeldAll}
-use Rattle.lte_properties.proofs.KeySeparation.World.{Holders}
+use Rattle.lte_properties.proofs.KeySeparation.Holders.{Holders}
 
 -- a key of a chain that a station may hold was given to it
 chain_given : (G : Gifts) (sites : List Site) (id : ℕ) (r : ℕ) (octets : List ℕ) (n i : ℕ) → MayHold G sites id (nh (Root r octets) n i) → G (nh (Root r octets) n i) id

@@ -17,7 +17,7 @@ use Rattle.lte_properties.proofs.ChainNumbers.Choice.{by_some}
 use Rattle.lte_properties.proofs.ChainNumbers.Lists.{OfSome, all_find, all_map}
 use Rattle.lte_properties.proofs.KeySeparation.Keys.{any_map, OwnCell, MadeFrom, MadeOk}
 use Rattle.lte_properties.proofs.KeySeparation.Run.{neither_derives, as_given}
-use Rattle.lte_properties.proofs.KeySeparation.World.{Holders}
+use Rattle.lte_properties.proofs.KeySeparation.Holders.{Holders}
 
 -- made at this station
 at_station : (a b c d : ℕ) → ((a == b) && (c == d)) ≡ true → a ≡ b

@@ -17,7 +17,8 @@ use Rattle.lte_machine.specs.Wire.{Outgoing}
 use Rattle.lte_machine.specs.Reply.{Origin, Made, Tried, Reply, ByAttempt}
 use Rattle.lte_machine.specs.StationState.{Station, Context, Attempt, OverX2, OverS1, Within, X2Open, X2Ready, X2Commanded, S1Open, S1Ready, S1Commanded, Renewal, Renewing}
 use Rattle.lte_machine.specs.StationRows.{Wanted, RecordRow, RecordRefused, ContextGiven, ContextReleased, PairTaken, PreparedByS1, PreparedByX2, AckedByS1, AckedByX2, PreparationCancelled, SourceReleased, AirRow, AirRefused, SecurityStarted, RrcOpened, PacketOpened, CompletedByS1, CompletedWithin, CompletedByX2, ActRow, ActRefused, StartedByX2, StartedByS1, StartedWithin, HandoverCommanded, CancelledByX2, CancelledByS1, CancelledWithin, PathSwitchAsked, PacketSent, RrcSent, BearerSkipped, StationRow, OfRecord, OfAir, OfAct, KeyRenewed, ChangeCommanded}
-use Rattle.lte_machine.specs.StationKeys.{spent_in, s1_acked, x2_acked, commanded, given_up, with_pair, with_s1_ack, with_x2_ack, with_security, with_rrc_taken, with_packet_taken, with_skipped, source_release, wanted_made, context_given, pair_taken, prepared_by_s1, prepared_by_x2, completed_by_s1, completed_within, completed_by_x2, started_by_x2, started_by_s1, started_within, commands, asks_again, sends_packet, sends_rrc, record_does, air_does, act_does, station_does, key_renewed, commands_change}
+use Rattle.lte_machine.specs.StationKeys.{spent_in, commanded, given_up, with_security, with_rrc_taken, with_packet_taken, with_skipped, completed_by_s1, completed_within, completed_by_x2, started_by_x2, started_by_s1, started_within, commands, asks_again, sends_packet, sends_rrc, air_does, act_does, station_does, commands_change}
+use Rattle.lte_machine.specs.StationRecords.{s1_acked, x2_acked, with_pair, with_s1_ack, with_x2_ack, source_release, wanted_made, context_given, pair_taken, prepared_by_s1, prepared_by_x2, record_does, key_renewed}
 use Rattle.lte_machine.specs.World.{with_one}
 use Rattle.lte_properties.proofs.ChainNumbers.Lists.{OfSome, all_append, all_filter, all_find}
 use Rattle.lte_properties.proofs.KeySeparation.Keys.{any_map, any_new, GivesIn, Gifts, May, MayHold, may_star, may_go, OfPairKey, ContextHas, PrepHas, StationHas, BaseGiven, TriedOk, HasTried, IsKenb, OwnCell, FlyOk, MadeBy, MadeOk, OutsAre, OwnPlace}

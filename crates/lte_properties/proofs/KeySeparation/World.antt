@@ -1,6 +1,5 @@
 -- Which keys are held and given, in every world of every run.
-use Rattle.std.proofs.Common.{◌≡◌, refl, sym, ap, ◌∙◌, subst, ℕ, suc, ◌+◌, ◌⊎◌, inl, inr, ◌==◌, Bool, true, List, [], ◌∷◌, ◌++◌, length, map, filter, Option, Some, None, option_map, Result, Err, arith}
-use Rattle.std.proofs.lemmas.Bool.Decides.{nat_tests}
+use Rattle.std.proofs.Common.{◌≡◌, refl, sym, ap, ◌∙◌, subst, ℕ, ◌==◌, Bool, true, List, [], ◌∷◌, Option, Some, None, option_map, Result, Err}
 use Rattle.std.specs.Prelude.{⊤}
 use Rattle.std.specs.List.{position_from}
 use Rattle.alg_choice.specs.declared.caps.Caps.{Caps}
@@ -11,257 +10,48 @@ use Rattle.lte_events.specs.declared.acts.StationAct.{StationAct}
 use Rattle.lte_events.specs.declared.addresses.Address.{Address}
 use Rattle.lte_events.specs.declared.addresses.Address.TheVariants.{Phone, PhoneNas, CoreNas, CoreS1, StationAir, StationS1, StationX2}
 use Rattle.lte_events.specs.declared.answers.Answer.{Answer}
-use Rattle.lte_events.specs.declared.answers.Answer.TheVariants.{NoUe, NoRecord, Sent, RepeatedRoot, BadRecord}
+use Rattle.lte_events.specs.declared.answers.Answer.TheVariants.{NoUe, NoRecord, Sent, RepeatedRoot}
 use Rattle.lte_events.specs.declared.events.Event.{Event}
 use Rattle.lte_events.specs.declared.setups.Setup.{Setup}
 use Rattle.lte_events.specs.declared.setups.StationSetup.{StationSetup}
-use Rattle.lte_events.specs.Site.{Site, station_of}
+use Rattle.lte_events.specs.Site.{Site}
 use Rattle.key_model.specs.Term.{Term, Root, IsRoot, IsWellFormed}
-use Rattle.key_model.specs.Derivation.{Derivation}
 use Rattle.key_model.specs.HandoverTable.{NumberedKey}
 use Rattle.key_model.specs.Reading.{term_reading_by}
 use Rattle.s1x2_rec.specs.Fields.{Fields}
-use Rattle.s1x2_rec.specs.Content.{Content, map_content}
-use Rattle.lte_machine.specs.Bearers.{which}
-use Rattle.lte_machine.specs.Ladder.{RowOrigin, OfRoot, Of}
+use Rattle.s1x2_rec.specs.Content.{Content}
 use Rattle.lte_machine.specs.Wire.{KeyUse, Outgoing, SealedNas, PlainNas, SealedRrc, UserPacket, Between, address_of}
 use Rattle.lte_machine.specs.Opening.{Opening, Outcome, Opened}
-use Rattle.lte_machine.specs.Reply.{Made, Tried, Reply, unseen}
+use Rattle.lte_machine.specs.Reply.{Reply, unseen}
 use Rattle.lte_machine.specs.PhoneState.{Phone as PhoneState, PhoneInput, PhoneActs, PhoneNasPdu, PhoneAirPdu}
 use Rattle.lte_machine.specs.PhoneChoice.{phone_row}
 use Rattle.lte_machine.specs.PhoneRows.{Authenticated, OfAuth}
 use Rattle.lte_machine.specs.PhoneStep.{plain_phone, front_of, phone_root, phone_opens, phone_pdu_in, phone_step}
 use Rattle.lte_machine.specs.StationState.{Station, StationInput, StationActs, AirPdu, StationRecord, Interface, OnS1, OnX2, map_read}
-use Rattle.lte_machine.specs.StationRows.{RecordRow, RecordRefused, ContextGiven, ContextReleased, PairTaken, PreparedByS1, PreparedByX2, AckedByS1, AckedByX2, PreparationCancelled, SourceReleased, OfRecord, OfAir, OfAct, KeyRenewed}
-use Rattle.lte_machine.specs.StationChoice.{record_row, air_front, air_row, act_row}
-use Rattle.lte_machine.specs.StationStep.{plain_station, station_opens, station_pdu_in, station_step}
+use Rattle.lte_machine.specs.StationRows.{RecordRefused}
+use Rattle.lte_machine.specs.StationStep.{station_opens, station_pdu_in, station_step}
 use Rattle.lte_machine.specs.CoreState.{Core, CoreContext, CoreInput, CoreAuth, CoreActs, CoreNasPdu, CoreRecord, map_core_context}
-use Rattle.lte_machine.specs.CoreRows.{CoreNasRow, NasRefused, PlainReject, SmcComplete, ServiceAsked, NasOpened, SealedReject, CoreRecordRow, PathSwitched, HandoverAsked, HandoverOrdered, HandoverNotified, HandoverCancelled, CoreActRow, ActRefused, SmcStarted, ContextSetUp, NasSent, NasSkipped, SmcChange}
+use Rattle.lte_machine.specs.CoreRows.{CoreNasRow, NasRefused, PlainReject, SmcComplete, ServiceAsked, NasOpened, SealedReject, CoreRecordRow, PathSwitched, HandoverAsked, HandoverOrdered, HandoverNotified, HandoverCancelled, SmcChange}
 use Rattle.lte_machine.specs.CoreRows as core_rows
 use Rattle.lte_machine.specs.CoreChoice.{core_header, core_nas_front, core_nas_row, core_record_row, core_act_row}
 use Rattle.lte_machine.specs.CoreStep.{plain_core, core_opens, core_pdu_in, core_received, core_step}
-use Rattle.lte_machine.specs.World.{Machine, World, AtPhone, AtCore, AtStation, Holding, with_one, phone_after, core_after, station_after, by_world, phone_turn, core_turn, station_of_id, turn_of, station_turn, authenticated, auth_unless, is_root_row, known_root, next_root, content_in, arrives, chosen, delivered, class_of, is_sent, injected, happens}
+use Rattle.lte_machine.specs.World.{Machine, World, AtPhone, AtCore, AtStation, with_one, phone_after, core_after, station_after, by_world, phone_turn, core_turn, station_of_id, turn_of, station_turn, authenticated, auth_unless, known_root, next_root, content_in, arrives, chosen, delivered, class_of, is_sent, injected, happens}
 use Rattle.lte_machine.specs.Machines.{content_of}
 use Rattle.lte_machine.specs.Run.{stations_of, first_world}
 use Rattle.lte_properties.specs.ChainBelow.{AllOf}
 use Rattle.lte_properties.specs.ChainHolds.{machine_by, run}
-use Rattle.lte_properties.specs.ChainRows.{RecordFits, CoreFits}
-use Rattle.lte_properties.specs.Separation.{Gives, GivenTo}
-use Rattle.lte_properties.proofs.ChainNumbers.Choice.{record_row_fits}
-use Rattle.lte_properties.proofs.ChainNumbers.Lists.{OfSome, all_append, all_one, all_find, all_map, all_put, all_chosen}
+use Rattle.lte_properties.specs.ChainRows.{CoreFits}
+use Rattle.lte_properties.specs.Separation.{GivenTo}
+use Rattle.lte_properties.proofs.ChainNumbers.Lists.{OfSome, all_append, all_find, all_put, all_chosen}
 use Rattle.lte_properties.proofs.ChainNumbers.Core.{core_record_fits}
-use Rattle.lte_properties.proofs.KeySeparation.Keys.{Gifts, GivesIn, given_old, given_split, May, MayHold, may_hold, StationHas, StationOk, OwnCell, TriedOk, KeyGoes, FieldsOk, FlyOk, MadeOk, HoldOk, OutsAre, step_held, holder_may_grows, station_ok_grows, tried_ok_grows, fly_grows, made_ok_grows, OwnPlace}
-use Rattle.lte_properties.proofs.KeySeparation.Station.{StationKept, RecordNeeds, station_kept}
-use Rattle.lte_properties.proofs.KeySeparation.Phone.{PhoneOk, PhoneKept, Keyless, keyless_flies, phone_kept}
+use Rattle.lte_properties.proofs.KeySeparation.Keys.{Gifts, May, MayHold, StationHas, StationOk, TriedOk, KeyGoes, FieldsOk, FlyOk, MadeOk, HoldOk, step_held, holder_may_grows, station_ok_grows, tried_ok_grows, fly_grows, made_ok_grows, OwnPlace}
+use Rattle.lte_properties.proofs.KeySeparation.Station.{RecordNeeds}
+use Rattle.lte_properties.proofs.KeySeparation.Phone.{PhoneKept, keyless_flies, phone_kept}
 use Rattle.lte_properties.proofs.KeySeparation.Core as core
-use Rattle.lte_properties.proofs.KeySeparation.Core.{CoreOk, CoreKept, auth_kept}
-use Rattle.lte_properties.proofs.KeySeparation.Choice.{act_goes, CellOwn, record_own, RowNext, nas_next, act_triggered}
-use Rattle.annex_a_keys.specs.Cell.{Place}
-
--- THE INVARIANT
-
--- each key was given to one station
-abbrev pub Once : List (Outgoing Term ℕ) → Type 0
-Once xs = (t : Term) (a b : ℕ) → GivenTo xs t a → GivenTo xs t b → a ≡ b
-
--- the keys of each actor, of what is in flight and of what anybody held
-pub record Holders (sites : List Site) (w : World Term ℕ (Outgoing Term ℕ)) : Type 0 where
-  pub phone : PhoneOk w.phone
-  pub core : CoreOk (next_root w) (GivenTo w.sent) w.core
-  pub stations : AllOf (StationOk (GivenTo w.sent) sites) w.stations
-  pub flying : AllOf (FlyOk (GivenTo w.sent) sites w.tried) w.sent
-  pub held : AllOf (HoldOk (GivenTo w.sent) sites) w.held
-  pub once : Once w.sent
-  pub tried : AllOf (TriedOk (GivenTo w.sent)) w.tried
-  pub made : AllOf (MadeOk (GivenTo w.sent) sites w.tried) w.made
-
--- one record gives a key to one station
-gives_one : (t : Term) (a b : ℕ) (x : Outgoing Term ℕ) → Gives t a x → Gives t b x → a ≡ b
-gives_one t a b (SealedNas dir header u e text) h k = absurd h
-gives_one t a b (PlainNas octets) h k = absurd h
-gives_one t a b (SealedRrc dir station air srb u e text) h k = absurd h
-gives_one t a b (UserPacket dir station air drb e text) h k = absurd h
-gives_one t a b (Between (Phone station air bearer) fields key) h k = absurd h
-gives_one t a b (Between PhoneNas fields key) h k = absurd h
-gives_one t a b (Between CoreNas fields key) h k = absurd h
-gives_one t a b (Between CoreS1 fields key) h k = absurd h
-gives_one t a b (Between (StationAir station air bearer) fields key) h k = absurd h
-gives_one t a b (Between (StationX2 station) fields key) h k = absurd h
-gives_one t a b (Between (StationS1 station) fields None) h k = absurd h
-gives_one t a b (Between (StationS1 station) fields (Some key)) h k = sym h.1 ∙ k.1
-
-module _ (x : Option (Outgoing Term ℕ)) (xs : List (Outgoing Term ℕ)) where
-  given_by : (t : Term) (a b : ℕ) → GivesIn x t a → GivesIn x t b → a ≡ b
-  given_by t a b h k = of x h k where
-    of : (o : Option (Outgoing Term ℕ)) → GivesIn o t a → GivesIn o t b → a ≡ b
-    of None h k = absurd h
-    of (Some y) h k = gives_one t a b y h k
-
-  once_one : ((t : Term) (a b : ℕ) → GivenTo xs t a → GivesIn x t b → ⊥) → Once xs → Once (with_one x xs)
-  once_one fresh once t a b g h = by (given_split x xs t a g) (given_split x xs t b h) where
-    by : GivenTo xs t a ⊎ GivesIn x t a → GivenTo xs t b ⊎ GivesIn x t b → a ≡ b
-    by (inl k) (inl l) = once t a b k l
-    by (inl k) (inr l) = absurd (fresh t a b k l)
-    by (inr k) (inl l) = absurd (fresh t b a l k)
-    by (inr k) (inr l) = given_by t a b k l
-
-  -- a step that gives nothing leaves the core as it was
-  core_stays : (roots : ℕ) (s : Core Term ℕ) → ((t : Term) (a : ℕ) → GivesIn x t a → ⊥) → CoreOk roots (GivenTo xs) s → CoreOk roots (GivenTo (with_one x xs)) s
-  core_stays roots s none h = record {
-    partial = h.partial;
-    context = h.context;
-    trigger = h.trigger;
-    link = h.link;
-    given = λ t id g. by t id (given_split x xs t id g);
-  } where
-    by : (t : Term) (id : ℕ) → GivenTo xs t id ⊎ GivesIn x t id → core.Past roots s.partial s.context s.trigger t × core.AtMost s.link t
-    by t id (inl k) = h.given t id k
-    by t id (inr k) = absurd (none t id k)
-
-keyless_gives : (x : Option (Outgoing Term ℕ)) → Keyless x → (t : Term) (a : ℕ) → GivesIn x t a → ⊥
-keyless_gives None h t a g = g
-keyless_gives (Some (SealedNas dir header u e text)) h t a g = g
-keyless_gives (Some (PlainNas octets)) h t a g = g
-keyless_gives (Some (SealedRrc dir station air srb u e text)) h t a g = g
-keyless_gives (Some (UserPacket dir station air drb e text)) h t a g = g
-keyless_gives (Some (Between to fields key)) h t a g = absurd h
-
--- how many authentications there were: derivations add none, and an authentication adds one
-derived_adds_none : (ds : List (Derivation Term)) → length (filter is_root_row (map Of ds)) ≡ 0
-derived_adds_none [] = refl
-derived_adds_none (d ∷ ds) = derived_adds_none ds
-
-roots_stay : (hs : List (RowOrigin Term)) (ds : List (Derivation Term)) → length (filter is_root_row (hs ++ map Of ds)) ≡ length (filter is_root_row hs)
-roots_stay [] ds = derived_adds_none ds
-roots_stay (OfRoot k ∷ hs) ds = ap suc (roots_stay hs ds)
-roots_stay (Of d ∷ hs) ds = roots_stay hs ds
-
-roots_rise : (hs : List (RowOrigin Term)) (k : Term) → length (filter is_root_row (hs ++ OfRoot k ∷ [])) ≡ length (filter is_root_row hs) + 1
-roots_rise [] k = refl
-roots_rise (OfRoot l ∷ hs) k = ap suc (roots_rise hs k) ∙ omega arith
-roots_rise (Of d ∷ hs) k = roots_rise hs k
-
--- what is so of each grows
-module _ (sites : List Site) (w : World Term ℕ (Outgoing Term ℕ)) (x : Option (Outgoing Term ℕ)) (one : Option (Tried Term ℕ)) where
-  abbrev Old : Gifts
-  Old = GivenTo w.sent
-
-  abbrev New : Gifts
-  New = GivenTo (with_one x w.sent)
-
-  grows : (t : Term) (a : ℕ) → Old t a → New t a
-  grows t a h = given_old x w.sent t a h
-
-  stations_grow : (ss : List (Station Term ℕ)) → AllOf (StationOk Old sites) ss → AllOf (StationOk New sites) ss
-  stations_grow ss h = all_map (StationOk Old sites) (StationOk New sites) (station_ok_grows Old New grows sites) ss h
-
-  flying_grow : AllOf (FlyOk Old sites w.tried) w.sent → OfSome (FlyOk New sites (with_one one w.tried)) x → AllOf (FlyOk New sites (with_one one w.tried)) (with_one x w.sent)
-  flying_grow h k =
-      all_one (FlyOk New sites (with_one one w.tried)) x w.sent
-      (all_map (FlyOk Old sites w.tried) (FlyOk New sites (with_one one w.tried)) (fly_grows Old New grows sites w.tried one) w.sent h) k
-
-  held_grow : (hs : List (Holding Term)) → AllOf (HoldOk Old sites) w.held → AllOf (HoldOk New sites) hs → AllOf (HoldOk New sites) (w.held ++ hs)
-  held_grow hs h k =
-      all_append (HoldOk New sites) w.held hs
-      (all_map (HoldOk Old sites) (HoldOk New sites) (λ e l. holder_may_grows Old New grows sites e.holder e.key l) w.held h) k
-
-  tried_grow : AllOf (TriedOk Old) w.tried → OfSome (TriedOk New) one → AllOf (TriedOk New) (with_one one w.tried)
-  tried_grow h k = all_one (TriedOk New) one w.tried (all_map (TriedOk Old) (TriedOk New) (tried_ok_grows Old New grows sites) w.tried h) k
-
-  made_grow : (made : Option (Made Term ℕ)) → AllOf (MadeOk Old sites w.tried) w.made → OfSome (MadeOk New sites (with_one one w.tried)) made → AllOf (MadeOk New sites (with_one one w.tried)) (with_one made w.made)
-  made_grow made h k =
-      all_one (MadeOk New sites (with_one one w.tried)) made w.made
-      (all_map (MadeOk Old sites w.tried) (MadeOk New sites (with_one one w.tried)) (made_ok_grows Old New grows sites w.tried one) w.made h) k
-
-some_map : {A : Type 0} (P Q : A → Type 0) → ((x : A) → P x → Q x) → (o : Option A) → OfSome P o → OfSome Q o
-some_map P Q f None h = tt
-some_map P Q f (Some x) h = f x h
-
-outs_map : (P Q : Term → Type 0) → ((t : Term) → P t → Q t) → (ds : List (Derivation Term)) → OutsAre P ds → OutsAre Q ds
-outs_map P Q f ds h = all_map (λ d. P d.out) (λ d. Q d.out) (λ d k. f d.out k) ds h
-
--- THE STEP OF ONE ACTOR
-
--- where a record comes to a station
-abbrev pub station_at : Interface → ℕ → Address
-station_at OnS1 id = StationS1 id
-station_at OnX2 id = StationX2 id
-
--- what a step of a station keeps, with the key that it read
-abbrev pub StationStepped : Gifts → List Site → List (Tried Term ℕ) → ℕ → Station Term ℕ × Reply Term ℕ → Type 0
-StationStepped G sites tried id d =
-    StationKept G sites tried id d.0 d.1.sent d.1.derived d.1.tried d.1.made × OfSome (MayHold G sites id) d.1.received
-
-module _ (G : Gifts) (sites : List Site) (tried : List (Tried Term ℕ)) (same : Term → Term → Bool) (s : Station Term ℕ) (h : StationOk G sites s) where
-  abbrev Stepped : Station Term ℕ × Reply Term ℕ → Type 0
-  Stepped d = StationStepped G sites tried s.id d
-
-  act_stepped : (act : StationAct) (outcome : Outcome) → Stepped (station_step (term_reading_by same) s (StationActs act) outcome)
-  act_stepped act outcome = (
-    station_kept G sites tried same s h.cells (OfAct (act_row (plain_station (term_reading_by same) s) act)) None
-        (act_goes sites s.id (plain_station (term_reading_by same) s) act refl h.cells) h.keys,
-    tt,
-  )
-
-  air_stepped : (air : ℕ) (bearer : Bearer) (pdu : List ℕ) (outcome : Outcome) → Stepped (station_step (term_reading_by same) s (AirPdu air bearer pdu) outcome)
-  air_stepped air bearer pdu outcome = (
-    station_kept G sites tried same s h.cells
-        (OfAir (air_row (plain_station (term_reading_by same) s) (air_front (plain_station (term_reading_by same) s) air (which bearer) pdu) outcome)) None tt h.keys,
-    tt,
-  )
-
-  unread_stepped : (on : Interface) (fault : RecFault) (outcome : Outcome) → Stepped (station_step (term_reading_by same) s (StationRecord on (Err fault)) outcome)
-  unread_stepped on fault outcome = (station_kept G sites tried same s h.cells (OfRecord (RecordRefused (BadRecord fault))) None tt h.keys, tt)
-
-  -- a record with a key goes to a station that may have it, and with a KeNB* to the one of its cell
-  goes_may : (on : Interface) (to : Address) (t : Term) → to ≡ station_at on s.id → KeyGoes G sites to t → May G sites s.id t × OwnCell sites s.id t
-  goes_may OnS1 to t e k = subst (λ a. KeyGoes G sites a t) e k
-  goes_may OnX2 to t e k = subst (λ a. KeyGoes G sites a t) e k
-
-  own : (cell : Place) → OwnPlace s.cells s.id cell → OwnPlace sites s.id cell
-  own cell = subst (λ l. OwnPlace l s.id cell) h.cells
-
-  row_needs : (fields : Fields) (key : NumberedKey Term ℕ) → May G sites s.id key.key × OwnCell sites s.id key.key → FieldsOk tried fields (Some key) → (row : RecordRow) → RecordFits s fields row →
-      CellOwn s.cells s.id row → RecordNeeds G sites tried s.id row key
-  row_needs fields key m f (RecordRefused answer) r c = tt
-  row_needs fields key m f (ContextGiven conn cell caps algs air) r c = (m.0, subst (λ g. FieldsOk tried g (Some key)) r.0 f, own cell c)
-  row_needs fields key m f ContextReleased r c = tt
-  row_needs fields key m f (PairTaken conn origin) r c = m.0
-  row_needs fields key m f (PreparedByS1 w) r c =
-      (m.0, subst (λ g. FieldsOk tried g (Some key)) r.0 f, own w.cell c)
-  row_needs fields key m f (PreparedByX2 w) r c = (m.0, subst (λ g. FieldsOk tried g (Some key)) r.0 f, m.1, own w.cell c)
-  row_needs fields key m f (AckedByS1 ncc algs air) r c = tt
-  row_needs fields key m f (AckedByX2 algs air) r c = tt
-  row_needs fields key m f (PreparationCancelled from) r c = tt
-  row_needs fields key m f SourceReleased r c = tt
-  row_needs fields key m f (KeyRenewed conn number air count) r c = m.0
-
-  abbrev row_at : Interface → Outgoing Term ℕ → RecordRow
-  row_at on x = record_row (plain_station (term_reading_by same) s) on (map_read unseen (term_reading_by same).ncc (content_of x))
-
-  record_stepped : (on : Interface) (x : Outgoing Term ℕ) (outcome : Outcome) → address_of x ≡ station_at on s.id → FlyOk G sites tried x →
-      Stepped (station_step (term_reading_by same) s (StationRecord on (content_of x)) outcome)
-  record_stepped on (SealedNas dir header u e text) outcome a f = unread_stepped on RecFault.Short outcome
-  record_stepped on (PlainNas octets) outcome a f = unread_stepped on RecFault.Short outcome
-  record_stepped on (SealedRrc dir station air srb u e text) outcome a f = unread_stepped on RecFault.Short outcome
-  record_stepped on (UserPacket dir station air drb e text) outcome a f = unread_stepped on RecFault.Short outcome
-  record_stepped on (Between to fields None) outcome a f =
-      (station_kept G sites tried same s h.cells (OfRecord (row_at on (Between to fields None))) None tt h.keys, tt)
-  record_stepped on (Between to fields (Some key)) outcome a f =
-      let m = goes_may on to key.key a f.0 in (
-        station_kept G sites tried same s h.cells (OfRecord (row_at on (Between to fields (Some key)))) (Some key)
-            (row_needs fields key m f.1 (row_at on (Between to fields (Some key)))
-            (record_row_fits (term_reading_by same) s on (record { fields = fields; key = Some key }))
-            (record_own (plain_station (term_reading_by same) s) on (map_content unseen (term_reading_by same).ncc (record { fields = fields; key = Some key })))) h.keys,
-        may_hold G sites s.id key.key m.0,
-      )
-
-is_one : (a b : ℕ) → (a == b) ≡ true → a ≡ b
-is_one a b e = grind (arith, nat_tests)
-
-all_each : {A : Type 0} (P : A → Type 0) → ((x : A) → P x) → (xs : List A) → AllOf P xs
-all_each P f [] = tt
-all_each P f (x ∷ xs) = (f x, all_each P f xs)
+use Rattle.lte_properties.proofs.KeySeparation.CoreKeeps.{CoreOk, CoreKept}
+use Rattle.lte_properties.proofs.KeySeparation.Core.{auth_kept}
+use Rattle.lte_properties.proofs.KeySeparation.Choice.{RowNext, nas_next, act_triggered}
+use Rattle.lte_properties.proofs.KeySeparation.Holders.{Holders, keyless_gives, roots_stay, roots_rise, some_map, outs_map, station_at, StationStepped, is_one, once_one, core_stays, grows, stations_grow, flying_grow, held_grow, tried_grow, made_grow, act_stepped, air_stepped, unread_stepped, record_stepped}
 
 module _ (sites : List Site) (same : Term → Term → Bool) (octets : Outgoing Term ℕ → List ℕ) (sender : Option (Outgoing Term ℕ) → Option (KeyUse Term)) (opener : Opening Term → List ℕ → Option (Outgoing Term ℕ) → Outcome) where
   abbrev TheWorld : Type 0

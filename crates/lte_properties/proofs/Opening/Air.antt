@@ -28,6 +28,7 @@ use Rattle.lte_machine.specs.StationState.{Station, Context, Renewal}
 use Rattle.lte_machine.specs.StationRows as station
 use Rattle.lte_machine.specs.StationRows.{StationRow, Wanted}
 use Rattle.lte_machine.specs.StationKeys as station_keys
+use Rattle.lte_machine.specs.StationRecords as station_records
 use Rattle.lte_machine.specs.StationKeys.{station_does}
 use Rattle.lte_properties.specs.Agreement.{made_at}
 use Rattle.lte_properties.proofs.Agreement.Ghost.{Ghost, keys_of, FromIs, RadioOk, CtxOk}
@@ -138,34 +139,34 @@ module _ (same : Term → Term → Bool) (g : Ghost) where
   r = term_reading_by same
 
   given_sends : (conn : ℕ) (cell : Place) (caps : Caps) (algs : Algs) (air : ℕ) (key : Option (NumberedKey Term ℕ)) (s : Station Term ℕ)
-      → FromStation g (station_keys.context_given r conn cell caps algs air key s).1.sent
+      → FromStation g (station_records.context_given r conn cell caps algs air key s).1.sent
   given_sends conn cell caps algs air None s = tt
   given_sends conn cell caps algs air (Some received) s = λ sent e. absurd (no_data (SecurityModeCommand algs s.id air) tt sent e)
 
-  source_sends : (conn : ℕ) (origin : Option Origin) → FromStation g (station_keys.source_release conn origin)
+  source_sends : (conn : ℕ) (origin : Option Origin) → FromStation g (station_records.source_release conn origin)
   source_sends conn None = tt
   source_sends conn (Some o) = tt
 
   pair_sends : (conn : ℕ) (origin : Option Origin) (key : Option (NumberedKey Term ℕ)) (s : Station Term ℕ)
-      → FromStation g (station_keys.pair_taken conn origin key s).1.sent
+      → FromStation g (station_records.pair_taken conn origin key s).1.sent
   pair_sends conn origin None s = tt
   pair_sends conn origin (Some pair) s = source_sends conn origin
 
-  s1_sends : (w : Wanted) (key : Option (NumberedKey Term ℕ)) (s : Station Term ℕ) → FromStation g (station_keys.prepared_by_s1 r w key s).1.sent
+  s1_sends : (w : Wanted) (key : Option (NumberedKey Term ℕ)) (s : Station Term ℕ) → FromStation g (station_records.prepared_by_s1 r w key s).1.sent
   s1_sends w None s = tt
   s1_sends w (Some pair) s = tt
 
-  x2_sends : (w : Wanted) (key : Option (NumberedKey Term ℕ)) (s : Station Term ℕ) → FromStation g (station_keys.prepared_by_x2 r w key s).1.sent
+  x2_sends : (w : Wanted) (key : Option (NumberedKey Term ℕ)) (s : Station Term ℕ) → FromStation g (station_records.prepared_by_x2 r w key s).1.sent
   x2_sends w None s = tt
   x2_sends w (Some star) s = tt
 
   renewed_sends : (conn number air count : ℕ) (o : Option (Context Term ℕ)) (key : Option (NumberedKey Term ℕ)) (s : Station Term ℕ)
-      → FromStation g (station_keys.key_renewed r conn number air count o key s).1.sent
+      → FromStation g (station_records.key_renewed r conn number air count o key s).1.sent
   renewed_sends conn number air count None key s = tt
   renewed_sends conn number air count (Some c) None s = tt
   renewed_sends conn number air count (Some c) (Some kenb) s = λ sent e. absurd (no_data (KeyChange c.cell c.algs s.id air) tt sent e)
 
-  record_sends : (row : station.RecordRow) (key : Option (NumberedKey Term ℕ)) (s : Station Term ℕ) → FromStation g (station_keys.record_does r row key s).1.sent
+  record_sends : (row : station.RecordRow) (key : Option (NumberedKey Term ℕ)) (s : Station Term ℕ) → FromStation g (station_records.record_does r row key s).1.sent
   record_sends (station.RecordRefused answer) key s = tt
   record_sends (station.ContextGiven conn cell caps algs air) key s = given_sends conn cell caps algs air key s
   record_sends station.ContextReleased key s = tt
