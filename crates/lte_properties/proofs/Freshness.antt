@@ -4,6 +4,7 @@ pub mod CoreFront
 pub mod Lists
 pub mod Order
 pub mod Phone
+pub mod PhoneNas
 pub mod PhoneRun
 pub mod Run
 pub mod Station

@@ -24,7 +24,7 @@ use Rattle.lte_properties.specs.FreshHolds.{IsPast, NasKeysOf, core_partial_root
 use Rattle.lte_properties.proofs.ChainNumbers.Choice.{by_some}
 use Rattle.lte_properties.proofs.Freshness.Order.{homed, homed_here, homed_is, homed_grows}
 use Rattle.lte_properties.proofs.Freshness.Lists.{both_apart}
-use Rattle.lte_properties.proofs.Freshness.Phone.{types_apart}
+use Rattle.lte_properties.proofs.Freshness.PhoneNas.{types_apart}
 
 -- a use that the core had not made before, and has made now, of a NAS key
 abbrev pub NewDown : ℕ → Core Term ℕ → Core Term ℕ → KeyUse Term → Type 0

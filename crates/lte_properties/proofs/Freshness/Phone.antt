@@ -1,324 +1,36 @@
 -- What each row of the phone keeps of the keys that it takes and uses.
-use Rattle.std.proofs.Common.{◌≡◌, refl, sym, ap, ◌∙◌, subst, ℕ, ◌+◌, ◌<◌, ◌≤◌, ◌==◌, ◌⊎◌, inl, inr, Bool, true, false, List, Option, Some, None, arith}
+use Rattle.std.proofs.Common.{◌≡◌, refl, sym, ap, ◌∙◌, subst, ℕ, ◌<◌, ◌==◌, ◌⊎◌, inl, inr, Bool, true, false, List, Option, Some, None, arith}
 use Rattle.std.specs.Prelude.{IfSome}
 use Rattle.alg_choice.specs.declared.algs.Algs.{Algs}
 use Rattle.alg_choice.specs.Algs.{identity_of, eia2_identity}
 use Rattle.annex_a_keys.specs.Cell.{Place}
 use Rattle.rec_base.specs.declared.uses.Dir.TheVariants.{Up}
 use Rattle.rec_base.specs.Bearer.{bearer5_of}
-use Rattle.lte_events.specs.declared.answers.Answer.{Answer}
-use Rattle.key_model.specs.Term.{Term, Root, Kenb, Nh, Star, Alg}
+use Rattle.key_model.specs.Term.{Term, Kenb, Star, Alg}
 use Rattle.key_model.specs.Reading.{term_reading, term_reading_by}
 use Rattle.nas_count.specs.declared.sending.TheConstants.{LIMIT as NAS_LIMIT}
-use Rattle.nas_guard.specs.Keys.{Keys}
 use Rattle.rrc_rec.specs.declared.records.RrcRecord.{RrcRecord}
 use Rattle.nh_chain.specs.Chain.{begun}
 use Rattle.nh_chain.specs.Reach.{reached_after}
 use Rattle.pdcp_guard.specs.AsKeys.{AsKeys, as_keys_of}
 use Rattle.lte_machine.specs.Bearers.{Srb, Signalling1, Drb, Which, Bearers, of_srb, of_drb, srb_counts, drb_counts, srb_sent, drb_sent, srb_taken, skipped, new_bearers}
-use Rattle.lte_machine.specs.Wire.{KeyUse, Outgoing, SealedNas, PlainNas, UserPacket, uses_of, nas_use, drb_use, drb_ciphering, nas_ciphering}
+use Rattle.lte_machine.specs.Wire.{Outgoing, UserPacket, uses_of, drb_use, drb_ciphering}
 use Rattle.lte_machine.specs.Reply.{Took, Commanded}
-use Rattle.lte_machine.specs.PhoneState.{nas_keys_of, Partial, NasContext, Link, Radio, Idle, Connecting, Connected, Phone}
-use Rattle.lte_machine.specs.PhoneRows.{NasRow, NasRefused, RejectedPlain, RejectedUnder, ContextTaken, ContextTakenConnected, NasOpened, AirRow, AirRefused, LinkSecured, HandedOver, RrcOpened, PacketOpened, ActRow, ActRefused, ServiceRequested, CompleteResent, WentIdle, PacketSent, RrcSent, NasSent, NasSkipped, BearerSkipped, KeyChanged}
-use Rattle.lte_machine.specs.PhoneKeys.{rrc_sealed, one_nas_sent, with_bearers, context_of, rejected_under, context_taken, context_taken_connected, nas_opened, nas_does, link_secured, arrived, handed_over, rrc_opened, packet_opened, air_does, service_requested, complete_resent, packet_sent, rrc_sent, nas_sent, nas_skipped, bearer_skipped, act_does, before_of, changed_unless, key_changed}
+use Rattle.lte_machine.specs.PhoneState.{NasContext, Link, Radio, Idle, Connecting, Connected, Phone}
+use Rattle.lte_machine.specs.PhoneRows.{AirRow, AirRefused, LinkSecured, HandedOver, RrcOpened, PacketOpened, ActRow, ActRefused, ServiceRequested, CompleteResent, WentIdle, PacketSent, RrcSent, NasSent, NasSkipped, BearerSkipped, KeyChanged}
+use Rattle.lte_machine.specs.PhoneKeys.{rrc_sealed, with_bearers, link_secured, arrived, handed_over, rrc_opened, packet_opened, air_does, service_requested, complete_resent, packet_sent, rrc_sent, nas_sent, nas_skipped, bearer_skipped, act_does, before_of, changed_unless, key_changed}
 use Rattle.lte_machine.specs.World.{uses_in}
 use Rattle.lte_properties.specs.ChainBelow.{AllOf}
 use Rattle.lte_properties.specs.FreshOrder.{authentication_of, IsBefore, IsNotAfter, IsLevel}
-use Rattle.lte_properties.specs.FreshUses.{Home, home_at, Homes, Grows, OnKey, IsNas, IsAs, NasUp, AsUp, UpUse, next_on, send_on, AllApart}
-use Rattle.lte_properties.specs.FreshHolds.{Mark, IsPast, AsKeysOf, partial_root, phone_mark, RadioStands, PhoneStands, RecordStands, KeyOlder, RadioOlder, kasme_in_use}
-use Rattle.lte_properties.proofs.Freshness.Order.{not_before_itself, before_is_not_after, not_after_itself, not_after_before, past_is_before, past_alike, star_is_later, homed, homed_here, homed_is, homed_grows}
+use Rattle.lte_properties.specs.FreshUses.{Home, home_at, Homes, OnKey, IsAs, next_on, send_on, AllApart}
+use Rattle.lte_properties.specs.FreshHolds.{IsPast, AsKeysOf, partial_root, phone_mark, PhoneStands, RecordStands, KeyOlder, kasme_in_use}
+use Rattle.lte_properties.proofs.Freshness.Order.{not_before_itself, before_is_not_after, not_after_itself, not_after_before, past_alike, star_is_later, homed, homed_here, homed_is, homed_grows}
 use Rattle.lte_properties.proofs.Freshness.Lists.{both_apart}
 use Rattle.lte_properties.proofs.Freshness.Bearers.{Rise, below_stays, srb_taken_rises, drb_taken_rises, srb_sent_rises, drb_sent_rises, left_out_rises, srb_is_next, srb_is_used, drb_is_next, drb_is_used}
 use Rattle.lte_properties.proofs.Opening.Opens.{IsReflexive}
-
--- a use that the phone had not made before, and has made now
-abbrev pub NewUp : ℕ → Homes → Homes → Phone Term ℕ → Phone Term ℕ → KeyUse Term → Type 0
-NewUp roots taken new s t u = (u.dir ≡ Up) × UpUse roots new t u × (UpUse roots taken s u → ⊥)
-
--- what a step of the phone keeps, with the homes of keys afterwards
-pub record PhoneKeeps (roots : ℕ) (taken : Homes) (s t : Phone Term ℕ) (sent : Option (Outgoing Term ℕ)) (took : Option (Took Term ℕ)) : Type 0 where
-  pub new : Homes
-  pub grows : Grows taken new
-  pub stands : PhoneStands roots new t
-  pub nas : (k : Term) (count : ℕ) → NasUp roots s.partial s.context k count → NasUp roots t.partial t.context k count
-  pub link : (k : Term) (type count bearer : ℕ) → AsUp taken s.radio k type count bearer → AsUp new t.radio k type count bearer
-  pub uses : AllOf (NewUp roots taken new s t) (uses_in sent)
-  pub apart : AllApart (uses_in sent)
-  pub sends : (given : Homes) → IfSome sent (RecordStands new given)
-  pub takes : IfSome took (λ x. new x.key ≡ Some (home_at x.station x.air))
-  pub rises : IfSome took (λ x. (k : Term) (h : Home) → taken k ≡ Some h → IsBefore k x.key)
-
--- the type of an algorithm key
-abbrev pub type_of : Term → ℕ
-type_of (Alg t type id) = type
-type_of (Root r octets) = 0
-type_of (Kenb r n) = 0
-type_of (Nh r t) = 0
-type_of (Star t pci earfcn) = 0
-
--- uses of keys of two types are two
-pub types_apart : (u v : KeyUse Term) (m n : ℕ) → type_of u.key ≡ m → type_of v.key ≡ n → (m ≡ n → ⊥) → v ≡ u → ⊥
-types_apart u v m n e f d g = d (sym e ∙ sym (ap (λ (x : KeyUse Term). type_of x.key) g) ∙ f)
-
-true_false : true ≡ false → ⊥
-true_false e = cc
+use Rattle.lte_properties.proofs.Freshness.PhoneNas.{NewUp, PhoneKeeps, types_apart, true_false, still, sealed, left_out, requested}
 
 module _ (roots : ℕ) (taken : Homes) where
-  -- nothing changes
-  still : (s : Phone Term ℕ) → PhoneStands roots taken s → PhoneKeeps roots taken s s None None
-  still s h = record {
-    new = taken;
-    grows = λ t k e. e;
-    stands = h;
-    nas = λ k count u. u;
-    link = λ k type count bearer u. u;
-    uses = tt;
-    apart = tt;
-    sends = λ given. tt;
-    takes = tt;
-    rises = tt;
-  }
-
-  -- a record goes as it is
-  plain_sent : (octets : List ℕ) (s : Phone Term ℕ) → PhoneStands roots taken s → PhoneKeeps roots taken s s (Some (PlainNas octets)) None
-  plain_sent octets s h = record {
-    new = taken;
-    grows = λ t k e. e;
-    stands = h;
-    nas = λ k count u. u;
-    link = λ k type count bearer u. u;
-    uses = tt;
-    apart = tt;
-    sends = λ given. tt;
-    takes = tt;
-    rises = tt;
-  }
-
-  -- NAS
-
-  -- a key that is past stays so as the COUNT rises
-  later_mark : (partial : Option ℕ) (root m n : ℕ) (t : Term) → m ≤ n → IsPast roots partial (Some (record { root = root; count = m })) t →
-      IsPast roots partial (Some (record { root = root; count = n })) t
-  later_mark partial root m n t le h = (h.0, h.1, (h.2.0, λ e. let k = h.2.1 e in omega arith))
-
-  -- and so the radio
-  later_radio : (partial : Option ℕ) (root m n : ℕ) (radio : Radio Term ℕ) → m ≤ n →
-      RadioStands roots partial (Some (record { root = root; count = m })) taken radio → RadioStands roots partial (Some (record { root = root; count = n })) taken radio
-  later_radio partial root m n Idle le h = tt
-  later_radio partial root m n (Connecting w) le h = (later_mark partial root m n w.kenb le h.0, h.1)
-  later_radio partial root m n (Connected l) le h = h
-
-  -- the KASME of the context in use is another than that of a newer partial context
-  other_root : (root : Term) (o : Option (Partial Term)) → IfSome (partial_root o) (λ p. authentication_of root < p) → IfSome o (λ p. root ≡ p.root → ⊥)
-  other_root root None h = tt
-  other_root root (Some p) h = λ e. let k = ap authentication_of e in absurd (omega arith)
-
-  module _ (s : Phone Term ℕ) (c : NasContext Term) where
-    -- the context's next COUNT rises
-    counts_on : (n : ℕ) → c.send ≤ n → PhoneStands roots taken (record s { context = Some c }) → PhoneStands roots taken (record s { context = Some (record c { send = n }) })
-    counts_on n le h = (
-      h.0,
-      h.1,
-      λ t k e. later_mark (partial_root s.partial) (authentication_of c.root) c.send n t le (h.2 t k e),
-      later_radio (partial_root s.partial) (authentication_of c.root) c.send n s.radio le h.3,
-      h.4,
-      let x = h.5 in omega arith,
-    )
-
-    -- uses stay below the next COUNT
-    counts_nas : (n : ℕ) → c.send ≤ n → (k : Term) (count : ℕ) → NasUp roots s.partial (Some c) k count → NasUp roots s.partial (Some (record c { send = n })) k count
-    counts_nas n le k count u = (u.0, u.1, λ e. let x = u.2 e in omega arith)
-
-    -- the next COUNT under a NAS key of the context is new
-    new_nas : (radio : Radio Term ℕ) (type id bearer : ℕ) → IsNas type → PhoneStands roots taken (record s { context = Some c }) →
-        NewUp roots taken taken (record s { context = Some c }) (record s { context = Some (one_nas_sent c); radio = radio })
-        (record { key = Alg c.root type id; count = c.send; bearer = bearer; dir = Up })
-    new_nas radio type id bearer lt h = (
-      refl,
-      (λ n. (h.0.1.0, other_root c.root s.partial h.0.1.1, λ e. omega arith), λ a. absurd (omega arith)),
-      λ old. let x = (old.0 lt).2 refl in absurd (omega arith),
-    )
-
-    -- both uses of a NAS sending
-    abbrev BothNas : Radio Term ℕ → Keys Term → Type 0
-    BothNas radio keys =
-        NewUp roots taken taken (record s { context = Some c }) (record s { context = Some (one_nas_sent c); radio = radio }) (nas_use Up keys.enc c.send)
-        × NewUp roots taken taken (record s { context = Some c }) (record s { context = Some (one_nas_sent c); radio = radio }) (nas_use Up keys.int c.send)
-        × (nas_use Up keys.int c.send ≡ nas_use Up keys.enc c.send → ⊥)
-
-    -- both are new, under the keys of the context
-    both_nas : (radio : Radio Term ℕ) → PhoneStands roots taken (record s { context = Some c }) → BothNas radio c.keys
-    both_nas radio h = subst (BothNas radio) (sym h.1)
-        (new_nas radio 1 (identity_of c.keys.algs.eea) _ (omega arith) h, new_nas radio 2 eia2_identity _ (omega arith) h, types_apart _ _ 1 2 refl refl (λ e. absurd (omega arith)))
-
-    -- a NAS text takes the next COUNT
-    sealed : (header : ℕ) (text : List ℕ) → PhoneStands roots taken (record s { context = Some c }) →
-        PhoneKeeps roots taken (record s { context = Some c }) (record s { context = Some (one_nas_sent c) })
-        (Some (SealedNas Up header (nas_use Up c.keys.int c.send) (Some (nas_ciphering Up c.keys c.send)) text)) None
-    sealed header text h = let b = both_nas s.radio h in record {
-      new = taken;
-      grows = λ t k e. e;
-      stands = counts_on (c.send + 1) (omega arith) h;
-      nas = counts_nas (c.send + 1) (omega arith);
-      link = λ k type count bearer u. u;
-      uses = (b.0, (b.1, tt));
-      apart = both_apart _ _ b.2;
-      sends = λ given. tt;
-      takes = tt;
-      rises = tt;
-    }
-
-    -- COUNTs are left out
-    left_out : (n : ℕ) → c.send ≤ n → PhoneStands roots taken (record s { context = Some c }) →
-        PhoneKeeps roots taken (record s { context = Some c }) (record s { context = Some (record c { send = n }) }) None None
-    left_out n le h = record {
-      new = taken;
-      grows = λ t k e. e;
-      stands = counts_on n le h;
-      nas = counts_nas n le;
-      link = λ k type count bearer u. u;
-      uses = tt;
-      apart = tt;
-      sends = λ given. tt;
-      takes = tt;
-      rises = tt;
-    }
-
-    -- a SERVICE REQUEST, and the KeNB of its COUNT
-    requested : (text : List ℕ) → PhoneStands roots taken (record s { context = Some c }) →
-        PhoneKeeps roots taken (record s { context = Some c })
-        (record s { context = Some (one_nas_sent c); radio = Connecting (record { root = c.root; kenb = Kenb c.root c.send }) })
-        (Some (SealedNas Up 1 (nas_use Up c.keys.int c.send) None text)) None
-    requested text h =
-        let radio : Radio Term ℕ = Connecting (record { root = c.root; kenb = Kenb c.root c.send }) in
-        let b = both_nas radio h in record {
-          new = taken;
-          grows = λ t k e. e;
-          stands = (
-            h.0,
-            h.1,
-            λ t k e. later_mark (partial_root s.partial) (authentication_of c.root) c.send (c.send + 1) t (omega arith) (h.2 t k e),
-            ((h.0.1.0, h.0.1.1, (omega arith, λ e. omega arith)), λ t k e. past_is_before roots (partial_root s.partial) c.root c.send t (h.2 t k e)),
-            (refl, inl refl),
-            omega arith,
-          );
-          nas = counts_nas (c.send + 1) (omega arith);
-          link = λ k type count bearer u. (u.0, u.1, tt);
-          uses = (b.1, tt);
-          apart = (tt, tt);
-          sends = λ given. tt;
-          takes = tt;
-          rises = tt;
-        }
-
-  -- a new context in use, of the partial context's KASME
-  module _ (same : Term → Term → Bool) (algs : Algs) (count : ℕ) (s : Phone Term ℕ) (p : Partial Term) where
-    -- a key that comes before the new context comes before its first KeNB
-    past_all : (mark : Option Mark) (t : Term) → IsPast roots (Some (authentication_of p.root)) mark t →
-        IsPast roots None (Some (record { root = authentication_of p.root; count = 1 })) t
-    past_all mark t h = (h.0, tt, (let x = h.1 in omega arith, λ e. let x = h.1 in absurd (omega arith)))
-
-    -- a connection stands beside a new context
-    taken_radio : (mark : Option Mark) (radio : Radio Term ℕ) → RadioStands roots (Some (authentication_of p.root)) mark taken radio →
-        RadioStands roots None (Some (record { root = authentication_of p.root; count = 1 })) taken radio
-    taken_radio mark Idle h = tt
-    taken_radio mark (Connecting w) h = (past_all mark w.kenb h.0, h.1)
-    taken_radio mark (Connected l) h = h
-
-    -- and its KASME is of an older authentication
-    taken_older : (mark : Option Mark) (radio : Radio Term ℕ) (now : Option Term) →
-        ((t : Term) (k : Home) → taken t ≡ Some k → IsPast roots (Some (authentication_of p.root)) mark t) →
-        RadioStands roots (Some (authentication_of p.root)) mark taken radio → RadioOlder radio now → RadioOlder radio (Some p.root)
-    taken_older mark Idle now past h o = tt
-    taken_older mark (Connecting w) now past h o = (o.0, inr (let x = h.0.1 in let y = o.0 in omega arith))
-    taken_older mark (Connected l) now past h o =
-        (o.0, inr (let x = (past l.kenb (home_at l.station l.air) h.0).1 in let y = o.0 in omega arith))
-
-    -- its first COUNT under a NAS key is new
-    new_first : (radio : Radio Term ℕ) (type id bearer : ℕ) → IsNas type → PhoneStands roots taken (record s { partial = Some p }) →
-        NewUp roots taken taken (record s { partial = Some p })
-        (record s { partial = None; context = Some (context_of (term_reading_by same) algs count p.root); radio = radio })
-        (record { key = Alg p.root type id; count = 0; bearer = bearer; dir = Up })
-    new_first radio type id bearer lt h =
-        (refl, (λ n. (h.0.0, tt, λ e. omega arith), λ a. absurd (omega arith)), λ old. (old.0 lt).1 refl)
-
-    -- the radio afterwards stands, and so does all
-    first_sent : (radio : Radio Term ℕ) (header : ℕ) (text : List ℕ) → PhoneStands roots taken (record s { partial = Some p }) →
-        RadioStands roots None (Some (record { root = authentication_of p.root; count = 1 })) taken radio → RadioOlder radio (Some p.root) →
-        ((k : Term) (type count bearer : ℕ) → AsUp taken s.radio k type count bearer → AsUp taken radio k type count bearer) →
-        PhoneKeeps roots taken (record s { partial = Some p })
-        (record s { partial = None; context = Some (context_of (term_reading_by same) algs count p.root); radio = radio })
-        (Some (SealedNas Up header (nas_use Up (nas_keys_of (term_reading_by same) p.root algs).int 0)
-        (Some (nas_ciphering Up (nas_keys_of (term_reading_by same) p.root algs) 0)) text)) None
-    first_sent radio header text h r older link = record {
-      new = taken;
-      grows = λ t k e. e;
-      stands = ((tt, (h.0.0, tt)), refl, λ t k e. past_all (phone_mark s.context) t (h.2 t k e), r, older, omega arith);
-      nas = λ k count u. (u.0, tt, λ e. absurd (u.1 e));
-      link = link;
-      uses = (new_first radio 1 (identity_of algs.eea) _ (omega arith) h, (new_first radio 2 eia2_identity _ (omega arith) h, tt));
-      apart = both_apart _ _ (types_apart _ _ 1 2 refl refl (λ e. absurd (omega arith)));
-      sends = λ given. tt;
-      takes = tt;
-      rises = tt;
-    }
-
-    -- the phone waits with the first KeNB of the new context
-    waits : PhoneStands roots taken (record s { partial = Some p }) →
-        RadioStands roots None (Some (record { root = authentication_of p.root; count = 1 })) taken (Connecting (record { root = p.root; kenb = Kenb p.root 0 }))
-    waits h =
-        ((h.0.0, tt, (omega arith, λ e. omega arith)), λ t k e. let x = (h.2 t k e).1 in (omega arith, λ f. absurd (omega arith)))
-
-  -- rows of NAS
-
-  -- a Security Mode Reject under the context
-  rejected_keeps : (answer : Answer) (cause : ℕ) (s : Phone Term ℕ) (o : Option (NasContext Term)) → PhoneStands roots taken (record s { context = o }) →
-      let d = rejected_under answer cause (record s { context = o }) o in PhoneKeeps roots taken (record s { context = o }) d.0 d.1.sent d.1.took
-  rejected_keeps answer cause s None h = still (record s { context = None }) h
-  rejected_keeps answer cause s (Some c) h = sealed s c 2 _ h
-
-  -- a NAS text that was taken
-  opened_keeps : (count : ℕ) (text : List ℕ) (s : Phone Term ℕ) (o : Option (NasContext Term)) → PhoneStands roots taken (record s { context = o }) →
-      let d = nas_opened count text (record s { context = o }) o in PhoneKeeps roots taken (record s { context = o }) d.0 d.1.sent d.1.took
-  opened_keeps count text s None h = still (record s { context = None }) h
-  opened_keeps count text s (Some c) h = record {
-    new = taken;
-    grows = λ t k e. e;
-    stands = h;
-    nas = λ k count u. u;
-    link = λ k type count bearer u. u;
-    uses = tt;
-    apart = tt;
-    sends = λ given. tt;
-    takes = tt;
-    rises = tt;
-  }
-
-  -- a Security Mode Command with no connection
-  taken_keeps : (same : Term → Term → Bool) (algs : Algs) (count : ℕ) (s : Phone Term ℕ) (o : Option (Partial Term)) → PhoneStands roots taken (record s { partial = o }) →
-      let d = context_taken (term_reading_by same) algs count (record s { partial = o }) o in PhoneKeeps roots taken (record s { partial = o }) d.0 d.1.sent d.1.took
-  taken_keeps same algs count s None h = still (record s { partial = None }) h
-  taken_keeps same algs count s (Some p) h =
-      first_sent same algs count s p (Connecting (record { root = p.root; kenb = Kenb p.root 0 })) 4 _ h (waits same algs count s p h) (refl, inl refl) (λ k type count bearer u. (u.0, u.1, tt))
-
-  -- and one on a connection
-  taken_connected_keeps : (same : Term → Term → Bool) (algs : Algs) (count : ℕ) (s : Phone Term ℕ) (o : Option (Partial Term)) → PhoneStands roots taken (record s { partial = o }) →
-      let d = context_taken_connected (term_reading_by same) algs count (record s { partial = o }) o in PhoneKeeps roots taken (record s { partial = o }) d.0 d.1.sent d.1.took
-  taken_connected_keeps same algs count s None h = still (record s { partial = None }) h
-  taken_connected_keeps same algs count s (Some p) h =
-      first_sent same algs count s p s.radio 4 _ h (taken_radio same algs count s p (phone_mark s.context) s.radio h.3)
-      (taken_older same algs count s p (phone_mark s.context) s.radio (kasme_in_use s.context) h.2 h.3 h.4) (λ k type count bearer u. u)
-
-  -- a row of a NAS message
-  pub nas_keeps : (same : Term → Term → Bool) (row : NasRow) (s : Phone Term ℕ) → PhoneStands roots taken s →
-      let d = nas_does (term_reading_by same) row s in PhoneKeeps roots taken s d.0 d.1.sent d.1.took
-  nas_keeps same (NasRefused answer) s h = still s h
-  nas_keeps same (RejectedPlain answer cause) s h = plain_sent _ s h
-  nas_keeps same (RejectedUnder answer cause) s h = rejected_keeps answer cause s s.context h
-  nas_keeps same (ContextTaken algs count) s h = taken_keeps same algs count s s.partial h
-  nas_keeps same (ContextTakenConnected algs count) s h = taken_connected_keeps same algs count s s.partial h
-  nas_keeps same (NasOpened count text) s h = opened_keeps count text s s.context h
-
   -- THE ACCESS STRATUM
 
   module _ (s : Phone Term ℕ) (l : Link Term ℕ) (b : Bearers) where
@@ -460,8 +172,8 @@ module _ (roots : ℕ) (taken : Homes) where
     -- the security of a connection starts
     secured_keeps : (count : ℕ) (o : Radio Term ℕ) → PhoneStands roots taken (record s { radio = o }) →
         let d = link_secured (term_reading_by same) station air algs count (record s { radio = o }) o in PhoneKeeps roots taken (record s { radio = o }) d.0 d.1.sent d.1.took
-    secured_keeps count Idle h = still (record s { radio = Idle }) h
-    secured_keeps count (Connected l) h = still (record s { radio = Connected l }) h
+    secured_keeps count Idle h = still roots taken (record s { radio = Idle }) h
+    secured_keeps count (Connected l) h = still roots taken (record s { radio = Connected l }) h
     secured_keeps count (Connecting w) h =
         let l : Link Term ℕ = record {
           station = station;
@@ -505,8 +217,8 @@ module _ (roots : ℕ) (taken : Homes) where
     -- a handover command
     handed_keeps : (cell : Place) (steps : ℕ) (o : Radio Term ℕ) → PhoneStands roots taken (record s { radio = o }) →
         let d = handed_over (term_reading_by same) cell steps algs station air (record s { radio = o }) o in PhoneKeeps roots taken (record s { radio = o }) d.0 d.1.sent d.1.took
-    handed_keeps cell steps Idle h = still (record s { radio = Idle }) h
-    handed_keeps cell steps (Connecting w) h = still (record s { radio = Connecting w }) h
+    handed_keeps cell steps Idle h = still roots taken (record s { radio = Idle }) h
+    handed_keeps cell steps (Connecting w) h = still roots taken (record s { radio = Connecting w }) h
     handed_keeps cell steps (Connected l) h = arrived_keeps l steps cell h
 
     -- a key change: all that was taken is of an older authentication than the KASME in use
@@ -520,7 +232,7 @@ module _ (roots : ℕ) (taken : Homes) where
           PhoneStands roots taken (record s { context = Some c; radio = Connected l }) →
           let d = changed_unless (term_reading_by same) cell algs station air (record s { context = Some c; radio = Connected l }) (before_of l) c.root b in
           PhoneKeeps roots taken (record s { context = Some c; radio = Connected l }) d.0 d.1.sent d.1.took
-      changed_keeps l c true e h = still (record s { context = Some c; radio = Connected l }) h
+      changed_keeps l c true e h = still roots taken (record s { context = Some c; radio = Connected l }) h
       changed_keeps l c false e h =
           let star = Star (Kenb c.root 0) cell.pci cell.earfcn in
           let newer = another l c e h.4 in
@@ -547,71 +259,71 @@ module _ (roots : ℕ) (taken : Homes) where
       renewed_keeps : (o : Radio Term ℕ) (x : Option (NasContext Term)) → PhoneStands roots taken (record s { context = x; radio = o }) →
           let d = key_changed (term_reading_by same) cell algs station air (record s { context = x; radio = o }) o x in
           PhoneKeeps roots taken (record s { context = x; radio = o }) d.0 d.1.sent d.1.took
-      renewed_keeps Idle x h = still (record s { context = x; radio = Idle }) h
-      renewed_keeps (Connecting w) x h = still (record s { context = x; radio = Connecting w }) h
-      renewed_keeps (Connected l) None h = still (record s { context = None; radio = Connected l }) h
+      renewed_keeps Idle x h = still roots taken (record s { context = x; radio = Idle }) h
+      renewed_keeps (Connecting w) x h = still roots taken (record s { context = x; radio = Connecting w }) h
+      renewed_keeps (Connected l) None h = still roots taken (record s { context = None; radio = Connected l }) h
       renewed_keeps (Connected l) (Some c) h = changed_keeps l c (same c.root l.chain.root) refl h
 
   module _ (s : Phone Term ℕ) where
     -- an RRC text that was taken
     rrc_opened_keeps : (srb : Srb) (count : ℕ) (text : List ℕ) (o : Radio Term ℕ) → PhoneStands roots taken (record s { radio = o }) →
         let d = rrc_opened srb count text (record s { radio = o }) o in PhoneKeeps roots taken (record s { radio = o }) d.0 d.1.sent d.1.took
-    rrc_opened_keeps srb count text Idle h = still (record s { radio = Idle }) h
-    rrc_opened_keeps srb count text (Connecting w) h = still (record s { radio = Connecting w }) h
+    rrc_opened_keeps srb count text Idle h = still roots taken (record s { radio = Idle }) h
+    rrc_opened_keeps srb count text (Connecting w) h = still roots taken (record s { radio = Connecting w }) h
     rrc_opened_keeps srb count text (Connected l) h = bearers_keep s l _ None (srb_taken_rises srb count l.bearers) h tt tt (λ given. tt)
 
     -- a user packet that was taken
     packet_opened_keeps : (drb : Drb) (count : ℕ) (text : List ℕ) (o : Radio Term ℕ) → PhoneStands roots taken (record s { radio = o }) →
         let d = packet_opened drb count text (record s { radio = o }) o in PhoneKeeps roots taken (record s { radio = o }) d.0 d.1.sent d.1.took
-    packet_opened_keeps drb count text Idle h = still (record s { radio = Idle }) h
-    packet_opened_keeps drb count text (Connecting w) h = still (record s { radio = Connecting w }) h
+    packet_opened_keeps drb count text Idle h = still roots taken (record s { radio = Idle }) h
+    packet_opened_keeps drb count text (Connecting w) h = still roots taken (record s { radio = Connecting w }) h
     packet_opened_keeps drb count text (Connected l) h = bearers_keep s l _ None (drb_taken_rises drb count l.bearers) h tt tt (λ given. tt)
 
     -- the completion sent again
     resent_keeps : (o : Radio Term ℕ) → PhoneStands roots taken (record s { radio = o }) →
         let d = complete_resent (record s { radio = o }) o in PhoneKeeps roots taken (record s { radio = o }) d.0 d.1.sent d.1.took
-    resent_keeps Idle h = still (record s { radio = Idle }) h
-    resent_keeps (Connecting w) h = still (record s { radio = Connecting w }) h
+    resent_keeps Idle h = still roots taken (record s { radio = Idle }) h
+    resent_keeps (Connecting w) h = still roots taken (record s { radio = Connecting w }) h
     resent_keeps (Connected l) h = rrc_keeps s l _ Signalling1 _ refl h
 
     -- a user packet is sent
     packet_sent_keeps : (drb : Drb) (text : List ℕ) (o : Radio Term ℕ) → PhoneStands roots taken (record s { radio = o }) →
         let d = packet_sent drb text (record s { radio = o }) o in PhoneKeeps roots taken (record s { radio = o }) d.0 d.1.sent d.1.took
-    packet_sent_keeps drb text Idle h = still (record s { radio = Idle }) h
-    packet_sent_keeps drb text (Connecting w) h = still (record s { radio = Connecting w }) h
+    packet_sent_keeps drb text Idle h = still roots taken (record s { radio = Idle }) h
+    packet_sent_keeps drb text (Connecting w) h = still roots taken (record s { radio = Connecting w }) h
     packet_sent_keeps drb text (Connected l) h = packet_keeps s l _ drb text refl h
 
     -- an RRC text is sent
     rrc_sent_keeps : (srb : Srb) (text : List ℕ) (o : Radio Term ℕ) → PhoneStands roots taken (record s { radio = o }) →
         let d = rrc_sent srb text (record s { radio = o }) o in PhoneKeeps roots taken (record s { radio = o }) d.0 d.1.sent d.1.took
-    rrc_sent_keeps srb text Idle h = still (record s { radio = Idle }) h
-    rrc_sent_keeps srb text (Connecting w) h = still (record s { radio = Connecting w }) h
+    rrc_sent_keeps srb text Idle h = still roots taken (record s { radio = Idle }) h
+    rrc_sent_keeps srb text (Connecting w) h = still roots taken (record s { radio = Connecting w }) h
     rrc_sent_keeps srb text (Connected l) h = rrc_keeps s l _ srb _ refl h
 
     -- COUNTs of a bearer are left out
     bearer_skipped_keeps : (on : Which) (n : ℕ) (o : Radio Term ℕ) → PhoneStands roots taken (record s { radio = o }) →
         let d = bearer_skipped on n (record s { radio = o }) o in PhoneKeeps roots taken (record s { radio = o }) d.0 d.1.sent d.1.took
-    bearer_skipped_keeps on n Idle h = still (record s { radio = Idle }) h
-    bearer_skipped_keeps on n (Connecting w) h = still (record s { radio = Connecting w }) h
+    bearer_skipped_keeps on n Idle h = still roots taken (record s { radio = Idle }) h
+    bearer_skipped_keeps on n (Connecting w) h = still roots taken (record s { radio = Connecting w }) h
     bearer_skipped_keeps on n (Connected l) h = bearers_keep s l _ None (left_out_rises on n l.bearers) h tt tt (λ given. tt)
 
     -- a SERVICE REQUEST
     requested_keeps : (same : Term → Term → Bool) (o : Option (NasContext Term)) → PhoneStands roots taken (record s { context = o }) →
         let d = service_requested (term_reading_by same) (record s { context = o }) o in PhoneKeeps roots taken (record s { context = o }) d.0 d.1.sent d.1.took
-    requested_keeps same None h = still (record s { context = None }) h
-    requested_keeps same (Some c) h = requested s c _ h
+    requested_keeps same None h = still roots taken (record s { context = None }) h
+    requested_keeps same (Some c) h = requested roots taken s c _ h
 
     -- a NAS text is sent
     nas_sent_keeps : (text : List ℕ) (o : Option (NasContext Term)) → PhoneStands roots taken (record s { context = o }) →
         let d = nas_sent text (record s { context = o }) o in PhoneKeeps roots taken (record s { context = o }) d.0 d.1.sent d.1.took
-    nas_sent_keeps text None h = still (record s { context = None }) h
-    nas_sent_keeps text (Some c) h = sealed s c 2 _ h
+    nas_sent_keeps text None h = still roots taken (record s { context = None }) h
+    nas_sent_keeps text (Some c) h = sealed roots taken s c 2 _ h
 
     -- uplink NAS COUNTs are left out
     nas_skipped_keeps : (n : ℕ) (o : Option (NasContext Term)) → PhoneStands roots taken (record s { context = o }) →
         let d = nas_skipped n (record s { context = o }) o in PhoneKeeps roots taken (record s { context = o }) d.0 d.1.sent d.1.took
-    nas_skipped_keeps n None h = still (record s { context = None }) h
-    nas_skipped_keeps n (Some c) h = left_out s c (skipped n c.send NAS_LIMIT) (omega arith) h
+    nas_skipped_keeps n None h = still roots taken (record s { context = None }) h
+    nas_skipped_keeps n (Some c) h = left_out roots taken s c (skipped n c.send NAS_LIMIT) (omega arith) h
 
     -- the phone goes idle
     idle_keeps : PhoneStands roots taken s → PhoneKeeps roots taken s (record s { radio = Idle }) None None
@@ -631,7 +343,7 @@ module _ (roots : ℕ) (taken : Homes) where
   -- a row of a PDU
   pub air_keeps : (same : Term → Term → Bool) → IsReflexive same → (row : AirRow) (s : Phone Term ℕ) → PhoneStands roots taken s →
       let d = air_does (term_reading_by same) row s in PhoneKeeps roots taken s d.0 d.1.sent d.1.took
-  air_keeps same itself (AirRefused answer) s h = still s h
+  air_keeps same itself (AirRefused answer) s h = still roots taken s h
   air_keeps same itself (LinkSecured station air algs count) s h = secured_keeps same algs station air s count s.radio h
   air_keeps same itself (HandedOver cell steps algs station air) s h = handed_keeps same algs station air s cell steps s.radio h
   air_keeps same itself (KeyChanged cell algs station air) s h = renewed_keeps same algs station air s itself cell s.radio s.context h
@@ -641,7 +353,7 @@ module _ (roots : ℕ) (taken : Homes) where
   -- a row of an act
   pub act_keeps : (same : Term → Term → Bool) (row : ActRow) (s : Phone Term ℕ) → PhoneStands roots taken s →
       let d = act_does (term_reading_by same) row s in PhoneKeeps roots taken s d.0 d.1.sent d.1.took
-  act_keeps same (ActRefused answer) s h = still s h
+  act_keeps same (ActRefused answer) s h = still roots taken s h
   act_keeps same ServiceRequested s h = requested_keeps s same s.context h
   act_keeps same CompleteResent s h = resent_keeps s s.radio h
   act_keeps same WentIdle s h = idle_keeps s h

@@ -44,6 +44,7 @@ use Rattle.lte_properties.proofs.ChainNumbers.Lists.{OfSome, all_find, all_get, 
 use Rattle.lte_properties.proofs.Freshness.Order.{on_key}
 use Rattle.lte_properties.proofs.Freshness.Lists.{one_root_more}
 use Rattle.lte_properties.proofs.Freshness.Phone as phone
+use Rattle.lte_properties.proofs.Freshness.PhoneNas as phone_nas
 use Rattle.lte_properties.proofs.Freshness.Core.{core_nas_keeps, core_record_keeps, core_act_keeps}
 use Rattle.lte_properties.proofs.Freshness.CoreFront.{nas_needs, act_needs}
 use Rattle.lte_properties.proofs.Freshness.Station as station
@@ -200,10 +201,10 @@ IsCoreTurn (CoreRecord read) = ⊤
 
 -- a step of the phone needs nothing of what it opens
 pub turn_keeps : (same : Term → Term → Bool) → IsReflexive same → (roots : ℕ) (taken : Homes) (s : Phone Term ℕ) (input : PhoneInput Term) (outcome : Outcome) → IsTurn input → PhoneStands roots taken s →
-    let d = phone_step (term_reading_by same) s input outcome in phone.PhoneKeeps roots taken s d.0 d.1.sent d.1.took
+    let d = phone_step (term_reading_by same) s input outcome in phone_nas.PhoneKeeps roots taken s d.0 d.1.sent d.1.took
 turn_keeps same itself roots taken s (PhoneAuth ksi root) outcome t h = absurd t
 turn_keeps same itself roots taken s (PhoneActs act) outcome t h = phone.act_keeps roots taken same (act_row (plain_phone (term_reading_by same) s) act) s h
-turn_keeps same itself roots taken s (PhoneNasPdu pdu) outcome t h = phone.nas_keeps roots taken same _ s h
+turn_keeps same itself roots taken s (PhoneNasPdu pdu) outcome t h = phone_nas.nas_keeps roots taken same _ s h
 turn_keeps same itself roots taken s (PhoneAirPdu station air bearer pdu) outcome t h = phone.air_keeps roots taken same itself _ s h
 
 module _ (same : Term → Term → Bool) (itself : IsReflexive same) (octets : Outgoing Term ℕ → List ℕ) (sender : Option (Outgoing Term ℕ) → Option (KeyUse Term))

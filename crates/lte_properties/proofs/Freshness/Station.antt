@@ -35,7 +35,7 @@ use Rattle.lte_properties.proofs.ChainNumbers.Choice.{by_some}
 use Rattle.lte_properties.proofs.ChainNumbers.Lists.{OfSome, all_append, all_filter, all_find, all_map}
 use Rattle.lte_properties.proofs.Freshness.Lists.{both_apart}
 use Rattle.lte_properties.proofs.Freshness.Bearers.{Rise, rise_same, below_stays, srb_taken_rises, drb_taken_rises, srb_sent_rises, drb_sent_rises, left_out_rises, srb_is_next, srb_is_used, drb_is_next, drb_is_used}
-use Rattle.lte_properties.proofs.Freshness.Phone.{types_apart}
+use Rattle.lte_properties.proofs.Freshness.PhoneNas.{types_apart}
 use Rattle.lte_properties.proofs.Freshness.Order.{on_key}
 use Rattle.lte_properties.proofs.Freshness.StationKeeps.{Later, later_spent, Stays, ContextStays, stays_same, stays_map, restored_kenb, NewAt, StationKeeps, RecordNeeds, TakenHere, AirNeeds, ActCounts}
 

@@ -21,7 +21,7 @@ use Rattle.lte_properties.proofs.ChainNumbers.Choice.{by_some}
 use Rattle.lte_properties.proofs.ChainNumbers.Lists.{OfSome, all_append, all_one, all_map, all_both, all_put}
 use Rattle.lte_properties.proofs.Freshness.Order.{home_grows, on_key}
 use Rattle.lte_properties.proofs.Freshness.Lists.{apart_append, apart_by, roots_kept}
-use Rattle.lte_properties.proofs.Freshness.Phone.{PhoneKeeps, NewUp}
+use Rattle.lte_properties.proofs.Freshness.PhoneNas.{PhoneKeeps, NewUp}
 use Rattle.lte_properties.proofs.Freshness.Core.{CoreKeeps, NewDown}
 use Rattle.lte_properties.proofs.Freshness.StationKeeps.{StationKeeps, NewAt, IsOwn}
 
