@@ -76,3 +76,8 @@ nh_string = refl
 star_string : kdf_string (KdfInput.Star 300 1850) ≡ (0x13 ∷ 0x01 ∷ 0x2c ∷ 0 ∷ 2 ∷ 0x07 ∷ 0x3a ∷ 0 ∷ 2 ∷ [])
 unfolding kdf_string
 star_string = refl
+
+-- an EARFCN-DL of 18 bits takes three octets (A.5)
+wide_star_string : kdf_string (KdfInput.Star 503 262143) ≡ (0x13 ∷ 0x01 ∷ 0xf7 ∷ 0 ∷ 2 ∷ 0x03 ∷ 0xff ∷ 0xff ∷ 0 ∷ 3 ∷ [])
+unfolding kdf_string
+wide_star_string = refl

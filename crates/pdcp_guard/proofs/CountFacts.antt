@@ -10,7 +10,7 @@ use Rattle.key_model.proofs.LeastFacts.{least_in_window}
 use Rattle.nas_guard.specs.Cipher.{ciphered}
 use Rattle.pdcp_guard.specs.declared.pdus.PdcpFault.{PdcpFault}
 use Rattle.pdcp_guard.specs.declared.pdus.PdcpFault.TheVariants.{CountSpent}
-use Rattle.pdcp_guard.specs.Counts.{BearerState, LIMIT, after_send, in_32_bits, send_count}
+use Rattle.pdcp_guard.specs.Counts.{BearerState, count_limit, after_send, in_32_bits, send_count}
 
 -- a ciphered text is as long as the text
 pub length-ciphered : (eea : Eea) (key : List ℕ) (count bearer : ℕ) (dir : Dir) (text : List ℕ)
@@ -20,10 +20,10 @@ length-ciphered Eea0 key count bearer dir text = refl
 length-ciphered Eea2 key count bearer dir text = length-eea2_of (drop 16 key) count bearer dir text
 
 -- a COUNT below 2^32 has 32 bits
-pub in_32_bits-below : (count : ℕ) → count < LIMIT → in_32_bits count ≡ Ok count
+pub in_32_bits-below : (count : ℕ) → count < count_limit → in_32_bits count ≡ Ok count
 unfolding in_32_bits
 in_32_bits-below count below =
-    let test : nat_lt count LIMIT ≡ true = grind (arith, nat_tests) in
+    let test : nat_lt count count_limit ≡ true = grind (arith, nat_tests) in
     rw test refl
 
 -- a COUNT fewer than w above the next expected one is the least with its sequence number
@@ -31,11 +31,11 @@ pub expected-is_least : (w next count : ℕ) → 0 < w → next ≤ count → co
 expected-is_least w next count some above few = (least_in_window next count w some above).1 few
 
 -- a COUNT that has 32 bits is itself, and below 2^32
-pub in_32_bits-Ok : (count n : ℕ) → in_32_bits count ≡ Ok n → (n ≡ count) × (n < LIMIT)
+pub in_32_bits-Ok : (count n : ℕ) → in_32_bits count ≡ Ok n → (n ≡ count) × (n < count_limit)
 unfolding in_32_bits
-in_32_bits-Ok count n found = by_test (nat_lt count LIMIT) refl found
+in_32_bits-Ok count n found = by_test (nat_lt count count_limit) refl found
   where
-    by_test : (b : Bool) → nat_lt count LIMIT ≡ b → (let spent : Result ℕ PdcpFault = Err CountSpent in if b then Ok count else spent) ≡ Ok n → (n ≡ count) × (n < LIMIT)
+    by_test : (b : Bool) → nat_lt count count_limit ≡ b → (let spent : Result ℕ PdcpFault = Err CountSpent in if b then Ok count else spent) ≡ Ok n → (n ≡ count) × (n < count_limit)
     by_test true test e = let is : n ≡ count = cc in (is, grind (arith, nat_tests))
     by_test false test e = absurd (cc)
 

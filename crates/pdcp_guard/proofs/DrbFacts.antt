@@ -10,7 +10,7 @@ use Rattle.nas_guard.proofs.SealFacts.{ciphered-ciphered}
 use Rattle.pdcp_guard.specs.declared.pdus.PdcpOpened.{PdcpOpened}
 use Rattle.pdcp_guard.specs.declared.pdus.PdcpFault.{PdcpFault}
 use Rattle.pdcp_guard.specs.AsKeys.{AsKeys}
-use Rattle.pdcp_guard.specs.Counts.{LIMIT}
+use Rattle.pdcp_guard.specs.Counts.{count_limit}
 use Rattle.pdcp_guard.specs.Drb.{DrbOpens, drb_ciphered, drb_count, drb_first, drb_first_octet, drb_opened, drb_opened_at, drb_opened_by, drb_sealed, drb_second_octet, drb_sn}
 use Rattle.pdcp_guard.proofs.CountFacts.{expected-is_least, in_32_bits-below, length-ciphered}
 
@@ -30,7 +30,7 @@ sn-octets count = omega arith
 
 -- the COUNT of a PDU with at least two octets
 count-octets : (next first second count : ℕ) (sent : List ℕ) → first / 16 ≡ 8
-    → least next (256 * (first % 16) + second) 4096 ≡ count → count < LIMIT → drb_count next (first ∷ second ∷ sent) ≡ Ok count
+    → least next (256 * (first % 16) + second) 4096 ≡ count → count < count_limit → drb_count next (first ∷ second ∷ sent) ≡ Ok count
 unfolding drb_count
 count-octets next first second count sent good is_least below =
     let not_short : nat_lt (suc (suc (length sent))) 2 ≡ false = grind (arith, nat_tests) in
@@ -45,14 +45,14 @@ drb_opened_at-drb_sealed keys bearer count dir text = rw (drb_ciphered-drb_ciphe
 
 -- and its COUNT is found where it is the one expected
 drb_count-drb_sealed : (keys : AsKeys (List ℕ)) (bearer : Bearer) (count next : ℕ) (dir : Dir) (text : List ℕ)
-    → count < LIMIT → least next (count % 4096) 4096 ≡ count → drb_count next (drb_sealed keys bearer count dir text) ≡ Ok count
+    → count < count_limit → least next (count % 4096) 4096 ≡ count → drb_count next (drb_sealed keys bearer count dir text) ≡ Ok count
 unfolding drb_sealed
 drb_count-drb_sealed keys bearer count next dir text below is_least =
     count-octets next (drb_first_octet count) (drb_second_octet count) count _ (first_octet-data count) (rw (sn-octets count) is_least) below
 
 -- what was sealed opens
 pub drb_opened-drb_sealed : (keys : AsKeys (List ℕ)) (bearer : Bearer) (count next : ℕ) (dir : Dir) (text : List ℕ)
-    → count < LIMIT → least next (count % 4096) 4096 ≡ count
+    → count < count_limit → least next (count % 4096) 4096 ≡ count
     → drb_opened keys bearer next dir (drb_sealed keys bearer count dir text) ≡ Ok (record { count = count; text = text })
 drb_opened-drb_sealed keys bearer count next dir text below is_least =
     let pdu = drb_sealed keys bearer count dir text in
@@ -68,7 +68,7 @@ length-drb_sealed keys bearer count dir text =
     omega arith
 
 pub drb_opened-near : (keys : AsKeys (List ℕ)) (bearer : Bearer) (count next : ℕ) (dir : Dir) (text : List ℕ)
-    → count < LIMIT → next ≤ count → count - next < 4096
+    → count < count_limit → next ≤ count → count - next < 4096
     → drb_opened keys bearer next dir (drb_sealed keys bearer count dir text) ≡ Ok (record { count = count; text = text })
 drb_opened-near keys bearer count next dir text below above few =
     drb_opened-drb_sealed keys bearer count next dir text below (expected-is_least 4096 next count (omega arith) above few)
@@ -76,7 +76,7 @@ drb_opened-near keys bearer count next dir text below above few =
 -- what was sealed is answered with its text
 pub drb_intact : (keys : AsKeys (List ℕ)) (bearer : Bearer) (next : ℕ) (dir : Dir) (pdu : List ℕ) (r : Result PdcpOpened PdcpFault)
     → r ≡ drb_opened keys bearer next dir pdu → (count : ℕ) (text : List ℕ) → pdu ≡ drb_sealed keys bearer count dir text
-    → count < LIMIT → least next (count % 4096) 4096 ≡ count → r ≡ Ok (record { count = count; text = text })
+    → count < count_limit → least next (count % 4096) 4096 ≡ count → r ≡ Ok (record { count = count; text = text })
 drb_intact keys bearer next dir pdu r is count text made below is_least =
     is
     ∙ ap (drb_opened keys bearer next dir) made

@@ -3,14 +3,14 @@ use Rattle.std.proofs.Common.{◌≡◌, ℕ, ◌<◌, ◌≤◌, List, [], ◌�
 use Rattle.std.proofs.lemmas.List.Elements.{All-nil, All-cons}
 use Rattle.std.proofs.lemmas.List.Kept.{AllPairs-cons}
 use Rattle.pdcp_guard.specs.declared.pdus.PdcpFault.{PdcpFault}
-use Rattle.pdcp_guard.specs.Counts.{BearerState, LIMIT, after_send, send_count}
+use Rattle.pdcp_guard.specs.Counts.{BearerState, count_limit, after_send, send_count}
 use Rattle.pdcp_guard.specs.CountActs.{BearerAct, after_act, counts_sent, sent_before}
 use Rattle.pdcp_guard.specs.CountActs.BearerAct.{Send, Skip, Receive}
 use Rattle.pdcp_guard.proofs.CountFacts.{in_32_bits-Ok}
 
 -- from this COUNT on, and of 32 bits
 abbrev From : ℕ → ℕ → Type 0
-From low count = (low ≤ count) × (count < LIMIT)
+From low count = (low ≤ count) × (count < count_limit)
 
 -- a sending puts its COUNT before those from the next one on
 from_send : (b : BearerState) (taken : Result ℕ PdcpFault) → send_count b ≡ taken → (later : List ℕ)
@@ -18,7 +18,7 @@ from_send : (b : BearerState) (taken : Result ℕ PdcpFault) → send_count b �
 from_send b (Ok count) is later all =
     let has = in_32_bits-Ok b.counts.send count is in
     let low : count ≡ b.counts.send = has.0 in
-    let below : count < LIMIT = has.1 in
+    let below : count < count_limit = has.1 in
     All-cons (From b.counts.send) count later (omega arith, below) (λ k d within. let at = all k d within in (omega arith, at.1))
 from_send b (Err fault) is later all = all
 

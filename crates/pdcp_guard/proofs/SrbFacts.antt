@@ -16,7 +16,7 @@ use Rattle.pdcp_guard.specs.declared.pdus.PdcpOpened.{PdcpOpened}
 use Rattle.pdcp_guard.specs.declared.pdus.PdcpFault.{PdcpFault}
 use Rattle.pdcp_guard.specs.declared.pdus.PdcpFault.TheVariants.{MacFails}
 use Rattle.pdcp_guard.specs.AsKeys.{AsKeys}
-use Rattle.pdcp_guard.specs.Counts.{LIMIT}
+use Rattle.pdcp_guard.specs.Counts.{count_limit}
 use Rattle.pdcp_guard.specs.Srb.{SrbOpens, SrbRefuses, srb_ciphered, srb_count, srb_first, srb_got, srb_header, srb_mac, srb_opened, srb_opened_by, srb_opened_at, srb_sealed, srb_sn, srb_text, srb_wanted}
 use Rattle.pdcp_guard.proofs.CountFacts.{expected-is_least, in_32_bits-below, length-ciphered}
 
@@ -49,7 +49,7 @@ opened_at-plain keys cipher bearer count dir header sent text mac plain long rig
 
 -- the COUNT of a PDU with at least five octets
 count-octets : (next header count : ℕ) (sent : List ℕ) → 4 ≤ length sent → header < 32
-    → least next (header % 32) 32 ≡ count → count < LIMIT → srb_count next (header ∷ sent) ≡ Ok count
+    → least next (header % 32) 32 ≡ count → count < count_limit → srb_count next (header ∷ sent) ≡ Ok count
 unfolding srb_count
 count-octets next header count sent long reserved is_least below =
     let not_short : nat_lt (suc (length sent)) 5 ≡ false = grind (arith, nat_tests) in
@@ -88,7 +88,7 @@ srb_opened_at-srb_sealed keys cipher bearer count dir text =
 
 -- and its COUNT is found where it is the one expected
 srb_count-srb_sealed : (keys : AsKeys (List ℕ)) (cipher : Bool) (bearer : Bearer) (count next : ℕ) (dir : Dir) (text : List ℕ)
-    → count < LIMIT → least next (count % 32) 32 ≡ count → srb_count next (srb_sealed keys cipher bearer count dir text) ≡ Ok count
+    → count < count_limit → least next (count % 32) 32 ≡ count → srb_count next (srb_sealed keys cipher bearer count dir text) ≡ Ok count
 unfolding srb_sealed
 srb_count-srb_sealed keys cipher bearer count next dir text below is_least =
     let long = length-sent keys cipher bearer count dir text (srb_header count ∷ text) in
@@ -96,7 +96,7 @@ srb_count-srb_sealed keys cipher bearer count next dir text below is_least =
 
 -- what was sealed opens
 pub srb_opened-srb_sealed : (keys : AsKeys (List ℕ)) (cipher : Bool) (bearer : Bearer) (count next : ℕ) (dir : Dir) (text : List ℕ)
-    → count < LIMIT → least next (count % 32) 32 ≡ count
+    → count < count_limit → least next (count % 32) 32 ≡ count
     → srb_opened keys cipher bearer next dir (srb_sealed keys cipher bearer count dir text) ≡ Ok (record { count = count; text = text })
 srb_opened-srb_sealed keys cipher bearer count next dir text below is_least =
     let pdu = srb_sealed keys cipher bearer count dir text in
@@ -104,7 +104,7 @@ srb_opened-srb_sealed keys cipher bearer count next dir text below is_least =
     ∙ srb_opened_at-srb_sealed keys cipher bearer count dir text
 
 pub srb_opened-near : (keys : AsKeys (List ℕ)) (cipher : Bool) (bearer : Bearer) (count next : ℕ) (dir : Dir) (text : List ℕ)
-    → count < LIMIT → next ≤ count → count - next < 32
+    → count < count_limit → next ≤ count → count - next < 32
     → srb_opened keys cipher bearer next dir (srb_sealed keys cipher bearer count dir text) ≡ Ok (record { count = count; text = text })
 srb_opened-near keys cipher bearer count next dir text below above few =
     srb_opened-srb_sealed keys cipher bearer count next dir text below (expected-is_least 32 next count (omega arith) above few)
@@ -112,7 +112,7 @@ srb_opened-near keys cipher bearer count next dir text below above few =
 -- what was sealed is answered with its text
 pub srb_intact : (keys : AsKeys (List ℕ)) (cipher : Bool) (bearer : Bearer) (next : ℕ) (dir : Dir) (pdu : List ℕ) (r : Result PdcpOpened PdcpFault)
     → r ≡ srb_opened keys cipher bearer next dir pdu → (count : ℕ) (text : List ℕ) → pdu ≡ srb_sealed keys cipher bearer count dir text
-    → count < LIMIT → least next (count % 32) 32 ≡ count → r ≡ Ok (record { count = count; text = text })
+    → count < count_limit → least next (count % 32) 32 ≡ count → r ≡ Ok (record { count = count; text = text })
 srb_intact keys cipher bearer next dir pdu r is count text made below is_least =
     is
     ∙ ap (srb_opened keys cipher bearer next dir) made
@@ -150,7 +150,7 @@ answer_by keys cipher bearer count dir pdu b =
     else Err (MacFails count (srb_wanted keys cipher bearer count dir pdu) (srb_got keys cipher bearer count dir pdu))
 
 pub srb_answered : (keys : AsKeys (List ℕ)) (cipher : Bool) (bearer : Bearer) (next : ℕ) (dir : Dir) (pdu : List ℕ) (count : ℕ)
-    → 5 ≤ length pdu → srb_first pdu < 32 → count ≡ least next (srb_sn pdu) 32 → count < LIMIT → next ≤ count
+    → 5 ≤ length pdu → srb_first pdu < 32 → count ≡ least next (srb_sn pdu) 32 → count < count_limit → next ≤ count
     → Answered keys cipher bearer next dir pdu (srb_opened_at keys cipher bearer count dir pdu)
 unfolding srb_opened_at
 srb_answered keys cipher bearer next dir pdu count long reserved is_least below above =

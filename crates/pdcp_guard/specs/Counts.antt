@@ -5,8 +5,8 @@ use Rattle.pdcp_guard.specs.declared.pdus.PdcpFault.{PdcpFault}
 use Rattle.pdcp_guard.specs.declared.pdus.PdcpFault.TheVariants.{CountSpent}
 
 -- every PDCP COUNT is below this: it has 32 bits (6.3.5)
-abbrev pub LIMIT : ℕ
-LIMIT = 2 ^ 32
+abbrev pub count_limit : ℕ
+count_limit = 2 ^ 32
 
 -- the next COUNT to send with, and the next one that a receiver expects; 2^32 where none is left
 pub record Counts : Type 0 where
@@ -32,11 +32,11 @@ expects_next b count = record { bearer = b.bearer; counts = record { send = b.co
 
 -- the next COUNT to send with after so many were left out
 abbrev pub skipped : ℕ → ℕ → ℕ
-skipped count n = min (count + n) LIMIT
+skipped count n = min (count + n) count_limit
 
 -- a COUNT that has 32 bits
 unfoldable pub in_32_bits : ℕ → Result ℕ PdcpFault
-in_32_bits count = if nat_lt count LIMIT then Ok count else Err CountSpent
+in_32_bits count = if nat_lt count count_limit then Ok count else Err CountSpent
 
 -- the COUNT of the next PDU to send
 abbrev pub send_count : BearerState → Result ℕ PdcpFault

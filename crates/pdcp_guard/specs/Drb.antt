@@ -11,7 +11,7 @@ use Rattle.pdcp_guard.specs.declared.pdus.PdcpOpened.{PdcpOpened}
 use Rattle.pdcp_guard.specs.declared.pdus.PdcpFault.{PdcpFault}
 use Rattle.pdcp_guard.specs.declared.pdus.PdcpFault.TheVariants.{CountSpent, Short, BadHeader, MacFails}
 use Rattle.pdcp_guard.specs.AsKeys.{AsKeys}
-use Rattle.pdcp_guard.specs.Counts.{LIMIT, in_32_bits}
+use Rattle.pdcp_guard.specs.Counts.{count_limit, in_32_bits}
 
 -- a data radio bearer
 abbrev pub IsDrb : Bearer → Type 0
@@ -76,7 +76,7 @@ pub record DrbOpens (keys : AsKeys (List ℕ)) (bearer : Bearer) (next : ℕ) (d
   pub long : 2 ≤ length pdu
   pub first : drb_first pdu / 16 ≡ 8
   pub count : o.count ≡ least next (drb_sn pdu) 4096
-  pub below : o.count < LIMIT
+  pub below : o.count < count_limit
   pub text : o.text ≡ drb_ciphered keys bearer o.count dir (drop 2 pdu)
 
 -- a PDU is refused for this, at most one of the three
@@ -84,5 +84,5 @@ abbrev pub DrbRefuses : ℕ → List ℕ → PdcpFault → Type 0
 DrbRefuses next pdu Short = length pdu < 2
 DrbRefuses next pdu (BadHeader octet) = (2 ≤ length pdu) × (octet ≡ drb_first pdu) × (¬ (octet / 16 ≡ 8))
 DrbRefuses next pdu CountSpent =
-    (2 ≤ length pdu) × (drb_first pdu / 16 ≡ 8) × (LIMIT ≤ least next (drb_sn pdu) 4096)
+    (2 ≤ length pdu) × (drb_first pdu / 16 ≡ 8) × (count_limit ≤ least next (drb_sn pdu) 4096)
 DrbRefuses next pdu (MacFails count wanted got) = ⊥

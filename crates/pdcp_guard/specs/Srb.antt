@@ -12,7 +12,7 @@ use Rattle.pdcp_guard.specs.declared.pdus.PdcpOpened.{PdcpOpened}
 use Rattle.pdcp_guard.specs.declared.pdus.PdcpFault.{PdcpFault}
 use Rattle.pdcp_guard.specs.declared.pdus.PdcpFault.TheVariants.{CountSpent, Short, BadHeader, MacFails}
 use Rattle.pdcp_guard.specs.AsKeys.{AsKeys}
-use Rattle.pdcp_guard.specs.Counts.{LIMIT, in_32_bits}
+use Rattle.pdcp_guard.specs.Counts.{count_limit, in_32_bits}
 
 -- a signalling radio bearer
 abbrev pub IsSrb : Bearer → Type 0
@@ -94,7 +94,7 @@ pub record SrbOpens (keys : AsKeys (List ℕ)) (cipher : Bool) (bearer : Bearer)
   pub long : 5 ≤ length pdu
   pub reserved : srb_first pdu < 32
   pub count : o.count ≡ least next (srb_sn pdu) 32
-  pub below : o.count < LIMIT
+  pub below : o.count < count_limit
   pub mac : srb_wanted keys cipher bearer o.count dir pdu ≡ srb_got keys cipher bearer o.count dir pdu
   pub text : o.text ≡ srb_text keys cipher bearer o.count dir pdu
 
@@ -103,7 +103,7 @@ abbrev pub SrbHasNoCount : ℕ → List ℕ → PdcpFault → Type 0
 SrbHasNoCount next pdu Short = length pdu < 5
 SrbHasNoCount next pdu (BadHeader octet) = (5 ≤ length pdu) × (octet ≡ srb_first pdu) × (32 ≤ octet)
 SrbHasNoCount next pdu CountSpent =
-    (5 ≤ length pdu) × (srb_first pdu < 32) × (LIMIT ≤ least next (srb_sn pdu) 32)
+    (5 ≤ length pdu) × (srb_first pdu < 32) × (count_limit ≤ least next (srb_sn pdu) 32)
 SrbHasNoCount next pdu (MacFails count wanted got) = ⊥
 
 -- a PDU is refused for this, at most one of the four
@@ -112,5 +112,5 @@ SrbRefuses keys cipher bearer next dir pdu Short = SrbHasNoCount next pdu Short
 SrbRefuses keys cipher bearer next dir pdu (BadHeader octet) = SrbHasNoCount next pdu (BadHeader octet)
 SrbRefuses keys cipher bearer next dir pdu CountSpent = SrbHasNoCount next pdu CountSpent
 SrbRefuses keys cipher bearer next dir pdu (MacFails count wanted got) =
-    (5 ≤ length pdu) × (srb_first pdu < 32) × (count ≡ least next (srb_sn pdu) 32) × (count < LIMIT)
+    (5 ≤ length pdu) × (srb_first pdu < 32) × (count ≡ least next (srb_sn pdu) 32) × (count < count_limit)
     × (wanted ≡ srb_wanted keys cipher bearer count dir pdu) × (got ≡ srb_got keys cipher bearer count dir pdu) × (wanted ≢ got)

@@ -1,6 +1,6 @@
 ghost use Rattle.std.specs.Prelude.{◌≡◌, ◌+◌, ◌<◌, ◌≤◌, ◌↔◌, IfErr, IfOk, IsErr};
 ghost use Rattle.key_model.specs.Least.{least};
-ghost use Rattle.pdcp_guard.specs.Counts.{LIMIT, in_32_bits, skipped};
+ghost use Rattle.pdcp_guard.specs.Counts.{count_limit, in_32_bits, skipped};
 
 use crate::PdcpFault;
 use std::marker::Model;
@@ -18,13 +18,13 @@ pub(crate) struct Counts {
 
 impl Model for Counts {
     ghost use Rattle.std.specs.Prelude.{◌≤◌};
-    ghost use Rattle.pdcp_guard.specs.Counts.{Counts as NextCounts, LIMIT};
+    ghost use Rattle.pdcp_guard.specs.Counts.{Counts as NextCounts, count_limit};
 
     ghost Value = { NextCounts };
 
     ghost view = { λ c. record { send = c.send; receive = c.receive } };
 
-    ghost invariant = { λ c. (c.send ≤ LIMIT) × (c.receive ≤ LIMIT) };
+    ghost invariant = { λ c. (c.send ≤ count_limit) × (c.receive ≤ count_limit) };
 
     ghost inverse = { λ c. record { send = c.send; receive = c.receive } };
 }
@@ -45,7 +45,7 @@ impl Counts {
     pub(crate) fn next(&self) -> Result<u32, PdcpFault>
         ensures value { result ≡ in_32_bits self.now.send }
         ensures count { IfOk result (λ count. count ≡ self.now.send) }
-        ensures spent { IsErr result ↔ (self.now.send ≡ LIMIT) }
+        ensures spent { IsErr result ↔ (self.now.send ≡ count_limit) }
         ensures cause { IfErr result (λ fault. fault ≡ PdcpFault.CountSpent) }
     {
         in_32_bits(self.send)
@@ -80,7 +80,7 @@ impl Counts {
         ensures value { result ≡ in_32_bits (least self.now.receive sn values) }
         ensures least { IfOk result (λ count. count ≡ least self.now.receive sn values) }
         ensures at_or_above { IfOk result (λ count. self.now.receive ≤ count) }
-        ensures spent { IfErr result (λ _. LIMIT ≤ least self.now.receive sn values) }
+        ensures spent { IfErr result (λ _. count_limit ≤ least self.now.receive sn values) }
         ensures cause { IfErr result (λ fault. fault ≡ PdcpFault.CountSpent) }
     {
         in_32_bits(least(self.receive, sn, values))
@@ -92,7 +92,7 @@ impl Counts {
 fn in_32_bits(count: u64) -> Result<u32, PdcpFault>
     ensures value { result ≡ in_32_bits count }
     ensures count { IfOk result (λ same. same ≡ count) }
-    ensures spent { IsErr result ↔ (LIMIT ≤ count) }
+    ensures spent { IsErr result ↔ (count_limit ≤ count) }
     ensures cause { IfErr result (λ fault. fault ≡ PdcpFault.CountSpent) }
 {
     if count >= LIMIT {
@@ -104,7 +104,7 @@ fn in_32_bits(count: u64) -> Result<u32, PdcpFault>
 // The least number at or above `low` with this remainder modulo so many values.
 #[tactic(auto, unfolding(key_model::specs::Least::least))]
 fn least(low: u64, sn: u16, values: u16) -> u64
-    requires low { low ≤ LIMIT }
+    requires low { low ≤ count_limit }
     requires some { 0 < values }
     requires below { sn < values }
     requires twelve_bits { values ≤ 4096 }

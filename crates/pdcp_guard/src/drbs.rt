@@ -2,9 +2,9 @@ ghost use Rattle.std.specs.Prelude.{◌≡◌, ℕ, ◌+◌, ◌-◌, ◌/◌, �
 ghost use Rattle.pdcp_guard.specs.Counts.{after_receive, after_send, expects_next, new_bearer, send_count, sends_next, skipped};
 ghost use Rattle.key_model.specs.Least.{least};
 ghost use Rattle.pdcp_guard.specs.Drb.{IsDrb, DrbOpens, DrbRefuses, drb_ciphered, drb_count, drb_first, drb_opened, drb_opened_at, drb_sealed, drb_sent_by, drb_sn};
-ghost use Rattle.pdcp_guard.specs.Counts.{LIMIT};
+ghost use Rattle.pdcp_guard.specs.Counts.{count_limit};
 
-use crate::counting::{Counts, LIMIT};
+use crate::counting::Counts;
 use crate::{AsKeys, PdcpFault, PdcpOpened, PdcpSent};
 use rec_base::{Bearer, Dir, Octets, UserText};
 use std::marker::Model;
@@ -59,7 +59,7 @@ impl Drb {
         ensures opens { IfOk result (λ sent. (next : ℕ) → next ≤ sent.count → sent.count - next < 4096
             → drb_opened keys.now self.old.bearer next dir sent.pdu ≡ Ok (record { count = sent.count; text = text.now })) }
 
-        ensures spent { IsErr result ↔ (self.old.counts.send ≡ LIMIT) }
+        ensures spent { IsErr result ↔ (self.old.counts.send ≡ count_limit) }
         ensures cause { IfErr result (λ fault. fault ≡ PdcpFault.CountSpent) }
         ensures err { OnErr result (self.new ≡ self.old) }
     {
@@ -88,7 +88,7 @@ impl Drb {
         // A PDU that was made under these keys and this bearer and direction opens to its text where its
         // COUNT is the one expected: the least with its sequence number.
         ensures intact { (count : ℕ) (text : List ℕ) → pdu.now ≡ drb_sealed keys.now self.old.bearer count dir text
-            → count < LIMIT → least self.old.counts.receive (count % 4096) 4096 ≡ count
+            → count < count_limit → least self.old.counts.receive (count % 4096) 4096 ≡ count
             → result ≡ Ok (record { count = count; text = text }) }
 
         ensures refused { IfErr result (DrbRefuses self.old.counts.receive pdu.now) }

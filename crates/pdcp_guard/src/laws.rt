@@ -3,7 +3,7 @@ ghost use Rattle.std.specs.Prelude.{◌≡◌, ℕ, ◌+◌, ◌-◌, ◌%◌, �
 ghost use Rattle.key_model.specs.Least.{least};
 ghost use Rattle.rec_base.specs.declared.bearers.Bearer.{Bearer};
 ghost use Rattle.rec_base.specs.declared.uses.Dir.{Dir};
-ghost use Rattle.pdcp_guard.specs.Counts.{LIMIT};
+ghost use Rattle.pdcp_guard.specs.Counts.{count_limit};
 ghost use Rattle.alg_choice.specs.declared.algs.Algs.{Algs};
 ghost use Rattle.key_model.specs.Derivation.{map_derivation};
 ghost use Rattle.key_model.specs.Reading.{Carries, Reading};
@@ -18,10 +18,10 @@ ghost use Rattle.pdcp_guard.specs.Drb.{drb_opened, drb_opened_at, drb_sealed};
 /// with its sequence number, and so where the receiver's next COUNT is no more than 31 below.
 pub fn srb_sealed_opens()
     ensures expected { (keys : AsKeys (List ℕ)) (cipher : Bool) (bearer : Bearer) (count next : ℕ) (dir : Dir) (text : List ℕ)
-        → count < LIMIT → least next (count % 32) 32 ≡ count
+        → count < count_limit → least next (count % 32) 32 ≡ count
         → srb_opened keys cipher bearer next dir (srb_sealed keys cipher bearer count dir text) ≡ Ok (record { count = count; text = text }) }
     ensures near { (keys : AsKeys (List ℕ)) (cipher : Bool) (bearer : Bearer) (count next : ℕ) (dir : Dir) (text : List ℕ)
-        → count < LIMIT → next ≤ count → count - next < 32
+        → count < count_limit → next ≤ count → count - next < 32
         → srb_opened keys cipher bearer next dir (srb_sealed keys cipher bearer count dir text) ≡ Ok (record { count = count; text = text }) }
     ensures at_count { (keys : AsKeys (List ℕ)) (cipher : Bool) (bearer : Bearer) (count : ℕ) (dir : Dir) (text : List ℕ)
         → srb_opened_at keys cipher bearer count dir (srb_sealed keys cipher bearer count dir text) ≡ Ok (record { count = count; text = text }) }
@@ -34,10 +34,10 @@ pub fn srb_sealed_opens()
 /// where the receiver's next COUNT is no more than 4,095 below.
 pub fn drb_sealed_opens()
     ensures expected { (keys : AsKeys (List ℕ)) (bearer : Bearer) (count next : ℕ) (dir : Dir) (text : List ℕ)
-        → count < LIMIT → least next (count % 4096) 4096 ≡ count
+        → count < count_limit → least next (count % 4096) 4096 ≡ count
         → drb_opened keys bearer next dir (drb_sealed keys bearer count dir text) ≡ Ok (record { count = count; text = text }) }
     ensures near { (keys : AsKeys (List ℕ)) (bearer : Bearer) (count next : ℕ) (dir : Dir) (text : List ℕ)
-        → count < LIMIT → next ≤ count → count - next < 4096
+        → count < count_limit → next ≤ count → count - next < 4096
         → drb_opened keys bearer next dir (drb_sealed keys bearer count dir text) ≡ Ok (record { count = count; text = text }) }
     ensures at_count { (keys : AsKeys (List ℕ)) (bearer : Bearer) (count : ℕ) (dir : Dir) (text : List ℕ)
         → drb_opened_at keys bearer count dir (drb_sealed keys bearer count dir text) ≡ record { count = count; text = text } }
@@ -50,7 +50,7 @@ pub fn drb_sealed_opens()
 pub fn sending_counts_rise()
     ensures send { (b : BearerState) (first second : ℕ) → send_count b ≡ Ok first
         → send_count (after_send b (send_count b)) ≡ Ok second → first < second }
-    ensures skip { (b : BearerState) (n : ℕ) → b.counts.send ≤ LIMIT → b.counts.send ≤ skipped b.counts.send n }
+    ensures skip { (b : BearerState) (n : ℕ) → b.counts.send ≤ count_limit → b.counts.send ≤ skipped b.counts.send n }
     ensures receive { (b : BearerState) (count : ℕ) → (expects_next b count).counts.send ≡ b.counts.send }
 {}
 
@@ -59,7 +59,7 @@ pub fn sending_counts_rise()
 pub fn no_count_is_sent_twice()
     ensures rise { (b : BearerState) (acts : List BearerAct) → AllPairs (λ earlier later. earlier < later) (counts_sent b acts) }
     ensures from_next { (b : BearerState) (acts : List BearerAct)
-        → All (λ count. (b.counts.send ≤ count) × (count < LIMIT)) (counts_sent b acts) }
+        → All (λ count. (b.counts.send ≤ count) × (count < count_limit)) (counts_sent b acts) }
 {}
 
 /// The keys of a KeNB and their derivations are carried from one reading of keys to another.

@@ -2,9 +2,9 @@ ghost use Rattle.std.specs.Prelude.{◌≡◌, ℕ, ◌+◌, ◌-◌, ◌%◌, �
 ghost use Rattle.pdcp_guard.specs.Counts.{after_send, expects_next, new_bearer, send_count, sends_next, skipped};
 ghost use Rattle.key_model.specs.Least.{least};
 ghost use Rattle.pdcp_guard.specs.Srb.{IsSrb, SrbHasNoCount, SrbOpens, SrbRefuses, srb_count, srb_first, srb_opened, srb_opened_at, srb_sealed, srb_sent_by, srb_sn};
-ghost use Rattle.pdcp_guard.specs.Counts.{LIMIT};
+ghost use Rattle.pdcp_guard.specs.Counts.{count_limit};
 
-use crate::counting::{Counts, LIMIT};
+use crate::counting::Counts;
 use crate::{AsKeys, PdcpFault, PdcpOpened, PdcpSent};
 use rec_base::{Bearer, Dir, Octets};
 use std::marker::Model;
@@ -67,7 +67,7 @@ impl Srb {
         ensures opens { IfOk result (λ sent. (next : ℕ) → next ≤ sent.count → sent.count - next < 32
             → srb_opened keys.now cipher self.old.bearer next dir sent.pdu ≡ Ok (record { count = sent.count; text = text.now })) }
 
-        ensures spent { IsErr result ↔ (self.old.counts.send ≡ LIMIT) }
+        ensures spent { IsErr result ↔ (self.old.counts.send ≡ count_limit) }
         ensures cause { IfErr result (λ fault. fault ≡ PdcpFault.CountSpent) }
         ensures err { OnErr result (self.new ≡ self.old) }
     {
@@ -99,7 +99,7 @@ impl Srb {
         // A PDU that was made under these keys and this bearer and direction, ciphered or not as here, opens
         // to its text where its COUNT is the one expected: the least with its sequence number.
         ensures intact { (count : ℕ) (text : List ℕ) → pdu.now ≡ srb_sealed keys.now cipher self.now.bearer count dir text
-            → count < LIMIT → least self.now.counts.receive (count % 32) 32 ≡ count
+            → count < count_limit → least self.now.counts.receive (count % 32) 32 ≡ count
             → result ≡ Ok (record { count = count; text = text }) }
     {
         let count = self.count_of(pdu)?;
@@ -126,7 +126,7 @@ impl Srb {
 
     /// Whether no COUNT is left to send with.
     pub fn spent(&self) -> bool
-        ensures { IsTrue result ↔ (self.now.counts.send ≡ LIMIT) }
+        ensures { IsTrue result ↔ (self.now.counts.send ≡ count_limit) }
     {
         self.counts.next().is_err()
     }

@@ -1,4 +1,6 @@
-use crate::{Bearer, Dir, ShortText, header, key_at, u8_at, u16_at, u32_at};
+use crate::{
+    Bearer, Dir, ShortText, UserText, greatest_lengths, header, key_at, u8_at, u16_at, u32_at,
+};
 
 #[test]
 fn bearers_have_their_octet_and_number(rt: HostRuntime) {
@@ -48,4 +50,10 @@ fn full_list_hands_the_octet_back(rt: HostRuntime) {
     assert_eq!(rt; text.try_push(200), Err(200));
     assert_eq!(rt; text.as_slice().len(), 200);
     assert!(rt; text != ShortText::new());
+}
+
+#[test]
+fn lists_have_their_greatest_lengths(rt: HostRuntime) {
+    assert_eq!(rt; greatest_lengths(), (1536, 1500, 200));
+    assert_eq!(rt; UserText::capacity(), 1500);
 }

@@ -1,5 +1,5 @@
 use Rattle.std.proofs.Common.{◌≡◌, ◌<◌, arith, rules}
-use Rattle.pdcp_guard.specs.Counts.{LIMIT}
+use Rattle.pdcp_guard.specs.Counts.{count_limit}
 use Rattle.pdcp_guard.specs.Srb.{srb_opened_at}
 use Rattle.pdcp_guard.proofs.SrbFacts.{Answered, srb_answered, srb_intact}
 use Rattle.pdcp_guard.proofs.srbs.Srb.open.Goals as goal
@@ -7,7 +7,7 @@ use Rattle.pdcp_guard.proofs.srbs.Srb.open.Goals as goal
 -- what is so of the answer at the COUNT found
 answered : (c : goal.After-opened_at) → Answered c.args.keys.now c.args.cipher c.args.self.now.bearer c.args.self.now.counts.receive c.args.dir c.args.pdu.now (srb_opened_at c.args.keys.now c.args.cipher c.args.self.now.bearer c.in_ok-count.count c.args.dir c.args.pdu.now)
 answered c =
-    let below : c.in_ok-count.count < LIMIT = omega arith in
+    let below : c.in_ok-count.count < count_limit = omega arith in
     let found = c.in_ok-count.ensures in
     srb_answered c.args.keys.now c.args.cipher c.args.self.now.bearer c.args.self.now.counts.receive c.args.dir c.args.pdu.now c.in_ok-count.count found.long found.reserved found.count below found.at_or_above
 
