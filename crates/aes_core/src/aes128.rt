@@ -43,6 +43,7 @@ impl Aes128 {
     pub fn encrypt(&self, block: [u8; 16]) -> [u8; 16]
         ensures { result ≡ aes self.now block }
     {
+        // Written out: of a loop, LLVM makes code that moves the words to a vector register and back.
         let words = &self.words;
         let first_rounds = State::of_block(block)
             .add_round_key(words, 0)
