@@ -1,0 +1,12 @@
+//! The texts of a report: a line for each event, a coincidence, the rows of the ladder. Each reads the
+//! same for ever, so that two reports can be compared line by line.
+#![tactic(auto)]
+
+mod kept;
+mod lines;
+mod memory;
+#[cfg(test)]
+mod tests;
+
+pub use lines::line;
+pub use memory::TextMemory;

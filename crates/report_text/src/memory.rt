@@ -1,0 +1,11 @@
+use std::alloc::AllocError;
+
+/// Memory ran out.
+#[derive(Clone, Copy, Debug, PartialEq, Eq)]
+pub struct TextMemory;
+
+impl From<AllocError> for TextMemory {
+    fn from(_fault: AllocError) -> TextMemory {
+        TextMemory
+    }
+}
