@@ -1,5 +1,5 @@
 -- Each form of body as a layout.
-use Rattle.std.proofs.Common.{◌≡◌, ℕ, ◌+◌, ◌<◌, ◌≤◌, ◌^◌, Bool, true, false, List, [], ◌∷◌, ◌++◌, length, drop, Option, Some, None, Result, Ok, Err, refl, ap, subst, ◌∙◌, arith}
+use Rattle.std.proofs.Common.{◌≡◌, ℕ, ◌<◌, ◌≤◌, ◌^◌, true, false, [], ◌∷◌, ◌++◌, length, Option, Some, None, refl}
 use Rattle.rec_base.specs.BigEndian.{octets_of}
 use Rattle.rec_base.specs.Bearer.{octet_of}
 use Rattle.rec_base.specs.declared.bearers.Bearer.{Bearer}
@@ -8,20 +8,15 @@ use Rattle.rec_fields.specs.Spelled.{cell_octets}
 use Rattle.alg_choice.specs.declared.algs.Eea.{Eea}
 use Rattle.alg_choice.specs.declared.algs.Eea.TheVariants.{Eea0, Eea2}
 use Rattle.alg_choice.specs.Algs.{identity_of}
-use Rattle.alg_choice.specs.declared.caps.Caps.{Caps}
-use Rattle.annex_a_keys.specs.Cell.{Place}
 use Rattle.lte_events.specs.declared.acts.HoKind.{HoKind}
 use Rattle.lte_events.specs.declared.acts.HoKind.TheVariants.{X2, S1, Intra}
-use Rattle.role_wire.specs.Codes.{Codes, coded, srbs, drbs, bearers, nas_alone, nas_or_bearer, skip_octet, ho_kinds, ho_octet, eeas, eeas_but, is_drb}
+use Rattle.role_wire.specs.Codes.{Codes, coded, srbs, drbs, bearers, nas_alone, nas_or_bearer, skip_octet, ho_kinds, ho_octet, eeas, is_drb}
 use Rattle.role_wire.specs.Body.{nothing_of, caps_of, auth_of, auth_caps_of, pdu_of, air_of, station_air_of, user_of, rrc_of, nas_of, skip_of, connect_of, start_of}
 use Rattle.role_wire.specs.Ranges.{IsCell}
-use Rattle.role_wire.proofs.FieldLaws.{Field, IsCoding, AreCodes, small, word, code, key, caps, cell, rest_takes, rest_again, end_takes, end_again}
-use Rattle.role_wire.proofs.Layouts.{Layout, Empty, Last, Rest, Then, IsForm, of_layout}
+use Rattle.role_wire.proofs.FieldLaws.{IsCoding, small, word, code, key, caps, cell, rest_takes, rest_again, end_takes, end_again}
+use Rattle.role_wire.proofs.Layouts.{Last, Rest, Then, IsForm, of_layout}
 
 -- the tables
-abbrev Any : {A : Type 0} → A → Type 0
-Any x = Unit {0}
-
 drb_again : (b : Bearer) → is_drb b ≡ true → coded drbs (octet_of b) ≡ Some b
 drb_again Srb1 h = absurd cc
 drb_again Srb2 h = absurd cc

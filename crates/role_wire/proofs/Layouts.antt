@@ -1,8 +1,6 @@
 -- Bodies as layouts: what is read by a layout is spelled by it, and what is spelled by it is read.
-use Rattle.std.proofs.Common.{◌≡◌, ℕ, ◌+◌, ◌<◌, ◌≤◌, List, [], ◌∷◌, ◌++◌, length, drop, Result, Ok, refl, sym, ap, subst, ◌∙◌, append-nil, arith}
-use Rattle.rec_base.specs.BigEndian.{number_at}
+use Rattle.std.proofs.Common.{◌≡◌, ℕ, ◌+◌, ◌≤◌, List, [], ◌∷◌, ◌++◌, length, drop, Result, Ok, refl, sym, ap, subst, ◌∙◌, append-nil}
 use Rattle.rec_base.proofs.Numbers.{AreOctets}
-use Rattle.rec_fields.proofs.Fields.{kind_takes}
 use Rattle.role_wire.specs.Field.{◌>>=◌, rest_at, ends_at}
 use Rattle.role_wire.proofs.FieldLaws.{Field, bind_ok, ok_is, rest_takes, rest_again, end_takes, end_again}
 

@@ -5,3 +5,4 @@ pub mod SetupForm
 pub mod Grammar
 pub mod FrameLaws
 pub mod WritingLaws
+pub mod Sizes

@@ -1,27 +1,26 @@
 -- The Setup of a station or the core: priority, first number and cells.
-use Rattle.std.proofs.Common.{◌≡◌, ◌≢◌, ℕ, zero, suc, ◌+◌, ◌-◌, ◌*◌, ◌<◌, ◌≤◌, ◌^◌, Bool, true, false, cond, eqb, List, [], ◌∷◌, ◌++◌, length, map, get_or, drop, All, Some, Result, Ok, Err, refl, sym, ap, subst, ◌∙◌, append_assoc, append-nil, arith, length-append, length-drop, drop-drop, lit<}
-use Rattle.std.specs.List.{list_any, flat_map, IsDistinct}
-use Rattle.std.proofs.lemmas.Bool.{eqb-true, eqb-false, ne_eqb}
+use Rattle.std.proofs.Common.{◌≡◌, ◌≢◌, ℕ, zero, suc, ◌+◌, ◌-◌, ◌*◌, ◌≤◌, ◌^◌, Bool, true, false, cond, eqb, List, [], ◌∷◌, ◌++◌, length, map, get_or, drop, All, Some, Ok, Err, refl, sym, ap, subst, ◌∙◌, append_assoc, append-nil, arith, length-append, lit<}
+use Rattle.std.specs.List.{list_any, flat_map}
+use Rattle.std.proofs.lemmas.Bool.{eqb-true, eqb-false}
 use Rattle.std.proofs.lemmas.List.{get_or_append_left}
 use Rattle.std.proofs.Math.Seq.{get_or-append_seam}
 use Rattle.std.proofs.lemmas.List.Elements.{All-nil, All-push, All-get_or, All-from_get_or}
 use Rattle.std.proofs.lemmas.List.Folds.{list_any_none}
 use Rattle.std.proofs.lemmas.Map.Keys.{apart_from_distinct}
-use Rattle.rec_base.specs.BigEndian.{number_at, octets_of}
-use Rattle.rec_base.proofs.Numbers.{AreOctets, length-octets_of}
+use Rattle.rec_base.specs.BigEndian.{octets_of}
+use Rattle.rec_base.proofs.Numbers.{AreOctets}
 use Rattle.rec_fields.proofs.Fields.{octet_takes}
 use Rattle.rec_fields.specs.Spelled.{cell_octets}
 use Rattle.alg_choice.specs.declared.algs.Eea.{Eea}
 use Rattle.alg_choice.specs.declared.algs.Eea.TheVariants.{Eea0, Eea2}
 use Rattle.alg_choice.specs.Algs.{identity_of}
-use Rattle.annex_a_keys.specs.Cell.{Place}
 use Rattle.lte_events.specs.Site.{Site, is_site, IsCellTable}
 use Rattle.lte_events.proofs.SiteFacts.{same_cell, no_cell, one_more}
 use Rattle.role_wire.specs.Codes.{coded, eeas, eeas_but}
 use Rattle.role_wire.specs.Field.{◌>>=◌, number_in, coded_at, cell_at, ends_at}
 use Rattle.role_wire.specs.Body.{order_at, site_at, sites_at, cells_at, first_of}
 use Rattle.role_wire.specs.Spelling.{site_octets, first_octets}
-use Rattle.role_wire.specs.Ranges.{IsCell, IsOrder, IsNumber, IsFirst}
+use Rattle.role_wire.specs.Ranges.{IsCell, IsOrder, IsFirst}
 use Rattle.role_wire.proofs.FieldLaws.{Field, IsCoding, bind_ok, ok_is, passes, small, word, code, cell, stands, behind, octet_there, number_takes_in, number_reads, end_takes, end_again}
 use Rattle.role_wire.proofs.Layouts.{IsForm}
 use Rattle.role_wire.proofs.Forms.{eea_coding}

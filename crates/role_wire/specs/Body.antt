@@ -1,5 +1,5 @@
 -- What stands in a body behind its kind, which is the octet at place 0: one definition for each form.
-use Rattle.std.specs.Prelude.{ℕ, zero, suc, ◌+◌, ◌*◌, ◌-◌, ◌^◌, ◌==◌, if◌then◌else◌, List, [], ◌∷◌, ◌++◌, length, Result, Ok, Err, Option}
+use Rattle.std.specs.Prelude.{ℕ, zero, suc, ◌+◌, ◌*◌, ◌-◌, ◌^◌, ◌==◌, if◌then◌else◌, List, [], ◌∷◌, ◌++◌, length, Result, Ok, Err}
 use Rattle.std.specs.List.{list_any}
 use Rattle.rec_base.specs.declared.bearers.Bearer.{Bearer}
 use Rattle.alg_choice.specs.declared.algs.Eea.{Eea}
@@ -7,7 +7,7 @@ use Rattle.alg_choice.specs.declared.caps.Caps.{Caps}
 use Rattle.annex_a_keys.specs.Cell.{Place}
 use Rattle.lte_events.specs.Site.{Site, is_site}
 use Rattle.lte_events.specs.declared.acts.HoKind.{HoKind}
-use Rattle.role_wire.specs.Codes.{Codes, srbs, drbs, bearers, nas_alone, nas_or_bearer, ho_kinds, eeas, eeas_but}
+use Rattle.role_wire.specs.Codes.{Codes, srbs, drbs, bearers, ho_kinds, eeas, eeas_but}
 use Rattle.role_wire.specs.Field.{◌>>=◌, number_in, coded_at, key_at, caps_at, cell_at, rest_at, ends_at}
 
 -- no field

@@ -1,5 +1,5 @@
 -- The frame of a reply: kind 80, and then its parts in order.
-use Rattle.std.specs.Prelude.{ℕ, ◌+◌, Bool, true, false, List, [], ◌∷◌, ◌++◌, length, Option, Some, None}
+use Rattle.std.specs.Prelude.{ℕ, Bool, true, false, List, [], ◌∷◌, ◌++◌, length, Option, Some, None}
 use Rattle.std.specs.List.{flat_map}
 use Rattle.rec_base.specs.BigEndian.{octets_of}
 use Rattle.rec_base.specs.Bearer.{octet_of}

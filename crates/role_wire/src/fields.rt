@@ -1,6 +1,6 @@
 // The fields of a body, read at a place. An error is the place of the first bad octet: where octets are
 // wanting, the end.
-ghost use Rattle.std.specs.Prelude.{◌≡◌, ◌≢◌, ◌+◌, ◌-◌, ◌^◌, ◌<◌, ◌≤◌, nat_lt, if◌then◌else◌, length, IfOk, OnOk, Ok, Err, drop};
+ghost use Rattle.std.specs.Prelude.{◌≡◌, ◌≢◌, ◌+◌, ◌-◌, ◌^◌, ◌<◌, ◌≤◌, nat_lt, if◌then◌else◌, length, IfOk, OnOk, Ok, Err};
 ghost use Rattle.role_wire.specs.Codes.{srbs, drbs, bearers, nas_alone, nas_or_bearer, ho_kinds, eeas, eeas_but};
 ghost use Rattle.role_wire.specs.Field.{number_in, coded_at, key_at, caps_at, cell_at, rest_at, ends_at};
 

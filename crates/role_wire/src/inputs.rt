@@ -25,6 +25,7 @@ pub(crate) fn body(role: Role, first: bool, octets: &[u8]) -> Result<FrameIn, u1
     body_of(role, first, octets)
 }
 
+// The same, by the place of the frame.
 #[tactic(auto, unfolding(crate::specs::Reading::body_of))]
 fn body_of(role: Role, first: bool, octets: &[u8]) -> Result<FrameIn, u16>
     requires { length octets.now ≤ 4096 }

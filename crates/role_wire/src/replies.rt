@@ -1,12 +1,11 @@
 // Writing the reply of an actor.
 ghost use Rattle.std.specs.Prelude.{◌≡◌, ◌+◌, ◌≤◌, ◌<◌, [], ◌∷◌, ◌++◌, length};
-ghost use Rattle.std.specs.List.{flat_map};
 ghost use Rattle.rec_base.specs.BigEndian.{octets_of};
 ghost use Rattle.rec_base.specs.Bearer.{octet_of};
 ghost use Rattle.lte_events.specs.Answer.{number_of};
 ghost use Rattle.lte_events.specs.Reply.{reply_of};
 ghost use Rattle.lte_events.specs.declared.answers.Answer.TheVariants.{Done};
-ghost use Rattle.role_wire.specs.Reply.{fault_octets, kept_octets, answer_octets, address_octets, sent_octets, opened_octets, derived_octets, way_octet, note_octets, alarm_octets, reply_octets, reply_spelling};
+ghost use Rattle.role_wire.specs.Reply.{fault_octets, kept_octets, answer_octets, address_octets, sent_octets, opened_octets, derived_octets, way_octet, note_octets, reply_spelling};
 
 use crate::Frame;
 use crate::writing::{Body, framed};

@@ -1,6 +1,5 @@
 // Frames as octets. The octets that come from a run of the ordinary scenario were computed by another
 // implementation; all others were written down from the table of frames (`docs/FRAMES.md`).
-ghost use Rattle.std.specs.Prelude.{IfOk};
 ghost use Rattle.role_wire.specs.Ranges.{IsRole};
 
 mod bad;

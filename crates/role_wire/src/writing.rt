@@ -1,12 +1,12 @@
 // Writing the frames that an actor is told.
-ghost use Rattle.std.specs.Prelude.{◌≡◌, ℕ, Bool, ◌+◌, ◌≤◌, ◌<◌, List, [], ◌∷◌, ◌++◌, length, map, Ok};
+ghost use Rattle.std.specs.Prelude.{◌≡◌, ℕ, Bool, ◌+◌, ◌≤◌, ◌<◌, List, ◌∷◌, ◌++◌, length, map, Ok};
 ghost use Rattle.std.specs.List.{flat_map};
 ghost use Rattle.rec_base.specs.BigEndian.{octets_of};
 ghost use Rattle.rec_base.specs.Bearer.{octet_of};
 ghost use Rattle.alg_choice.specs.Algs.{identity_of};
 ghost use Rattle.edge_io.specs.declared.peers.Role.{Role};
 ghost use Rattle.role_wire.specs.Codes.{skip_octet, ho_octet};
-ghost use Rattle.role_wire.specs.Spelling.{body_spelling, setup_octets, input_octets, phone_octets, phone_act_octets, station_octets, station_act_octets, core_octets, core_act_octets, first_octets, site_octets};
+ghost use Rattle.role_wire.specs.Spelling.{setup_octets, phone_octets, phone_act_octets, station_octets, station_act_octets, core_octets, core_act_octets, first_octets, site_octets};
 ghost use Rattle.role_wire.specs.Ranges.{IsFrame, IsFrameIn, IsSetup, IsInput, IsPhoneIn, IsPhoneAct, IsStationIn, IsStationAct, IsCoreIn};
 ghost use Rattle.role_wire.specs.Frame.{framed, frame_spelling, frame_at};
 
@@ -47,6 +47,7 @@ pub fn input_frame(frame: &FrameIn) -> Frame
     written(frame)
 }
 
+// The same, by what the frame is.
 fn written(frame: &FrameIn) -> Frame
     requires { IsFrameIn frame.now }
     ensures spelled { result ≡ frame_spelling frame.now }

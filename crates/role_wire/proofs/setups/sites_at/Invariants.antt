@@ -1,4 +1,4 @@
-use Rattle.std.proofs.Common.{◌≡◌, ◌+◌, ◌-◌, ◌*◌, ◌≤◌, [], length}
+use Rattle.std.proofs.Common.{◌≡◌, ◌+◌, ◌-◌, ◌*◌, [], length}
 use Rattle.role_wire.specs.Body.{sites_at}
 use Rattle.role_wire.proofs.setups.sites_at.Given as goal
 
