@@ -106,9 +106,11 @@ module _ (same : Term → Term → Bool) (root : ℕ → List ℕ → Term) (oct
       (core_record_walks same cells (ghost c w) w.core h.core Address.CoreS1 fields key k)
   between_goes c w (Address.StationAir station air bearer) fields key pdu h settled above k flight honest calm = station_air c w station air bearer pdu _ h above tt honest
   between_goes c w (Address.StationS1 station) fields key pdu h settled above k flight honest calm =
-      station_s1_goes same root octets sender opener tell cells cells_ok c w station (Some (Between (Address.StationS1 station) fields key)) h above
-      (k, all_both (λ s. CellFits s.context) (λ s. InFlight s (Between (Address.StationS1 station) fields key)) (λ s. s.id ≡ station → CellFits s.context × InFlight s (Between (Address.StationS1 station) fields key))
-      (λ s fits f e. (fits, f)) w.stations settled.fits flight)
+      station_s1_goes same root octets sender opener tell cells cells_ok c w station (Some (Between (Address.StationS1 station) fields key)) h above (
+        k,
+        all_both (λ s. CellFits s.context) (λ s. InFlight s (Between (Address.StationS1 station) fields key)) (λ s. s.id ≡ station → CellFits s.context × InFlight s (Between (Address.StationS1 station) fields key))
+            (λ s fits f e. (fits, f)) w.stations settled.fits flight,
+      )
   between_goes c w (Address.StationX2 station) fields key pdu h settled above k flight honest calm =
       station_x2_goes same root octets sender opener tell cells cells_ok c w station (Some (Between (Address.StationX2 station) fields key)) h above k
 

@@ -334,7 +334,6 @@ module _ (top : ℕ → ℕ) (same : Term → Term → Bool) (s : Station Term �
     moves = Stays tt;
     sends = tt;
   }
-
   record_kept (KeyRenewed conn number air count) key d n h a = key_renewed_kept conn number air count s.context key d refl h a
 
   -- by a PDU

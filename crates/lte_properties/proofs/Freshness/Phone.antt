@@ -246,7 +246,7 @@ module _ (roots : ℕ) (taken : Homes) where
             by_handover = true;
           } in
           let before : (t : Term) (h : Home) → taken t ≡ Some h → IsBefore t star =
-              λ t g f. let x = (h.3.3 t g f).0 in (omega arith, λ i. absurd (omega arith)) in
+          λ t g f. let x = (h.3.3 t g f).0 in (omega arith, λ i. absurd (omega arith)) in
           joins (record s { context = Some c }) (Connected l) star t _ _ h refl
           (h.0.1.0, h.0.1.1, (omega arith, λ i. let x = h.5 in omega arith))
           before (refl, refl, refl) refl (refl, inl refl) (

@@ -66,9 +66,11 @@ module _ (sites : List Site) (w : World Term ℕ (Outgoing Term ℕ)) (h : Holde
     shared_between : (came : Came Term ℕ) → ObeysMade x came m → ahead m came < 8 → (station_of cell sites ≡ Some x.station) × SharedBetween w (nh (Root r octets) n i) x m came
     shared_between Secured k lt = (here (sym k.0.0 ∙ is), tt)
     shared_between (Commanded before) k lt =
-        let key = sym (k.near lt).0 ∙ is in
-        (here key, subst (SharedBy w (nh (Root r octets) n i) x.key before.station x.station) (sym k.tried.1)
-        (shared_by before.station x m k.tried.0 k.tried.2 (subst (MadeFrom (GivenTo w.sent) w.tried m) k.tried.1 own.0) s r octets n i cell key is (here key)))
+        let key = sym (k.near lt).0 ∙ is in (
+          here key,
+          subst (SharedBy w (nh (Root r octets) n i) x.key before.station x.station) (sym k.tried.1)
+              (shared_by before.station x m k.tried.0 k.tried.2 (subst (MadeFrom (GivenTo w.sent) w.tried m) k.tried.1 own.0) s r octets n i cell key is (here key)),
+        )
     shared_between (Changed before root) k lt =
         let key = sym (k.near lt).0 ∙ is in
         (here key, renewed_by x m before.key (subst (MadeFrom (GivenTo w.sent) w.tried m) k.renewed own.0) s r octets n i cell key is (here key))
