@@ -11,39 +11,56 @@ use Rattle.s1x2_rec.specs.Content.{Content}
 use Rattle.lte_machine.specs.PhoneState.{NasContext, map_context}
 use Rattle.lte_machine.specs.StationState.{map_read}
 
--- what an authentication left: KSI, KASME, the phone's capabilities, and the next downlink COUNT (TS 24.301 4.4.2)
+-- a partial context: what an authentication left (TS 24.301 4.4.2)
 pub record CorePartial (K : Type 0) : Type 0 where
+  -- KSI, its name between phone and core
   pub ksi : ℕ
+  -- KASME
   pub root : K
+  -- the capabilities of the phone
   pub caps : Caps
+  -- the next downlink NAS COUNT
   pub send : ℕ
 
--- the NAS context in use, and the capabilities that it was made with
+-- the NAS context in use
 pub record CoreContext (K : Type 0) : Type 0 where
+  -- keys and COUNTs
   pub nas : NasContext K
+  -- the capabilities of the phone that it was made with
   pub caps : Caps
 
--- a connection: its number, its chain, and the station where the phone is
+-- a connection
 pub record CoreLink (K C : Type 0) : Type 0 where
+  -- its number
   pub conn : ℕ
+  -- the chain of NH and NCC
   pub chain : ChainState K C
+  -- the station where the phone is
   pub station : ℕ
 
--- all cells with their stations, its list of algorithms, the capabilities of the latest authentication, the partial
--- context, the keys of the Security Mode procedure that is open, the context in use, the COUNT that triggers a
--- connection, the next connection number, the connection, and the greatest attempt and the greatest path switch request
--- seen of each station
+-- the core
 pub record Core (K C : Type 0) : Type 0 where
+  -- all cells with their stations
   pub cells : List Site
+  -- its list of encryption algorithms, the first the best
   pub priority : List Eea
+  -- the capabilities of the latest authentication
   pub latest : Caps
+  -- what the latest authentication left
   pub partial : Option (CorePartial K)
+  -- the keys of the Security Mode procedure that is open
   pub procedure : Option (Keys K)
+  -- the NAS context in use
   pub context : Option (CoreContext K)
+  -- the uplink NAS COUNT that triggers a connection
   pub trigger : Option ℕ
+  -- the next connection number
   pub next : ℕ
+  -- the connection
   pub link : Option (CoreLink K C)
+  -- of each station the greatest attempt seen
   pub attempts : List ℕ
+  -- of each station the greatest path switch request seen
   pub requests : List ℕ
 
 -- a core that has authenticated nobody

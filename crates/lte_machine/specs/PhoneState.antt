@@ -23,29 +23,44 @@ nas_derivations r root algs = alg_made r root 1 (identity_of algs.eea) ∷ alg_m
 
 -- a partial context: what an authentication left (TS 24.301 4.4.2)
 pub record Partial (K : Type 0) : Type 0 where
+  -- KSI, its name between phone and core
   pub ksi : ℕ
+  -- KASME
   pub root : K
 
--- the NAS context in use: its KASME, keys, and the next COUNT to send with and the next one expected (TS 24.301 4.4.3)
+-- the NAS context in use (TS 24.301 4.4.3)
 pub record NasContext (K : Type 0) : Type 0 where
+  -- KASME
   pub root : K
+  -- KNASenc and KNASint, with the algorithms
   pub keys : Keys K
+  -- the next NAS COUNT to send with
   pub send : ℕ
+  -- the next NAS COUNT expected
   pub receive : ℕ
 
--- a phone that waits for the security of its connection: the KASME and KeNB of its trigger (TS 33.401 7.2.8.1.1)
+-- a phone that waits for the security of its connection (TS 33.401 7.2.8.1.1)
 pub record Waiting (K : Type 0) : Type 0 where
+  -- KASME of its trigger
   pub root : K
+  -- KeNB of it and of the COUNT of the trigger
   pub kenb : K
 
--- a connection: station and air address, chain, KeNB, keys, bearers, and whether it came by a handover
+-- a connection
 pub record Link (K C : Type 0) : Type 0 where
+  -- the station
   pub station : ℕ
+  -- the air address there
   pub air : ℕ
+  -- the chain of NH and NCC
   pub chain : ChainState K C
+  -- KeNB, or KeNB* since a handover
   pub kenb : K
+  -- the keys of the access stratum, with the algorithms
   pub keys : AsKeys K
+  -- the COUNTs of the bearers
   pub bearers : Bearers
+  -- whether it came by a handover or a key change, whose Complete may be sent again
   pub by_handover : Bool
 
 pub data Radio (K C : Type 0) : Type 0 where
@@ -53,10 +68,15 @@ pub data Radio (K C : Type 0) : Type 0 where
   Connecting : Waiting K → Radio K C
   Connected : Link K C → Radio K C
 
+-- the phone
 pub record Phone (K C : Type 0) : Type 0 where
+  -- the algorithms that it supports
   pub caps : Caps
+  -- what the latest authentication left
   pub partial : Option (Partial K)
+  -- the NAS context in use
   pub context : Option (NasContext K)
+  -- idle, waiting or connected
   pub radio : Radio K C
 
 -- a phone that was never authenticated

@@ -46,33 +46,50 @@ pub data Attempt (K C : Type 0) : Type 0 where
   Within : X2State K C → Attempt K C
   Renewing : Renewal → Attempt K C
 
--- the phone's context: connection, cell and air address, key with a stored pair if there is one, keys, capabilities,
--- whether its security still starts, bearers, attempt, the path switch request whose answer is outstanding, and the X2
--- handover that it came by
+-- the context of the phone
 pub record Context (K C : Type 0) : Type 0 where
+  -- the number of the connection
   pub conn : ℕ
+  -- the cell
   pub cell : Place
+  -- the air address
   pub air : ℕ
+  -- KeNB or KeNB*, and the stored pair
   pub key : StationKey K C
+  -- the algorithms chosen
   pub algs : Algs
+  -- the keys of the access stratum
   pub keys : AsKeys K
+  -- the capabilities of the phone
   pub caps : Caps
+  -- whether its security still starts
   pub starting : Bool
+  -- the COUNTs of the bearers
   pub bearers : Bearers
+  -- its attempt
   pub attempt : Option (Attempt K C)
+  -- the path switch request whose answer is outstanding
   pub outstanding : Option ℕ
+  -- the attempt of the X2 handover that it came by
   pub origin : Option Origin
 
--- its number, all cells with their stations, its list of algorithms, the next number that it draws, the greatest
--- connection number, the greatest attempt seen of each source, context, preparations
+-- a station
 pub record Station (K C : Type 0) : Type 0 where
+  -- its number
   pub id : ℕ
+  -- all cells with their stations
   pub cells : List Site
+  -- its list of encryption algorithms, the first the best
   pub priority : List Eea
+  -- the next number that it draws
   pub next : ℕ
+  -- the greatest connection number
   pub last : ℕ
+  -- of each source the greatest attempt seen
   pub seen : List ℕ
+  -- the context of the phone
   pub context : Option (Context K C)
+  -- its preparations
   pub preps : List (Prep K C)
 
 -- a station that has served nobody

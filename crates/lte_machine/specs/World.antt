@@ -50,29 +50,46 @@ pub record Machine (K C S : Type 0) : Type 0 where
   -- how octets open, and what came with them if they were sent
   pub opener : Opening K → List ℕ → Option S → Outcome
 
--- all actors and all that was: events so far, records sent, uses, origins of keys in order, holders, and of agreement what
--- was made for each air address, what each attempt was opened under, and what the phone took
+-- all actors and all that was
 pub record World (K C S : Type 0) : Type 0 where
+  -- how many events there were
   pub events : ℕ
+  -- the phone
   pub phone : Phone K C
+  -- the core
   pub core : Core K C
+  -- the stations
   pub stations : List (Station K C)
+  -- the records sent, in order
   pub sent : List S
+  -- what they were sealed and ciphered under
   pub uses : List (KeyUse K)
+  -- the KASMEs and the derivations, in order
   pub history : List (RowOrigin K)
+  -- who held which key
   pub held : List (Holding K)
+  -- what was made for each air address
   pub made : List (Made K C)
+  -- what each attempt was opened under
   pub tried : List (Tried K C)
+  -- what the phone took
   pub took : List (Took K C)
 
 -- the report of one event
 pub record Line (K : Type 0) : Type 0 where
+  -- the number of the event
   pub step : ℕ
+  -- the actor, or the network
   pub who : Who
+  -- its answer
   pub answer : Answer
+  -- the record sent, by its number and class
   pub sent : Option (ℕ × Class)
+  -- the text opened
   pub opened : Option (List ℕ)
+  -- the key that it came to
   pub note : Option (Note K)
+  -- whether capabilities differ (TS 33.401 7.2.4.2.2)
   pub alarm : Bool
 
 -- one more of a list, if there is one
