@@ -1,4 +1,5 @@
 pub mod Calm
+pub mod Chains
 pub mod Core
 pub mod CoreOpens
 pub mod Events
@@ -14,6 +15,7 @@ pub mod Opener
 pub mod Order
 pub mod Phone
 pub mod PhoneWalk
+pub mod Seen
 pub mod Station
 pub mod StationAct
 pub mod StationOpens

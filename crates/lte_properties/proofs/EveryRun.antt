@@ -20,6 +20,8 @@ use Rattle.lte_machine.proofs.AnnexB.{under_keys_ciphers}
 use Rattle.lte_machine.proofs.LadderRun.{uses_apart}
 use Rattle.lte_machine.proofs.MixedRun.{run_by_terms}
 use Rattle.lte_machine.proofs.StillRun.{goes_on, still_is_run, turns_to}
+use Rattle.lte_properties.specs.ChainHolds.{core_numbers, noted}
+use Rattle.lte_properties.specs.Chains.{AreChains, ChainsHold}
 use Rattle.lte_properties.specs.Agreement.{Agrees, AgreementHolds, NoneThere, NoneEver}
 use Rattle.lte_properties.specs.Freshness.{NoUseTwice, ValuesApart}
 use Rattle.lte_properties.specs.SharedKeys.{SharedApart}
@@ -28,7 +30,7 @@ use Rattle.lte_properties.specs.Packets.{OpensToSent}
 use Rattle.lte_properties.proofs.Opening.Opens.{IsReflexive, by_uses_open}
 use Rattle.lte_properties.proofs.Opening.Sender.{roots_along}
 use Rattle.lte_properties.proofs.Opening.Whole.{packets_open}
-use Rattle.lte_properties.proofs.Agreement.Whole.{agreement_over}
+use Rattle.lte_properties.proofs.Agreement.Whole.{agreement_over, chains_over}
 use Rattle.lte_properties.proofs.Freshness.Whole.{no_use_twice_by_terms, no_value_twice_by_terms}
 use Rattle.lte_properties.proofs.KeySeparation.Ever.{sharing_holds_by}
 use Rattle.lte_properties.specs.AgreeOpenings.{OpensByTerms}
@@ -46,6 +48,16 @@ on_the_way by_octets m w (e ∷ es) u is (suc n) =
 -- a value is itself
 pub reflexive : IsReflexive same_value
 reflexive t = (same_value-Decides t t).1 refl
+
+-- machines that come to the same worlds on the way have the same core's numbers
+same_numbers : (m n : Machine Term ℕ (Outgoing Term ℕ)) (w : World Term ℕ (Outgoing Term ℕ)) (top : ℕ → ℕ) (es : List Event)
+    → ((i : ℕ) → run m w (take i es) ≡ run n w (take i es)) → core_numbers m w top es ≡ core_numbers n w top es
+same_numbers m n w top [] f = refl
+same_numbers m n w top (e ∷ es) f =
+    let u = (happens m w e).0 in
+    let one : u ≡ (happens n w e).0 = f 1 in
+    same_numbers m n u (noted u.core.link top) es (λ i. f (suc i) ∙ ap (λ v. run n v (take i es)) (sym one))
+    ∙ (λ j. core_numbers n (one j) (noted (one j).core.link top) es)
 
 module _ (c : Ciphers (List ℕ)) (good : AreCiphers c) (setup : Setup) (events : List Event) (w : World Term ℕ (Outgoing Term ℕ)) (is : RunsTo c setup events w) where
   abbrev terms : Ciphers Term
@@ -92,6 +104,20 @@ module _ (c : Ciphers (List ℕ)) (good : AreCiphers c) (setup : Setup) (events 
         sym (still_is_run (open_octets terms) (written_machine c) (first_world setup) events w is) ∙ in_mixed in
         subst (λ (v : World Term ℕ (Outgoing Term ℕ)). NoneThere v (run (written_machine c) (first_world setup) events)) (sym (way_is n))
         (subst (λ (u : World Term ℕ (Outgoing Term ℕ)). NoneThere (run (mixed terms written_in_values) (first_world setup) (take n events)) u) (sym last) (both.1 n))
+
+    -- and one chain for each connection number
+    pub chains : ChainsHold (written_machine c) setup events
+    chains =
+        let h = chains_over same_value reflexive terms (under_keys_ciphers value_of c good) written_in_values (by_terms terms) ((λ u e pdu came. refl), (same_value, λ u e pdu came. refl)) setup set events are in
+        let last : run (written_machine c) (first_world setup) events ≡ run (mixed terms written_in_values) (first_world setup) events =
+        sym (still_is_run (open_octets terms) (written_machine c) (first_world setup) events w is) ∙ in_mixed in
+        let numbers : core_numbers (written_machine c) (first_world setup) (λ conn. 0) events ≡ core_numbers (mixed terms written_in_values) (first_world setup) (λ conn. 0) events =
+        same_numbers (written_machine c) (mixed terms written_in_values) (first_world setup) (λ conn. 0) events way_is in (
+          h.0,
+          h.1,
+          subst (λ v. AreChains (record { root = h.0; count = h.1; top = core_numbers (written_machine c) (first_world setup) (λ conn. 0) events }) v) (sym last)
+              (subst (λ top. AreChains (record { root = h.0; count = h.1; top = top }) (run (mixed terms written_in_values) (first_world setup) events)) (sym numbers) h.2),
+        )
 
     -- and who can derive the key
     pub shared : SharedApart setup.cells w

@@ -12,10 +12,11 @@ use Rattle.lte_machine.specs.Run.{first_world}
 use Rattle.lte_events.specs.declared.setups.Setup.{Setup}
 use Rattle.lte_events.specs.declared.lines.Who.{Who}
 use Rattle.rec_base.specs.declared.ways.Way.{Way}
-use Rattle.key_model.specs.Chain.{ncc_of}
+use Rattle.key_model.specs.Chain.{nh, ncc_of}
 use Rattle.lte_events.specs.declared.events.Event.{Event}
 use Rattle.lte_properties.specs.ChainBelow.{AllOf}
 use Rattle.lte_properties.specs.ChainHolds.{run}
+use Rattle.lte_properties.specs.FreshOrder.{nas_count_of}
 
 -- an item of a list
 abbrev pub IsIn : {A : Type 0} → A → List A → Type 0
@@ -32,6 +33,13 @@ made_at made station air = find (is_made_at station air) made
 -- for each air address a station makes one thing alone
 abbrev pub MadeOnce : {S : Type 0} → World Term ℕ S → Type 0
 MadeOnce w = AllOf (λ m. made_at w.made m.station m.air ≡ Some m) w.made
+
+-- each attempt of a source gives one thing at most
+abbrev pub OneOf : Made Term ℕ → Made Term ℕ → Type 0
+OneOf m n = (o : Origin) → m.from ≡ ByAttempt o → n.from ≡ ByAttempt o → m ≡ n
+
+abbrev pub TriedOnce : {S : Type 0} → World Term ℕ S → Type 0
+TriedOnce w = AllOf (λ m. AllOf (OneOf m) w.made) w.made
 
 -- the KASME that a key comes from
 abbrev pub root_of : Term → Term
@@ -59,8 +67,9 @@ TookMade x m = (x.key ≡ m.key) × (x.number ≡ m.number) × (x.algs ≡ m.alg
 pub record ObeysCommand (x : Took Term ℕ) (before : Before Term ℕ) (m : Made Term ℕ) : Type 0 where
   -- what the station there made came by an attempt of a handover, which the station opened where the phone was connected
   pub tried : (o : Origin) × (m.from ≡ ByAttempt o) × (o.source ≡ before.station)
-  -- its number is not below the phone's
+  -- its number is not below the phone's, before the command and after it
   pub not_behind : before.number ≤ m.number
+  pub not_passed : x.number ≤ m.number
   -- fewer than eight steps ahead the phone took what was made
   pub near : ahead m (Commanded before) < 8 → TookMade x m
   -- at eight or more it took another key and number, since NCC has three bits
@@ -89,12 +98,13 @@ Obeys made x = (m : Made Term ℕ) × (made_at made x.station x.air ≡ Some m) 
 abbrev pub ObeysAgreement : {S : Type 0} → World Term ℕ S → Type 0
 ObeysAgreement w = AllOf (Obeys w.made) w.took
 
--- under one connection number the phone's keys grow: the chain number rises, or it stays and the key is a KeNB* of the one
--- before (7.2.8.4.4). A key change begins anew with the KeNB of its KASME and of COUNT 0 (7.2.9.2)
+-- under one connection number the phone's keys grow: the chain number rises, and the key is a KeNB* of the NH of that number
+-- on the chain of the key before, or it stays and the key is a KeNB* of the one before (7.2.8.4.4). A key change begins anew with the KeNB of its KASME and of COUNT 0 (7.2.9.2)
 abbrev pub Grows : Took Term ℕ → Came Term ℕ → Type 0
 Grows x Secured = ⊤
 Grows x (Commanded before) =
-    (before.number < x.number)
+    ((before.number < x.number) × (pci : ℕ) × (earfcn : ℕ)
+    × (x.key ≡ Star (nh (root_of before.key) (nas_count_of before.key) x.number) pci earfcn))
     ⊎ ((x.number ≡ before.number) × (pci : ℕ) × (earfcn : ℕ) × (x.key ≡ Star before.key pci earfcn))
 Grows x (Changed before root) =
     (x.number ≡ 0) × (pci : ℕ) × (earfcn : ℕ) × (x.key ≡ Star (Kenb root 0) pci earfcn)
@@ -196,6 +206,10 @@ PrepMade w station p =
 abbrev pub PrepsMade : {S : Type 0} → World Term ℕ S → Type 0
 PrepsMade w = AllOf (λ s. AllOf (PrepMade w s.id) s.preps) w.stations
 
+-- there is a station of this number, and of each of this number this holds
+abbrev pub OfStation : {S : Type 0} → World Term ℕ S → ℕ → (Station Term ℕ → Type 0) → Type 0
+OfStation w id P = (s : Station Term ℕ) × IsIn s w.stations × (s.id ≡ id) × AtStation w id P
+
 -- the context of a station
 abbrev pub HasContext : Option (Context Term ℕ) → (Context Term ℕ → Type 0) → Type 0
 HasContext None P = ⊥
@@ -205,7 +219,7 @@ HasContext (Some c) P = P c
 -- context's air address
 abbrev pub TellsWay : {S : Type 0} → World Term ℕ S → ℕ → Term → Way → Type 0
 TellsWay w id key Way.Completed =
-    AtStation w id (λ s. HasContext s.context (λ c. (c.key.kenb ≡ key) × HadTaken w.took id c.air key))
+    OfStation w id (λ s. HasContext s.context (λ c. (c.key.kenb ≡ key) × HadTaken w.took id c.air key))
 TellsWay w id key other = ⊤
 
 abbrev pub TellsNote : {S : Type 0} → World Term ℕ S → Who → Option (Note Term) → Type 0
@@ -241,14 +255,22 @@ KeysTold m w (e ∷ es) =
 
 -- all of it, in one world
 pub record Agrees {S : Type 0} (w : World Term ℕ S) : Type 0 where
+  -- a station makes one thing for an air address, and an attempt gives one at most
   pub made_once : MadeOnce w
+  pub tried_once : TriedOnce w
+  -- what the phone takes when security starts, at a command and at a key change, against what was made there
   pub obeyed : ObeysAgreement w
+  -- its keys grow, each follows the one before, and a connection has the last one
   pub grow : TermsGrow w
   pub follow : TermsFollow w
   pub last : TookLast w.took w.phone.radio
+  -- it takes one key at most at an air address
   pub one_term : OneTerm w
+  -- phone and station have one key wherever both are at one air address
   pub joined : JoinedAgree w
+  -- a context that came by a handover or a key change has a key that the phone had taken there
   pub completed : CompletedTaken w
+  -- a preparation is what was made for its air address
   pub preps : PrepsMade w
 
 -- the four statements of a run: in the world after these events, of far commands in each world on the way, of the lines of

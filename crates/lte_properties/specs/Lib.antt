@@ -4,6 +4,7 @@ pub mod ChainHolds
 pub mod ChainRows
 pub mod Agreement
 pub mod AgreeOpenings
+pub mod Chains
 pub mod Freshness
 pub mod FreshOrder
 pub mod FreshUses

@@ -16,9 +16,9 @@ ghost use Rattle.lte_properties.specs.Agreement.{CompletedLines, KeysTold};
 ///
 /// - each key that a station makes for an air address, and each key that the phone takes, is told in
 ///   the line of its event, with its NCC (`told`);
-/// - where the run has met no coincidence, a station that tells that a handover completed has a
-///   context with the key that it tells, and the phone had taken that key at the context's air
-///   address (`completed`).
+/// - where the run has met no coincidence, and a line tells that a handover or a change of the key
+///   completed, there is a station of its number, which has a context with the key that it tells, and
+///   the phone had taken that key at the context's air address (`completed`).
 ///
 /// TS 33.401 7.2.8.4.
 pub fn lines_tell_the_keys_in_every_run()

@@ -28,20 +28,32 @@ use Rattle.lte_machine.specs.CoreKeys.{CoreDone, authenticated, smc_started, smc
 use Rattle.lte_machine.specs.CoreChoice.{PlainCore, asked_at, caps_in_use, cancelled_at, of_link, core_fields_row, smc_row, start_smc_row, connect_row, release_row, send_nas_row, skip_nas_row, core_act_row, NUMBERS}
 use Rattle.lte_machine.specs.CoreStep.{plain_core}
 use Rattle.lte_properties.specs.ChainBelow.{AllOf}
-use Rattle.lte_properties.proofs.Agreement.Ghost.{Ghost, chain_at, PairOk, TriedOk, CoreLinkOk, CoreOk, AskedIs, AnyTried, AckIs, HasNcc, BetweenOk, OutOk}
+use Rattle.lte_properties.proofs.Agreement.Ghost.{Ghost, chain_at, PairOk, TriedOk, CoreLinkOk, CoreOk, AskedIs, IsOther, AckIs, HasNcc, BetweenOk, OutOk}
 use Rattle.lte_properties.proofs.Agreement.Later.{Later, later_itself, same_found}
 use Rattle.lte_properties.proofs.Agreement.Phone.{all_found}
+use Rattle.lte_properties.proofs.NasWalk.{IfChange}
 use Rattle.lte_properties.proofs.Agreement.PhoneWalk.{by_test}
 
 -- the connections after a step of the core
 abbrev pub with_conns : Ghost → (ℕ → Term) → (ℕ → ℕ) → (ℕ → ℕ) → ℕ → Ghost
 with_conns g root count top next = record g { root = root; count = count; top = top; next = next }
 
+-- a number rises for the core's present connection alone
+abbrev pub IsOff : Option (CoreLink Term ℕ) → ℕ → Type 0
+IsOff None conn = ⊤
+IsOff (Some link) conn = link.conn ≡ conn → ⊥
+
+abbrev pub StaysOff : Option (CoreLink Term ℕ) → (ℕ → ℕ) → (ℕ → ℕ) → Type 0
+StaysOff link top up = (conn : ℕ) → IsOff link conn → up conn ≤ top conn
+
+pub as_before : (link : Option (CoreLink Term ℕ)) (top : ℕ → ℕ) → StaysOff link top top
+as_before link top conn off = omega arith
+
 abbrev pub CoreGoes : List Site → Ghost → CoreDone Term ℕ → Type 0
 CoreGoes cells g d =
     (root : ℕ → Term) × (count : ℕ → ℕ) × (top : ℕ → ℕ) × (next : ℕ)
     × Later g (with_conns g root count top next) × CoreOk cells (with_conns g root count top next) d.0
-    × OutOk (with_conns g root count top next) d.1.sent
+    × OutOk (with_conns g root count top next) d.1.sent × StaysOff d.0.link g.top top
 
 -- the core's connection is this one
 abbrev pub LinkConn : Option (CoreLink Term ℕ) → ℕ → Type 0
@@ -52,14 +64,16 @@ LinkConn (Some link) conn = link.conn ≡ conn
 abbrev pub CoreRecordNeeds : List Site → Ghost → Core Term ℕ → CoreRecordRow → Type 0
 CoreRecordNeeds cells g s (PathSwitched conn station number alarm) = LinkConn s.link conn
 CoreRecordNeeds cells g s (HandoverAsked conn source attempt cell target caps) =
-    LinkConn s.link conn × AskedIs g conn source attempt cell None AnyTried × (station_of cell cells ≡ Some target)
+    LinkConn s.link conn × AskedIs g conn source attempt cell None IsOther × (station_of cell cells ≡ Some target)
 CoreRecordNeeds cells g s (HandoverOrdered conn source attempt cell ncc algs air) = AckIs g source attempt algs air (HasNcc ncc)
 CoreRecordNeeds cells g s other = ⊤
 
 -- a key change begins the next connection, with the KeNB of COUNT 0
+abbrev pub ChangeNeeds : Core Term ℕ → ℕ → ℕ → ℕ → ℕ → Type 0
+ChangeNeeds s count conn next station = (next ≡ s.next) × (count ≡ 0)
+
 abbrev pub CoreNasNeeds : Core Term ℕ → CoreNasRow → Type 0
-CoreNasNeeds s (SmcChange count conn next station) = (next ≡ s.next) × (count ≡ 0)
-CoreNasNeeds s other = ⊤
+CoreNasNeeds s row = IfChange (ChangeNeeds s) row
 
 abbrev pub CoreActNeeds : Core Term ℕ → CoreActRow → Type 0
 CoreActNeeds s (ContextSetUp conn cell target caps count) = conn ≡ s.next
@@ -87,13 +101,20 @@ elsewhere n i x f low = ap (λ b. cond b x (f i)) other_number
     other_number : (i == n) ≡ false
     other_number = grind (arith, nat_tests)
 
+apart : {A : Type 0} (n i : ℕ) (x : A) (f : ℕ → A) → (n ≡ i → ⊥) → at_number n x f i ≡ f i
+apart n i x f off = by_number (i == n) refl
+  where
+    by_number : (b : Bool) → (i == n) ≡ b → cond b x (f i) ≡ f i
+    by_number true e = absurd (off (sym (eqb-true i n e)))
+    by_number false e = refl
+
 risen : (f : ℕ → ℕ) (i n : ℕ) → i ≡ n → f i ≤ f n + 1
 risen f i n e = subst (λ m. f i ≤ f m + 1) e (omega arith)
 
 below_by : {a b c : ℕ} → a ≤ b → c ≡ b → a ≤ c
 below_by low e = omega arith
 
-equal_below : {a b : ℕ} → a ≡ b → a ≤ b
+pub equal_below : {a b : ℕ} → a ≡ b → a ≤ b
 equal_below e = omega arith
 
 -- a number that rises at one place rises nowhere else
@@ -142,7 +163,7 @@ module _ (same : Term → Term → Bool) (cells : List Site) (g : Ghost) (tried_
 
   set_up_goes : (conn : ℕ) (cell : Place) (target : ℕ) (caps : Caps) (count : ℕ) (o : Option (CoreContext Term)) (s : Core Term ℕ)
       → CoreOk cells g s → conn ≡ s.next → CoreGoes cells g (context_set_up (term_reading_by same) conn cell target caps count o s)
-  set_up_goes conn cell target caps count None s h draws = (g.root, g.count, g.top, g.next, later_itself g, h, tt)
+  set_up_goes conn cell target caps count None s h draws = (g.root, g.count, g.top, g.next, later_itself g, h, tt, as_before _ g.top)
   set_up_goes conn cell target caps count (Some c) s h draws =
       let is : conn ≡ g.next = draws ∙ h.1 in (
         roots conn c.nas.root count is,
@@ -151,7 +172,8 @@ module _ (same : Term → Term → Bool) (cells : List Site) (g : Ghost) (tried_
         conn + 1,
         begins_later conn c.nas.root count is,
         (begins_link conn c.nas.root count is target, refl, h.2),
-        (begins_low conn c.nas.root count is, begins_key conn c.nas.root count is),
+        (begins_low conn c.nas.root count is, begins_key conn c.nas.root count is, refl),
+        (λ i off. equal_below (apart conn i 0 g.top off)),
       )
 
   -- a step of the chain
@@ -189,7 +211,7 @@ module _ (same : Term → Term → Bool) (cells : List Site) (g : Ghost) (tried_
 
   switched_goes : (conn station number : ℕ) (alarm : Bool) (o : Option (CoreLink Term ℕ)) (s : Core Term ℕ) → CoreOk cells g s → CoreLinkOk g o → LinkConn o conn
       → CoreGoes cells g (path_switched (term_reading_by same) conn station number alarm o s)
-  switched_goes conn station number alarm None s h k is = (g.root, g.count, g.top, g.next, later_itself g, h, tt)
+  switched_goes conn station number alarm None s h k is = (g.root, g.count, g.top, g.next, later_itself g, h, tt, as_before _ g.top)
   switched_goes conn station number alarm (Some link) s h k is = (
     g.root,
     g.count,
@@ -198,12 +220,13 @@ module _ (same : Term → Term → Bool) (cells : List Site) (g : Ghost) (tried_
     steps_later link s h k,
     ((k.0, number_up link s h k, k.2, key_up link s h k), h.1, h.2),
     pair_up link s h k conn is,
+    (λ i off. equal_below (apart link.conn i (g.top link.conn + 1) g.top off)),
   )
 
   asked_goes : (conn source attempt : ℕ) (cell : Place) (target : ℕ) (caps : Caps) (o : Option (CoreLink Term ℕ)) (s : Core Term ℕ) → CoreOk cells g s → CoreLinkOk g o
-      → LinkConn o conn → AskedIs g conn source attempt cell None AnyTried → station_of cell cells ≡ Some target
+      → LinkConn o conn → AskedIs g conn source attempt cell None IsOther → station_of cell cells ≡ Some target
       → CoreGoes cells g (handover_asked (term_reading_by same) conn source attempt cell target caps o s)
-  asked_goes conn source attempt cell target caps None s h k is asked there = (g.root, g.count, g.top, g.next, later_itself g, h, tt)
+  asked_goes conn source attempt cell target caps None s h k is asked there = (g.root, g.count, g.top, g.next, later_itself g, h, tt, as_before _ g.top)
   asked_goes conn source attempt cell target caps (Some link) s h k is asked there =
       let e = asked.0 in
       let ok = all_found (TriedOk cells g) _ g.tried e tried_ok asked.1 in
@@ -217,36 +240,37 @@ module _ (same : Term → Term → Bool) (cells : List Site) (g : Ghost) (tried_
         g.next,
         steps_later link s h k,
         ((k.0, number_up link s h k, k.2, key_up link s h k), h.1, h.2),
-        (pair_up link s h k conn is, (e, asked.1, asked.2, asked.3, asked.4, (low, to))),
+        (pair_up link s h k conn is, (e, asked.1, asked.2, asked.3, asked.4, (low, to, asked.5))),
+        (λ i off. equal_below (apart link.conn i (g.top link.conn + 1) g.top off)),
       )
 
   notified_goes : (station : ℕ) (o : Option (CoreLink Term ℕ)) (s : Core Term ℕ) → CoreOk cells g s → CoreLinkOk g o
       → CoreGoes cells g (handover_notified station o s)
-  notified_goes station None s h k = (g.root, g.count, g.top, g.next, later_itself g, h, tt)
-  notified_goes station (Some link) s h k = (g.root, g.count, g.top, g.next, later_itself g, (k, h.1, h.2), tt)
+  notified_goes station None s h k = (g.root, g.count, g.top, g.next, later_itself g, h, tt, as_before _ g.top)
+  notified_goes station (Some link) s h k = (g.root, g.count, g.top, g.next, later_itself g, (k, h.1, h.2), tt, (λ i off. omega arith))
 
   core_record_goes : (row : CoreRecordRow) (s : Core Term ℕ) → CoreOk cells g s → CoreRecordNeeds cells g s row
       → CoreGoes cells g (core_does_record (term_reading_by same) row s)
-  core_record_goes (RecordRefused answer) s h needs = (g.root, g.count, g.top, g.next, later_itself g, h, tt)
+  core_record_goes (RecordRefused answer) s h needs = (g.root, g.count, g.top, g.next, later_itself g, h, tt, as_before _ g.top)
   core_record_goes (PathSwitched conn station number alarm) s h needs = switched_goes conn station number alarm s.link s h h.0 needs
   core_record_goes (HandoverAsked conn source attempt cell target caps) s h needs =
       asked_goes conn source attempt cell target caps s.link s h h.0 needs.0 needs.1 needs.2
-  core_record_goes (HandoverOrdered conn source attempt cell ncc algs air) s h needs = (g.root, g.count, g.top, g.next, later_itself g, h, needs)
+  core_record_goes (HandoverOrdered conn source attempt cell ncc algs air) s h needs = (g.root, g.count, g.top, g.next, later_itself g, h, needs, as_before _ g.top)
   core_record_goes (HandoverNotified station) s h needs = notified_goes station s.link s h h.0
-  core_record_goes (HandoverCancelled conn source attempt cell target) s h needs = (g.root, g.count, g.top, g.next, later_itself g, h, tt)
+  core_record_goes (HandoverCancelled conn source attempt cell target) s h needs = (g.root, g.count, g.top, g.next, later_itself g, h, tt, as_before _ g.top)
 
   -- NAS, and acts
 
   smc_goes : (count : ℕ) (o : Option (CorePartial Term)) (p : Option (Keys Term)) (s : Core Term ℕ) → CoreOk cells g s → CoreGoes cells g (smc_complete count o p s)
-  smc_goes count None p s h = (g.root, g.count, g.top, g.next, later_itself g, h, tt)
-  smc_goes count (Some partial) None s h = (g.root, g.count, g.top, g.next, later_itself g, h, tt)
-  smc_goes count (Some partial) (Some keys) s h = (g.root, g.count, g.top, g.next, later_itself g, h, tt)
+  smc_goes count None p s h = (g.root, g.count, g.top, g.next, later_itself g, h, tt, as_before _ g.top)
+  smc_goes count (Some partial) None s h = (g.root, g.count, g.top, g.next, later_itself g, h, tt, as_before _ g.top)
+  smc_goes count (Some partial) (Some keys) s h = (g.root, g.count, g.top, g.next, later_itself g, h, tt, as_before _ g.top)
 
   -- the connection goes on under the next number, and its station gets the KeNB of COUNT 0
   key_changed_goes : (count conn next station : ℕ) (o : Option (CorePartial Term)) (p : Option (Keys Term)) (s : Core Term ℕ) → CoreOk cells g s
       → (next ≡ s.next) × (count ≡ 0) → CoreGoes cells g (key_changed (term_reading_by same) count conn next station o p s)
-  key_changed_goes count conn next station None p s h needs = (g.root, g.count, g.top, g.next, later_itself g, h, tt)
-  key_changed_goes count conn next station (Some partial) None s h needs = (g.root, g.count, g.top, g.next, later_itself g, h, tt)
+  key_changed_goes count conn next station None p s h needs = (g.root, g.count, g.top, g.next, later_itself g, h, tt, as_before _ g.top)
+  key_changed_goes count conn next station (Some partial) None s h needs = (g.root, g.count, g.top, g.next, later_itself g, h, tt, as_before _ g.top)
   key_changed_goes count conn next station (Some partial) (Some keys) s h needs =
       let root = partial.root in
       let is : next ≡ g.next = needs.0 ∙ h.1 in (
@@ -256,24 +280,25 @@ module _ (same : Term → Term → Bool) (cells : List Site) (g : Ghost) (tried_
         next + 1,
         begins_later next root count is,
         (begins_link next root count is station, refl, h.2),
-        (begins_low next root count is, begins_key next root count is, root, ap (Kenb root) needs.1),
+        (begins_low next root count is, begins_key next root count is, root, ap (Kenb root) needs.1, refl),
+        (λ i off. equal_below (apart next i 0 g.top off)),
       )
 
   service_goes : (count : ℕ) (o : Option (CoreContext Term)) (s : Core Term ℕ) → CoreOk cells g s → CoreGoes cells g (service_asked count o s)
-  service_goes count None s h = (g.root, g.count, g.top, g.next, later_itself g, h, tt)
-  service_goes count (Some c) s h = (g.root, g.count, g.top, g.next, later_itself g, h, tt)
+  service_goes count None s h = (g.root, g.count, g.top, g.next, later_itself g, h, tt, as_before _ g.top)
+  service_goes count (Some c) s h = (g.root, g.count, g.top, g.next, later_itself g, h, tt, as_before _ g.top)
 
   opened_goes : (count : ℕ) (text : List ℕ) (o : Option (CoreContext Term)) (s : Core Term ℕ) → CoreOk cells g s → CoreGoes cells g (nas_opened count text o s)
-  opened_goes count text None s h = (g.root, g.count, g.top, g.next, later_itself g, h, tt)
-  opened_goes count text (Some c) s h = (g.root, g.count, g.top, g.next, later_itself g, h, tt)
+  opened_goes count text None s h = (g.root, g.count, g.top, g.next, later_itself g, h, tt, as_before _ g.top)
+  opened_goes count text (Some c) s h = (g.root, g.count, g.top, g.next, later_itself g, h, tt, as_before _ g.top)
 
   reject_goes : (count : ℕ) (o : Option (CoreContext Term)) (s : Core Term ℕ) → CoreOk cells g s → CoreGoes cells g (sealed_reject count o s)
-  reject_goes count None s h = (g.root, g.count, g.top, g.next, later_itself g, h, tt)
-  reject_goes count (Some c) s h = (g.root, g.count, g.top, g.next, later_itself g, h, tt)
+  reject_goes count None s h = (g.root, g.count, g.top, g.next, later_itself g, h, tt, as_before _ g.top)
+  reject_goes count (Some c) s h = (g.root, g.count, g.top, g.next, later_itself g, h, tt, as_before _ g.top)
 
   core_nas_goes : (row : CoreNasRow) (s : Core Term ℕ) → CoreOk cells g s → CoreNasNeeds s row → CoreGoes cells g (core_does_nas (term_reading_by same) row s)
-  core_nas_goes (NasRefused answer) s h needs = (g.root, g.count, g.top, g.next, later_itself g, h, tt)
-  core_nas_goes PlainReject s h needs = (g.root, g.count, g.top, g.next, later_itself g, h, tt)
+  core_nas_goes (NasRefused answer) s h needs = (g.root, g.count, g.top, g.next, later_itself g, h, tt, as_before _ g.top)
+  core_nas_goes PlainReject s h needs = (g.root, g.count, g.top, g.next, later_itself g, h, tt, as_before _ g.top)
   core_nas_goes (SmcComplete count) s h needs = smc_goes count s.partial s.procedure s h
   core_nas_goes (SmcChange count conn next station) s h needs = key_changed_goes count conn next station s.partial s.procedure s h needs
   core_nas_goes (ServiceAsked count) s h needs = service_goes count s.context s h
@@ -282,28 +307,28 @@ module _ (same : Term → Term → Bool) (cells : List Site) (g : Ghost) (tried_
 
   started_goes : (ksi : ℕ) (algs : Algs) (caps : Caps) (count : ℕ) (o : Option (CorePartial Term)) (s : Core Term ℕ) → CoreOk cells g s
       → CoreGoes cells g (smc_started (term_reading_by same) ksi algs caps count o s)
-  started_goes ksi algs caps count None s h = (g.root, g.count, g.top, g.next, later_itself g, h, tt)
-  started_goes ksi algs caps count (Some partial) s h = (g.root, g.count, g.top, g.next, later_itself g, h, tt)
+  started_goes ksi algs caps count None s h = (g.root, g.count, g.top, g.next, later_itself g, h, tt, as_before _ g.top)
+  started_goes ksi algs caps count (Some partial) s h = (g.root, g.count, g.top, g.next, later_itself g, h, tt, as_before _ g.top)
 
   nas_sent_goes : (count : ℕ) (text : List ℕ) (o : Option (CoreContext Term)) (s : Core Term ℕ) → CoreOk cells g s → CoreGoes cells g (nas_sent count text o s)
-  nas_sent_goes count text None s h = (g.root, g.count, g.top, g.next, later_itself g, h, tt)
-  nas_sent_goes count text (Some c) s h = (g.root, g.count, g.top, g.next, later_itself g, h, tt)
+  nas_sent_goes count text None s h = (g.root, g.count, g.top, g.next, later_itself g, h, tt, as_before _ g.top)
+  nas_sent_goes count text (Some c) s h = (g.root, g.count, g.top, g.next, later_itself g, h, tt, as_before _ g.top)
 
   skipped_goes : (n : ℕ) (o : Option (CoreContext Term)) (s : Core Term ℕ) → CoreOk cells g s → CoreGoes cells g (nas_skipped n o s)
-  skipped_goes n None s h = (g.root, g.count, g.top, g.next, later_itself g, h, tt)
-  skipped_goes n (Some c) s h = (g.root, g.count, g.top, g.next, later_itself g, h, tt)
+  skipped_goes n None s h = (g.root, g.count, g.top, g.next, later_itself g, h, tt, as_before _ g.top)
+  skipped_goes n (Some c) s h = (g.root, g.count, g.top, g.next, later_itself g, h, tt, as_before _ g.top)
 
   core_act_goes : (row : CoreActRow) (s : Core Term ℕ) → CoreOk cells g s → CoreActNeeds s row → CoreGoes cells g (core_does_act (term_reading_by same) row s)
-  core_act_goes (ActRefused answer) s h needs = (g.root, g.count, g.top, g.next, later_itself g, h, tt)
+  core_act_goes (ActRefused answer) s h needs = (g.root, g.count, g.top, g.next, later_itself g, h, tt, as_before _ g.top)
   core_act_goes (SmcStarted ksi algs caps count) s h needs = started_goes ksi algs caps count s.partial s h
   core_act_goes (ContextSetUp conn cell target caps count) s h needs = set_up_goes conn cell target caps count s.context s h needs
-  core_act_goes (ContextReleased conn station) s h needs = (g.root, g.count, g.top, g.next, later_itself g, (tt, h.1, h.2), tt)
+  core_act_goes (ContextReleased conn station) s h needs = (g.root, g.count, g.top, g.next, later_itself g, (tt, h.1, h.2), tt, as_before None g.top)
   core_act_goes (NasSent count text) s h needs = nas_sent_goes count text s.context s h
   core_act_goes (NasSkipped n) s h needs = skipped_goes n s.context s h
 
   auth_goes : (ksi : ℕ) (caps : Caps) (o : Option Term) (s : Core Term ℕ) → CoreOk cells g s → CoreGoes cells g (authenticated ksi caps o s)
-  auth_goes ksi caps None s h = (g.root, g.count, g.top, g.next, later_itself g, h, tt)
-  auth_goes ksi caps (Some root) s h = (g.root, g.count, g.top, g.next, later_itself g, h, tt)
+  auth_goes ksi caps None s h = (g.root, g.count, g.top, g.next, later_itself g, h, tt, as_before _ g.top)
+  auth_goes ksi caps (Some root) s h = (g.root, g.count, g.top, g.next, later_itself g, h, tt, as_before _ g.top)
 
   -- each row
   pub core_goes : (row : CoreRow) (root : Option Term) (s : Core Term ℕ) → CoreOk cells g s → CoreNeeds cells g s row
@@ -329,7 +354,7 @@ module _ (same : Term → Term → Bool) (cells : List Site) (g : Ghost) (s : Co
       by_test Needs (link.conn == conn) _ _ (λ b. f (subst (λ o. LinkConn o conn) (sym is) (eqb-true link.conn conn b))) (λ b. tt)
 
   asked_walks : (conn source attempt : ℕ) (cell : Place) (caps : Caps) (t : Option ℕ) → station_of cell s.cells ≡ t
-      → LinkConn s.link conn → AskedIs g conn source attempt cell None AnyTried → Needs (asked_at conn source attempt cell caps t)
+      → LinkConn s.link conn → AskedIs g conn source attempt cell None IsOther → Needs (asked_at conn source attempt cell caps t)
   asked_walks conn source attempt cell caps None e is asked = tt
   asked_walks conn source attempt cell caps (Some target) e is asked = (is, asked, subst (λ x. station_of cell x ≡ Some target) h.2 e)
 

@@ -1,31 +1,27 @@
 -- What the core's choice of a row establishes of a NAS message: a SECURITY MODE COMPLETE has COUNT 0, the first of its
 -- context (TS 24.301 4.4.3.1), so that a key change begins with the KeNB of that COUNT.
-use Rattle.std.proofs.Common.{◌≡◌, ℕ, refl, sym, ◌∙◌, subst, Bool, true, false, List, length, drop, Option, Some, None, option_map, Result, Ok, Err}
-use Rattle.std.specs.Prelude.{◌==◌, nat_le, nat_lt, ⊤}
+use Rattle.std.proofs.Common.{◌≡◌, ℕ, refl, sym, ◌∙◌, subst, Bool, List, length, Option, Some, None, option_map, Result, Ok, Err}
+use Rattle.std.specs.Prelude.{◌==◌, nat_lt, ⊤}
 use Rattle.std.proofs.lemmas.Bool.{eqb-true}
-use Rattle.rec_base.specs.declared.faults.RecFault.{RecFault}
 use Rattle.rec_base.specs.declared.uses.Dir.TheVariants.{Up, Down}
 use Rattle.lte_events.specs.declared.answers.Answer.{Answer}
-use Rattle.key_model.specs.Chain.{ncc_of}
 use Rattle.key_model.specs.Reading.{term_reading_by}
 use Rattle.key_model.specs.Term.{Term}
 use Rattle.nas_count.specs.Estimate.{estimate_of}
 use Rattle.nas_count.specs.declared.sending.CountSpent.{CountSpent as NoneLeft}
 use Rattle.nas_guard.specs.Keys.{Keys, map_keys}
 use Rattle.nas_guard.specs.Open.{sn_in}
-use Rattle.nas_rec.specs.Reading.{read_nas}
-use Rattle.nas_rec.specs.declared.records.NasRecord.{NasRecord}
-use Rattle.nas_rec.specs.declared.records.NasRecord.TheVariants.{SecurityModeCommand, SecurityModeComplete, SecurityModeReject, ServiceRequest, NasData}
-use Rattle.lte_machine.specs.CoreChoice.{PlainCore, CoreNasFront, NasSettled, OpensComplete, OpensProtected, core_header, plain_text_row, plain_row, opens_complete, complete_front, opens_protected, protected_front, core_nas_front, NUMBERS, completed_row, complete_row, reject_row, protected_row, core_nas_row}
+use Rattle.lte_machine.specs.CoreChoice.{CoreNasFront, NasSettled, OpensComplete, OpensProtected, core_header, opens_protected, complete_front, protected_front, core_nas_front}
 use Rattle.lte_machine.specs.CoreKeys.{opens_by_procedure, core_nas_expects}
-use Rattle.lte_machine.specs.CoreRows.{CoreNasRow, SmcComplete}
-use Rattle.lte_machine.specs.CoreState.{Core, CoreContext, CoreLink}
+use Rattle.lte_machine.specs.CoreRows.{CoreNasRow}
+use Rattle.lte_machine.specs.CoreState.{Core, CoreContext}
 use Rattle.lte_machine.specs.CoreStep.{plain_core}
-use Rattle.lte_machine.specs.Opening.{Outcome, Opened, Differs}
+use Rattle.lte_machine.specs.Opening.{Outcome, Opened}
 use Rattle.lte_machine.specs.Reply.{unseen}
 use Rattle.lte_machine.specs.Wire.{Outgoing, SealedNas, PlainNas, SealedRrc, UserPacket, Between}
 use Rattle.lte_properties.specs.AgreeOpenings.{WasCounted, IsHonest}
-use Rattle.lte_properties.proofs.Agreement.Core.{CoreNasNeeds}
+use Rattle.lte_properties.proofs.NasWalk.{nas_front, nas_row, nas_walk}
+use Rattle.lte_properties.proofs.Agreement.Core.{CoreNasNeeds, ChangeNeeds}
 use Rattle.lte_properties.proofs.Agreement.PhoneWalk.{by_test}
 
 -- what came to the core on NAS: nothing that was sent, or what the phone sent, whose header type its octets tell
@@ -47,96 +43,53 @@ first_count pdu count is (Some (PlainNas octets)) h counted = absurd counted
 first_count pdu count is (Some (UserPacket dir st a drb f text)) h counted = absurd counted
 first_count pdu count is (Some (Between to fields key)) h counted = absurd counted
 
-module _ (same : Term → Term → Bool) (s : Core Term ℕ) (pdu : List ℕ) (came : Option (Outgoing Term ℕ)) (came_ok : CameNas pdu came) (outcome : Outcome) where
-  plain : PlainCore
-  plain = plain_core (term_reading_by same) s
+-- THE FRONT OF A COMPLETE: header type 4, and a procedure is open
 
-  Walked : CoreNasFront → Type 0
-  unfolding plain
-  Walked front = IsHonest (core_nas_expects front s) came outcome → CoreNasNeeds s (core_nas_row plain.procedure s.next plain.link front outcome)
+is_settled : (row : CoreNasRow) (count : ℕ) → NasSettled row ≡ OpensComplete count → ⊥
+is_settled row count e = cc
 
-  -- rows that are settled before anything opens
-  text_walks : (read : Result NasRecord RecFault) → CoreNasNeeds s (plain_text_row read)
-  text_walks (Err fault) = tt
-  text_walks (Ok (SecurityModeCommand ksi algs caps)) = tt
-  text_walks (Ok SecurityModeComplete) = tt
-  text_walks (Ok (SecurityModeReject cause)) = tt
-  text_walks (Ok ServiceRequest) = tt
-  text_walks (Ok (NasData text)) = tt
+no_complete : (header n count : ℕ) → OpensProtected header n ≡ OpensComplete count → ⊥
+no_complete header n count e = cc
 
-  plain_walks : (p : Option (Keys (Unit {0}))) (c : Option (CoreContext (Unit {0}))) → CoreNasNeeds s (plain_row p c pdu)
-  plain_walks None c = tt
-  plain_walks (Some keys) (Some c) = tt
-  plain_walks (Some keys) None = text_walks (read_nas (drop 1 pdu))
+opens_other : (header count : ℕ) (n : Result ℕ NoneLeft) → opens_protected header n ≡ OpensComplete count → ⊥
+opens_other header count (Err spent) e = is_settled _ count e
+opens_other header count (Ok n) e = no_complete header n count e
 
-  -- a SECURITY MODE COMPLETE
-  change_walks : (count : ℕ) → count ≡ 0 → (link : Option (CoreLink (Unit {0}) ℕ)) → CoreNasNeeds s (completed_row count s.next link)
-  change_walks count first None = tt
-  change_walks count first (Some link) = by_test (CoreNasNeeds s) (nat_le NUMBERS s.next) _ _ (λ b. tt) (λ b. (refl, first))
+protected_other : (c : Option (CoreContext (Unit {0}))) (header : ℕ) (pdu : List ℕ) (count : ℕ) → protected_front c header pdu ≡ OpensComplete count → ⊥
+protected_other None header pdu count e = is_settled _ count e
+protected_other (Some c) header pdu count e = opens_other header count (estimate_of c.nas.receive (sn_in pdu)) e
 
-  read_walks : (count : ℕ) → count ≡ 0 → (link : Option (CoreLink (Unit {0}) ℕ)) (read : Result NasRecord RecFault) → CoreNasNeeds s (complete_row count s.next link read)
-  read_walks count first link (Err fault) = tt
-  read_walks count first link (Ok (SecurityModeCommand ksi algs caps)) = tt
-  read_walks count first link (Ok SecurityModeComplete) = change_walks count first link
-  read_walks count first link (Ok (SecurityModeReject cause)) = tt
-  read_walks count first link (Ok ServiceRequest) = tt
-  read_walks count first link (Ok (NasData text)) = tt
+is_open : (p : Option (Keys Term)) (pdu : List ℕ) (count : ℕ) → complete_front (option_map (map_keys unseen) p) pdu ≡ OpensComplete count → p ≡ None → ⊥
+is_open None pdu count e is = is_settled _ count e
+is_open (Some keys) pdu count e is = cc
 
-  opened_walks : core_header pdu ≡ Ok 4 → (keys : Keys Term) → s.procedure ≡ Some keys → (count : ℕ) (o : Outcome)
-      → IsHonest (opens_by_procedure s.procedure count) came o → (link : Option (CoreLink (Unit {0}) ℕ)) → CoreNasNeeds s (core_nas_row plain.procedure s.next link (OpensComplete count) o)
-  opened_walks four keys is count (Differs wanted got) honest link = tt
-  opened_walks four keys is count (Opened text) honest link =
-      read_walks count (first_count pdu count four came came_ok (subst (λ p. IsHonest (opens_by_procedure p count) came (Opened text)) is honest)) link (read_nas text)
+abbrev IsFour : Option (Keys Term) → Result ℕ Answer → Type 0
+IsFour p header = (header ≡ Ok 4) × (p ≡ None → ⊥)
 
-  counted_walks : core_header pdu ≡ Ok 4 → (keys : Keys Term) → s.procedure ≡ Some keys → (count : Result ℕ NoneLeft) → Walked (opens_complete count)
-  unfolding plain Walked
-  counted_walks four keys is (Err spent) honest = tt
-  counted_walks four keys is (Ok count) honest = opened_walks four keys is count outcome honest plain.link
+complete_is : (p : Option (Keys Term)) (c : Option (CoreContext (Unit {0}))) (pdu : List ℕ) (count : ℕ) (h : Result ℕ Answer)
+    → core_nas_front (option_map (map_keys unseen) p) c pdu h ≡ OpensComplete count → IsFour p h
+complete_is p c pdu count (Err answer) e = absurd (is_settled _ count e)
+complete_is p c pdu count (Ok header) e =
+    by_test Fits (header == 0) _ _ (λ b f. absurd (is_settled _ count f))
+    (λ b. by_test Fits (nat_lt (length pdu) 6) _ _ (λ b f. absurd (is_settled _ count f))
+    (λ b. by_test Fits (header == 4) _ _ (λ b f. ((λ j. Ok (eqb-true header 4 b j)), is_open p pdu count f)) (λ b f. absurd (protected_other c header pdu count f)))) e
+  where
+    Fits : CoreNasFront → Type 0
+    Fits front = front ≡ OpensComplete count → IsFour p (Ok header)
 
-  complete_walks : core_header pdu ≡ Ok 4 → (p : Option (Keys Term)) → s.procedure ≡ p → Walked (complete_front (option_map (map_keys unseen) p) pdu)
-  unfolding plain Walked
-  complete_walks four None is honest = tt
-  complete_walks four (Some keys) is honest = counted_walks four keys is (estimate_of 0 (sn_in pdu)) honest
+-- what opened under the keys of the procedure was sealed with that COUNT
+was_counted : (p : Option (Keys Term)) (count : ℕ) (text : List ℕ) (came : Option (Outgoing Term ℕ)) → (p ≡ None → ⊥)
+    → IsHonest (opens_by_procedure p count) came (Opened text) → WasCounted count came
+was_counted None count text came running honest = absurd (running refl)
+was_counted (Some keys) count text came running honest = honest
 
-  -- another message
-  reject_walks : (p : Option (Keys (Unit {0}))) (count : ℕ) → CoreNasNeeds s (reject_row p count)
-  reject_walks None count = tt
-  reject_walks (Some keys) count = tt
-
-  protected_read : (p : Option (Keys (Unit {0}))) (count : ℕ) (read : Result NasRecord RecFault) → CoreNasNeeds s (protected_row p count read)
-  protected_read p count (Err fault) = tt
-  protected_read p count (Ok (SecurityModeCommand ksi algs caps)) = tt
-  protected_read p count (Ok SecurityModeComplete) = tt
-  protected_read p count (Ok (SecurityModeReject cause)) = reject_walks p count
-  protected_read p count (Ok ServiceRequest) = tt
-  protected_read p count (Ok (NasData text)) = tt
-
-  protected_opened : (header count : ℕ) (o : Outcome) → CoreNasNeeds s (core_nas_row plain.procedure s.next plain.link (OpensProtected header count) o)
-  protected_opened header count (Differs wanted got) = tt
-  protected_opened header count (Opened text) = protected_read plain.procedure count (read_nas text)
-
-  protected_counted : (header : ℕ) (count : Result ℕ NoneLeft) → Walked (opens_protected header count)
-  unfolding plain Walked
-  protected_counted header (Err spent) honest = tt
-  protected_counted header (Ok count) honest = protected_opened header count outcome
-
-  protected_walks : (c : Option (CoreContext (Unit {0}))) (header : ℕ) → Walked (protected_front c header pdu)
-  unfolding plain Walked
-  protected_walks None header honest = tt
-  protected_walks (Some c) header honest = protected_counted header (estimate_of c.nas.receive (sn_in pdu)) honest
-
-  -- by the header type
-  header_walks : (h : Result ℕ Answer) → core_header pdu ≡ h → Walked (core_nas_front plain.procedure plain.context pdu h)
-  unfolding plain Walked
-  header_walks (Err answer) is honest = tt
-  header_walks (Ok header) is honest =
-      by_test Walked (header == 0) _ _ (λ b honest. plain_walks plain.procedure plain.context)
-      (λ b. by_test Walked (nat_lt (length pdu) 6) _ _ (λ b honest. tt)
-      (λ b. by_test Walked (header == 4) _ _ (λ b. complete_walks (is ∙ (λ j. Ok (eqb-true header 4 b j))) s.procedure refl) (λ b. protected_walks plain.context header))) honest
-
-  -- a NAS message
-  pub core_nas_walks : IsHonest (core_nas_expects (core_nas_front (plain_core (term_reading_by same) s).procedure (plain_core (term_reading_by same) s).context pdu (core_header pdu)) s) came outcome
-      → CoreNasNeeds s (core_nas_row (plain_core (term_reading_by same) s).procedure s.next (plain_core (term_reading_by same) s).link
-      (core_nas_front (plain_core (term_reading_by same) s).procedure (plain_core (term_reading_by same) s).context pdu (core_header pdu)) outcome)
-  unfolding plain Walked
-  core_nas_walks honest = header_walks (core_header pdu) refl honest
+-- a NAS message
+pub core_nas_walks : (same : Term → Term → Bool) (s : Core Term ℕ) (pdu : List ℕ) (came : Option (Outgoing Term ℕ)) → CameNas pdu came → (outcome : Outcome)
+    → IsHonest (core_nas_expects (nas_front (term_reading_by same) s pdu) s) came outcome → CoreNasNeeds s (nas_row (term_reading_by same) s pdu outcome)
+core_nas_walks same s pdu came came_ok outcome honest =
+    nas_walk (term_reading_by same) (ChangeNeeds s) s pdu outcome
+    (λ count text link front opened is left reads.
+    let complete = complete_is s.procedure (plain_core (term_reading_by same) s).context pdu count (core_header pdu) front in
+    let here = subst (λ f. IsHonest (core_nas_expects f s) came (Opened text)) front
+    (subst (λ o. IsHonest (core_nas_expects (nas_front (term_reading_by same) s pdu) s) came o) opened honest) in
+    (refl, first_count pdu count complete.0 came came_ok (was_counted s.procedure count text came complete.1 here)))

@@ -1,6 +1,8 @@
 -- Every event, and every run, keeps agreement's invariant.
-use Rattle.std.proofs.Common.{◌≡◌, refl, ap, ◌∙◌, ℕ, Bool, List, [], ◌∷◌, Option, Some, None, Ok, Err}
+use Rattle.std.proofs.Common.{◌≡◌, ◌==◌, ◌≤◌, le_trans, refl, sym, ap, ◌∙◌, ℕ, Bool, List, [], ◌∷◌, Option, Some, None, Ok, Err}
 use Rattle.std.specs.List.{position_from}
+use Rattle.std.proofs.lemmas.Bool.{eqb-true, eqb-false}
+use Rattle.lte_machine.specs.CoreState.{CoreLink}
 use Rattle.alg_choice.specs.declared.caps.Caps.{Caps}
 use Rattle.rec_base.specs.declared.faults.RecFault.{RecFault}
 use Rattle.rec_base.specs.declared.bearers.Bearer.{Bearer}
@@ -27,15 +29,15 @@ use Rattle.lte_properties.specs.ChainAbove.{StationAbove, InFlight}
 use Rattle.lte_properties.specs.ChainHolds.{machine_by}
 use Rattle.lte_properties.specs.AgreeOpenings.{IsHonest, IsCalm, outcome_of, Honest, Calm}
 use Rattle.lte_properties.proofs.ChainNumbers.Lists.{OfSome, all_map, all_both, all_chosen}
-use Rattle.lte_properties.proofs.Agreement.Ghost.{SentOk, BetweenOk}
-use Rattle.lte_properties.proofs.Agreement.Later.{later_itself, later_after}
-use Rattle.lte_properties.proofs.Agreement.PhoneWalk.{CameDown}
+use Rattle.lte_properties.proofs.Agreement.Ghost.{CoreLinkOk, SentOk, BetweenOk}
+use Rattle.lte_properties.proofs.Agreement.Later.{Later, later_itself, later_after}
+use Rattle.lte_properties.proofs.Agreement.PhoneWalk.{CameDown, by_test}
 use Rattle.lte_properties.proofs.Agreement.Told.{SiteOk}
 use Rattle.lte_properties.proofs.Agreement.StationOpens.{CameUp}
-use Rattle.lte_properties.proofs.Agreement.Core.{core_record_walks, core_act_walks}
+use Rattle.lte_properties.proofs.Agreement.Core.{equal_below, StaysOff, as_before, core_record_walks, core_act_walks}
 use Rattle.lte_properties.proofs.Agreement.CoreOpens.{CameNas, core_nas_walks}
 use Rattle.lte_properties.proofs.Agreement.StationWalk.{CellFits}
-use Rattle.lte_properties.specs.ChainHolds.{run, noted, Holds}
+use Rattle.lte_properties.specs.ChainHolds.{run, noted, core_numbers, Holds}
 use Rattle.lte_properties.specs.AgreeOpenings.{Along}
 use Rattle.lte_properties.proofs.ChainNumbers.World.{happens_holds}
 use Rattle.lte_properties.proofs.Agreement.World.{TheWorld, Conns, ghost, WorldOk, Goes, OctetsTell, Settled, by_world_goes, phone_turn_goes, phone_air_goes, core_turn_goes, found_of, station_acts_goes, station_air_goes, station_s1_goes, station_x2_goes}
@@ -150,7 +152,9 @@ module _ (same : Term → Term → Bool) (root : ℕ → List ℕ → Term) (oct
       made = h.made;
       tried = h.tried;
       took = h.took;
+      once = h.once;
     },
+    as_before w.core.link c.top,
   )
 
   auth_goes : (c : Conns) (w : TheWorld) (ksi : ℕ) (key : Term) (caps : Caps) (o : Option ℕ) → WorldOk cells c w → Goes cells c w (auth_unless m w ksi key caps o).0
@@ -183,13 +187,30 @@ module _ (same : Term → Term → Bool) (root : ℕ → List ℕ → Term) (oct
   happens_goes c w (Event.Inject to pdu) is h settled above flight honest calm =
       injected_goes c w to pdu (position_from (is_sent m (class_of to) pdu) 0 w.sent) h settled above honest calm
 
+  -- the greatest number of each connection so far is at most the core's, or its last
+  pub fits_after : (top : ℕ → ℕ) (c d : Conns) (u : TheWorld) → WorldOk cells d u → StaysOff u.core.link c.top d.top → ((conn : ℕ) → c.top conn ≤ top conn)
+      → (conn : ℕ) → d.top conn ≤ noted u.core.link top conn
+  fits_after top c d u ok off fits conn = by_link u.core.link ok.core.0 off
+    where
+      by_link : (o : Option (CoreLink Term ℕ)) → CoreLinkOk (ghost d u) o → StaysOff o c.top d.top → d.top conn ≤ noted o top conn
+      by_link None k f = le_trans (f conn tt) (fits conn)
+      by_link (Some link) k f =
+          by_test (λ n. d.top conn ≤ n) (conn == link.conn) _ _
+          (λ b. equal_below (ap d.top (eqb-true conn link.conn b) ∙ sym k.1))
+          (λ b. le_trans (f conn (λ e. eqb-false conn link.conn b (sym e))) (fits conn))
+
+  -- what a run leaves, where the core's numbers end so
+  abbrev pub RunGoes : Conns → TheWorld → TheWorld → (ℕ → ℕ) → Type 0
+  RunGoes c w u top =
+      (d : Conns) × Later (ghost c w) (ghost d u) × WorldOk cells d u × ((conn : ℕ) → d.top conn ≤ top conn)
+
   -- every run
-  pub run_goes : (top : ℕ → ℕ) (c : Conns) (w : TheWorld) (es : List Event) → Holds top w → WorldOk cells c w → AllOf IsEvent es
-      → Along (λ v e. Settled v) m w es → Along (Honest m) m w es → Along (Calm m) m w es → Goes cells c w (run m w es)
-  run_goes top c w [] holds h is settled honest calm = (c, later_itself (ghost c w), h)
-  run_goes top c w (e ∷ es) holds h is settled honest calm =
+  pub run_goes : (top : ℕ → ℕ) (c : Conns) (w : TheWorld) (es : List Event) → Holds top w → WorldOk cells c w → ((conn : ℕ) → c.top conn ≤ top conn) → AllOf IsEvent es
+      → Along (λ v e. Settled v) m w es → Along (Honest m) m w es → Along (Calm m) m w es → RunGoes c w (run m w es) (core_numbers m w top es)
+  run_goes top c w [] holds h fits is settled honest calm = (c, later_itself (ghost c w), h, fits)
+  run_goes top c w (e ∷ es) holds h fits is settled honest calm =
       let u = (happens m w e).0 in
       let step = happens_goes c w e is.0 h settled.0 holds.above holds.flight honest.0 calm.0 in
       let next = happens_holds same root octets sender opener top w e holds in
-      let rest = run_goes (noted u.core.link top) step.0 u es next step.2 is.1 settled.1 honest.1 calm.1 in
-      (rest.0, later_after (ghost c w) (ghost step.0 u) (ghost rest.0 (run m u es)) step.1 rest.1, rest.2)
+      let rest = run_goes (noted u.core.link top) step.0 u es next step.2 (fits_after top c step.0 u step.2 step.3 fits) is.1 settled.1 honest.1 calm.1 in
+      (rest.0, later_after (ghost c w) (ghost step.0 u) (ghost rest.0 (run m u es)) step.1 rest.1, rest.2, rest.3)

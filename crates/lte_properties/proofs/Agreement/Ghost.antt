@@ -27,12 +27,14 @@ use Rattle.lte_machine.specs.Bearers.{Srb, Signalling1, Bearers}
 use Rattle.lte_machine.specs.Wire.{KeyUse, Ciphering, Outgoing, SealedNas, SealedRrc, Between, srb_use, srb_ciphering}
 use Rattle.lte_machine.specs.Reply.{Origin, From, BySetup, ByAttempt, ByChange, Made, Tried, Took}
 use Rattle.lte_machine.specs.PhoneState.{Link, Radio, Idle, Connecting, Connected}
-use Rattle.lte_machine.specs.StationState.{Station, Context, Attempt, OverX2, OverS1, Within, Renewal, Renewing, X2State, X2Open, X2Ready, X2Commanded, S1State, S1Open, S1Ready, S1Commanded}
+use Rattle.lte_machine.specs.StationState.{Station, Context, Attempt, OverX2, OverS1, Within, Renewing, X2State, X2Open, X2Ready, X2Commanded, S1State, S1Open, S1Ready, S1Commanded}
 use Rattle.lte_machine.specs.CoreState.{Core, CoreLink}
-use Rattle.std.specs.Prelude.{◌==◌, ◌&&◌, Bool, true, false, find, ⊤}
+use Rattle.std.specs.Prelude.{slice_index, length, ◌==◌, ◌&&◌, Bool, true, false, find, ⊤}
 use Rattle.lte_properties.specs.ChainBelow.{AllOf}
-use Rattle.lte_properties.specs.Agreement.{made_at, Obeys, Grows, HadTaken, TakenIfTried}
-use Rattle.lte_properties.proofs.Agreement.Terms.{base, lands, ChainOf}
+use Rattle.lte_properties.specs.Agreement.{root_of, made_at, Obeys, Grows, HadTaken, TakenIfTried}
+use Rattle.lte_properties.proofs.Agreement.Terms.{lands, ChainOf}
+use Rattle.lte_properties.specs.Chains.{chain_key, OnChain}
+use Rattle.lte_properties.specs.FreshOrder.{nas_count_of}
 
 -- of each connection its KASME, the COUNT of its KeNB and the greatest chain number so far; the next connection; and what
 -- was told of the run
@@ -69,7 +71,7 @@ keys_of t algs = as_keys_of term_reading t algs
 
 -- a KeNB of a connection, with its number
 abbrev pub TermOk : Ghost → ℕ → Term → ℕ → Type 0
-TermOk g conn t number = (conn < g.next) × (number ≤ g.top conn) × (base t ≡ chain_at g conn number)
+TermOk g conn t number = (conn < g.next) × (number ≤ g.top conn) × (chain_key t ≡ chain_at g conn number)
 
 -- a pair of a connection
 abbrev pub PairOk : Ghost → ℕ → NumberedKey Term ℕ → Type 0
@@ -104,17 +106,19 @@ GivenFits (Some star) number = star.number ≡ number
 
 -- what was made; it is all that was made for its air address
 abbrev pub FromOk : Ghost → Made Term ℕ → From Term → Type 0
-FromOk g m BySetup = m.number ≡ 0
+FromOk g m BySetup = (m.number ≡ 0) × (m.conn < g.next) × (m.key ≡ chain_at g m.conn 0)
 FromOk g m (ByAttempt o) =
     (e : Tried Term ℕ) × (tried_at g.tried o.source o.attempt ≡ Some e) × (chain_number e.key ≡ e.number)
-    × (e.target ≡ m.station) × Leads e m.key m.number × GivenFits e.given m.number
+    × (e.target ≡ m.station) × Leads e m.key m.number × GivenFits e.given m.number × (e.conn ≡ m.conn)
+    × (e.cell ≡ m.cell)
 FromOk g m (ByChange k) =
     (m.number ≡ 0) × IsCell m.cell × (r : Term) × (m.key ≡ Star (Kenb r 0) m.cell.pci m.cell.earfcn)
+    × (air : ℕ) × HadTaken g.took m.station air k
 
 abbrev pub MadeOk : Ghost → Made Term ℕ → Type 0
 MadeOk g m =
     (1 ≤ m.air) × (m.air < 4294967296) × (m.station ≤ 7) × FromOk g m m.from
-    × (made_at g.made m.station m.air ≡ Some m)
+    × (made_at g.made m.station m.air ≡ Some m) × TermOk g m.conn m.key m.number
 
 -- what was tried
 abbrev pub GivenOk : Ghost → Tried Term ℕ → Option (NumberedKey Term ℕ) → Type 0
@@ -124,10 +128,13 @@ GivenOk g e (Some star) = TermOk g e.conn star.key star.number × Leads e star.k
 abbrev pub TriedOk : List Site → Ghost → Tried Term ℕ → Type 0
 TriedOk cells g e =
     TermOk g e.conn e.key e.number × (station_of e.cell cells ≡ Some e.target) × GivenOk g e e.given
+    × (e.station ≤ 7)
 
 -- what was taken
 abbrev pub TookOk : Ghost → Took Term ℕ → Type 0
-TookOk g x = HereIs g x.station x.air x.key × Obeys g.made x × Grows x x.came
+TookOk g x =
+    HereIs g x.station x.air x.key × Obeys g.made x × Grows x x.came
+    × OnChain (root_of x.key) (nas_count_of x.key) x.key x.number
 
 -- a context or preparation is what was made for its air address
 abbrev pub IsMade : Made Term ℕ → Term → ℕ → Algs → Type 0
@@ -161,16 +168,22 @@ StartIs g id conn t number target cell given =
     (e : Tried Term ℕ) × (tried_at g.tried id number ≡ Some e)
     × (e.key ≡ t) × (e.cell ≡ cell) × (e.target ≡ target) × (e.conn ≡ conn) × (e.given ≡ given)
 
+-- and so was the one of this number, whatever has come of it
+abbrev pub UnderKey : Ghost → ℕ → ℕ → Term → ℕ → Type 0
+UnderKey g id conn t number =
+    (e : Tried Term ℕ) × (tried_at g.tried id number ≡ Some e) × (e.key ≡ t) × (e.conn ≡ conn)
+
 abbrev pub X2Ok : Ghost → ℕ → ℕ → Term → X2State Term ℕ → Type 0
 X2Ok g id conn t (X2Open start) =
     StartIs g id conn t start.number start.station start.cell (Some start.star) × PairsOk g conn start.spent
-X2Ok g id conn t (X2Ready acked) = IsOrder g id t (x2_order ncc_of acked) × PairsOk g conn acked.start.spent
-X2Ok g id conn t (X2Commanded sent) = IsOrder g id t sent.order
+X2Ok g id conn t (X2Ready acked) =
+    IsOrder g id t (x2_order ncc_of acked) × PairsOk g conn acked.start.spent × UnderKey g id conn t acked.start.number
+X2Ok g id conn t (X2Commanded sent) = IsOrder g id t sent.order × UnderKey g id conn t sent.number
 
 abbrev pub S1Ok : Ghost → ℕ → ℕ → Term → S1State → Type 0
 S1Ok g id conn t (S1Open start) = StartIs g id conn t start.number start.station start.cell None
-S1Ok g id conn t (S1Ready acked) = IsOrder g id t (s1_order acked)
-S1Ok g id conn t (S1Commanded sent) = IsOrder g id t sent.order
+S1Ok g id conn t (S1Ready acked) = IsOrder g id t (s1_order acked) × UnderKey g id conn t acked.start.number
+S1Ok g id conn t (S1Commanded sent) = IsOrder g id t sent.order × UnderKey g id conn t sent.number
 
 abbrev pub AttemptOk : Ghost → ℕ → ℕ → Term → Option (Attempt Term ℕ) → Type 0
 AttemptOk g id conn t None = ⊤
@@ -201,10 +214,15 @@ PrepOk g id p =
 abbrev pub FreshFrom : Ghost → ℕ → ℕ → Type 0
 FreshFrom g id next = (n : ℕ) → next ≤ n → (made_at g.made id n ≡ None) × (tried_at g.tried id n ≡ None)
 
+-- of what was made here by an attempt of another source, the attempt was seen
+abbrev pub SeenBy : ℕ → List ℕ → Made Term ℕ → Type 0
+SeenBy id seen m =
+    m.station ≡ id → (o : Origin) → m.from ≡ ByAttempt o → (o.source ≡ id → ⊥) → o.attempt ≤ slice_index seen o.source
+
 abbrev pub StationOk : List Site → Ghost → Station Term ℕ → Type 0
 StationOk cells g s =
     CtxOk g s.id s.context × AllOf (PrepOk g s.id) s.preps × FreshFrom g s.id s.next
-    × (s.cells ≡ cells) × (s.id ≤ 7) × (1 ≤ s.next)
+    × (s.cells ≡ cells) × (s.id ≤ 7) × (1 ≤ s.next) × (length s.seen ≡ 8) × AllOf (SeenBy s.id s.seen) g.made
 
 -- a phone that came to what was made for a connection took the first record there, so that its next COUNT is not 0
 abbrev pub HeardFirst : Made Term ℕ → Bearers → Type 0
@@ -296,17 +314,21 @@ abbrev pub X2AckTo : Ghost → Address → ℕ → Algs → ℕ → Type 0
 X2AckTo g (StationX2 source) attempt algs air = AckIs g source attempt algs air AnyMade
 X2AckTo g other attempt algs air = ⊤
 
--- a request on S1 has a pair above the attempt's number
-abbrev pub Surpasses : Address → ℕ → Tried Term ℕ → Type 0
-Surpasses to number e = (e.number < number) × ToStationS1 to e.target
+-- a request is for another station; on S1 it has a pair above the attempt's number
+abbrev pub IsOther : Tried Term ℕ → Type 0
+IsOther e = e.target ≡ e.station → ⊥
 
-abbrev pub AnyTried : Tried Term ℕ → Type 0
-AnyTried e = ⊤
+abbrev pub Surpasses : Address → ℕ → Tried Term ℕ → Type 0
+Surpasses to number e = (e.number < number) × ToStationS1 to e.target × IsOther e
+
+abbrev pub IsFor : Address → Tried Term ℕ → Type 0
+IsFor to e = ToStationX2 to e.target × IsOther e
 
 abbrev pub BetweenOk : Ghost → Address → Fields → Option (NumberedKey Term ℕ) → Type 0
-BetweenOk g to (InitialContext conn cell caps) (Some key) = (conn < g.next) × (key.key ≡ chain_at g conn 0)
+BetweenOk g to (InitialContext conn cell caps) (Some key) =
+    (conn < g.next) × (key.key ≡ chain_at g conn 0) × (key.number ≡ 0)
 BetweenOk g to (PathSwitchAnswer conn number) (Some pair) = PairOk g conn pair
-BetweenOk g to (HandoverRequired conn source attempt cell) key = AskedIs g conn source attempt cell None AnyTried
+BetweenOk g to (HandoverRequired conn source attempt cell) key = AskedIs g conn source attempt cell None IsOther
 BetweenOk g to (HandoverRequest conn source attempt cell caps) (Some pair) =
     PairOk g conn pair × AskedIs g conn source attempt cell None (Surpasses to pair.number)
 BetweenOk g to (HandoverRequestAck conn source attempt cell ncc algs air) key =
@@ -314,10 +336,10 @@ BetweenOk g to (HandoverRequestAck conn source attempt cell ncc algs air) key =
 BetweenOk g to (HandoverCommand conn attempt cell ncc algs air) key = CommandTo g to attempt ncc algs air
 BetweenOk g to (X2Request conn source attempt cell caps) (Some star) =
     TermOk g conn star.key star.number
-    × AskedIs g conn source attempt cell (Some star) (λ e. ToStationX2 to e.target)
+    × AskedIs g conn source attempt cell (Some star) (IsFor to)
 BetweenOk g to (X2Ack conn attempt cell algs air) key = X2AckTo g to attempt algs air
 BetweenOk g to (ContextModification conn next) (Some key) =
-    (next < g.next) × (key.key ≡ chain_at g next 0) × (r : Term) × (key.key ≡ Kenb r 0)
+    (next < g.next) × (key.key ≡ chain_at g next 0) × (r : Term) × (key.key ≡ Kenb r 0) × (key.number ≡ 0)
 BetweenOk g to other key = ⊤
 
 -- what goes up on NAS: a SECURITY MODE COMPLETE, of header type 4, is the first under its context (TS 24.301 4.4.3.1)

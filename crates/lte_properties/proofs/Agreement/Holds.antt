@@ -1,5 +1,6 @@
 -- Agreement in every world of every run: from the invariant, which the first world has.
 use Rattle.std.proofs.Common.{◌≡◌, refl, sym, ap, ◌∙◌, subst, ℕ, ◌≤◌, arith, List, [], ◌∷◌, Option, Some, None, inl, inr}
+use Rattle.std.specs.Prelude.{replicate}
 use Rattle.lte_events.specs.declared.setups.Setup.{Setup}
 use Rattle.lte_events.specs.declared.setups.StationSetup.{StationSetup}
 use Rattle.lte_events.specs.Site.{Site}
@@ -15,7 +16,7 @@ use Rattle.lte_machine.specs.Run.{stations_of, first_world}
 use Rattle.lte_properties.specs.ChainBelow.{AllOf}
 use Rattle.lte_properties.specs.Agreement.{IsIn, made_at, ahead, ObeysMade, Obeys, Grows, OneTerm, ContextAt, AtStation, Agree, JoinedBy, IsFar, NoneThere, ComesMade, PrepMade, Agrees}
 use Rattle.lte_properties.proofs.ChainNumbers.Lists.{all_map}
-use Rattle.lte_properties.proofs.Agreement.Ghost.{MadeOk, Ghost, tried_at, keys_of, taken, FromIs, HereIs, CtxOk, PrepOk, StationOk, LinkIs, RadioOk, TookOk}
+use Rattle.lte_properties.proofs.Agreement.Ghost.{MadeOk, SeenBy, Ghost, tried_at, keys_of, taken, FromIs, HereIs, CtxOk, PrepOk, StationOk, LinkIs, RadioOk, TookOk}
 use Rattle.lte_properties.proofs.Agreement.Follows.{InTurn}
 use Rattle.lte_properties.proofs.Agreement.Later.{Later, same_found, here_later}
 use Rattle.lte_properties.proofs.Agreement.Told.{SiteOk, term_number}
@@ -37,7 +38,7 @@ no_conns setup = record { root = λ conn. Root 0 []; count = λ conn. 0; top = �
 stations_begin : (cells : List Site) (g : Ghost) (made : g.made ≡ []) (tried : g.tried ≡ []) (ss : List StationSetup) → ranges.AllOf IsStation ss → AllOf (StationOk cells g) (stations_of cells ss)
 stations_begin cells g made tried [] h = tt
 stations_begin cells g made tried (s ∷ ss) h =
-    ((tt, tt, (λ n low. (ap (λ xs. made_at xs s.id n) made, ap (λ xs. tried_at xs s.id n) tried)), refl, h.0.0, h.0.1.0), stations_begin cells g made tried ss h.1)
+    ((tt, tt, (λ n low. (ap (λ xs. made_at xs s.id n) made, ap (λ xs. tried_at xs s.id n) tried)), refl, h.0.0, h.0.1.0, refl, subst (λ xs. AllOf (SeenBy s.id (replicate 8 0)) xs) (sym made) tt), stations_begin cells g made tried ss h.1)
 
 pub first_ok : (setup : Setup) → IsSetup setup → WorldOk setup.cells (no_conns setup) (first_world setup)
 unfolding no_conns
@@ -49,7 +50,13 @@ first_ok setup h = record {
   made = tt;
   tried = tt;
   took = tt;
+  once = tt;
 }
+
+-- each number is 0 then
+pub first_fits : (setup : Setup) (conn : ℕ) → (no_conns setup).top conn ≤ 0
+unfolding no_conns
+first_fits setup conn = omega arith
 
 -- FROM THE INVARIANT
 
@@ -125,6 +132,7 @@ module _ (cells : List Site) (c : Conns) (w : TheWorld) (h : WorldOk cells c w) 
   agrees turn = record {
     follow = turn.0;
     last = turn.1;
+    tried_once = h.once;
     made_once = all_map (MadeOk (ghost c w)) (λ m. made_at w.made m.station m.air ≡ Some m) (λ m k. k.4) w.made h.made;
     obeyed = all_map (TookOk (ghost c w)) (Obeys w.made) (λ x k. k.1) w.took h.took;
     grow = all_map (TookOk (ghost c w)) (λ x. Grows x x.came) (λ x k. k.2) w.took h.took;

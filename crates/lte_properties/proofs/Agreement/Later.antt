@@ -26,7 +26,7 @@ use Rattle.std.specs.Prelude.{find}
 use Rattle.std.specs.Option.{option_or}
 use Rattle.std.proofs.lemmas.List.Folds.{find-append}
 use Rattle.lte_properties.specs.Agreement.{IsIn, made_at, Obeys, HadTaken, TakenIfTried}
-use Rattle.lte_properties.proofs.Agreement.Ghost.{Ghost, tried_at, took_at, chain_at, TermOk, PairOk, PairsOk, FromIs, HereIs, FromOk, MadeOk, GivenOk, TriedOk, TookOk, EntryIs, OrderIs, IsOrder, StartIs, X2Ok, S1Ok, ChangeIs, AttemptOk, StartedOk, CtxOk, PrepOk, RadioOk, SaysOk, CipheredSo, DownOk, UpOk, AskedIs, AckIs, CommandTo, X2AckTo, HasNcc, AnyMade, AnyTried, Surpasses, ToStationX2, BetweenOk, SentOk}
+use Rattle.lte_properties.proofs.Agreement.Ghost.{Ghost, tried_at, took_at, chain_at, TermOk, PairOk, PairsOk, FromIs, HereIs, FromOk, MadeOk, GivenOk, TriedOk, TookOk, EntryIs, OrderIs, IsOrder, StartIs, UnderKey, X2Ok, S1Ok, ChangeIs, AttemptOk, StartedOk, CtxOk, PrepOk, RadioOk, SaysOk, CipheredSo, DownOk, UpOk, AskedIs, AckIs, CommandTo, X2AckTo, HasNcc, AnyMade, IsOther, Surpasses, IsFor, BetweenOk, SentOk}
 
 -- more is told, connections go on, and none begins anew
 pub record Later (g h : Ghost) : Type 0 where
@@ -108,29 +108,29 @@ module _ (g h : Ghost) (l : Later g h) where
   pub here_later : (station air : ℕ) (t : Term) → HereIs g station air t → HereIs h station air t
   here_later station air t x = (x.0, l.made station air x.0 x.1, from_later x.0 t x.0.from x.2)
 
+  pub had_later : (station air : ℕ) (t : Term) → HadTaken g.took station air t → HadTaken h.took station air t
+  had_later station air t x = (x.0, l.took x.0 x.1, x.2, x.3, x.4)
+
   from_ok_later : (m : Made Term ℕ) (o : From Term) → FromOk g m o → FromOk h m o
-  from_ok_later m BySetup x = x
-  from_ok_later m (ByAttempt o) x = (x.0, l.tried o.source o.attempt x.0 x.1, x.2, x.3, x.4, x.5)
-  from_ok_later m (ByChange k) x = x
+  from_ok_later m BySetup x = let n = l.next in (x.0, omega arith, x.2 ∙ sym (chain_later m.conn 0 x.1))
+  from_ok_later m (ByAttempt o) x = (x.0, l.tried o.source o.attempt x.0 x.1, x.2, x.3, x.4, x.5, x.6, x.7)
+  from_ok_later m (ByChange k) x = (x.0, x.1, x.2, x.3, x.4, had_later m.station x.4 k x.5)
 
   pub made_later : (m : Made Term ℕ) → MadeOk g m → MadeOk h m
-  made_later m x = (x.0, x.1, x.2, from_ok_later m m.from x.3, l.made m.station m.air m x.4)
+  made_later m x = (x.0, x.1, x.2, from_ok_later m m.from x.3, l.made m.station m.air m x.4, term_later m.conn m.number m.key x.5)
 
   given_later : (e : Tried Term ℕ) (o : Option (NumberedKey Term ℕ)) → GivenOk g e o → GivenOk h e o
   given_later e None x = tt
   given_later e (Some star) x = (term_later e.conn star.number star.key x.0, x.1)
 
   pub tried_later : (cells : List Site) (e : Tried Term ℕ) → TriedOk cells g e → TriedOk cells h e
-  tried_later cells e x = (term_later e.conn e.number e.key x.0, x.1, given_later e e.given x.2)
+  tried_later cells e x = (term_later e.conn e.number e.key x.0, x.1, given_later e e.given x.2, x.3)
 
   obeys_later : (x : Took Term ℕ) → Obeys g.made x → Obeys h.made x
   obeys_later x y = (y.0, l.made x.station x.air y.0 y.1, y.2)
 
   pub took_later : (x : Took Term ℕ) → TookOk g x → TookOk h x
-  took_later x y = (here_later x.station x.air x.key y.0, obeys_later x y.1, y.2)
-
-  pub had_later : (station air : ℕ) (t : Term) → HadTaken g.took station air t → HadTaken h.took station air t
-  had_later station air t x = (x.0, l.took x.0 x.1, x.2, x.3, x.4)
+  took_later x y = (here_later x.station x.air x.key y.0, obeys_later x y.1, y.2, y.3)
 
   taken_if_later : (station air : ℕ) (t : Term) (o : From Term) → TakenIfTried g.took station air t o → TakenIfTried h.took station air t o
   taken_if_later station air t BySetup x = tt
@@ -155,16 +155,20 @@ module _ (g h : Ghost) (l : Later g h) where
   is_order_later : (source : ℕ) (t : Term) (o : Order) → IsOrder g source t o → IsOrder h source t o
   is_order_later source t o x = order_later source t o.cell o.ncc o.algs o.station o.air x
 
+  under_later : (id conn : ℕ) (t : Term) (number : ℕ) → UnderKey g id conn t number → UnderKey h id conn t number
+  under_later id conn t number x = (x.0, l.tried id number x.0 x.1, x.2, x.3)
+
   x2_later : (id conn : ℕ) (t : Term) (state : X2State Term ℕ) → X2Ok g id conn t state → X2Ok h id conn t state
   x2_later id conn t (X2Open start) x =
       (start_later id conn t start.number start.station start.cell (Some start.star) x.0, pairs_later conn start.spent x.1)
-  x2_later id conn t (X2Ready acked) x = (is_order_later id t (x2_order ncc_of acked) x.0, pairs_later conn acked.start.spent x.1)
-  x2_later id conn t (X2Commanded sent) x = is_order_later id t sent.order x
+  x2_later id conn t (X2Ready acked) x =
+      (is_order_later id t (x2_order ncc_of acked) x.0, pairs_later conn acked.start.spent x.1, under_later id conn t acked.start.number x.2)
+  x2_later id conn t (X2Commanded sent) x = (is_order_later id t sent.order x.0, under_later id conn t sent.number x.1)
 
   s1_later : (id conn : ℕ) (t : Term) (state : S1State) → S1Ok g id conn t state → S1Ok h id conn t state
   s1_later id conn t (S1Open start) x = start_later id conn t start.number start.station start.cell None x
-  s1_later id conn t (S1Ready acked) x = is_order_later id t (s1_order acked) x
-  s1_later id conn t (S1Commanded sent) x = is_order_later id t sent.order x
+  s1_later id conn t (S1Ready acked) x = (is_order_later id t (s1_order acked) x.0, under_later id conn t acked.start.number x.1)
+  s1_later id conn t (S1Commanded sent) x = (is_order_later id t sent.order x.0, under_later id conn t sent.number x.1)
 
   attempt_later : (id conn : ℕ) (t : Term) (o : Option (Attempt Term ℕ)) → AttemptOk g id conn t o → AttemptOk h id conn t o
   attempt_later id conn t None x = tt
@@ -237,18 +241,18 @@ module _ (g h : Ghost) (l : Later g h) where
 
   between_later : (to : Address) (fields : Fields) (key : Option (NumberedKey Term ℕ)) → BetweenOk g to fields key → BetweenOk h to fields key
   between_later to (InitialContext conn cell caps) (Some key) x =
-      let n = l.next in (omega arith, x.1 ∙ sym (chain_later conn 0 x.0))
+      let n = l.next in (omega arith, x.1 ∙ sym (chain_later conn 0 x.0), x.2)
   between_later to (PathSwitchAnswer conn number) (Some pair) x = pair_later conn pair x
-  between_later to (HandoverRequired conn source attempt cell) key x = asked_later conn source attempt cell None AnyTried x
+  between_later to (HandoverRequired conn source attempt cell) key x = asked_later conn source attempt cell None IsOther x
   between_later to (HandoverRequest conn source attempt cell caps) (Some pair) x =
       (pair_later conn pair x.0, asked_later conn source attempt cell None (Surpasses to pair.number) x.1)
   between_later to (HandoverRequestAck conn source attempt cell ncc algs air) key x = ack_later source attempt algs air (HasNcc ncc) x
   between_later to (HandoverCommand conn attempt cell ncc algs air) key x = command_later to attempt ncc algs air x
   between_later to (X2Request conn source attempt cell caps) (Some star) x =
-      (term_later conn star.number star.key x.0, asked_later conn source attempt cell (Some star) (λ e. ToStationX2 to e.target) x.1)
+      (term_later conn star.number star.key x.0, asked_later conn source attempt cell (Some star) (IsFor to) x.1)
   between_later to (X2Ack conn attempt cell algs air) key x = x2_ack_later to attempt algs air x
   between_later to (ContextModification conn next) (Some key) x =
-      let n = l.next in (omega arith, x.1 ∙ sym (chain_later next 0 x.0), x.2, x.3)
+      let n = l.next in (omega arith, x.1 ∙ sym (chain_later next 0 x.0), x.2, x.3, x.4)
   between_later to other key x = tt
 
   pub sent_later : (x : Outgoing Term ℕ) → SentOk g x → SentOk h x

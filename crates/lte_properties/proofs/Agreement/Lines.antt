@@ -1,8 +1,8 @@
 -- Where a station tells that a handover completed, its context is new and has the key that it tells.
-use Rattle.std.proofs.Common.{◌≡◌, refl, subst, take, ℕ, suc, Bool, false, List, [], ◌∷◌, Option, Some, None}
+use Rattle.std.proofs.Common.{◌≡◌, ◌==◌, refl, subst, take, ℕ, suc, Bool, true, false, cond, List, [], ◌∷◌, Option, Some, None, inl, inr}
 use Rattle.std.specs.Prelude.{⊤}
 use Rattle.std.specs.List.{position_from}
-use Rattle.std.proofs.lemmas.Bool.{eqb-false}
+use Rattle.std.proofs.lemmas.Bool.{eqb-true, eqb-false}
 use Rattle.alg_choice.specs.declared.caps.Caps.{Caps}
 use Rattle.annex_a_keys.specs.Cell.{Place}
 use Rattle.rec_base.specs.declared.ways.Way.{Way}
@@ -25,57 +25,58 @@ use Rattle.lte_machine.specs.StationRows.{Wanted, RecordRow, RecordRefused, Cont
 use Rattle.lte_machine.specs.StationKeys.{completed_by_s1, completed_within, completed_by_x2, air_does, started_by_x2, started_by_s1, started_within, commands, commands_change, asks_again, sends_packet, sends_rrc, act_does, station_does}
 use Rattle.lte_machine.specs.StationRecords.{context_given, pair_taken, prepared_by_s1, prepared_by_x2, key_renewed, record_does}
 use Rattle.lte_machine.specs.StationStep.{station_opens, station_pdu_in, station_row_of, station_key, station_step}
-use Rattle.lte_machine.specs.World.{Machine, put_station, station_after, station_of_id, turn_of, auth_unless, known_root, next_root, content_in, arrives, chosen, delivered, class_of, is_sent, injected, happens}
+use Rattle.lte_machine.specs.World.{Machine, put_if, put_station, station_after, station_of_id, turn_of, auth_unless, known_root, next_root, content_in, arrives, chosen, delivered, class_of, is_sent, injected, happens}
 use Rattle.lte_properties.specs.ChainBelow.{AllOf}
 use Rattle.lte_properties.specs.ChainHolds.{machine_by, run}
-use Rattle.lte_properties.specs.Agreement.{HadTaken, AtStation, HasContext, TellsWay, TellsNote, CompletedLines}
+use Rattle.lte_properties.specs.Agreement.{IsIn, HadTaken, OfStation, HasContext, TellsWay, TellsNote, CompletedLines}
 use Rattle.lte_properties.proofs.ChainNumbers.Lists.{all_both, all_put}
 use Rattle.lte_properties.proofs.Agreement.Ghost.{Ghost, CtxOk, StartedOk, StationOk}
+use Rattle.lte_properties.proofs.Agreement.Told.{found_holds}
 use Rattle.lte_properties.proofs.Agreement.World.{TheWorld, Conns, ghost, WorldOk}
 
 -- the context is active, and has this key
 abbrev IsNew : Option (Context Term ℕ) → Term → Type 0
 IsNew o key = HasContext o (λ c. (c.key.kenb ≡ key) × (c.starting ≡ false))
 
-abbrev WayIsNew : Option (Context Term ℕ) → Term → Way → Type 0
-WayIsNew o key Way.Completed = IsNew o key
-WayIsNew o key other = ⊤
+abbrev WayIsNew : ℕ → Station Term ℕ → Term → Way → Type 0
+WayIsNew id t key Way.Completed = (t.id ≡ id) × IsNew t.context key
+WayIsNew id t key other = ⊤
 
-abbrev NoteIsNew : Option (Context Term ℕ) → Option (Note Term) → Type 0
-NoteIsNew o None = ⊤
-NoteIsNew o (Some note) = WayIsNew o note.key note.way
+abbrev NoteIsNew : ℕ → Station Term ℕ → Option (Note Term) → Type 0
+NoteIsNew id t None = ⊤
+NoteIsNew id t (Some note) = WayIsNew id t note.key note.way
 
--- a row
-abbrev RowTells : Station Term ℕ × Reply Term ℕ → Type 0
-RowTells d = NoteIsNew d.0.context d.1.note
+-- a row of the station of this number
+abbrev RowTells : ℕ → Station Term ℕ × Reply Term ℕ → Type 0
+RowTells id d = NoteIsNew id d.0 d.1.note
 
-started_way : (o : Option (Context Term ℕ)) (key : Term) (pair : Option (NumberedKey Term ℕ)) → WayIsNew o key (way_of pair)
-started_way o key None = tt
-started_way o key (Some pair) = tt
+started_way : (id : ℕ) (t : Station Term ℕ) (key : Term) (pair : Option (NumberedKey Term ℕ)) → WayIsNew id t key (way_of pair)
+started_way id t key None = tt
+started_way id t key (Some pair) = tt
 
 module _ (same : Term → Term → Bool) where
-  given : (conn : ℕ) (cell : Place) (caps : Caps) (algs : _) (air : ℕ) (key : Option (NumberedKey Term ℕ)) (s : Station Term ℕ) → RowTells (context_given (term_reading_by same) conn cell caps algs air key s)
+  given : (conn : ℕ) (cell : Place) (caps : Caps) (algs : _) (air : ℕ) (key : Option (NumberedKey Term ℕ)) (s : Station Term ℕ) → RowTells s.id (context_given (term_reading_by same) conn cell caps algs air key s)
   given conn cell caps algs air None s = tt
   given conn cell caps algs air (Some key) s = tt
 
-  pair : (conn : ℕ) (origin : Option Origin) (key : Option (NumberedKey Term ℕ)) (s : Station Term ℕ) → RowTells (pair_taken conn origin key s)
+  pair : (conn : ℕ) (origin : Option Origin) (key : Option (NumberedKey Term ℕ)) (s : Station Term ℕ) → RowTells s.id (pair_taken conn origin key s)
   pair conn origin None s = tt
   pair conn origin (Some key) s = tt
 
-  by_s1 : (w : Wanted) (key : Option (NumberedKey Term ℕ)) (s : Station Term ℕ) → RowTells (prepared_by_s1 (term_reading_by same) w key s)
+  by_s1 : (w : Wanted) (key : Option (NumberedKey Term ℕ)) (s : Station Term ℕ) → RowTells s.id (prepared_by_s1 (term_reading_by same) w key s)
   by_s1 w None s = tt
   by_s1 w (Some key) s = tt
 
-  by_x2 : (w : Wanted) (key : Option (NumberedKey Term ℕ)) (s : Station Term ℕ) → RowTells (prepared_by_x2 (term_reading_by same) w key s)
+  by_x2 : (w : Wanted) (key : Option (NumberedKey Term ℕ)) (s : Station Term ℕ) → RowTells s.id (prepared_by_x2 (term_reading_by same) w key s)
   by_x2 w None s = tt
   by_x2 w (Some key) s = tt
 
-  renewed : (conn number air count : ℕ) (o : Option (Context Term ℕ)) (key : Option (NumberedKey Term ℕ)) (s : Station Term ℕ) → RowTells (key_renewed (term_reading_by same) conn number air count o key s)
+  renewed : (conn number air count : ℕ) (o : Option (Context Term ℕ)) (key : Option (NumberedKey Term ℕ)) (s : Station Term ℕ) → RowTells s.id (key_renewed (term_reading_by same) conn number air count o key s)
   renewed conn number air count (Some c) (Some key) s = tt
   renewed conn number air count (Some c) None s = tt
   renewed conn number air count None key s = tt
 
-  record_tells : (row : RecordRow) (key : Option (NumberedKey Term ℕ)) (s : Station Term ℕ) → RowTells (record_does (term_reading_by same) row key s)
+  record_tells : (row : RecordRow) (key : Option (NumberedKey Term ℕ)) (s : Station Term ℕ) → RowTells s.id (record_does (term_reading_by same) row key s)
   record_tells (RecordRefused answer) key s = tt
   record_tells (ContextGiven conn cell caps algs air) key s = given conn cell caps algs air key s
   record_tells ContextReleased key s = tt
@@ -88,19 +89,19 @@ module _ (same : Term → Term → Bool) where
   record_tells SourceReleased key s = tt
   record_tells (KeyRenewed conn number air count) key s = renewed conn number air count s.context key s
 
-  done_by_s1 : (count : ℕ) (o : Option (Prep Term ℕ)) (s : Station Term ℕ) → RowTells (completed_by_s1 (term_reading_by same) count o s)
+  done_by_s1 : (count : ℕ) (o : Option (Prep Term ℕ)) (s : Station Term ℕ) → RowTells s.id (completed_by_s1 (term_reading_by same) count o s)
   done_by_s1 count None s = tt
-  done_by_s1 count (Some p) s = (refl, refl)
+  done_by_s1 count (Some p) s = (refl, (refl, refl))
 
-  done_within : (count : ℕ) (origin : Option Origin) (o : Option (Prep Term ℕ)) (s : Station Term ℕ) → RowTells (completed_within (term_reading_by same) count origin o s)
+  done_within : (count : ℕ) (origin : Option Origin) (o : Option (Prep Term ℕ)) (s : Station Term ℕ) → RowTells s.id (completed_within (term_reading_by same) count origin o s)
   done_within count origin None s = tt
-  done_within count origin (Some p) s = (refl, refl)
+  done_within count origin (Some p) s = (refl, (refl, refl))
 
-  done_by_x2 : (count number : ℕ) (o : Option (Prep Term ℕ)) (s : Station Term ℕ) → RowTells (completed_by_x2 (term_reading_by same) count number o s)
+  done_by_x2 : (count number : ℕ) (o : Option (Prep Term ℕ)) (s : Station Term ℕ) → RowTells s.id (completed_by_x2 (term_reading_by same) count number o s)
   done_by_x2 count number None s = tt
-  done_by_x2 count number (Some p) s = (refl, refl)
+  done_by_x2 count number (Some p) s = (refl, (refl, refl))
 
-  air_tells : (row : AirRow) (s : Station Term ℕ) → RowTells (air_does (term_reading_by same) row s)
+  air_tells : (row : AirRow) (s : Station Term ℕ) → RowTells s.id (air_does (term_reading_by same) row s)
   air_tells (AirRefused answer) s = tt
   air_tells (SecurityStarted count) s = tt
   air_tells (RrcOpened srb count text) s = tt
@@ -109,41 +110,41 @@ module _ (same : Term → Term → Bool) where
   air_tells (CompletedWithin air count origin) s = done_within count origin (at_air air s.preps) s
   air_tells (CompletedByX2 air count number) s = done_by_x2 count number (at_air air s.preps) s
 
-  x2_start : (number target : ℕ) (cell : Place) (o : Option (Context Term ℕ)) (s : Station Term ℕ) → RowTells (started_by_x2 (term_reading_by same) number target cell o s)
+  x2_start : (number target : ℕ) (cell : Place) (o : Option (Context Term ℕ)) (s : Station Term ℕ) → RowTells s.id (started_by_x2 (term_reading_by same) number target cell o s)
   x2_start number target cell None s = tt
   x2_start number target cell (Some c) s =
-      started_way (started_by_x2 (term_reading_by same) number target cell (Some c) s).0.context (opened (term_reading_by same) c.key cell).star.key c.key.pair
+      started_way s.id (started_by_x2 (term_reading_by same) number target cell (Some c) s).0 (opened (term_reading_by same) c.key cell).star.key c.key.pair
 
-  s1_start : (number target : ℕ) (cell : Place) (o : Option (Context Term ℕ)) (s : Station Term ℕ) → RowTells (started_by_s1 number target cell o s)
+  s1_start : (number target : ℕ) (cell : Place) (o : Option (Context Term ℕ)) (s : Station Term ℕ) → RowTells s.id (started_by_s1 number target cell o s)
   s1_start number target cell None s = tt
   s1_start number target cell (Some c) s = tt
 
-  within_start : (number air : ℕ) (cell : Place) (o : Option (Context Term ℕ)) (s : Station Term ℕ) → RowTells (started_within (term_reading_by same) number air cell o s)
+  within_start : (number air : ℕ) (cell : Place) (o : Option (Context Term ℕ)) (s : Station Term ℕ) → RowTells s.id (started_within (term_reading_by same) number air cell o s)
   within_start number air cell None s = tt
   within_start number air cell (Some c) s =
-      started_way (started_within (term_reading_by same) number air cell (Some c) s).0.context (opened (term_reading_by same) c.key cell).star.key c.key.pair
+      started_way s.id (started_within (term_reading_by same) number air cell (Some c) s).0 (opened (term_reading_by same) c.key cell).star.key c.key.pair
 
-  command : (order : Order) (count : ℕ) (o : Option (Context Term ℕ)) (s : Station Term ℕ) → RowTells (commands order count o s)
+  command : (order : Order) (count : ℕ) (o : Option (Context Term ℕ)) (s : Station Term ℕ) → RowTells s.id (commands order count o s)
   command order count None s = tt
   command order count (Some c) s = tt
 
-  change : (renewal : Renewal) (count : ℕ) (o : Option (Context Term ℕ)) (s : Station Term ℕ) → RowTells (commands_change renewal count o s)
+  change : (renewal : Renewal) (count : ℕ) (o : Option (Context Term ℕ)) (s : Station Term ℕ) → RowTells s.id (commands_change renewal count o s)
   change renewal count None s = tt
   change renewal count (Some c) s = tt
 
-  ask : (number : ℕ) (o : Option (Context Term ℕ)) (s : Station Term ℕ) → RowTells (asks_again number o s)
+  ask : (number : ℕ) (o : Option (Context Term ℕ)) (s : Station Term ℕ) → RowTells s.id (asks_again number o s)
   ask number None s = tt
   ask number (Some c) s = tt
 
-  packet : (drb : Drb) (count : ℕ) (text : List ℕ) (o : Option (Context Term ℕ)) (s : Station Term ℕ) → RowTells (sends_packet drb count text o s)
+  packet : (drb : Drb) (count : ℕ) (text : List ℕ) (o : Option (Context Term ℕ)) (s : Station Term ℕ) → RowTells s.id (sends_packet drb count text o s)
   packet drb count text None s = tt
   packet drb count text (Some c) s = tt
 
-  rrc : (srb : Srb) (count : ℕ) (text : List ℕ) (o : Option (Context Term ℕ)) (s : Station Term ℕ) → RowTells (sends_rrc srb count text o s)
+  rrc : (srb : Srb) (count : ℕ) (text : List ℕ) (o : Option (Context Term ℕ)) (s : Station Term ℕ) → RowTells s.id (sends_rrc srb count text o s)
   rrc srb count text None s = tt
   rrc srb count text (Some c) s = tt
 
-  act_tells : (row : ActRow) (s : Station Term ℕ) → RowTells (act_does (term_reading_by same) row s)
+  act_tells : (row : ActRow) (s : Station Term ℕ) → RowTells s.id (act_does (term_reading_by same) row s)
   act_tells (ActRefused answer) s = tt
   act_tells (StartedByX2 number target cell) s = x2_start number target cell s.context s
   act_tells (StartedByS1 number target cell) s = s1_start number target cell s.context s
@@ -158,7 +159,7 @@ module _ (same : Term → Term → Bool) where
   act_tells (RrcSent srb count text) s = rrc srb count text s.context s
   act_tells (BearerSkipped on n) s = tt
 
-  station_tells : (row : StationRow) (key : Option (NumberedKey Term ℕ)) (s : Station Term ℕ) → RowTells (station_does (term_reading_by same) row key s)
+  station_tells : (row : StationRow) (key : Option (NumberedKey Term ℕ)) (s : Station Term ℕ) → RowTells s.id (station_does (term_reading_by same) row key s)
   station_tells (OfRecord row) key s = record_tells row key s
   station_tells (OfAir row) key s = air_tells row s
   station_tells (OfAct row) key s = act_tells row s
@@ -166,7 +167,7 @@ module _ (same : Term → Term → Bool) where
 -- THE WORLD
 
 abbrev WayShown : TheWorld → ℕ → Term → Way → Type 0
-WayShown u id key Way.Completed = AtStation u id (λ s. IsNew s.context key)
+WayShown u id key Way.Completed = OfStation u id (λ s. IsNew s.context key)
 WayShown u id key other = ⊤
 
 abbrev NoteShown : TheWorld → Who → Option (Note Term) → Type 0
@@ -187,35 +188,45 @@ module _ (same : Term → Term → Bool) (root : ℕ → List ℕ → Term) (oct
       each [] = tt
       each (s ∷ ss) = (tt, each ss)
 
-  way_after : (w : TheWorld) (id : ℕ) (d : Station Term ℕ × Reply Term ℕ) (key : Term) (way : Way) → WayIsNew d.0.context key way → WayShown (station_after m w id d).0 id key way
-  way_after w id d key Way.Completed h = way_put id d.0 w.stations key h
-  way_after w id d key Way.Initial h = tt
-  way_after w id d key Way.Horizontal h = tt
-  way_after w id d key Way.Vertical h = tt
-  way_after w id d key Way.Chained h = tt
-  way_after w id d key Way.Given h = tt
+  -- it is one of the stations then
+  is_put : (id : ℕ) (new : Station Term ℕ) (ss : List (Station Term ℕ)) (s : Station Term ℕ) → station_of_id id ss ≡ Some s → IsIn new (put_station id new ss)
+  is_put id new [] s e = absurd cc
+  is_put id new (z ∷ zs) s e = step (z.id == id) e (is_put id new zs s)
+    where
+      step : (b : Bool) → cond b (Some z) (station_of_id id zs) ≡ Some s → (station_of_id id zs ≡ Some s → IsIn new (put_station id new zs)) → IsIn new (put_if b new z ∷ put_station id new zs)
+      step true f rest = inl refl
+      step false f rest = inr (rest f)
 
-  note_after : (w : TheWorld) (id : ℕ) (d : Station Term ℕ × Reply Term ℕ) (o : Option (Note Term)) → NoteIsNew d.0.context o → NoteShown (station_after m w id d).0 (Who.Station id) o
-  note_after w id d None h = tt
-  note_after w id d (Some note) h = way_after w id d note.key note.way h
+  way_after : (w : TheWorld) (id : ℕ) (s : Station Term ℕ) → station_of_id id w.stations ≡ Some s → (d : Station Term ℕ × Reply Term ℕ) (key : Term) (way : Way) → WayIsNew id d.0 key way → WayShown (station_after m w id d).0 id key way
+  way_after w id s e d key Way.Completed h = (d.0, is_put id d.0 w.stations s e, h.0, way_put id d.0 w.stations key h.1)
+  way_after w id s e d key Way.Initial h = tt
+  way_after w id s e d key Way.Horizontal h = tt
+  way_after w id s e d key Way.Vertical h = tt
+  way_after w id s e d key Way.Chained h = tt
+  way_after w id s e d key Way.Given h = tt
+
+  note_after : (w : TheWorld) (id : ℕ) (s : Station Term ℕ) → station_of_id id w.stations ≡ Some s → (d : Station Term ℕ × Reply Term ℕ) (o : Option (Note Term)) → NoteIsNew id d.0 o → NoteShown (station_after m w id d).0 (Who.Station id) o
+  note_after w id s e d None h = tt
+  note_after w id s e d (Some note) h = way_after w id s e d note.key note.way h
 
   module _ (w : TheWorld) where
-    turn_shows : (id : ℕ) (input : StationInput Term ℕ) (came : Option (Outgoing Term ℕ)) (o : Option (Station Term ℕ))
+    turn_shows : (id : ℕ) (input : StationInput Term ℕ) (came : Option (Outgoing Term ℕ)) (o : Option (Station Term ℕ)) → station_of_id id w.stations ≡ o
         → let h = turn_of m w id input came o in NoteShown h.0 h.1.who h.1.note
-    turn_shows id input came None = tt
-    turn_shows id input came (Some s) =
+    turn_shows id input came None e = tt
+    turn_shows id input came (Some s) e =
         let outcome = opener (station_opens (term_reading_by same) s input) (station_pdu_in input) came in
         let d = station_step (term_reading_by same) s input outcome in
-        note_after w id d d.1.note (station_tells same (station_row_of (term_reading_by same) s input outcome) (station_key input) s)
+        let is : s.id ≡ id = eqb-true s.id id (found_holds (λ t. t.id == id) w.stations s e) in
+        note_after w id s e d d.1.note (subst (λ n. NoteIsNew n d.0 d.1.note) is (station_tells same (station_row_of (term_reading_by same) s input outcome) (station_key input) s))
 
     arrives_shows : (to : Address) (pdu : List ℕ) (came : Option (Outgoing Term ℕ)) → let h = arrives m w to pdu came in NoteShown h.0 h.1.who h.1.note
     arrives_shows Address.PhoneNas pdu came = tt
     arrives_shows (Address.Phone station air bearer) pdu came = tt
     arrives_shows Address.CoreNas pdu came = tt
     arrives_shows Address.CoreS1 pdu came = tt
-    arrives_shows (Address.StationAir station air bearer) pdu came = turn_shows station (AirPdu air bearer pdu) came (station_of_id station w.stations)
-    arrives_shows (Address.StationS1 station) pdu came = turn_shows station (StationRecord OnS1 (content_in m came)) came (station_of_id station w.stations)
-    arrives_shows (Address.StationX2 station) pdu came = turn_shows station (StationRecord OnX2 (content_in m came)) came (station_of_id station w.stations)
+    arrives_shows (Address.StationAir station air bearer) pdu came = turn_shows station (AirPdu air bearer pdu) came (station_of_id station w.stations) refl
+    arrives_shows (Address.StationS1 station) pdu came = turn_shows station (StationRecord OnS1 (content_in m came)) came (station_of_id station w.stations) refl
+    arrives_shows (Address.StationX2 station) pdu came = turn_shows station (StationRecord OnX2 (content_in m came)) came (station_of_id station w.stations) refl
 
     delivered_shows : (o : Option (Outgoing Term ℕ)) → let h = delivered m w o in NoteShown h.0 h.1.who h.1.note
     delivered_shows None = tt
@@ -232,7 +243,7 @@ module _ (same : Term → Term → Bool) (root : ℕ → List ℕ → Term) (oct
     happens_shows : (e : Event) → let h = happens m w e in NoteShown h.0 h.1.who h.1.note
     happens_shows (Event.Auth ksi key caps) = let k = root (next_root w) key in auth_shows ksi k caps (known_root m w k)
     happens_shows (Event.Phone act) = tt
-    happens_shows (Event.Station id act) = turn_shows id (StationActs act) None (station_of_id id w.stations)
+    happens_shows (Event.Station id act) = turn_shows id (StationActs act) None (station_of_id id w.stations) refl
     happens_shows (Event.Core act) = tt
     happens_shows (Event.Deliver i) = delivered_shows (chosen i w.sent)
     happens_shows (Event.Inject to pdu) = injected_shows to pdu (position_from (is_sent m (class_of to) pdu) 0 w.sent)
@@ -246,9 +257,13 @@ had_active cells g s id key is (Some c) ok h =
     (h.0, subst (λ n. HadTaken g.took n c.air key) is (subst (HadTaken g.took s.id c.air) h.0 had))
 
 way_told : (cells : List Site) (c : Conns) (u : TheWorld) → WorldOk cells c u → (id : ℕ) (key : Term) (way : Way) → WayShown u id key way → TellsWay u id key way
-way_told cells c u h id key Way.Completed k =
-    all_both (StationOk cells (ghost c u)) (λ s. s.id ≡ id → IsNew s.context key) _
-    (λ s ok f is. had_active cells (ghost c u) s id key is s.context ok.0 (f is)) u.stations h.stations k
+way_told cells c u h id key Way.Completed k = (
+  k.0,
+  k.1,
+  k.2,
+  all_both (StationOk cells (ghost c u)) (λ s. s.id ≡ id → IsNew s.context key) _
+      (λ s ok f is. had_active cells (ghost c u) s id key is s.context ok.0 (f is)) u.stations h.stations k.3,
+)
 way_told cells c u h id key Way.Initial k = tt
 way_told cells c u h id key Way.Horizontal k = tt
 way_told cells c u h id key Way.Vertical k = tt

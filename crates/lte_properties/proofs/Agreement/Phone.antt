@@ -7,21 +7,22 @@ use Rattle.annex_a_keys.specs.Cell.{Place}
 use Rattle.lte_events.specs.declared.answers.Answer.{Answer}
 use Rattle.key_model.specs.Term.{Term, Kenb, Star, Alg, same_term}
 use Rattle.key_model.proofs.TermFacts.{same_term-Decides}
-use Rattle.key_model.specs.Chain.{ncc_of}
+use Rattle.key_model.specs.Chain.{nh, ncc_of}
 use Rattle.key_model.specs.Number.{chain_number}
 use Rattle.key_model.specs.Reading.{term_reading_by}
-use Rattle.key_model.specs.HandoverTable.{NumberedKey}
 use Rattle.key_model.specs.HandoverLines.{steps_to}
 use Rattle.nh_chain.specs.Reach.{reached_after}
 use Rattle.lte_machine.specs.Bearers.{Srb, Signalling1, Signalling2, Drb, User1, User2, User3, User4, Which, OnSrb, OnDrb, Bearers, srb_taken, drb_taken, srb_sent, drb_sent, skipped_on}
-use Rattle.lte_machine.specs.Reply.{Origin, From, BySetup, ByAttempt, ByChange, Made, Tried, Before, Came, Secured, Commanded, Changed, Took}
+use Rattle.lte_machine.specs.Reply.{Origin, From, BySetup, ByAttempt, ByChange, Made, Tried, Before, Secured, Commanded, Changed, Took}
 use Rattle.lte_machine.specs.World.{with_one}
 use Rattle.lte_machine.specs.PhoneState.{Partial, NasContext, Link, Radio, Connecting, Connected, Phone}
 use Rattle.lte_machine.specs.PhoneRows.{AuthRow, Authenticated, NasRow, NasRefused, RejectedPlain, RejectedUnder, ContextTaken, ContextTakenConnected, NasOpened, AirRow, AirRefused, LinkSecured, HandedOver, KeyChanged, RrcOpened, PacketOpened, ActRow, ActRefused, ServiceRequested, CompleteResent, WentIdle, PacketSent, RrcSent, NasSent, NasSkipped, BearerSkipped, PhoneRow, OfAuth, OfNas, OfAir, OfAct}
 use Rattle.lte_machine.specs.PhoneKeys.{PhoneDone, auth_does, rejected_under, context_taken, context_taken_connected, nas_opened, nas_does, link_secured, handed_over, before_of, changed_unless, key_changed, rrc_opened, packet_opened, air_does, service_requested, complete_resent, packet_sent, rrc_sent, nas_sent, nas_skipped, bearer_skipped, act_does, phone_does}
 use Rattle.lte_properties.specs.ChainBelow.{AllOf}
 use Rattle.lte_properties.specs.Agreement.{made_at, root_of, change_ahead, ahead, TookMade, ObeysCommand, ObeysChange, Obeys, Grows, HadTaken}
-use Rattle.lte_properties.proofs.Agreement.Terms.{base, lands, ChainOf, reached_key, reached_number, reached_chain, steps_near, lands_near, steps_far, lands_far}
+use Rattle.lte_properties.proofs.Agreement.Terms.{climb, lands, climb-nh, IsKenb, number_lands, ChainOf, reached_key, reached_number, reached_chain, steps_below, steps_near, lands_near, steps_far, lands_far}
+use Rattle.lte_properties.specs.Chains.{chain_key}
+use Rattle.lte_properties.specs.FreshOrder.{nas_count_of}
 use Rattle.lte_properties.proofs.Agreement.Ghost.{Ghost, is_took_at, took_at, taken, FromIs, HereIs, Leads, FromOk, MadeOk, TookOk, OrderIs, ChangeIs, LinkIs, RadioOk, OutOk}
 use Rattle.lte_properties.proofs.Agreement.Told.{found_new, both_same, made_there}
 use Rattle.lte_properties.proofs.Agreement.Later.{Later, found_later, in_front, in_last, same_found}
@@ -82,13 +83,17 @@ obeys_command : (e : Tried Term ℕ) (m : Made Term ℕ) (x : Took Term ℕ) (be
     → before.number ≡ e.number → chain_number e.key ≡ e.number → Leads e m.key m.number
     → x.key ≡ taken e m → x.number ≡ chain_number e.key + steps_to (ncc_of (chain_number e.key)) (ncc_of m.number) → x.algs ≡ m.algs
     → ObeysCommand x before m
-obeys_command e m x before o from source own number leads key reached algs = record { tried = (o, from, source); not_behind = omega arith; near = near; far = far }
+obeys_command e m x before o from source own number leads key reached algs =
+    record { tried = (o, from, source); not_behind = omega arith; not_passed = not_passed; near = near; far = far }
   where
     made_is : m.key ≡ lands e.key (m.number - chain_number e.key) e.cell
     made_is = leads.1 ∙ ap (λ d. lands e.key (m.number - d) e.cell) (sym number)
 
     below : chain_number e.key ≤ m.number
     below = omega arith
+
+    not_passed : x.number ≤ m.number
+    not_passed = let least = steps_below (chain_number e.key) m.number below in omega arith
 
     near : ahead m (Commanded before) < 8 → TookMade x m
     near few =
@@ -109,7 +114,12 @@ grows : (same : Term → Term → Bool) (l : Link Term ℕ) (steps : ℕ) (cell 
     → x.number ≡ (reached_after (term_reading_by same) l.chain l.kenb steps cell).star.number
     → Grows x (Commanded (before_of l))
 grows same l zero cell chain x key number = inr (number, cell.pci, cell.earfcn, key)
-grows same l (suc steps) cell chain x key number = inl (omega arith)
+grows same l (suc steps) cell chain x key number =
+    let reached = number ∙ reached_number same l.kenb l.chain (suc steps) cell chain in
+    let up : climb (root_of l.kenb) (chain_key l.kenb) (suc steps) ≡ nh (root_of l.kenb) (nas_count_of l.kenb) x.number =
+    (λ j. climb (root_of l.kenb) (chain.3 j) (suc steps)) ∙ climb-nh (root_of l.kenb) (nas_count_of l.kenb) (chain_number l.kenb) (suc steps)
+    ∙ ap (nh (root_of l.kenb) (nas_count_of l.kenb)) (sym reached) in
+    inl (omega arith, cell.pci, cell.earfcn, key ∙ reached_key same l.kenb l.chain (suc steps) cell chain ∙ ap (λ t. Star t cell.pci cell.earfcn) up)
 
 -- more is told once the phone took a key
 pub took_more : (g : Ghost) (o : Option (Took Term ℕ)) → Later g (with_took g o)
@@ -180,9 +190,12 @@ link_secured_goes same g made station air algs count s (Connecting w) old h need
     let heard : 1 ≤ count + 1 = omega arith in
     let had : HadTaken (g.took ++ x ∷ []) station air w.kenb = (x, in_last x g.took, refl, refl, refl) in
     let here : HereIs k station air w.kenb = (m, needs.1, from) in
-    let number : m.number ≡ 0 = subst (FromOk g m) needs.2 (all_found (MadeOk g) _ g.made m made needs.1).3 in (
-      ((sym (ap root_of h.1), h.1 ∙ sym (ap base h.1), sym (ap chain_number h.1)), refl, m, needs.1, needs.4, from, had, (λ none. heard)),
-      (here, (m, needs.1, ((needs.3, sym number, needs.4), needs.2)), tt),
+    let setup : FromOk g m BySetup = subst (FromOk g m) needs.2 (all_found (MadeOk g) _ g.made m made needs.1).3 in
+    let number : m.number ≡ 0 = setup.0 in
+    let on : IsKenb w.kenb = ap chain_key h.1 ∙ sym (λ j. nh (root_of (h.1 j)) (nas_count_of (h.1 j)) (chain_number (h.1 j))) in
+    let zero_on = on ∙ ap (nh (root_of w.kenb) (nas_count_of w.kenb)) (ap chain_number h.1) in (
+      ((sym (ap root_of h.1), h.1 ∙ sym (ap chain_key h.1), sym (ap chain_number h.1), on), refl, m, needs.1, needs.4, from, had, (λ none. heard)),
+      (here, (m, needs.1, ((needs.3, sym number, needs.4), needs.2)), tt, zero_on),
       (w.kenb, refl, here, had),
     )
 link_secured_goes same g made station air algs count s other old h needs = (old, tt, tt)
@@ -223,10 +236,14 @@ handed_over_goes same g made cell steps algs station air s (Connected l) old h n
     let own : l.chain.number ≡ e.number = h.0.2 ∙ sym (ap chain_number order.6) ∙ number in
     let reached : r.star.number ≡ chain_number e.key + steps_to (ncc_of (chain_number e.key)) (ncc_of m.number) =
     reached_number same l.kenb l.chain steps cell h.0 ∙ (λ j. chain_number (sym order.6 j) + steps_are j) in
+    let chain : ChainOf r.star.key r.chain = subst (λ t. ChainOf t r.chain) (sym lands_so) (reached_chain same l.kenb l.chain steps cell h.0) in
+    let number_is : r.star.number ≡ chain_number r.star.key =
+    reached_number same l.kenb l.chain steps cell h.0 ∙ sym (number_lands l.kenb steps cell) ∙ ap chain_number (sym lands_so) in
+    let on = chain.3 ∙ ap (nh (root_of r.star.key) (nas_count_of r.star.key)) (sym number_is) in
     let obeys : Obeys g.made x =
     (m, order.3, obeys_command e m x (before_of l) o order.4 order.10 own number leads takes reached (sym order.9)) in (
       (
-        (subst (λ t. ChainOf t r.chain) (sym lands_so) (reached_chain same l.kenb l.chain steps cell h.0)),
+        chain,
         refl,
         m,
         order.3,
@@ -235,7 +252,7 @@ handed_over_goes same g made cell steps algs station air s (Connected l) old h n
         had,
         (λ none. absurd (no_setup order.4 none)),
       ),
-      (here, obeys, grows same l steps cell h.0 x refl refl),
+      (here, obeys, grows same l steps cell h.0 x refl refl, on),
       (r.star.key, refl, here, had),
     )
 handed_over_goes same g made cell steps algs station air s other old h needs = (old, tt, tt)
@@ -297,8 +314,8 @@ changed_goes same g made cell algs station air s l root false old needs =
     let here : HereIs k station air t = (m, order.1, from) in
     let ok : FromOk g m (ByChange l.kenb) = subst (FromOk g m) order.2 (all_found (MadeOk g) _ g.made m made order.1).3 in
     let of_cell : t ≡ Star (Kenb root 0) m.cell.pci m.cell.earfcn = λ j. Star (Kenb root 0) (sym order.3 j).pci (sym order.3 j).earfcn in (
-      ((refl, refl, refl), refl, m, order.1, sym order.4, from, had, (λ e. absurd (no_setup_change order.2 e))),
-      (here, (m, order.1, obeys_change m x (before_of l) root order.2 ok.0 ok.2 ok.3 of_cell refl (sym order.4)), (refl, cell.pci, cell.earfcn, refl)),
+      ((refl, refl, refl, refl), refl, m, order.1, sym order.4, from, had, (λ e. absurd (no_setup_change order.2 e))),
+      (here, (m, order.1, obeys_change m x (before_of l) root order.2 ok.0 ok.2 ok.3 of_cell refl (sym order.4)), (refl, cell.pci, cell.earfcn, refl), refl),
       (t, refl, here, had),
     )
 

@@ -1,6 +1,7 @@
 -- What the rows of a station on records and PDUs leave of the invariant of agreement.
 use Rattle.std.proofs.Common.{◌≡◌, ℕ, ◌+◌, ◌<◌, ◌≤◌, refl, sym, ◌∙◌, ap, subst, arith, Bool, true, false, List, [], ◌∷◌, ◌++◌, Option, Some, None, option_map}
-use Rattle.std.specs.Prelude.{⊤}
+use Rattle.std.specs.Prelude.{⊤, length, slice_index, slice_set}
+use Rattle.std.proofs.lemmas.List.{length-set}
 use Rattle.alg_choice.specs.declared.algs.Algs.{Algs}
 use Rattle.alg_choice.specs.declared.caps.Caps.{Caps}
 use Rattle.annex_a_keys.specs.Cell.{Place, IsCell}
@@ -20,18 +21,21 @@ use Rattle.lte_machine.specs.StationKeys.{with_security, with_rrc_taken, with_pa
 use Rattle.lte_machine.specs.StationRecords.{context_given, with_pair, source_release, pair_taken, wanted_prep, prepared_by_s1, prepared_by_x2, s1_acked, x2_acked, with_s1_ack, with_x2_ack, change_text, key_renewed, record_does}
 use Rattle.lte_properties.specs.ChainBelow.{AllOf}
 use Rattle.lte_properties.specs.Agreement.{made_at, HadTaken}
-use Rattle.lte_properties.proofs.Agreement.Terms.{base, base_nh}
-use Rattle.lte_properties.proofs.Agreement.Ghost.{Ghost, tried_at, chain_at, keys_of, TermOk, PairOk, PairsOk, FromIs, HereIs, Leads, GivenFits, FromOk, MadeOk, GivenOk, TriedOk, EntryIs, AttemptOk, StartedOk, CtxOk, PrepOk, FreshFrom, StationOk, SaysOk, ChangeIs, AskedIs, AckIs, HasNcc, AnyMade, OutOk}
+use Rattle.lte_properties.proofs.Agreement.Terms.{base_nh}
+use Rattle.lte_properties.specs.Chains.{chain_key}
+use Rattle.lte_properties.proofs.Agreement.Ghost.{Ghost, is_tried_at, tried_at, chain_at, keys_of, TermOk, PairOk, PairsOk, FromIs, HereIs, Leads, GivenFits, FromOk, MadeOk, GivenOk, TriedOk, EntryIs, AttemptOk, StartedOk, CtxOk, PrepOk, FreshFrom, SeenBy, StationOk, SaysOk, IsOther, ChangeIs, AskedIs, AckIs, HasNcc, AnyMade, OutOk}
 use Rattle.lte_properties.proofs.Agreement.Later.{same_found, made_later, ctx_later, preps_later}
 use Rattle.lte_properties.proofs.ChainNumbers.Lists.{all_map}
 use Rattle.lte_properties.proofs.Agreement.Phone.{all_found}
+use Rattle.lte_properties.proofs.Agreement.PhoneWalk.{both_named}
+use Rattle.lte_properties.proofs.Agreement.Seen.{NotBoth, setup_no_attempt, change_no_attempt, apart_always, apart_unseen, seen_more, seen_there}
 use Rattle.lte_properties.proofs.Agreement.StationSends.{sends_down, change_says}
-use Rattle.lte_properties.proofs.Agreement.Told.{told, told_more, made_new, made_none, MadeBy, TriedBy, all_append, all_filter, reads_as, term_number, leads_up, star_term, if_tried}
+use Rattle.lte_properties.proofs.Agreement.Told.{found_holds, told, told_more, made_new, made_none, MadeBy, TriedBy, all_append, all_filter, reads_as, term_number, leads_up, star_term, if_tried}
 
 -- what is told anew
-abbrev pub NewMade : Ghost → ℕ → Option (Made Term ℕ) → Type 0
-NewMade h id None = ⊤
-NewMade h id (Some m) = MadeOk h m
+abbrev pub NewMade : Ghost → Ghost → Option (Made Term ℕ) → Type 0
+NewMade g h None = ⊤
+NewMade g h (Some m) = MadeOk h m × AllOf (NotBoth m) g.made
 
 abbrev pub NewTried : List Site → Ghost → ℕ → Option (Tried Term ℕ) → Type 0
 NewTried cells h id None = ⊤
@@ -41,7 +45,7 @@ NewTried cells h id (Some e) = TriedOk cells h e
 abbrev pub StationGoes : List Site → Ghost → Station Term ℕ → Station Term ℕ × Reply Term ℕ → Type 0
 StationGoes cells g s d =
     let h = told g d.1.made d.1.tried in
-    StationOk cells h d.0 × NewMade h s.id d.1.made × NewTried cells h s.id d.1.tried × OutOk h d.1.sent
+    StationOk cells h d.0 × NewMade g h d.1.made × NewTried cells h s.id d.1.tried × OutOk h d.1.sent
     × (d.0.id ≡ s.id) × MadeBy s.id d.1.made × TriedBy s.id d.1.tried
 
 -- what the rows on a record need of it
@@ -54,10 +58,10 @@ abbrev pub DrawsAir : ℕ → ℕ → Type 0
 DrawsAir next air = (air ≡ next) × (air < 4294967296)
 
 abbrev pub IsTarget : ℕ → Tried Term ℕ → Type 0
-IsTarget id e = e.target ≡ id
+IsTarget id e = (e.target ≡ id) × IsOther e
 
 abbrev pub IsTargetAbove : ℕ → ℕ → Tried Term ℕ → Type 0
-IsTargetAbove id number e = (e.number < number) × (e.target ≡ id)
+IsTargetAbove id number e = (e.number < number) × IsTarget id e
 
 abbrev pub ContextNeeds : Ghost → ℕ → ℕ → ℕ → Option (NumberedKey Term ℕ) → Type 0
 ContextNeeds g next conn air None = ⊤
@@ -66,6 +70,10 @@ ContextNeeds g next conn air (Some key) = DrawsAir next air × (conn < g.next) �
 abbrev pub PairTakenNeeds : Ghost → Option (Context Term ℕ) → Option (NumberedKey Term ℕ) → Type 0
 PairTakenNeeds g o None = ⊤
 PairTakenNeeds g o (Some pair) = PairNeeds g pair o
+
+-- an attempt that was not seen yet
+abbrev pub IsNews : List ℕ → Origin → Type 0
+IsNews seen o = slice_index seen o.source < o.attempt
 
 abbrev pub S1Needs : Ghost → ℕ → ℕ → Wanted → Option (NumberedKey Term ℕ) → Type 0
 S1Needs g id next w None = ⊤
@@ -105,8 +113,8 @@ RenewNeeds g next conn air context key = ⊤
 abbrev pub RecordNeeds : Ghost → Station Term ℕ → RecordRow → Option (NumberedKey Term ℕ) → Type 0
 RecordNeeds g s (ContextGiven conn cell caps algs air) key = ContextNeeds g s.next conn air key
 RecordNeeds g s (PairTaken conn origin) key = PairTakenNeeds g s.context key
-RecordNeeds g s (PreparedByS1 w) key = S1Needs g s.id s.next w key
-RecordNeeds g s (PreparedByX2 w) key = X2Needs g s.id s.next w key
+RecordNeeds g s (PreparedByS1 w) key = S1Needs g s.id s.next w key × IsNews s.seen w.from
+RecordNeeds g s (PreparedByX2 w) key = X2Needs g s.id s.next w key × IsNews s.seen w.from
 RecordNeeds g s (AckedByS1 ncc algs air) key = S1AckOf g s.id ncc algs air s.context
 RecordNeeds g s (AckedByX2 algs air) key = X2AckOf g s.id algs air s.context
 RecordNeeds g s (KeyRenewed conn number air count) key = RenewNeeds g s.next conn air s.context key
@@ -176,14 +184,16 @@ module _ (same : Term → Term → Bool) (cells : List Site) (g : Ghost) (made_o
       let fresh : FreshFrom (told g (Some m) None) s.id (air + 1) =
       λ n above. (made_none g.made m s.id n (h.2 n (omega arith)).0 (omega arith), (h.2 n (omega arith)).1) in (
         (
-          ((needs.1, omega arith, ap base needs.2), tt, refl, (m, here, (refl, refl, refl), refl, tt), tt, refl),
+          ((needs.1, omega arith, ap chain_key needs.2), tt, refl, (m, here, (refl, refl, refl), refl, tt), tt, refl),
           tt,
           fresh,
           h.3,
           h.4,
           omega arith,
+          h.6,
+          all_append (SeenBy s.id s.seen) g.made m h.7 (λ at o e other. absurd (setup_no_attempt m refl o e)),
         ),
-        (low, draws.1, h.4, refl, here),
+        ((low, draws.1, h.4, (refl, needs.1, needs.2), here, (needs.1, omega arith, ap chain_key needs.2)), apart_always m (setup_no_attempt m refl) g.made),
         tt,
         (m, here, refl, (refl, refl, refl), text),
         refl,
@@ -204,18 +214,18 @@ module _ (same : Term → Term → Bool) (cells : List Site) (g : Ghost) (made_o
       → StationOk cells g s → PairTakenNeeds g s.context key → StationGoes cells g s (pair_taken conn origin key s)
   pair_taken_goes conn origin None s h needs = (h, tt, tt, tt, refl, tt, tt)
   pair_taken_goes conn origin (Some pair) s h needs =
-      ((pair_ctx s.id pair s.context h.0 needs, h.1, h.2, h.3, h.4, h.5), tt, tt, release_out conn origin, refl, tt, tt)
+      ((pair_ctx s.id pair s.context h.0 needs, h.1, h.2, h.3, h.4, h.5, h.6, h.7), tt, tt, release_out conn origin, refl, tt, tt)
 
   -- a preparation of what was made by an attempt
   prepared_goes : (w : Wanted) (star : NumberedKey Term ℕ) (s : Station Term ℕ) → StationOk cells g s → DrawsAir s.next w.air
-      → (e : Tried Term ℕ) → tried_at g.tried w.from.source w.from.attempt ≡ Some e → e.target ≡ s.id
+      → (e : Tried Term ℕ) → tried_at g.tried w.from.source w.from.attempt ≡ Some e → e.target ≡ s.id → e.conn ≡ w.conn → e.cell ≡ w.cell
       → TermOk g w.conn star.key star.number → Leads e star.key star.number → GivenFits e.given star.number
       → (p : Prep Term ℕ) → p.conn ≡ w.conn → p.key.kenb ≡ star.key → p.key.number ≡ star.number → p.key.pair ≡ None
       → p.air ≡ w.air → p.algs ≡ w.algs → p.keys ≡ keys_of star.key w.algs
       → (m : Made Term ℕ) → m ≡ record { station = s.id; air = w.air; conn = w.conn; cell = w.cell; key = star.key; number = star.number; algs = w.algs; from = ByAttempt w.from }
       → let k = told g (Some m) None in
       (made_at k.made s.id w.air ≡ Some m) × MadeOk k m × PrepOk k s.id p × FreshFrom k s.id (w.air + 1) × (1 ≤ w.air + 1)
-  prepared_goes w star s h draws e found target term leads given p conn kenb number pair air algs keys m is =
+  prepared_goes w star s h draws e found target of_conn of_cell term leads given p conn kenb number pair air algs keys m is =
       let k = told g (Some m) None in
       let l = told_more g (Some m) None in
       let none : made_at g.made m.station m.air ≡ None = (λ j. made_at g.made (is j).station (is j).air) ∙ (h.2 w.air (omega arith)).0 in
@@ -226,8 +236,8 @@ module _ (same : Term → Term → Bool) (cells : List Site) (g : Ghost) (made_o
       let fresh : FreshFrom k s.id (w.air + 1) =
       λ n above. (made_none g.made m s.id n (h.2 n (omega arith)).0 (omega arith), (h.2 n (omega arith)).1) in
       let from : FromOk k (record { station = s.id; air = w.air; conn = w.conn; cell = w.cell; key = star.key; number = star.number; algs = w.algs; from = ByAttempt w.from }) (ByAttempt w.from) =
-      (e, found, term_number g e.conn e.key e.number (all_found (TriedOk cells g) _ g.tried e tried_ok found).0, target, leads, given) in
-      let made : MadeOk k m = subst (MadeOk k) (sym is) (low, draws.1, h.4, from, here ∙ ap Some is) in
+      (e, found, term_number g e.conn e.key e.number (all_found (TriedOk cells g) _ g.tried e tried_ok found).0, target, leads, given, of_conn, of_cell) in
+      let made : MadeOk k m = subst (MadeOk k) (sym is) (low, draws.1, h.4, from, here ∙ ap Some is, term) in
       let prep : PrepOk k s.id p = (
         subst (λ x. TermOk k x p.key.kenb p.key.number) (sym conn)
             (subst (λ x. TermOk k w.conn x p.key.number) (sym kenb) (subst (λ x. TermOk k w.conn star.key x) (sym number) term)),
@@ -239,10 +249,25 @@ module _ (same : Term → Term → Bool) (cells : List Site) (g : Ghost) (made_o
       ) in
       (here, made, prep, fresh, omega arith)
 
+  -- its attempt is of another source, and was not seen before
+  taken_once : (w : Wanted) (s : Station Term ℕ) (m : Made Term ℕ) → m.from ≡ ByAttempt w.from → StationOk cells g s → IsNews s.seen w.from
+      → (e : Tried Term ℕ) → tried_at g.tried w.from.source w.from.attempt ≡ Some e → IsTarget s.id e
+      → (length (slice_set s.seen w.from.source w.from.attempt) ≡ 8)
+      × AllOf (SeenBy s.id (slice_set s.seen w.from.source w.from.attempt)) (g.made ++ m ∷ []) × AllOf (NotBoth m) g.made
+  taken_once w s m is h news e found target =
+      let at = both_named e.station w.from.source e.attempt w.from.attempt (found_holds (is_tried_at w.from.source w.from.attempt) g.tried e found) in
+      let own = all_found (TriedOk cells g) _ g.tried e tried_ok found in
+      let low : w.from.source ≤ 7 = subst (λ n. n ≤ 7) at.0 own.3 in (
+        length-set s.seen w.from.source w.from.attempt ∙ h.6,
+        all_append (SeenBy s.id (slice_set s.seen w.from.source w.from.attempt)) g.made m
+            (seen_more s.id w.from.source w.from.attempt s.seen h.6 low news g.made h.7) (seen_there s.id s.seen m w.from is h.6 low),
+        apart_unseen g s.id s.seen m w.from is e found target.0 (λ own_source. target.1 (target.0 ∙ sym own_source ∙ sym at.0)) news g.made made_ok h.7,
+      )
+
   prepared_s1_goes : (w : Wanted) (key : Option (NumberedKey Term ℕ)) (s : Station Term ℕ)
-      → StationOk cells g s → S1Needs g s.id s.next w key → StationGoes cells g s (prepared_by_s1 (term_reading_by same) w key s)
-  prepared_s1_goes w None s h needs = (h, tt, tt, tt, refl, tt, tt)
-  prepared_s1_goes w (Some pair) s h needs =
+      → StationOk cells g s → S1Needs g s.id s.next w key → IsNews s.seen w.from → StationGoes cells g s (prepared_by_s1 (term_reading_by same) w key s)
+  prepared_s1_goes w None s h needs news = (h, tt, tt, tt, refl, tt, tt)
+  prepared_s1_goes w (Some pair) s h needs news =
       let asked = needs.2 in
       let e = asked.0 in
       let own = (all_found (TriedOk cells g) _ g.tried e tried_ok asked.1).0 in
@@ -253,8 +278,9 @@ module _ (same : Term → Term → Bool) (cells : List Site) (g : Ghost) (made_o
       let same_star : Star pair.key w.cell.pci w.cell.earfcn ≡ Star pair.key e.cell.pci e.cell.earfcn = ap (λ c. Star pair.key c.pci c.earfcn) (sym asked.3) in
       let leads : Leads e star.key star.number = (omega arith, same_star ∙ up) in
       let given : GivenFits e.given star.number = subst (λ o. GivenFits o star.number) (sym asked.4) tt in
-      let goes = prepared_goes w star s h needs.0 e asked.1 asked.5.1 (star_term g w.conn pair w.cell.pci w.cell.earfcn needs.1) leads given
+      let goes = prepared_goes w star s h needs.0 e asked.1 asked.5.1.0 asked.2 asked.3 (star_term g w.conn pair w.cell.pci w.cell.earfcn needs.1) leads given
       (wanted_prep (term_reading_by same) w By.S1 star) refl refl refl refl refl refl refl m refl in
+      let asked_once = taken_once w s m refl h news e asked.1 asked.5.1 in
       let l = told_more g (Some m) None in (
         (
           ctx_later g (told g (Some m) None) l s.id s.context h.0,
@@ -263,8 +289,10 @@ module _ (same : Term → Term → Bool) (cells : List Site) (g : Ghost) (made_o
           h.3,
           h.4,
           goes.4,
+          asked_once.0,
+          asked_once.1,
         ),
-        goes.1,
+        (goes.1, asked_once.2),
         tt,
         (m, goes.0, refl, refl, refl),
         refl,
@@ -273,17 +301,18 @@ module _ (same : Term → Term → Bool) (cells : List Site) (g : Ghost) (made_o
       )
 
   prepared_x2_goes : (w : Wanted) (key : Option (NumberedKey Term ℕ)) (s : Station Term ℕ)
-      → StationOk cells g s → X2Needs g s.id s.next w key → StationGoes cells g s (prepared_by_x2 (term_reading_by same) w key s)
-  prepared_x2_goes w None s h needs = (h, tt, tt, tt, refl, tt, tt)
-  prepared_x2_goes w (Some star) s h needs =
+      → StationOk cells g s → X2Needs g s.id s.next w key → IsNews s.seen w.from → StationGoes cells g s (prepared_by_x2 (term_reading_by same) w key s)
+  prepared_x2_goes w None s h needs news = (h, tt, tt, tt, refl, tt, tt)
+  prepared_x2_goes w (Some star) s h needs news =
       let asked = needs.2 in
       let e = asked.0 in
       let own = all_found (TriedOk cells g) _ g.tried e tried_ok asked.1 in
       let m : Made Term ℕ = record { station = s.id; air = w.air; conn = w.conn; cell = w.cell; key = star.key; number = star.number; algs = w.algs; from = ByAttempt w.from } in
       let of_given : GivenOk g e (Some star) = subst (GivenOk g e) asked.4 own.2 in
       let given : GivenFits e.given star.number = subst (λ o. GivenFits o star.number) (sym asked.4) refl in
-      let goes = prepared_goes w star s h needs.0 e asked.1 asked.5 needs.1 of_given.1 given
+      let goes = prepared_goes w star s h needs.0 e asked.1 asked.5.0 asked.2 asked.3 needs.1 of_given.1 given
       (wanted_prep (term_reading_by same) w By.X2 star) refl refl refl refl refl refl refl m refl in
+      let asked_once = taken_once w s m refl h news e asked.1 asked.5 in
       let l = told_more g (Some m) None in (
         (
           ctx_later g (told g (Some m) None) l s.id s.context h.0,
@@ -292,8 +321,10 @@ module _ (same : Term → Term → Bool) (cells : List Site) (g : Ghost) (made_o
           h.3,
           h.4,
           goes.4,
+          asked_once.0,
+          asked_once.1,
         ),
-        goes.1,
+        (goes.1, asked_once.2),
         tt,
         (m, goes.0, refl, refl, tt),
         refl,
@@ -312,7 +343,7 @@ module _ (same : Term → Term → Bool) (cells : List Site) (g : Ghost) (made_o
       let ok : FromOk g m (ByAttempt (record { source = id; attempt = start.number })) = subst (FromOk g m) needs.2 (all_found (MadeOk g) _ g.made m made_ok needs.1).3 in
       let one : ok.0 ≡ e = same_found _ ok.0 e ok.1 h.1 in
       let there : m.station ≡ start.station = sym ok.3 ∙ ap (λ x. x.target) one ∙ h.4 in
-      (m, record { source = id; attempt = start.number }, e, ap (λ n. made_at g.made n air) (sym there) ∙ needs.1, needs.2, h.1, h.2, h.3, needs.4, needs.3, refl)
+      ((m, record { source = id; attempt = start.number }, e, ap (λ n. made_at g.made n air) (sym there) ∙ needs.1, needs.2, h.1, h.2, h.3, needs.4, needs.3, refl), (e, h.1, h.2, h.5))
   s1_attempt_acked id conn t ncc algs air (Some (OverS1 (S1Ready acked))) h needs = h
   s1_attempt_acked id conn t ncc algs air (Some (OverS1 (S1Commanded sent))) h needs = h
   s1_attempt_acked id conn t ncc algs air (Some (Within state)) h needs = h
@@ -334,7 +365,7 @@ module _ (same : Term → Term → Bool) (cells : List Site) (g : Ghost) (made_o
       let one : ok.0 ≡ e = same_found _ ok.0 e ok.1 h.0.1 in
       let there : m.station ≡ start.station = sym ok.3 ∙ ap (λ x. x.target) one ∙ h.0.4 in
       let number : start.star.number ≡ m.number = subst (λ o. GivenFits o m.number) (ap (λ x. x.given) one ∙ h.0.6) ok.5 in
-      ((m, record { source = id; attempt = start.number }, e, ap (λ n. made_at g.made n air) (sym there) ∙ needs.1, needs.2, h.0.1, h.0.2, h.0.3, ap ncc_of (sym number), needs.3, refl), h.1)
+      ((m, record { source = id; attempt = start.number }, e, ap (λ n. made_at g.made n air) (sym there) ∙ needs.1, needs.2, h.0.1, h.0.2, h.0.3, ap ncc_of (sym number), needs.3, refl), h.1, (e, h.0.1, h.0.2, h.0.5))
   x2_attempt_acked id conn t algs air (Some (OverX2 (X2Ready acked))) h needs = h
   x2_attempt_acked id conn t algs air (Some (OverX2 (X2Commanded sent))) h needs = h
   x2_attempt_acked id conn t algs air (Some (OverS1 state)) h needs = h
@@ -361,15 +392,15 @@ module _ (same : Term → Term → Bool) (cells : List Site) (g : Ghost) (made_o
       let draws = needs.0 in
       let low : 1 ≤ air = at_least draws.0 (omega arith) in
       let here : made_at (g.made ++ m ∷ []) s.id air ≡ Some m = made_new g.made m (h.2 air (omega arith)).0 in
-      let from : FromOk k m (ByChange c.key.kenb) = (refl, needs.2, needs.5, (λ j. Star (needs.6 j) c.cell.pci c.cell.earfcn)) in
-      let made_new_ok : MadeOk k m = (low, draws.1, h.4, from, here) in
-      let change : ChangeIs k c.key.kenb c.cell c.algs s.id air = (m, here, refl, refl, refl) in
       let ctx_new : CtxOk k s.id (Some c) = ctx_later g k l s.id (Some c) ctx in
       let had : HadTaken k.took s.id c.air c.key.kenb = had_by k s.id c.air c.key.kenb c.starting c.attempt needs.1 ctx_new.5 in
+      let from : FromOk k m (ByChange c.key.kenb) = (refl, needs.2, needs.5, (λ j. Star (needs.6 j) c.cell.pci c.cell.earfcn), c.air, had) in
+      let term : TermOk k conn star.key 0 = (needs.3, omega arith, ap chain_key needs.4 ∙ base_nh (g.root conn) (g.count conn) 0) in
+      let made_new_ok : MadeOk k m = (low, draws.1, h.4, from, here, term) in
+      let change : ChangeIs k c.key.kenb c.cell c.algs s.id air = (m, here, refl, refl, refl) in
       let all_made : AllOf (MadeOk k) k.made = all_append (MadeOk k) g.made m (all_map (MadeOk g) (MadeOk k) (made_later g k l) g.made made_ok) made_new_ok in
       let fresh : FreshFrom k s.id (air + 1) =
-      λ n above. (made_none g.made m s.id n (h.2 n (omega arith)).0 (omega arith), (h.2 n (omega arith)).1) in
-      let term : TermOk k conn star.key 0 = (needs.3, omega arith, ap base needs.4 ∙ base_nh (g.root conn) (g.count conn) 0) in (
+      λ n above. (made_none g.made m s.id n (h.2 n (omega arith)).0 (omega arith), (h.2 n (omega arith)).1) in (
         (
           (ctx_new.0, ctx_new.1, ctx_new.2, ctx_new.3, change, started_any k s.id c.air c.key.kenb c.starting _ needs.1 had),
           ((term, tt, refl, m, here, (refl, refl, refl)), tt),
@@ -377,8 +408,10 @@ module _ (same : Term → Term → Bool) (cells : List Site) (g : Ghost) (made_o
           h.3,
           h.4,
           omega arith,
+          h.6,
+          all_append (SeenBy s.id s.seen) g.made m h.7 (λ at o e other. absurd (change_no_attempt m c.key.kenb refl o e)),
         ),
-        made_new_ok,
+        (made_new_ok, apart_always m (change_no_attempt m c.key.kenb refl) g.made),
         tt,
         sends_down k s.id c.air c ctx_new refl Signalling1 count (change_text s.id a) (change_says k all_made c.key.kenb s.id a change) had,
         refl,
@@ -397,17 +430,17 @@ module _ (same : Term → Term → Bool) (cells : List Site) (g : Ghost) (made_o
       → StationGoes cells g s (record_does (term_reading_by same) row key s)
   record_goes (RecordRefused answer) key s h needs = (h, tt, tt, tt, refl, tt, tt)
   record_goes (ContextGiven conn cell caps algs air) key s h needs = context_given_goes conn cell caps algs air key s h needs
-  record_goes ContextReleased key s h needs = ((tt, tt, h.2, h.3, h.4, h.5), tt, tt, tt, refl, tt, tt)
+  record_goes ContextReleased key s h needs = ((tt, tt, h.2, h.3, h.4, h.5, h.6, h.7), tt, tt, tt, refl, tt, tt)
   record_goes (PairTaken conn origin) key s h needs = pair_taken_goes conn origin key s h needs
-  record_goes (PreparedByS1 w) key s h needs = prepared_s1_goes w key s h needs
-  record_goes (PreparedByX2 w) key s h needs = prepared_x2_goes w key s h needs
+  record_goes (PreparedByS1 w) key s h needs = prepared_s1_goes w key s h needs.0 needs.1
+  record_goes (PreparedByX2 w) key s h needs = prepared_x2_goes w key s h needs.0 needs.1
   record_goes (AckedByS1 ncc algs air) key s h needs =
-      ((s1_ack_ctx s.id ncc algs air s.context h.0 needs, h.1, h.2, h.3, h.4, h.5), tt, tt, tt, refl, tt, tt)
+      ((s1_ack_ctx s.id ncc algs air s.context h.0 needs, h.1, h.2, h.3, h.4, h.5, h.6, h.7), tt, tt, tt, refl, tt, tt)
   record_goes (AckedByX2 algs air) key s h needs =
-      ((x2_ack_ctx s.id algs air s.context h.0 needs, h.1, h.2, h.3, h.4, h.5), tt, tt, tt, refl, tt, tt)
+      ((x2_ack_ctx s.id algs air s.context h.0 needs, h.1, h.2, h.3, h.4, h.5, h.6, h.7), tt, tt, tt, refl, tt, tt)
   record_goes (PreparationCancelled from) key s h needs =
-      ((h.0, all_filter _ _ s.preps h.1, h.2, h.3, h.4, h.5), tt, tt, tt, refl, tt, tt)
-  record_goes SourceReleased key s h needs = ((tt, h.1, h.2, h.3, h.4, h.5), tt, tt, tt, refl, tt, tt)
+      ((h.0, all_filter _ _ s.preps h.1, h.2, h.3, h.4, h.5, h.6, h.7), tt, tt, tt, refl, tt, tt)
+  record_goes SourceReleased key s h needs = ((tt, h.1, h.2, h.3, h.4, h.5, h.6, h.7), tt, tt, tt, refl, tt, tt)
   record_goes (KeyRenewed conn number air count) key s h needs = key_renewed_goes conn number air count s.context key s h h.0 needs
 
   -- BY A PDU
@@ -436,31 +469,31 @@ module _ (same : Term → Term → Bool) (cells : List Site) (g : Ghost) (made_o
   by_s1_goes count air None s e h needs = (h, tt, tt, tt, refl, tt, tt)
   by_s1_goes count air (Some p) s e h needs =
       let ok = prep_found s h air p e in
-      (((ok.0, ok.1, ok.2, arrived_ok s.id p ok needs, tt, there_air s.id p needs), tt, h.2, h.3, h.4, h.5), tt, tt, tt, refl, tt, tt)
+      (((ok.0, ok.1, ok.2, arrived_ok s.id p ok needs, tt, there_air s.id p needs), tt, h.2, h.3, h.4, h.5, h.6, h.7), tt, tt, tt, refl, tt, tt)
 
   within_goes : (count : ℕ) (air : ℕ) (origin : Option Origin) (o : Option (Prep Term ℕ)) (s : Station Term ℕ) → at_air air s.preps ≡ o → StationOk cells g s → TakenThere g s.id o
       → StationGoes cells g s (completed_within (term_reading_by same) count origin o s)
   within_goes count air origin None s e h needs = (h, tt, tt, tt, refl, tt, tt)
   within_goes count air origin (Some p) s e h needs =
       let ok = prep_found s h air p e in
-      (((ok.0, ok.1, ok.2, arrived_ok s.id p ok needs, tt, there_air s.id p needs), tt, h.2, h.3, h.4, h.5), tt, tt, tt, refl, tt, tt)
+      (((ok.0, ok.1, ok.2, arrived_ok s.id p ok needs, tt, there_air s.id p needs), tt, h.2, h.3, h.4, h.5, h.6, h.7), tt, tt, tt, refl, tt, tt)
 
   by_x2_goes : (count number : ℕ) (air : ℕ) (o : Option (Prep Term ℕ)) (s : Station Term ℕ) → at_air air s.preps ≡ o → StationOk cells g s → number ≡ s.next → TakenThere g s.id o
       → StationGoes cells g s (completed_by_x2 (term_reading_by same) count number o s)
   by_x2_goes count number air None s e h draws needs = (h, tt, tt, tt, refl, tt, tt)
   by_x2_goes count number air (Some p) s e h draws needs =
       let ok = prep_found s h air p e in
-      (((ok.0, ok.1, ok.2, arrived_ok s.id p ok needs, tt, there_air s.id p needs), tt, (λ n above. h.2 n (omega arith)), h.3, h.4, omega arith), tt, tt, tt, refl, tt, tt)
+      (((ok.0, ok.1, ok.2, arrived_ok s.id p ok needs, tt, there_air s.id p needs), tt, (λ n above. h.2 n (omega arith)), h.3, h.4, omega arith, h.6, h.7), tt, tt, tt, refl, tt, tt)
 
   pub air_goes : (row : AirRow) (s : Station Term ℕ) → StationOk cells g s → AirNeeds g s row
       → StationGoes cells g s (air_does (term_reading_by same) row s)
   air_goes (AirRefused answer) s h needs = (h, tt, tt, tt, refl, tt, tt)
   air_goes (SecurityStarted count) s h needs =
-      ((security_ctx s.id count s.context h.0 needs, h.1, h.2, h.3, h.4, h.5), tt, tt, tt, refl, tt, tt)
+      ((security_ctx s.id count s.context h.0 needs, h.1, h.2, h.3, h.4, h.5, h.6, h.7), tt, tt, tt, refl, tt, tt)
   air_goes (RrcOpened srb count text) s h needs =
-      ((map_ctx g s.id (with_rrc_taken srb count) (λ c k. k) s.context h.0, h.1, h.2, h.3, h.4, h.5), tt, tt, tt, refl, tt, tt)
+      ((map_ctx g s.id (with_rrc_taken srb count) (λ c k. k) s.context h.0, h.1, h.2, h.3, h.4, h.5, h.6, h.7), tt, tt, tt, refl, tt, tt)
   air_goes (PacketOpened drb count text) s h needs =
-      ((map_ctx g s.id (with_packet_taken drb count) (λ c k. k) s.context h.0, h.1, h.2, h.3, h.4, h.5), tt, tt, tt, refl, tt, tt)
+      ((map_ctx g s.id (with_packet_taken drb count) (λ c k. k) s.context h.0, h.1, h.2, h.3, h.4, h.5, h.6, h.7), tt, tt, tt, refl, tt, tt)
   air_goes (CompletedByS1 air count) s h needs = by_s1_goes count air (at_air air s.preps) s refl h needs
   air_goes (CompletedWithin air count origin) s h needs = within_goes count air origin (at_air air s.preps) s refl h needs
   air_goes (CompletedByX2 air count number) s h needs = by_x2_goes count number air (at_air air s.preps) s refl h needs.0 needs.1

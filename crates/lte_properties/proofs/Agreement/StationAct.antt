@@ -1,8 +1,7 @@
 -- What the rows of a station's own acts leave of the invariant of agreement.
-use Rattle.std.proofs.Common.{◌≡◌, ℕ, ◌+◌, ◌-◌, ◌%◌, ◌<◌, ◌≤◌, refl, ◌∙◌, ap, subst, arith, Bool, true, false, List, [], ◌∷◌, ◌++◌, Option, Some, None, option_map}
+use Rattle.std.proofs.Common.{◌≡◌, ℕ, ◌+◌, ◌-◌, ◌<◌, ◌≤◌, refl, sym, ap, arith, Bool, true, false, List, [], ◌∷◌, ◌++◌, Option, Some, None, option_map}
 use Rattle.std.specs.Prelude.{⊤, length}
-use Rattle.rec_base.specs.declared.uses.Dir.TheVariants.{Down}
-use Rattle.annex_a_keys.specs.Cell.{Place, IsCell}
+use Rattle.annex_a_keys.specs.Cell.{Place}
 use Rattle.lte_events.specs.Site.{Site, station_of}
 use Rattle.key_model.specs.Term.{Term}
 use Rattle.key_model.specs.Number.{chain_number}
@@ -16,9 +15,8 @@ use Rattle.lte_machine.specs.StationRows.{ActRow, ActRefused, StartedByX2, Start
 use Rattle.lte_properties.specs.ChainBelow.{AllOf}
 use Rattle.lte_properties.specs.Agreement.{made_at, HadTaken}
 use Rattle.lte_properties.proofs.Agreement.Terms.{lands}
-use Rattle.lte_properties.proofs.Agreement.Ghost.{Ghost, tried_at, keys_of, TermOk, PairOk, PairsOk, MadeOk, TriedOk, IsOrder, ChangeIs, X2Ok, S1Ok, AttemptOk, StartedOk, CtxOk, FreshFrom, StationOk, SaysOk, OutOk}
-use Rattle.lte_properties.proofs.Agreement.Phone.{all_found}
-use Rattle.rrc_rec.specs.declared.records.RrcRecord.TheVariants.{Reconfiguration, RrcData}
+use Rattle.lte_properties.proofs.Agreement.Ghost.{Ghost, tried_at, TermOk, PairOk, PairsOk, MadeOk, TriedOk, IsOrder, ChangeIs, X2Ok, S1Ok, AttemptOk, StartedOk, CtxOk, FreshFrom, SeenBy, StationOk, SaysOk}
+use Rattle.rrc_rec.specs.declared.records.RrcRecord.TheVariants.{RrcData}
 use Rattle.nh_chain.specs.Station.{restored_if, pair_after, opened, base_of}
 use Rattle.key_model.specs.HandoverLines.{star_line}
 use Rattle.lte_machine.specs.Bearers.{Signalling1}
@@ -28,10 +26,10 @@ use Rattle.lte_machine.specs.StationRecords.{signalling_sent, order_text, change
 use Rattle.rrc_rec.specs.Spelling.{spelling_of}
 use Rattle.lte_properties.specs.ChainBelow.{OfPair, IsAbove}
 use Rattle.lte_properties.specs.ChainAbove.{ContextAbove}
-use Rattle.lte_properties.proofs.Agreement.Ghost.{TextOk}
 use Rattle.lte_properties.proofs.Agreement.Later.{term_later, pairs_later, entry_later, preps_later}
-use Rattle.lte_properties.proofs.Agreement.Told.{told, told_more, made_new, made_none, made_there, tried_new, tried_none, all_append, all_filter, SiteOk, cell_found, reads_as, term_number, leads_up, leads_level, star_term}
+use Rattle.lte_properties.proofs.Agreement.Told.{told, told_more, made_new, made_none, tried_new, tried_none, all_append, all_filter, SiteOk, reads_as, term_number, leads_up, leads_level, star_term}
 use Rattle.lte_properties.proofs.Agreement.Station.{StationGoes, map_ctx, started_map, started_any, had_by}
+use Rattle.lte_properties.proofs.Agreement.Seen.{one_origin, apart_new}
 use Rattle.lte_properties.proofs.Agreement.StationSends.{sends_down, order_says, change_says}
 
 -- what the rows of acts need
@@ -50,8 +48,10 @@ IsActive None = ⊤
 IsActive (Some c) = c.starting ≡ false
 
 abbrev pub ActNeeds : List Site → Ghost → Station Term ℕ → ActRow → Type 0
-ActNeeds cells g s (StartedByX2 number target cell) = (number ≡ s.next) × (station_of cell cells ≡ Some target) × IsActive s.context
-ActNeeds cells g s (StartedByS1 number target cell) = (number ≡ s.next) × (station_of cell cells ≡ Some target) × IsActive s.context
+ActNeeds cells g s (StartedByX2 number target cell) =
+    (number ≡ s.next) × (station_of cell cells ≡ Some target) × IsActive s.context × (target ≡ s.id → ⊥)
+ActNeeds cells g s (StartedByS1 number target cell) =
+    (number ≡ s.next) × (station_of cell cells ≡ Some target) × IsActive s.context × (target ≡ s.id → ⊥)
 ActNeeds cells g s (StartedWithin number air cell) =
     (number ≡ s.next) × (air ≡ s.next + 1) × (air < 4294967296) × (station_of cell cells ≡ Some s.id)
     × IsActive s.context
@@ -76,9 +76,9 @@ module _ (same : Term → Term → Bool) (cells : List Site) (cells_ok : AllOf S
       (star_term g conn pair cell.pci cell.earfcn k, omega arith, leads_up g conn t number pair cell h k above)
 
   x2_with_goes : (number target : ℕ) (cell : Place) (c : Context Term ℕ) (s : Station Term ℕ) → StationOk cells g s → CtxOk g s.id (Some c) → ContextAbove (Some c)
-      → number ≡ s.next → station_of cell cells ≡ Some target → IsActive (Some c)
+      → number ≡ s.next → station_of cell cells ≡ Some target → IsActive (Some c) → (target ≡ s.id → ⊥)
       → StationGoes cells g s (started_by_x2_with (term_reading_by same) number target cell c (opened (term_reading_by same) c.key cell) s)
-  x2_with_goes number target cell c s h k above draws there active =
+  x2_with_goes number target cell c s h k above draws there active other =
       let o = opened (term_reading_by same) c.key cell in
       let e : Tried Term ℕ = record {
         station = s.id;
@@ -113,26 +113,28 @@ module _ (same : Term → Term → Bool) (cells : List Site) (cells_ok : AllOf S
           h.3,
           h.4,
           omega arith,
+          h.6,
+          h.7,
         ),
         tt,
-        (own_later, there, (star_later, (star.1, star.2))),
-        (star_later, (e, here, refl, refl, refl, refl)),
+        (own_later, there, (star_later, (star.1, star.2)), h.4),
+        (star_later, (e, here, refl, refl, refl, (refl, other))),
         refl,
         tt,
         refl,
       )
 
   by_x2_goes : (number target : ℕ) (cell : Place) (o : Option (Context Term ℕ)) (s : Station Term ℕ) → StationOk cells g s → CtxOk g s.id o → ContextAbove o
-      → number ≡ s.next → station_of cell cells ≡ Some target → IsActive o
+      → number ≡ s.next → station_of cell cells ≡ Some target → IsActive o → (target ≡ s.id → ⊥)
       → StationGoes cells g s (started_by_x2 (term_reading_by same) number target cell o s)
-  by_x2_goes number target cell None s h k above draws there active = (h, tt, tt, tt, refl, tt, tt)
-  by_x2_goes number target cell (Some c) s h k above draws there active = x2_with_goes number target cell c s h k above draws there active
+  by_x2_goes number target cell None s h k above draws there active other = (h, tt, tt, tt, refl, tt, tt)
+  by_x2_goes number target cell (Some c) s h k above draws there active other = x2_with_goes number target cell c s h k above draws there active other
 
   by_s1_goes : (number target : ℕ) (cell : Place) (o : Option (Context Term ℕ)) (s : Station Term ℕ) → StationOk cells g s → CtxOk g s.id o
-      → number ≡ s.next → station_of cell cells ≡ Some target → IsActive o
+      → number ≡ s.next → station_of cell cells ≡ Some target → IsActive o → (target ≡ s.id → ⊥)
       → StationGoes cells g s (started_by_s1 number target cell o s)
-  by_s1_goes number target cell None s h k draws there active = (h, tt, tt, tt, refl, tt, tt)
-  by_s1_goes number target cell (Some c) s h k draws there active =
+  by_s1_goes number target cell None s h k draws there active other = (h, tt, tt, tt, refl, tt, tt)
+  by_s1_goes number target cell (Some c) s h k draws there active other =
       let e : Tried Term ℕ = record {
         station = s.id;
         attempt = number;
@@ -164,10 +166,12 @@ module _ (same : Term → Term → Bool) (cells : List Site) (cells_ok : AllOf S
           h.3,
           h.4,
           omega arith,
+          h.6,
+          h.7,
         ),
         tt,
-        (own_later, there, tt),
-        (e, here, refl, refl, refl, tt),
+        (own_later, there, tt, h.4),
+        (e, here, refl, refl, refl, other),
         refl,
         tt,
         refl,
@@ -215,7 +219,7 @@ module _ (same : Term → Term → Bool) (cells : List Site) (cells_ok : AllOf S
             tt,
             k.2,
             entry_later g x l s.id c.air c.key.kenb c.key.number c.algs k.3,
-            ((m, record { source = s.id; attempt = number }, e, made_here, refl, tried_here, refl, refl, refl, refl, refl), pairs_later g x l c.conn c.key.pair k.1),
+            ((m, record { source = s.id; attempt = number }, e, made_here, refl, tried_here, refl, refl, refl, refl, refl), pairs_later g x l c.conn c.key.pair k.1, (e, tried_here, refl, refl)),
             started_any x s.id c.air c.key.kenb c.starting _ active had,
           ),
           all_append _ _ _ (preps_later g x l s.id s.preps h.1) (star_later, tt, refl, m, made_here, (refl, refl, refl)),
@@ -223,9 +227,11 @@ module _ (same : Term → Term → Bool) (cells : List Site) (cells_ok : AllOf S
           h.3,
           h.4,
           omega arith,
+          h.6,
+          all_append (SeenBy s.id s.seen) g.made m h.7 (λ at o e other. absurd (other (sym (ap (λ p. p.source) (one_origin m.from (record { source = s.id; attempt = number }) o refl e))))),
         ),
-        (omega arith, small, h.4, (e, tried_here, number_is, refl, (star.1, star.2), refl), made_here),
-        (own_later, there, (star_later, (star.1, star.2))),
+        ((omega arith, small, h.4, (e, tried_here, number_is, refl, (star.1, star.2), refl, refl, refl), made_here, star.0), apart_new g m (record { source = s.id; attempt = number }) refl (h.2 number (omega arith)).1 g.made made_ok),
+        (own_later, there, (star_later, (star.1, star.2)), h.4),
         tt,
         refl,
         refl,
@@ -243,13 +249,13 @@ module _ (same : Term → Term → Bool) (cells : List Site) (cells_ok : AllOf S
   x2_commanded_ok : (id conn : ℕ) (t : Term) (order : Order) (state : X2State Term ℕ) → X2Ok g id conn t state → IsOrder g id t order
       → X2Ok g id conn t (x2_commanded order state)
   x2_commanded_ok id conn t order (X2Open start) h k = h
-  x2_commanded_ok id conn t order (X2Ready acked) h k = k
+  x2_commanded_ok id conn t order (X2Ready acked) h k = (k, h.2)
   x2_commanded_ok id conn t order (X2Commanded sent) h k = h
 
   s1_commanded_ok : (id conn : ℕ) (t : Term) (order : Order) (state : S1State) → S1Ok g id conn t state → IsOrder g id t order
       → S1Ok g id conn t (s1_commanded order state)
   s1_commanded_ok id conn t order (S1Open start) h k = h
-  s1_commanded_ok id conn t order (S1Ready acked) h k = k
+  s1_commanded_ok id conn t order (S1Ready acked) h k = (k, h.1)
   s1_commanded_ok id conn t order (S1Commanded sent) h k = h
 
   commanded_ok : (id conn : ℕ) (t : Term) (order : Order) (o : Option (Attempt Term ℕ)) → AttemptOk g id conn t o → IsOrder g id t order
@@ -264,7 +270,7 @@ module _ (same : Term → Term → Bool) (cells : List Site) (cells_ok : AllOf S
       → StationGoes cells g s (commands order count o s)
   commands_goes order count None s h k needs = (h, tt, tt, tt, refl, tt, tt)
   commands_goes order count (Some c) s h k needs = (
-    ((k.0, k.1, k.2, k.3, commanded_ok s.id c.conn c.key.kenb order c.attempt k.4 needs.0, started_map g s.id c.air c.key.kenb c.starting (commanded order) c.attempt k.5), h.1, h.2, h.3, h.4, h.5),
+    ((k.0, k.1, k.2, k.3, commanded_ok s.id c.conn c.key.kenb order c.attempt k.4 needs.0, started_map g s.id c.air c.key.kenb c.starting (commanded order) c.attempt k.5), h.1, h.2, h.3, h.4, h.5, h.6, h.7),
     tt,
     tt,
     sends_down g s.id c.air c k refl Signalling1 count (order_text order) (order_says cells cells_ok g made_ok tried_ok s.id c.key.kenb order needs.0) needs.1,
@@ -277,7 +283,7 @@ module _ (same : Term → Term → Bool) (cells : List Site) (cells_ok : AllOf S
       → StationGoes cells g s (commands_change a count o s)
   commands_change_goes a count None s h k needs = (h, tt, tt, tt, refl, tt, tt)
   commands_change_goes a count (Some c) s h k needs = (
-    ((k.0, k.1, k.2, k.3, k.4, k.5), h.1, h.2, h.3, h.4, h.5),
+    ((k.0, k.1, k.2, k.3, k.4, k.5), h.1, h.2, h.3, h.4, h.5, h.6, h.7),
     tt,
     tt,
     sends_down g s.id c.air c k refl Signalling1 count (change_text s.id a) (change_says g made_ok c.key.kenb s.id a needs.0) needs.1,
@@ -317,18 +323,18 @@ module _ (same : Term → Term → Bool) (cells : List Site) (cells_ok : AllOf S
   asks_goes : (number : ℕ) (o : Option (Context Term ℕ)) (s : Station Term ℕ) → StationOk cells g s → CtxOk g s.id o → number ≡ s.next
       → StationGoes cells g s (asks_again number o s)
   asks_goes number None s h k draws = (h, tt, tt, tt, refl, tt, tt)
-  asks_goes number (Some c) s h k draws = ((k, h.1, (λ n above. h.2 n (omega arith)), h.3, h.4, omega arith), tt, tt, tt, refl, tt, tt)
+  asks_goes number (Some c) s h k draws = ((k, h.1, (λ n above. h.2 n (omega arith)), h.3, h.4, omega arith, h.6, h.7), tt, tt, tt, refl, tt, tt)
 
   packet_goes : (drb : Drb) (count : ℕ) (text : List ℕ) (o : Option (Context Term ℕ)) (s : Station Term ℕ) → StationOk cells g s → CtxOk g s.id o
       → StationGoes cells g s (sends_packet drb count text o s)
   packet_goes drb count text None s h k = (h, tt, tt, tt, refl, tt, tt)
-  packet_goes drb count text (Some c) s h k = ((k, h.1, h.2, h.3, h.4, h.5), tt, tt, tt, refl, tt, tt)
+  packet_goes drb count text (Some c) s h k = ((k, h.1, h.2, h.3, h.4, h.5, h.6, h.7), tt, tt, tt, refl, tt, tt)
 
   rrc_goes : (srb : Srb) (count : ℕ) (text : List ℕ) (o : Option (Context Term ℕ)) (s : Station Term ℕ) → StationOk cells g s → CtxOk g s.id o → length text ≤ 200 → IsActive o
       → StationGoes cells g s (sends_rrc srb count text o s)
   rrc_goes srb count text None s h k fits active = (h, tt, tt, tt, refl, tt, tt)
   rrc_goes srb count text (Some c) s h k fits active = (
-    (k, h.1, h.2, h.3, h.4, h.5),
+    (k, h.1, h.2, h.3, h.4, h.5, h.6, h.7),
     tt,
     tt,
     sends_down g s.id c.air c k refl srb count (spelling_of (RrcData text)) (reads_as (SaysOk g s.id c.key.kenb) (RrcData text) fits tt) (had_by g s.id c.air c.key.kenb c.starting c.attempt active k.5),
@@ -340,20 +346,20 @@ module _ (same : Term → Term → Bool) (cells : List Site) (cells_ok : AllOf S
   pub act_goes : (row : ActRow) (s : Station Term ℕ) → StationOk cells g s → ContextAbove s.context → ActNeeds cells g s row
       → StationGoes cells g s (act_does (term_reading_by same) row s)
   act_goes (ActRefused answer) s h above needs = (h, tt, tt, tt, refl, tt, tt)
-  act_goes (StartedByX2 number target cell) s h above needs = by_x2_goes number target cell s.context s h h.0 above needs.0 needs.1 needs.2
-  act_goes (StartedByS1 number target cell) s h above needs = by_s1_goes number target cell s.context s h h.0 needs.0 needs.1 needs.2
+  act_goes (StartedByX2 number target cell) s h above needs = by_x2_goes number target cell s.context s h h.0 above needs.0 needs.1 needs.2 needs.3
+  act_goes (StartedByS1 number target cell) s h above needs = by_s1_goes number target cell s.context s h h.0 needs.0 needs.1 needs.2 needs.3
   act_goes (StartedWithin number air cell) s h above needs =
       within_goes number air cell s.context s h h.0 above needs.0 needs.1 needs.2 needs.3 needs.4
   act_goes (HandoverCommanded order count) s h above needs = commands_goes order count s.context s h h.0 needs
   act_goes (ChangeCommanded renewal count) s h above needs = commands_change_goes renewal count s.context s h h.0 needs
   act_goes (CancelledByX2 conn number target) s h above needs =
-      ((map_ctx g s.id given_up (given_up_ok s.id) s.context h.0, h.1, h.2, h.3, h.4, h.5), tt, tt, tt, refl, tt, tt)
+      ((map_ctx g s.id given_up (given_up_ok s.id) s.context h.0, h.1, h.2, h.3, h.4, h.5, h.6, h.7), tt, tt, tt, refl, tt, tt)
   act_goes (CancelledByS1 conn number cell) s h above needs =
-      ((map_ctx g s.id given_up (given_up_ok s.id) s.context h.0, h.1, h.2, h.3, h.4, h.5), tt, tt, tt, refl, tt, tt)
+      ((map_ctx g s.id given_up (given_up_ok s.id) s.context h.0, h.1, h.2, h.3, h.4, h.5, h.6, h.7), tt, tt, tt, refl, tt, tt)
   act_goes (CancelledWithin number) s h above needs =
-      ((map_ctx g s.id given_up (given_up_ok s.id) s.context h.0, all_filter _ _ s.preps h.1, h.2, h.3, h.4, h.5), tt, tt, tt, refl, tt, tt)
+      ((map_ctx g s.id given_up (given_up_ok s.id) s.context h.0, all_filter _ _ s.preps h.1, h.2, h.3, h.4, h.5, h.6, h.7), tt, tt, tt, refl, tt, tt)
   act_goes (PathSwitchAsked number) s h above needs = asks_goes number s.context s h h.0 needs
   act_goes (PacketSent drb count text) s h above needs = packet_goes drb count text s.context s h h.0
   act_goes (RrcSent srb count text) s h above needs = rrc_goes srb count text s.context s h h.0 needs.0 needs.1
   act_goes (BearerSkipped on n) s h above needs =
-      ((map_ctx g s.id (with_skipped on n) (λ c k. k) s.context h.0, h.1, h.2, h.3, h.4, h.5), tt, tt, tt, refl, tt, tt)
+      ((map_ctx g s.id (with_skipped on n) (λ c k. k) s.context h.0, h.1, h.2, h.3, h.4, h.5, h.6, h.7), tt, tt, tt, refl, tt, tt)

@@ -1,7 +1,7 @@
 -- What a station's choice of a row establishes of the PDU that it opened, and of its own act.
 use Rattle.std.proofs.Common.{◌≡◌, ℕ, ◌≤◌, refl, sym, ◌∙◌, ap, subst, Bool, true, false, List, length, Option, Some, None, option_map, Result, Ok, Err}
 use Rattle.std.specs.Prelude.{◌==◌, ⊤}
-use Rattle.std.proofs.lemmas.Bool.{eqb-true}
+use Rattle.std.proofs.lemmas.Bool.{eqb-true, eqb-false}
 use Rattle.rec_base.specs.declared.faults.RecFault.{RecFault}
 use Rattle.rec_base.specs.declared.uses.Dir.TheVariants.{Up, Down}
 use Rattle.annex_a_keys.specs.Cell.{Place}
@@ -227,9 +227,9 @@ module _ (same : Term → Term → Bool) (cells : List Site) (g : Ghost) (s : St
       → ActNeeds cells g s (begun_row plain target cell kind)
   unfolding plain
   begun_walks target cell HoKind.X2 e m active =
-      by_test (ActNeeds cells g s) (runs_out 1 s.next) _ _ (λ b. tt) (λ b. (refl, subst (λ x. station_of cell x ≡ Some target) ok.3 e, active))
+      by_test (ActNeeds cells g s) (runs_out 1 s.next) _ _ (λ b. tt) (λ b. (refl, subst (λ x. station_of cell x ≡ Some target) ok.3 e, active, eqb-false target s.id m))
   begun_walks target cell HoKind.S1 e m active =
-      by_test (ActNeeds cells g s) (runs_out 1 s.next) _ _ (λ b. tt) (λ b. (refl, subst (λ x. station_of cell x ≡ Some target) ok.3 e, active))
+      by_test (ActNeeds cells g s) (runs_out 1 s.next) _ _ (λ b. tt) (λ b. (refl, subst (λ x. station_of cell x ≡ Some target) ok.3 e, active, eqb-false target s.id m))
   begun_walks target cell HoKind.Intra e m active =
       by_test (ActNeeds cells g s) (is_full plain) _ _ (λ b. tt)
       (λ b. by_test (ActNeeds cells g s) (runs_out 2 s.next) _ _ (λ b. tt)
@@ -260,13 +260,13 @@ module _ (same : Term → Term → Bool) (cells : List Site) (g : Ghost) (s : St
       → ActNeeds cells g s (x2_command_row (map_x2_state unseen ncc_of state) counts)
   x2_command_walks c is conn (X2Open start) counts had h = tt
   x2_command_walks c is conn (X2Ready acked) counts had h = ordered_walks c is _ counts h.0 had
-  x2_command_walks c is conn (X2Commanded sent) counts had h = ordered_walks c is sent.order counts h had
+  x2_command_walks c is conn (X2Commanded sent) counts had h = ordered_walks c is sent.order counts h.0 had
 
   s1_command_walks : (c : Context Term ℕ) → s.context ≡ Some c → (conn : ℕ) (state : S1State) (counts : Counts) → HadTaken g.took s.id c.air c.key.kenb → S1Ok g s.id conn c.key.kenb state
       → ActNeeds cells g s (s1_command_row state counts)
   s1_command_walks c is conn (S1Open start) counts had h = tt
-  s1_command_walks c is conn (S1Ready acked) counts had h = ordered_walks c is _ counts h had
-  s1_command_walks c is conn (S1Commanded sent) counts had h = ordered_walks c is sent.order counts h had
+  s1_command_walks c is conn (S1Ready acked) counts had h = ordered_walks c is _ counts h.0 had
+  s1_command_walks c is conn (S1Commanded sent) counts had h = ordered_walks c is sent.order counts h.0 had
 
   -- a context with an attempt is active, and the phone had taken its key
   had_with : (c : Context Term ℕ) (starting : Bool) (o : Option (Attempt Term ℕ)) (a : Attempt Term ℕ) → o ≡ Some a → StartedOk g s.id c.air c.key.kenb starting o → HadTaken g.took s.id c.air c.key.kenb

@@ -1,5 +1,5 @@
 -- What a station sends on an SRB is under the key made for its context's air address, and its orders read as they are.
-use Rattle.std.proofs.Common.{◌≡◌, ℕ, ◌%◌, ◌<◌, ◌≤◌, refl, ◌∙◌, ap, subst, arith, List, Some}
+use Rattle.std.proofs.Common.{◌≡◌, ℕ, ◌%◌, ◌∙◌, subst, arith, List, Some}
 use Rattle.rec_base.specs.declared.uses.Dir.TheVariants.{Down}
 use Rattle.annex_a_keys.specs.Cell.{IsCell}
 use Rattle.lte_events.specs.Site.{Site}

@@ -25,7 +25,7 @@ use Rattle.lte_machine.specs.StationStep.{plain_station}
 use Rattle.lte_properties.specs.ChainAbove.{AnswerOk, InFlight}
 use Rattle.lte_properties.proofs.Agreement.Ghost.{Ghost, PairOk, AckIs, HasNcc, AnyMade, BetweenOk}
 use Rattle.lte_properties.proofs.Agreement.PhoneWalk.{by_test}
-use Rattle.lte_properties.proofs.Agreement.Station.{ContextNeeds, PairNeeds, PairTakenNeeds, S1Needs, X2Needs, S1AckNeeds, S1AckOf, X2AckNeeds, X2AckOf, RenewNeeds, RecordNeeds}
+use Rattle.lte_properties.proofs.Agreement.Station.{ContextNeeds, PairNeeds, PairTakenNeeds, S1Needs, X2Needs, S1AckNeeds, S1AckOf, X2AckNeeds, X2AckOf, IsNews, RenewNeeds, RecordNeeds}
 
 -- the cell of a context is a cell
 abbrev pub CellFits : Option (Context Term ℕ) → Type 0
@@ -37,6 +37,9 @@ in_range n e = grind (arith, nat_tests)
 
 pub in_range_next : (n : ℕ) → runs_out 2 n ≡ false → n + 1 < 4294967296
 in_range_next n e = grind (arith, nat_tests)
+
+is_news : (attempt seen : ℕ) → nat_le attempt seen ≡ false → seen < attempt
+is_news attempt seen e = grind (arith, nat_tests)
 
 pub own_target : (a b : ℕ) → not (a == b) ≡ false → a ≡ b
 own_target a b e = grind (arith, nat_tests)
@@ -67,18 +70,18 @@ module _ (same : Term → Term → Bool) (g : Ghost) (s : Station Term ℕ) wher
       chosen (Ok algs) = by_test (Needs key) (runs_out 1 s.next) _ _ (λ b. tt) (λ b. context_needs conn cell caps key h b)
 
   wanted_walks : (conn : ℕ) (from : Origin) (cell : Place) (caps : Caps) (row : Wanted → RecordRow) (key : Option (NumberedKey Term ℕ))
-      → ((algs : Algs) → runs_out 1 s.next ≡ false → Needs key (row (record { conn = conn; from = from; cell = cell; caps = caps; algs = algs; air = s.next })))
+      → ((algs : Algs) → IsNews s.seen from → runs_out 1 s.next ≡ false → Needs key (row (record { conn = conn; from = from; cell = cell; caps = caps; algs = algs; air = s.next })))
       → Needs key (wanted_row plain conn from cell caps row)
   unfolding plain
   wanted_walks conn from cell caps row key h =
       by_test (Needs key) (nat_lt conn s.last) _ _ (λ b. tt)
       (λ b. by_test (Needs key) (not (is_own plain cell)) _ _ (λ b. tt)
       (λ b. by_test (Needs key) (nat_le from.attempt (slice_index s.seen from.source)) _ _ (λ b. tt)
-      (λ b. by_test (Needs key) ((conn == s.last) && is_full plain) _ _ (λ b. tt) (λ b. chosen (choice_of s.priority caps)))))
+      (λ news. by_test (Needs key) ((conn == s.last) && is_full plain) _ _ (λ b. tt) (λ b. chosen (is_news _ _ news) (choice_of s.priority caps)))))
     where
-      chosen : (answer : Result Algs Unmatched) → Needs key (wanted_chosen plain conn from cell caps row answer)
-      chosen (Err none) = tt
-      chosen (Ok algs) = by_test (Needs key) (runs_out 1 s.next) _ _ (λ b. tt) (λ b. h algs b)
+      chosen : IsNews s.seen from → (answer : Result Algs Unmatched) → Needs key (wanted_chosen plain conn from cell caps row answer)
+      chosen news (Err none) = tt
+      chosen news (Ok algs) = by_test (Needs key) (runs_out 1 s.next) _ _ (λ b. tt) (λ b. h algs news b)
 
   release_walks : (conn : ℕ) (o : Option (Context Term ℕ)) (key : Option (NumberedKey Term ℕ)) → Needs key (release_row conn (option_map (map_context unseen ncc_of) o))
   release_walks conn None key = tt
@@ -164,14 +167,14 @@ module _ (same : Term → Term → Bool) (g : Ghost) (s : Station Term ℕ) wher
       → S1Needs g s.id s.next (record { conn = conn; from = record { source = source; attempt = attempt }; cell = cell; caps = caps; algs = algs; air = s.next }) key
   s1_needs conn source attempt cell caps None algs h e = tt
   s1_needs conn source attempt cell caps (Some pair) algs h e =
-      let k = h.1 in ((refl, in_range s.next e), h.0, (k.0, k.1, k.2, k.3, k.4, (k.5.0, sym k.5.1)))
+      let k = h.1 in ((refl, in_range s.next e), h.0, (k.0, k.1, k.2, k.3, k.4, (k.5.0, (sym k.5.1, k.5.2))))
 
   x2_needs : (conn source attempt : ℕ) (cell : Place) (caps : Caps) (key : Option (NumberedKey Term ℕ)) (algs : Algs)
       → BetweenOk g (StationX2 s.id) (X2Request conn source attempt cell caps) key → runs_out 1 s.next ≡ false
       → X2Needs g s.id s.next (record { conn = conn; from = record { source = source; attempt = attempt }; cell = cell; caps = caps; algs = algs; air = s.next }) key
   x2_needs conn source attempt cell caps None algs h e = tt
   x2_needs conn source attempt cell caps (Some star) algs h e =
-      let k = h.1 in ((refl, in_range s.next e), h.0, (k.0, k.1, k.2, k.3, k.4, sym k.5))
+      let k = h.1 in ((refl, in_range s.next e), h.0, (k.0, k.1, k.2, k.3, k.4, (sym k.5.0, k.5.1)))
 
   -- a key change, where two numbers are left
   renewed_needs : (next count : ℕ) (key : Option (NumberedKey Term ℕ)) (conn : ℕ) (c : Context Term ℕ) → s.context ≡ Some c → c.starting ≡ false → IsCell c.cell
@@ -209,7 +212,7 @@ module _ (same : Term → Term → Bool) (g : Ghost) (s : Station Term ℕ) wher
   s1_walks (PathSwitchAnswer conn number) key fits h flight = answer_walks conn number key s.context refl h flight
   s1_walks (HandoverRequired conn source attempt cell) key fits h flight = tt
   s1_walks (HandoverRequest conn source attempt cell caps) key fits h flight =
-      wanted_walks conn _ cell caps PreparedByS1 key (λ algs e. s1_needs conn source attempt cell caps key algs h e)
+      wanted_walks conn _ cell caps PreparedByS1 key (λ algs news e. (s1_needs conn source attempt cell caps key algs h e, news))
   s1_walks (HandoverRequestAck conn source attempt cell ncc algs air) key fits h flight = tt
   s1_walks (HandoverCommand conn attempt cell ncc algs air) key fits h flight = s1_ack_walks attempt ncc algs air key s.context refl h
   s1_walks (HandoverNotify conn station cell) key fits h flight = tt
@@ -234,7 +237,7 @@ module _ (same : Term → Term → Bool) (g : Ghost) (s : Station Term ℕ) wher
   x2_walks (HandoverNotify conn station cell) key h = tt
   x2_walks (HandoverCancel conn source attempt cell) key h = tt
   x2_walks (X2Request conn source attempt cell caps) key h =
-      wanted_walks conn _ cell caps PreparedByX2 key (λ algs e. x2_needs conn source attempt cell caps key algs h e)
+      wanted_walks conn _ cell caps PreparedByX2 key (λ algs news e. (x2_needs conn source attempt cell caps key algs h e, news))
   x2_walks (X2Ack conn attempt cell algs air) key h = x2_ack_walks attempt algs air key s.context refl h
   x2_walks (X2Cancel conn source attempt) key h = cancel_walks _ key
   x2_walks (X2Release conn attempt) key h = released_walks attempt key s.context

@@ -1,5 +1,6 @@
 -- What a phone makes of a key in so many NH steps, and when that is the key made (TS 33.401 7.2.8.4.4).
-use Rattle.std.proofs.Common.{◌≡◌, ℕ, zero, suc, ◌+◌, ◌-◌, ◌<◌, ◌≤◌, ◌≢◌, refl, sym, ◌∙◌, ap, arith, add-zero, add-suc}
+use Rattle.std.proofs.Common.{◌≡◌, ℕ, zero, suc, ◌+◌, ◌-◌, ◌<◌, ◌≤◌, ◌≢◌, nat_lt, Bool, true, false, refl, sym, ◌∙◌, ap, arith, add-zero, add-suc}
+use Rattle.std.proofs.lemmas.Bool.Decides.{nat_tests}
 use Rattle.annex_a_keys.specs.Cell.{Place}
 use Rattle.key_model.specs.Term.{Term, Root, Kenb, Nh, Star, Alg}
 use Rattle.key_model.specs.Chain.{nh, ncc_of}
@@ -7,18 +8,12 @@ use Rattle.key_model.specs.Number.{chain_number}
 use Rattle.key_model.specs.Least.{least}
 use Rattle.key_model.specs.Reading.{term_reading_by}
 use Rattle.key_model.specs.HandoverLines.{nh_after, steps_to}
-use Rattle.key_model.proofs.LeastFacts.{least_from_remainder, eight_ahead}
+use Rattle.key_model.proofs.LeastFacts.{least_near, least_from_remainder, eight_ahead}
 use Rattle.nh_chain.specs.Chain.{ChainState, number_after}
 use Rattle.nh_chain.specs.Reach.{reached_after}
 use Rattle.lte_properties.specs.Agreement.{root_of}
-
--- the key of the chain that a KeNB comes from by KeNB* steps
-abbrev pub base : Term → Term
-base (Star t pci earfcn) = base t
-base (Root r octets) = Root r octets
-base (Kenb r n) = Kenb r n
-base (Nh r t) = Nh r t
-base (Alg t type id) = Alg t type id
+use Rattle.lte_properties.specs.Chains.{chain_key, OnChain}
+use Rattle.lte_properties.specs.FreshOrder.{nas_count_of}
 
 -- so many NH steps from a key
 abbrev pub climb : Term → Term → ℕ → Term
@@ -28,13 +23,13 @@ climb r t (suc steps) = Nh r (climb r t steps)
 -- what a phone with this KeNB takes for a cell after so many NH steps: a KeNB* of it, or of the NH that it reaches
 abbrev pub lands : Term → ℕ → Place → Term
 lands t zero cell = Star t cell.pci cell.earfcn
-lands t (suc steps) cell = Star (climb (root_of t) (base t) (suc steps)) cell.pci cell.earfcn
+lands t (suc steps) cell = Star (climb (root_of t) (chain_key t) (suc steps)) cell.pci cell.earfcn
 
 pub climb-nh : (r : Term) (n p steps : ℕ) → climb r (nh r n p) steps ≡ nh r n (p + steps)
 climb-nh r n p zero = ap (nh r n) (sym (add-zero p))
 climb-nh r n p (suc steps) = ap (Nh r) (climb-nh r n p steps) ∙ ap (nh r n) (sym (add-suc p steps))
 
-pub base_nh : (r : Term) (n i : ℕ) → base (nh r n i) ≡ nh r n i
+pub base_nh : (r : Term) (n i : ℕ) → chain_key (nh r n i) ≡ nh r n i
 base_nh r n zero = refl
 base_nh r n (suc i) = refl
 
@@ -42,20 +37,31 @@ pub root_nh : (r : Term) (n i : ℕ) → root_of (nh r n i) ≡ r
 root_nh r n zero = refl
 root_nh r n (suc i) = refl
 
--- a key and its base have one root and one number
-pub root_base : (t : Term) → root_of (base t) ≡ root_of t
+-- a key and its chain_key have one root and one number
+pub root_base : (t : Term) → root_of (chain_key t) ≡ root_of t
 root_base (Star t pci earfcn) = root_base t
 root_base (Root r octets) = refl
 root_base (Kenb r n) = refl
 root_base (Nh r t) = refl
 root_base (Alg t type id) = refl
 
-pub number_base : (t : Term) → chain_number (base t) ≡ chain_number t
+pub number_base : (t : Term) → chain_number (chain_key t) ≡ chain_number t
 number_base (Star t pci earfcn) = number_base t
 number_base (Root r octets) = refl
 number_base (Kenb r n) = refl
 number_base (Nh r t) = refl
 number_base (Alg t type id) = refl
+
+pub nas_count_base : (t : Term) → nas_count_of (chain_key t) ≡ nas_count_of t
+nas_count_base (Star t pci earfcn) = nas_count_base t
+nas_count_base (Root r octets) = refl
+nas_count_base (Kenb r n) = refl
+nas_count_base (Nh r t) = refl
+nas_count_base (Alg t type id) = refl
+
+nas_count_climb : (r t : Term) (steps : ℕ) → nas_count_of (climb r t steps) ≡ nas_count_of t
+nas_count_climb r t zero = refl
+nas_count_climb r t (suc steps) = nas_count_climb r t steps
 
 pub number_climb : (r t : Term) (steps : ℕ) → chain_number (climb r t steps) ≡ chain_number t + steps
 number_climb r t zero = sym (add-zero (chain_number t))
@@ -64,7 +70,7 @@ number_climb r t (suc steps) = ap suc (number_climb r t steps) ∙ sym (add-suc 
 -- landing adds the steps to the number
 pub number_lands : (t : Term) (steps : ℕ) (cell : Place) → chain_number (lands t steps cell) ≡ chain_number t + steps
 number_lands t zero cell = sym (add-zero (chain_number t))
-number_lands t (suc steps) cell = number_climb (root_of t) (base t) (suc steps) ∙ ap (λ n. n + suc steps) (number_base t)
+number_lands t (suc steps) cell = number_climb (root_of t) (chain_key t) (suc steps) ∙ ap (λ n. n + suc steps) (number_base t)
 
 root_climb : (r t : Term) (steps : ℕ) → root_of t ≡ r → root_of (climb r t steps) ≡ r
 root_climb r t zero e = e
@@ -74,9 +80,27 @@ pub root_lands : (t : Term) (steps : ℕ) (cell : Place) → root_of (lands t st
 root_lands t zero cell = refl
 root_lands t (suc steps) cell = refl
 
-pub base_lands : (t : Term) (steps : ℕ) (cell : Place) → base (lands t steps cell) ≡ climb (root_of t) (base t) steps
+pub base_lands : (t : Term) (steps : ℕ) (cell : Place) → chain_key (lands t steps cell) ≡ climb (root_of t) (chain_key t) steps
 base_lands t zero cell = refl
 base_lands t (suc steps) cell = refl
+
+nas_count_lands : (t : Term) (steps : ℕ) (cell : Place) → nas_count_of (lands t steps cell) ≡ nas_count_of t
+nas_count_lands t zero cell = refl
+nas_count_lands t (suc steps) cell = nas_count_climb (root_of t) (chain_key t) (suc steps) ∙ nas_count_base t
+
+-- a KeNB is on the chain of its KASME and NAS COUNT, at its number
+abbrev pub IsKenb : Term → Type 0
+IsKenb t = OnChain (root_of t) (nas_count_of t) t (chain_number t)
+
+-- where it lands is on the chain that it is on, so many steps on
+pub on_chain_lands : (r : Term) (n p : ℕ) (t : Term) (steps : ℕ) (cell : Place) → root_of t ≡ r → OnChain r n t p → OnChain r n (lands t steps cell) (p + steps)
+on_chain_lands r n p t steps cell root on =
+    base_lands t steps cell ∙ (λ j. climb (root j) (on j) steps) ∙ climb-nh r n p steps
+
+pub kenb_lands : (t : Term) (steps : ℕ) (cell : Place) → IsKenb t → IsKenb (lands t steps cell)
+kenb_lands t steps cell h =
+    on_chain_lands (root_of t) (nas_count_of t) (chain_number t) t steps cell refl h
+    ∙ (λ j. nh (sym (root_lands t steps cell) j) (sym (nas_count_lands t steps cell) j) (sym (number_lands t steps cell) j))
 
 -- the machine's words are these
 pub nh_after-climb : (same : Term → Term → _) (r t : Term) (steps : ℕ) → nh_after (term_reading_by same) r t steps ≡ climb r t steps
@@ -85,7 +109,8 @@ nh_after-climb same r t (suc steps) = ap (Nh r) (nh_after-climb same r t steps)
 
 -- a phone's chain is that of its KeNB
 abbrev pub ChainOf : Term → ChainState Term ℕ → Type 0
-ChainOf t chain = (chain.root ≡ root_of t) × (chain.sync ≡ base t) × (chain.number ≡ chain_number t)
+ChainOf t chain =
+    (chain.root ≡ root_of t) × (chain.sync ≡ chain_key t) × (chain.number ≡ chain_number t) × IsKenb t
 
 -- what such a phone reaches is where its KeNB lands
 pub reached_key : (same : Term → Term → _) (t : Term) (chain : ChainState Term ℕ) (steps : ℕ) (cell : Place) → ChainOf t chain
@@ -110,6 +135,7 @@ reached_chain same t chain steps cell h = (
   h.0 ∙ sym (root_lands t steps cell),
   nh_after-climb same chain.root chain.sync steps ∙ (λ j. climb (h.0 j) (h.1 j) steps) ∙ sym (base_lands t steps cell),
   number_climbed same chain.number steps ∙ ap (λ n. n + steps) h.2 ∙ sym (number_lands t steps cell),
+  kenb_lands t steps cell h.3,
 )
 
 -- the steps of a phone with number p for the NCC of number i lead to i exactly where i is fewer than eight ahead
@@ -124,6 +150,21 @@ steps_far p i below far e =
     let is : least p (ncc_of i) 8 ≡ p + steps_to (ncc_of p) (ncc_of i) = least_from_remainder p (ncc_of i) in
     let near : i - p < 8 = (eight_ahead p i below).0 (is ∙ e) in
     omega arith
+
+-- and they never lead above it
+pub steps_below : (p i : ℕ) → p ≤ i → p + steps_to (ncc_of p) (ncc_of i) ≤ i
+steps_below p i below =
+    let is : least p (ncc_of i) 8 ≡ p + steps_to (ncc_of p) (ncc_of i) = least_from_remainder p (ncc_of i) in
+    let low : least p (ncc_of i) 8 < p + 8 = least_near p (ncc_of i) 8 (omega arith) in
+    by_distance (nat_lt (i - p) 8) refl is low
+  where
+    by_distance : (b : Bool) → nat_lt (i - p) 8 ≡ b → least p (ncc_of i) 8 ≡ p + steps_to (ncc_of p) (ncc_of i) → least p (ncc_of i) 8 < p + 8
+        → p + steps_to (ncc_of p) (ncc_of i) ≤ i
+    by_distance true b is low =
+        let near : i - p < 8 = grind (arith, nat_tests) in
+        let steps = steps_near p i below near in omega arith
+    by_distance false b is low =
+        let far : 8 ≤ i - p = grind (arith, nat_tests) in omega arith
 
 -- so a phone takes the key made exactly then
 pub lands_near : (t : Term) (p i : ℕ) (cell : Place) → chain_number t ≡ p → p ≤ i → i - p < 8

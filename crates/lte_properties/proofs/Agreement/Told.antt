@@ -20,7 +20,8 @@ use Rattle.lte_machine.specs.Reply.{From, BySetup, ByAttempt, ByChange, Made, Tr
 use Rattle.lte_machine.specs.World.{with_one}
 use Rattle.lte_properties.specs.ChainBelow.{AllOf}
 use Rattle.lte_properties.specs.Agreement.{is_made_at, made_at, root_of, HadTaken, TakenIfTried}
-use Rattle.lte_properties.proofs.Agreement.Terms.{base, climb, lands, climb-nh, base_nh, root_nh, root_base, number_base}
+use Rattle.lte_properties.proofs.Agreement.Terms.{climb, lands, climb-nh, base_nh, root_nh, root_base, number_base}
+use Rattle.lte_properties.specs.Chains.{chain_key}
 use Rattle.lte_properties.proofs.Agreement.Ghost.{Ghost, is_tried_at, tried_at, TermOk, PairOk, FreshFrom}
 use Rattle.lte_properties.proofs.Agreement.Later.{Later, found_later, same_found}
 
@@ -174,12 +175,12 @@ pub term_number : (g : Ghost) (conn : ℕ) (t : Term) (number : ℕ) → TermOk 
 term_number g conn t number h = sym (number_base t) ∙ ap chain_number h.2 ∙ chain_number_nh (g.root conn) (g.count conn) number
 
 -- KeNB* of a later pair of the same chain is where the key leads in the steps between
-leads_by : (r : Term) (n p d i : ℕ) (t k : Term) (cell : Place) → base t ≡ nh r n p → p + d ≡ i → p < i → k ≡ nh r n i
+leads_by : (r : Term) (n p d i : ℕ) (t k : Term) (cell : Place) → chain_key t ≡ nh r n p → p + d ≡ i → p < i → k ≡ nh r n i
     → Star k cell.pci cell.earfcn ≡ lands t d cell
 leads_by r n p zero i t k cell of_chain sum low pair = absurd (omega arith)
 leads_by r n p (suc d) i t k cell of_chain sum low pair =
     let root : root_of t ≡ r = sym (root_base t) ∙ ap root_of of_chain ∙ root_nh r n p in
-    let up : climb (root_of t) (base t) (suc d) ≡ nh r n i =
+    let up : climb (root_of t) (chain_key t) (suc d) ≡ nh r n i =
     (λ j. climb (root j) (of_chain j) (suc d)) ∙ climb-nh r n p (suc d) ∙ ap (nh r n) sum in
     ap (λ u. Star u cell.pci cell.earfcn) (pair ∙ sym up)
 
@@ -198,7 +199,7 @@ leads_level t number cell = ap (λ d. lands t d cell) none
 
 -- KeNB* of a pair is of its connection
 pub star_term : (g : Ghost) (conn : ℕ) (pair : NumberedKey Term ℕ) (pci earfcn : ℕ) → PairOk g conn pair → TermOk g conn (Star pair.key pci earfcn) pair.number
-star_term g conn pair pci earfcn h = (h.0, h.1, ap base h.2 ∙ base_nh (g.root conn) (g.count conn) pair.number)
+star_term g conn pair pci earfcn h = (h.0, h.1, ap chain_key h.2 ∙ base_nh (g.root conn) (g.count conn) pair.number)
 
 pub if_tried : (took : List (Took Term ℕ)) (id air : ℕ) (t : Term) (o : From Term) → HadTaken took id air t → TakenIfTried took id air t o
 if_tried took id air t BySetup h = tt

@@ -1,5 +1,5 @@
 -- Agreement of phone and stations in every world of every run.
-use Rattle.std.proofs.Common.{◌≡◌, refl, ℕ, zero, suc, Bool, List, [], ◌∷◌, Option, Some, None}
+use Rattle.std.proofs.Common.{◌≡◌, ◌≤◌, refl, ℕ, zero, suc, Bool, List, [], ◌∷◌, Option, Some, None}
 use Rattle.lte_events.specs.declared.events.Event.{Event}
 use Rattle.lte_events.specs.declared.setups.Setup.{Setup}
 use Rattle.lte_events.specs.Site.{Site}
@@ -16,17 +16,17 @@ use Rattle.lte_machine.specs.World.{Machine, happens}
 use Rattle.lte_machine.specs.Machines.{machine_over, sender_of}
 use Rattle.lte_machine.specs.Run.{first_world}
 use Rattle.lte_properties.specs.ChainBelow.{AllOf}
-use Rattle.lte_properties.specs.ChainHolds.{machine_by, run, noted, Holds}
+use Rattle.lte_properties.specs.ChainHolds.{machine_by, run, noted, core_numbers, Holds}
 use Rattle.lte_properties.specs.Agreement.{NoneEver, CompletedLines, AgreementHolds}
 use Rattle.lte_properties.specs.AgreeOpenings.{Honest, Calm, Along, OpensByTerms}
-use Rattle.lte_properties.proofs.ChainNumbers.World.{happens_holds, first_holds}
+use Rattle.lte_properties.proofs.ChainNumbers.World.{happens_holds, run_holds, first_holds}
 use Rattle.lte_properties.specs.FreshPhone.{RadioInOrder, PhoneFresh}
 use Rattle.lte_properties.proofs.Freshness.PhoneRun.{in_order, happens_order, first_order}
 use Rattle.lte_properties.proofs.Agreement.Later.{later_itself}
 use Rattle.lte_properties.proofs.Agreement.Told.{SiteOk}
-use Rattle.lte_properties.proofs.Agreement.World.{TheWorld, Conns, ghost, WorldOk, Goes, OctetsTell, Settled}
-use Rattle.lte_properties.proofs.Agreement.Events.{happens_goes, run_goes}
-use Rattle.lte_properties.proofs.Agreement.Holds.{cells_of, no_conns, first_ok, agrees, none_before, of_each}
+use Rattle.lte_properties.proofs.Agreement.World.{TheWorld, Conns, ghost, WorldOk, OctetsTell, Settled}
+use Rattle.lte_properties.proofs.Agreement.Events.{fits_after, RunGoes, happens_goes, run_goes}
+use Rattle.lte_properties.proofs.Agreement.Holds.{cells_of, no_conns, first_ok, first_fits, agrees, none_before, of_each}
 use Rattle.lte_properties.proofs.Agreement.Follows.{InTurn, happens_in_turn, in_turn}
 use Rattle.lte_properties.proofs.Agreement.StationWalk.{CellFits}
 use Rattle.lte_properties.proofs.ChainNumbers.Lists.{all_map}
@@ -36,6 +36,8 @@ use Rattle.lte_machine.specs.StationState.{Station, Context}
 use Rattle.key_model.proofs.TermFacts.{same_term-Decides}
 use Rattle.lte_properties.proofs.Opening.Opens.{IsReflexive}
 use Rattle.lte_properties.proofs.Agreement.Lines.{line_told}
+use Rattle.lte_properties.proofs.Agreement.Chains.{are_chains}
+use Rattle.lte_properties.specs.Chains.{ChainsHold}
 use Rattle.lte_properties.proofs.Agreement.Noted.{keys_told}
 use Rattle.lte_properties.proofs.Agreement.Calm.{NewKenb, calm_at}
 use Rattle.lte_properties.proofs.Agreement.Opener.{honest, octets_tell}
@@ -101,17 +103,17 @@ module _ (same : Term → Term → Bool) (root : ℕ → List ℕ → Term) (oct
       (calm, calm_along (noted u.core.link top) step.0 u es next step.2 is.1 settled.1 honest.1)
 
   -- in each world of a run no context has an air address where the phone took a far key by the end of it
-  none_ever : (top : ℕ → ℕ) (c : Conns) (w : TheWorld) (es : List Event) → Holds top w → WorldOk cells c w → AllOf IsEvent es
+  none_ever : (top : ℕ → ℕ) (c : Conns) (w : TheWorld) (es : List Event) → Holds top w → WorldOk cells c w → ((conn : ℕ) → c.top conn ≤ top conn) → AllOf IsEvent es
       → Along (λ v e. Settled v) m w es → Along (Honest m) m w es → Along (Calm m) m w es → NoneEver m w es
-  none_ever top c w es holds h is settled honest calm zero =
-      let g = run_goes same root octets sender opener tell cells cells_ok top c w es holds h is settled honest calm in
+  none_ever top c w es holds h fits is settled honest calm zero =
+      let g = run_goes same root octets sender opener tell cells cells_ok top c w es holds h fits is settled honest calm in
       none_before cells c g.0 w (run m w es) g.1 h g.2
-  none_ever top c w [] holds h is settled honest calm (suc n) = none_before cells c c w w (later_itself (ghost c w)) h h
-  none_ever top c w (e ∷ es) holds h is settled honest calm (suc n) =
+  none_ever top c w [] holds h fits is settled honest calm (suc n) = none_before cells c c w w (later_itself (ghost c w)) h h
+  none_ever top c w (e ∷ es) holds h fits is settled honest calm (suc n) =
       let u = (happens m w e).0 in
       let step = happens_goes same root octets sender opener tell cells cells_ok c w e is.0 h settled.0 holds.above holds.flight honest.0 calm.0 in
       let next = happens_holds same root octets sender opener top w e holds in
-      none_ever (noted u.core.link top) step.0 u es next step.2 is.1 settled.1 honest.1 calm.1 n
+      none_ever (noted u.core.link top) step.0 u es next step.2 (fits_after same root octets sender opener tell cells cells_ok top c step.0 u step.2 step.3 fits) is.1 settled.1 honest.1 calm.1 n
 
   -- at each line of a completed handover the phone had taken the new context's key
   lines_along : (top : ℕ → ℕ) (c : Conns) (w : TheWorld) (es : List Event) → Holds top w → WorldOk cells c w → AllOf IsEvent es
@@ -137,16 +139,25 @@ module _ (same : Term → Term → Bool) (itself : IsReflexive same) (octets : O
     calm : Along (Calm rooted) rooted (first_world setup) events
     calm = calm_along same Root octets sender opener tell setup.cells (cells_of setup is) (λ conn. 0) (no_conns setup) (first_world setup) events (first_holds setup) (first_ok setup is) are settled honest
 
-    goes : Goes setup.cells (no_conns setup) (first_world setup) (run rooted (first_world setup) events)
-    goes = run_goes same Root octets sender opener tell setup.cells (cells_of setup is) (λ conn. 0) (no_conns setup) (first_world setup) events (first_holds setup) (first_ok setup is) are settled honest calm
+    goes : RunGoes same Root octets sender opener tell setup.cells (cells_of setup is) (no_conns setup) (first_world setup) (run rooted (first_world setup) events) (core_numbers rooted (first_world setup) (λ conn. 0) events)
+    goes = run_goes same Root octets sender opener tell setup.cells (cells_of setup is) (λ conn. 0) (no_conns setup) (first_world setup) events (first_holds setup) (first_ok setup is) (first_fits setup) are settled honest calm
 
     -- every run whose openings are honest
     pub agreement_if_honest : AgreementHolds rooted setup events
     agreement_if_honest = (
       agrees setup.cells goes.0 (run rooted (first_world setup) events) goes.2 (in_turn same Root octets sender opener setup events),
-      none_ever same Root octets sender opener tell setup.cells (cells_of setup is) (λ conn. 0) (no_conns setup) (first_world setup) events (first_holds setup) (first_ok setup is) are settled honest calm,
+      none_ever same Root octets sender opener tell setup.cells (cells_of setup is) (λ conn. 0) (no_conns setup) (first_world setup) events (first_holds setup) (first_ok setup is) (first_fits setup) are settled honest calm,
       lines_along same Root octets sender opener tell setup.cells (cells_of setup is) (λ conn. 0) (no_conns setup) (first_world setup) events (first_holds setup) (first_ok setup is) are settled honest calm,
       keys_told same Root octets sender opener (first_world setup) events,
+    )
+
+    -- and all keys of a connection number are of one chain
+    pub chains_if_honest : ChainsHold rooted setup events
+    chains_if_honest = (
+      goes.0.root,
+      goes.0.count,
+      are_chains setup.cells goes.0 (run rooted (first_world setup) events) goes.2 (core_numbers rooted (first_world setup) (λ conn. 0) events) goes.3
+          (run_holds same Root octets sender opener (λ conn. 0) (first_world setup) events (first_holds setup)),
     )
 
 -- over these ciphers, by an opener that compares the uses on SRBs as terms
@@ -164,6 +175,10 @@ module _ (same : Term → Term → Bool) (itself : IsReflexive same) (c : Cipher
   -- agreement holds of every run
   pub agreement_over : AgreementHolds over setup events
   agreement_over = agreement_if_honest same itself (octets_of c between) sender_of opener (octets_tell c good between) setup is events are each_honest
+
+  -- and one chain for each connection number
+  pub chains_over : ChainsHold over setup events
+  chains_over = chains_if_honest same itself (octets_of c between) sender_of opener (octets_tell c good between) setup is events are each_honest
 
   -- and every world of it has the invariant
   pub always_ok : (d : Conns) × WorldOk setup.cells d (run over (first_world setup) events)

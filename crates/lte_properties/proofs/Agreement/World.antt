@@ -30,7 +30,7 @@ use Rattle.lte_machine.specs.CoreState.{CoreInput}
 use Rattle.lte_machine.specs.CoreKeys.{CoreDone}
 use Rattle.lte_machine.specs.CoreChoice.{core_row}
 use Rattle.lte_machine.specs.CoreStep.{plain_core, core_root, core_front_of, core_step}
-use Rattle.lte_machine.specs.World.{Machine, World, phone_after, core_after, station_after, by_world, phone_turn, core_turn, station_of_id, turn_of, station_turn, content_in}
+use Rattle.lte_machine.specs.World.{Machine, World, with_one, phone_after, core_after, station_after, by_world, phone_turn, core_turn, station_of_id, turn_of, station_turn, content_in}
 use Rattle.lte_machine.specs.Step.{phone_attempts, core_attempts, attempts_at}
 use Rattle.ho_prep.specs.Prep.{at_air}
 use Rattle.lte_properties.specs.ChainBelow.{AllOf}
@@ -39,12 +39,13 @@ use Rattle.lte_properties.specs.ChainHolds.{machine_by}
 use Rattle.lte_machine.specs.PhoneState.{Radio, Idle, Connecting, Connected}
 use Rattle.lte_machine.specs.CoreChoice.{core_header}
 use Rattle.lte_properties.specs.FreshPhone.{TookInOrder, RadioInOrder, PhoneInOrder}
-use Rattle.lte_properties.specs.Agreement.{made_at, Obeys, Follow}
+use Rattle.lte_properties.specs.Agreement.{made_at, OneOf, TriedOnce, Obeys, Follow}
+use Rattle.lte_properties.proofs.Agreement.Seen.{NotBoth, seen_beside, once_more}
 use Rattle.lte_properties.proofs.Agreement.Follows.{InTurn}
 use Rattle.lte_properties.proofs.Agreement.Order.{new_at}
 use Rattle.lte_properties.specs.AgreeOpenings.{IsHonest, IsCalm, outcome_of}
 use Rattle.lte_properties.proofs.ChainNumbers.Lists.{OfSome, all_one, all_find, all_map, all_both, all_put}
-use Rattle.lte_properties.proofs.Agreement.Ghost.{Ghost, tried_at, CoreOk, RadioOk, StationOk, SentOk, MadeOk, TriedOk, TookOk, OutOk, BetweenOk}
+use Rattle.lte_properties.proofs.Agreement.Ghost.{Ghost, tried_at, SeenBy, CoreOk, RadioOk, StationOk, SentOk, MadeOk, TriedOk, TookOk, OutOk, BetweenOk}
 use Rattle.lte_properties.proofs.Agreement.Later.{Later, later_itself, ctx_later, preps_later, radio_later, sent_later, made_later, tried_later, took_later}
 use Rattle.lte_properties.proofs.Agreement.Phone.{PhoneGoes, NewTook, PhoneNeeds, took_more, phone_goes}
 use Rattle.lte_properties.proofs.Agreement.PhoneWalk.{CameDown, NothingYet, air_walks}
@@ -53,7 +54,7 @@ use Rattle.lte_properties.proofs.Agreement.Station.{StationGoes, NewMade, NewTri
 use Rattle.lte_properties.proofs.Agreement.StationAct.{ActNeeds, act_goes}
 use Rattle.lte_properties.proofs.Agreement.StationWalk.{CellFits, s1_walks, x2_walks}
 use Rattle.lte_properties.proofs.Agreement.StationOpens.{CameUp, air_walks_by, act_walks}
-use Rattle.lte_properties.proofs.Agreement.Core.{CoreGoes, CoreNeeds, core_goes}
+use Rattle.lte_properties.proofs.Agreement.Core.{StaysOff, as_before, CoreGoes, CoreNeeds, core_goes}
 
 abbrev pub TheWorld : Type 0
 TheWorld = World Term ℕ (Outgoing Term ℕ)
@@ -85,10 +86,11 @@ pub record WorldOk (cells : List Site) (c : Conns) (w : TheWorld) : Type 0 where
   pub made : AllOf (MadeOk (ghost c w)) w.made
   pub tried : AllOf (TriedOk cells (ghost c w)) w.tried
   pub took : AllOf (TookOk (ghost c w)) w.took
+  pub once : TriedOnce w
 
 -- what an event leaves: the invariant, and all that was told before
 abbrev pub Goes : List Site → Conns → TheWorld → TheWorld → Type 0
-Goes cells c w u = (d : Conns) × Later (ghost c w) (ghost d u) × WorldOk cells d u
+Goes cells c w u = (d : Conns) × Later (ghost c w) (ghost d u) × WorldOk cells d u × StaysOff u.core.link c.top d.top
 
 -- what an unciphered record's octets hold is its text
 abbrev pub PlainReads : (Outgoing Term ℕ → List ℕ) → Type 0
@@ -134,6 +136,8 @@ module _ (cells : List Site) (c d : Conns) (w u : TheWorld) (l : Later (ghost c 
     h.3,
     h.4,
     h.5,
+    h.6,
+    subst (λ xs. AllOf (SeenBy s.id s.seen) xs) (sym made) h.7,
   )
 
   stations_stay : (ss : List (Station Term ℕ)) → u.made ≡ w.made → u.tried ≡ w.tried → AllOf (StationOk cells (ghost c w)) ss → AllOf (StationOk cells (ghost d u)) ss
@@ -184,7 +188,9 @@ module _ (same : Term → Term → Bool) (root : ℕ → List ℕ → Term) (oct
       made = h.made;
       tried = h.tried;
       took = h.took;
+      once = h.once;
     },
+    as_before w.core.link c.top,
   )
 
   -- THE PHONE
@@ -203,7 +209,9 @@ module _ (same : Term → Term → Bool) (root : ℕ → List ℕ → Term) (oct
           made = made_stays cells c c w u l w.made h.made;
           tried = tried_stays cells c c w u l w.tried h.tried;
           took = all_one (TookOk (ghost c u)) d.1.took w.took (took_stays cells c c w u l w.took h.took) (new_took d.1.took (ghost c u) k.1);
+          once = h.once;
         },
+        as_before w.core.link c.top,
       )
 
   pub phone_turn_goes : (c : Conns) (w : TheWorld) (input : PhoneInput Term) (came : Option (Outgoing Term ℕ)) → WorldOk cells c w
@@ -243,7 +251,9 @@ module _ (same : Term → Term → Bool) (root : ℕ → List ℕ → Term) (oct
           made = made_stays cells c e w u l w.made h.made;
           tried = tried_stays cells c e w u l w.tried h.tried;
           took = took_stays cells c e w u l w.took h.took;
+          once = h.once;
         },
+        k.7,
       )
 
   pub core_turn_goes : (c : Conns) (w : TheWorld) (input : CoreInput Term ℕ) (came : Option (Outgoing Term ℕ)) → WorldOk cells c w
@@ -259,13 +269,18 @@ module _ (same : Term → Term → Bool) (root : ℕ → List ℕ → Term) (oct
 
   -- of another station, whose numbers are its own
   beside : (c : Conns) (w u : TheWorld) (l : Later (ghost c w) (ghost c u)) (s : Station Term ℕ) → StationOk cells (ghost c w) s
-      → ((n : ℕ) → s.next ≤ n → (made_at u.made s.id n ≡ None) × (tried_at u.tried s.id n ≡ None)) → StationOk cells (ghost c u) s
-  beside c w u l s h fresh =
-      (ctx_later (ghost c w) (ghost c u) l s.id s.context h.0, preps_later (ghost c w) (ghost c u) l s.id s.preps h.1, fresh, h.3, h.4, h.5)
+      → ((n : ℕ) → s.next ≤ n → (made_at u.made s.id n ≡ None) × (tried_at u.tried s.id n ≡ None)) → AllOf (SeenBy s.id s.seen) u.made → StationOk cells (ghost c u) s
+  beside c w u l s h fresh seen =
+      (ctx_later (ghost c w) (ghost c u) l s.id s.context h.0, preps_later (ghost c w) (ghost c u) l s.id s.preps h.1, fresh, h.3, h.4, h.5, h.6, seen)
 
-  new_made : (o : Option (Made Term ℕ)) (g : Ghost) (id : ℕ) → NewMade g id o → OfSome (MadeOk g) o
-  new_made None g id h = tt
-  new_made (Some x) g id h = h
+  new_made : (o : Option (Made Term ℕ)) (g h : Ghost) → NewMade g h o → OfSome (MadeOk h) o
+  new_made None g h k = tt
+  new_made (Some x) g h k = k.0
+
+  once_after : (o : Option (Made Term ℕ)) (made : List (Made Term ℕ)) (h g : Ghost) → g.made ≡ made → NewMade g h o → AllOf (λ m. AllOf (OneOf m) made) made
+      → AllOf (λ m. AllOf (OneOf m) (with_one o made)) (with_one o made)
+  once_after None made h g is k once = once
+  once_after (Some m) made h g is k once = once_more m made (subst (AllOf (NotBoth m)) is k.1) once
 
   new_tried : (o : Option (Tried Term ℕ)) (g : Ghost) (id : ℕ) → NewTried cells g id o → OfSome (TriedOk cells g) o
   new_tried None g id h = tt
@@ -283,13 +298,16 @@ module _ (same : Term → Term → Bool) (root : ℕ → List ℕ → Term) (oct
           radio = radio_later (ghost c w) (ghost c u) l w.phone.radio h.radio;
           stations = all_put (StationOk cells (ghost c w)) (StationOk cells (ghost c u)) id d.0 w.stations k.0
               (λ t other ok. beside c w u l t ok
-              (fresh_beside (ghost c w) d.1.made d.1.tried s.id t.id t.next k.5 k.6 (λ e. eqb-false t.id id other (sym e ∙ is)) ok.2))
+              (fresh_beside (ghost c w) d.1.made d.1.tried s.id t.id t.next k.5 k.6 (λ e. eqb-false t.id id other (sym e ∙ is)) ok.2)
+              (seen_beside w.made d.1.made s.id t.id t.seen k.5 (λ e. eqb-false t.id id other (sym e ∙ is)) ok.7))
               h.stations;
           sent = all_one (SentOk (ghost c u)) d.1.sent w.sent (sent_stays cells c c w u l w.sent h.sent) (out_ok d.1.sent (ghost c u) k.3);
-          made = all_one (MadeOk (ghost c u)) d.1.made w.made (made_stays cells c c w u l w.made h.made) (new_made d.1.made (ghost c u) s.id k.1);
+          made = all_one (MadeOk (ghost c u)) d.1.made w.made (made_stays cells c c w u l w.made h.made) (new_made d.1.made (ghost c w) (ghost c u) k.1);
           tried = all_one (TriedOk cells (ghost c u)) d.1.tried w.tried (tried_stays cells c c w u l w.tried h.tried) (new_tried d.1.tried (ghost c u) s.id k.2);
           took = took_stays cells c c w u l w.took h.took;
+          once = once_after d.1.made w.made (ghost c u) (ghost c w) refl k.1 h.once;
         },
+        as_before w.core.link c.top,
       )
 
   -- what a row needs
