@@ -1,12 +1,12 @@
 -- The ordinary scenario with a cell of an EARFCN-DL above 65535 (TS 36.331 6.3.4, earfcn-v9e0).
-use Rattle.std.specs.Prelude.{◌≡◌, ℕ, List, [], ◌∷◌, ◌++◌, drop, take, Option, Some, None, map}
+use Rattle.std.specs.Prelude.{◌≡◌, ℕ, List, [], ◌∷◌, ◌++◌, drop, take}
 use Rattle.std.proofs.Common.{refl}
 use Rattle.annex_a_keys.specs.Cell.{Place}
 use Rattle.lte_events.specs.declared.events.Event.{Event}
 use Rattle.lte_events.specs.declared.setups.Setup.{Setup}
-use Rattle.key_model.specs.Term.{Term, Root, Kenb, Star}
+use Rattle.key_model.specs.Term.{Term}
 use Rattle.lte_machine.specs.Opening.{open_octets}
-use Rattle.lte_machine.specs.Run.{RunState, Running, Stopped, replay, report, first_world}
+use Rattle.lte_machine.specs.Run.{RunState, Running, report, first_world}
 use Rattle.lte_machine.specs.Wire.{Outgoing}
 use Rattle.lte_machine.proofs.Ordinary.{ordinary, ordinary_report}
 use Rattle.lte_machine.proofs.Scenario.{briefs, computing, machine, place, setup, toy, x2_at}

@@ -8,7 +8,7 @@ use Rattle.lte_events.specs.declared.addresses.Address.TheVariants.{StationX2}
 use Rattle.lte_events.specs.declared.answers.Answer.TheVariants.{Done}
 use Rattle.key_model.specs.Reading.{Reading}
 use Rattle.key_model.specs.HandoverTable.{NumberedKey}
-use Rattle.nh_chain.specs.Station.{StationKey, stored, restored_if, Opened, opened}
+use Rattle.nh_chain.specs.Station.{StationKey, restored_if, Opened, opened}
 use Rattle.pdcp_guard.specs.AsKeys.{AsKeys, as_derivations}
 use Rattle.rrc_rec.specs.declared.records.RrcRecord.TheVariants.{RrcData}
 use Rattle.rrc_rec.specs.Spelling.{spelling_of}

@@ -1,5 +1,5 @@
 -- The choice of the core's row on a NAS message, walked through once: a key change is its one row that sends on S1.
-use Rattle.std.proofs.Common.{◌≡◌, ℕ, Bool, false, ◌==◌, nat_le, List, Option, Some, None, option_map, Result, Ok, Err, refl}
+use Rattle.std.proofs.Common.{◌≡◌, ℕ, false, ◌==◌, nat_le, List, Option, Some, None, option_map, Result, Ok, Err, refl}
 use Rattle.std.specs.Prelude.{⊤, nat_lt, length, drop}
 use Rattle.rec_base.specs.declared.faults.RecFault.{RecFault}
 use Rattle.lte_events.specs.declared.answers.Answer.{Answer}

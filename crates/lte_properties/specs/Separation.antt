@@ -10,7 +10,7 @@ use Rattle.key_model.specs.Chain.{nh}
 use Rattle.key_model.specs.Derivable.{Derivable, HasNoRoot, ComesFrom}
 use Rattle.key_model.specs.HandoverTable.{NumberedKey}
 use Rattle.lte_machine.specs.Wire.{Outgoing, Between}
-use Rattle.lte_machine.specs.Reply.{Origin, From, BySetup, ByAttempt, ByChange, Made, Tried}
+use Rattle.lte_machine.specs.Reply.{From, BySetup, ByAttempt, ByChange, Made, Tried}
 use Rattle.lte_machine.specs.Distinct.{keys_of, Member}
 use Rattle.lte_machine.specs.Known.{StationKnown}
 use Rattle.lte_machine.specs.World.{Machine, World, Holder, AtPhone, AtCore, AtStation, Holding}

@@ -6,7 +6,7 @@ use Rattle.key_model.specs.Chain.{nh}
 use Rattle.key_model.specs.Derivable.{Derivable}
 use Rattle.key_model.specs.HandoverTable.{NumberedKey}
 use Rattle.lte_machine.specs.Wire.{Outgoing}
-use Rattle.lte_machine.specs.Reply.{Origin, From, ByAttempt, Made, Before, Came, Secured, Commanded, Changed, Took}
+use Rattle.lte_machine.specs.Reply.{From, ByAttempt, Made, Came, Secured, Commanded, Changed, Took}
 use Rattle.lte_events.specs.Site.{Site, station_of}
 use Rattle.lte_machine.specs.World.{World}
 use Rattle.lte_properties.specs.ChainBelow.{AllOf}

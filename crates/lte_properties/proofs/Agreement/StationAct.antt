@@ -20,9 +20,8 @@ use Rattle.rrc_rec.specs.declared.records.RrcRecord.TheVariants.{RrcData}
 use Rattle.nh_chain.specs.Station.{restored_if, pair_after, opened, base_of}
 use Rattle.key_model.specs.HandoverLines.{star_line}
 use Rattle.lte_machine.specs.Bearers.{Signalling1}
-use Rattle.lte_machine.specs.Wire.{srb_use, ciphering_by}
 use Rattle.lte_machine.specs.StationKeys.{started_by_x2_with, started_by_x2, started_by_s1, started_within_with, started_within, x2_commanded, s1_commanded, commanded, commands, commands_change, spent_in, given_up, asks_again, sends_packet, sends_rrc, with_skipped, act_does}
-use Rattle.lte_machine.specs.StationRecords.{signalling_sent, order_text, change_text}
+use Rattle.lte_machine.specs.StationRecords.{order_text, change_text}
 use Rattle.rrc_rec.specs.Spelling.{spelling_of}
 use Rattle.lte_properties.specs.ChainBelow.{OfPair, IsAbove}
 use Rattle.lte_properties.specs.ChainAbove.{ContextAbove}

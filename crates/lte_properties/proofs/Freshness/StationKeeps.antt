@@ -1,5 +1,5 @@
 -- What a step of a station keeps of the keys that it has and uses, and what a row needs for it.
-use Rattle.std.proofs.Common.{◌≡◌, refl, ℕ, ◌+◌, ◌<◌, ◌≤◌, Bool, true, false, not, Option, Some, None, option_map, arith}
+use Rattle.std.proofs.Common.{◌≡◌, refl, ℕ, ◌+◌, ◌<◌, ◌≤◌, Bool, true, false, Option, Some, None, option_map, arith}
 use Rattle.std.specs.Prelude.{IfSome, ⊤}
 use Rattle.rec_base.specs.declared.uses.Dir.TheVariants.{Down}
 use Rattle.key_model.specs.Term.{Term}

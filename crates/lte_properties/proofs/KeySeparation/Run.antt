@@ -9,7 +9,7 @@ use Rattle.key_model.specs.Derivable.{Derivable, HasNoRoot}
 use Rattle.key_model.specs.HandoverTable.{NumberedKey}
 use Rattle.key_model.proofs.DerivableFacts.{star_held, derivable_is}
 use Rattle.lte_machine.specs.Wire.{Outgoing}
-use Rattle.lte_machine.specs.Reply.{Origin, Made, Tried, From, BySetup, ByAttempt, ByChange}
+use Rattle.lte_machine.specs.Reply.{Made, Tried, From, BySetup, ByAttempt, ByChange}
 use Rattle.lte_machine.specs.World.{World, Holder, AtPhone, AtCore, AtStation}
 use Rattle.lte_properties.specs.ChainBelow.{AllOf}
 use Rattle.lte_properties.specs.Separation.{IsStationOf, HeldBy, GivenTo, HasNeither, Those, AllBut, AllWellFormed, Separates, GivenAt, MadeAsGiven}

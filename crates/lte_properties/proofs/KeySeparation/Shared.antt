@@ -1,5 +1,5 @@
 -- To whom the core gave the key from which a shared key comes, where phone and station agree.
-use Rattle.std.proofs.Common.{◌≡◌, sym, ap, ◌∙◌, subst, ℕ, ◌<◌, ◌==◌, ◌&&◌, true, List, Option, Some, None, arith}
+use Rattle.std.proofs.Common.{◌≡◌, sym, ◌∙◌, subst, ℕ, ◌<◌, ◌==◌, ◌&&◌, true, List, Option, Some, None, arith}
 use Rattle.std.proofs.lemmas.Bool.Decides.{nat_tests}
 use Rattle.annex_a_keys.specs.Cell.{Place}
 use Rattle.lte_events.specs.Site.{Site, station_of}

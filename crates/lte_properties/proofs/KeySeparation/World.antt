@@ -8,7 +8,7 @@ use Rattle.rec_base.specs.declared.bearers.Bearer.{Bearer}
 use Rattle.lte_events.specs.declared.acts.CoreAct.{CoreAct}
 use Rattle.lte_events.specs.declared.acts.StationAct.{StationAct}
 use Rattle.lte_events.specs.declared.addresses.Address.{Address}
-use Rattle.lte_events.specs.declared.addresses.Address.TheVariants.{Phone, PhoneNas, CoreNas, CoreS1, StationAir, StationS1, StationX2}
+use Rattle.lte_events.specs.declared.addresses.Address.TheVariants.{CoreS1}
 use Rattle.lte_events.specs.declared.answers.Answer.{Answer}
 use Rattle.lte_events.specs.declared.answers.Answer.TheVariants.{NoUe, NoRecord, Sent, RepeatedRoot}
 use Rattle.lte_events.specs.declared.events.Event.{Event}
@@ -28,7 +28,6 @@ use Rattle.lte_machine.specs.PhoneChoice.{phone_row}
 use Rattle.lte_machine.specs.PhoneRows.{Authenticated, OfAuth}
 use Rattle.lte_machine.specs.PhoneStep.{plain_phone, front_of, phone_root, phone_opens, phone_pdu_in, phone_step}
 use Rattle.lte_machine.specs.StationState.{Station, StationInput, StationActs, AirPdu, StationRecord, Interface, OnS1, OnX2, map_read}
-use Rattle.lte_machine.specs.StationRows.{RecordRefused}
 use Rattle.lte_machine.specs.StationStep.{station_opens, station_pdu_in, station_step}
 use Rattle.lte_machine.specs.CoreState.{Core, CoreContext, CoreInput, CoreAuth, CoreActs, CoreNasPdu, CoreRecord, map_core_context}
 use Rattle.lte_machine.specs.CoreRows.{CoreNasRow, NasRefused, PlainReject, SmcComplete, ServiceAsked, NasOpened, SealedReject, CoreRecordRow, PathSwitched, HandoverAsked, HandoverOrdered, HandoverNotified, HandoverCancelled, SmcChange}
@@ -45,7 +44,6 @@ use Rattle.lte_properties.specs.Separation.{GivenTo}
 use Rattle.lte_properties.proofs.ChainNumbers.Lists.{OfSome, all_append, all_find, all_put, all_chosen}
 use Rattle.lte_properties.proofs.ChainNumbers.Core.{core_record_fits}
 use Rattle.lte_properties.proofs.KeySeparation.Keys.{Gifts, May, MayHold, StationHas, StationOk, TriedOk, KeyGoes, FieldsOk, FlyOk, MadeOk, HoldOk, step_held, holder_may_grows, station_ok_grows, tried_ok_grows, fly_grows, made_ok_grows, OwnPlace}
-use Rattle.lte_properties.proofs.KeySeparation.Station.{RecordNeeds}
 use Rattle.lte_properties.proofs.KeySeparation.Phone.{PhoneKept, keyless_flies, phone_kept}
 use Rattle.lte_properties.proofs.KeySeparation.Core as core
 use Rattle.lte_properties.proofs.KeySeparation.CoreKeeps.{CoreOk, CoreKept}

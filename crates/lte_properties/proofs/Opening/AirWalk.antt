@@ -20,7 +20,7 @@ use Rattle.lte_machine.specs.PhoneState.{NasContext, Radio, Idle, Connecting, Co
 use Rattle.lte_machine.specs.PhoneRows as phone
 use Rattle.lte_machine.specs.PhoneChoice as phone_choice
 use Rattle.lte_machine.specs.PhoneStep.{plain_phone}
-use Rattle.lte_machine.specs.StationState.{OverX2, OverS1, Within, X2State, X2Open, X2Ready, X2Commanded, S1State, S1Open, S1Ready, S1Commanded, Renewal, Renewing}
+use Rattle.lte_machine.specs.StationState.{OverX2, OverS1, Within, X2State, X2Open, X2Ready, X2Commanded, S1State, S1Open, S1Ready, S1Commanded, Renewing}
 use Rattle.lte_machine.specs.StationRows as station
 use Rattle.lte_machine.specs.StationChoice as choice
 use Rattle.lte_machine.specs.StationChoice.{PlainStation, PlainContext, PlainAttempt}
