@@ -18,7 +18,7 @@ use Rattle.std.proofs.lemmas.Slice.Eq.{bytes_eq-Decides}
 use Rattle.key_terms.proofs.Places.{position_stays, position_at_end, slice_get_stays, slice_get_push}
 
 -- a row that has something read of it stands
-stands : {A : Type 0} (f : LadderRow → A) (rows : List LadderRow) (k : ℕ) (a : A) → option_map f (slice_get rows k) ≡ Some a → (r : LadderRow) × (slice_get rows k ≡ Some r) × (f r ≡ a)
+pub stands : {A : Type 0} (f : LadderRow → A) (rows : List LadderRow) (k : ℕ) (a : A) → option_map f (slice_get rows k) ≡ Some a → (r : LadderRow) × (slice_get rows k ≡ Some r) × (f r ≡ a)
 stands f rows k a found =
     elim (slice_get_cases rows k).1 [
       | inl h ↦ let e = sym (ap (option_map f) h.2) ∙ found in (h.0, h.2, cc)

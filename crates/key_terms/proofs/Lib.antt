@@ -1,2 +1,4 @@
 pub mod Places
 pub mod LadderLemmas
+pub mod Holding
+pub mod Lookups

@@ -1,6 +1,6 @@
 -- The ladder of keys: its rows stand for the derivations of TS 33.401 Annex A that were made, in the
 -- order of their first making. Roots are the KASME that no derivation made.
-use Rattle.std.specs.Prelude.{◌≡◌, ◌≢◌, ℕ, ◌<◌, ◌^◌, false, Option, Some, IsSome, List, length, replicate, unwrap_or, slice_get, position}
+use Rattle.std.specs.Prelude.{◌≡◌, ◌≢◌, ℕ, zero, suc, ◌<◌, ◌≤◌, ◌^◌, true, false, Option, Some, IsSome, List, [], ◌∷◌, length, map, take, replicate, unwrap_or, slice_get, position}
 use Rattle.std.specs.Option.{option_map}
 use Rattle.std.specs.Str.{bytes_eq}
 use Rattle.hmac_kdf.specs.declared.input.KdfInput.{KdfInput}
@@ -9,6 +9,9 @@ use Rattle.hmac_kdf.specs.Kdf.{kdf}
 use Rattle.annex_a_keys.specs.declared.derived.Derived.{Derived}
 use Rattle.key_terms.specs.declared.ladder.LadderFault.{LadderFault}
 use Rattle.key_terms.specs.declared.ladder.LadderFault.TheVariants.{Memory, RepeatedRoot, Coincidence}
+use Rattle.std.proofs.Math.ListN.{set}
+use Rattle.key_terms.specs.declared.row.Holder.{Holder}
+use Rattle.key_terms.specs.declared.row.Holder.TheVariants.{Phone, Core, Station}
 use Rattle.key_terms.specs.declared.row.Row.{Row}
 use Rattle.key_terms.specs.declared.row.LadderRow.{LadderRow}
 use Rattle.key_terms.specs.declared.row.Origin.{Origin}
@@ -26,6 +29,24 @@ row k = record { 0 = k }
 -- a row that nobody holds
 abbrev pub unheld : Origin → List ℕ → LadderRow
 unheld origin octets = record { origin = origin; octets = octets; phone = false; core = false; stations = replicate 8 false }
+
+-- the phone, the core, or a station of number 0 to 7
+abbrev pub IsHolder : Holder → Type 0
+IsHolder Phone = Unit {0}
+IsHolder Core = Unit {0}
+IsHolder (Station number) = number ≤ 7
+
+-- the row, held by this one too
+abbrev pub held_by : Holder → LadderRow → LadderRow
+held_by Phone r = record r { phone = true }
+held_by Core r = record r { core = true }
+held_by (Station number) r = record r { stations = set r.stations number true }
+
+-- the rows, the one of this number held by this one too
+abbrev pub holding : Holder → ℕ → List LadderRow → List LadderRow
+holding who k [] = []
+holding who zero (r ∷ rows) = held_by who r ∷ rows
+holding who (suc k) (r ∷ rows) = r ∷ holding who k rows
 
 -- the octets of the row of this number, if it stands
 abbrev pub octets_at : List LadderRow → ℕ → Option (List ℕ)
@@ -75,6 +96,10 @@ AreMade rows = (k : ℕ) (r : LadderRow) → slice_get rows k ≡ Some r → IsM
 pub record IsLadder (rows : List LadderRow) : Type 0 where
   pub apart : AreApart rows
   pub made : AreMade rows
+
+-- the index has exactly the rows up to its mark, in their order: the mark is its length
+abbrev pub IsIndexOf : List (List ℕ) → List LadderRow → Type 0
+IsIndexOf keys rows = keys ≡ map (λ r. r.octets) (take (length keys) rows)
 
 -- as many rows as can be numbered
 abbrev pub AreNumbered : List LadderRow → Type 0

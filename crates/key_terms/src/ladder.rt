@@ -1,29 +1,33 @@
 ghost use Rattle.std.specs.Prelude.{◌≡◌, ◌↔◌, ℕ, ◌+◌, ◌-◌, ◌^◌, ◌<◌, ◌≤◌, [], ◌∷◌, ◌++◌, length, OnOk, OnErr, IfOk, IfErr, IfSome, IsSome, Some, None, IsOkUnless, slice_get, vec_len, vec_capacity};
 ghost use Rattle.std.specs.Option.{option_map};
 ghost use Rattle.hmac_kdf.specs.Kdf.{IsKdfInput, kdf};
-ghost use Rattle.key_terms.specs.Ladder.{row, unheld, octets_at, origin_at, row_of, origin_of, HasRoot, HasSync, IsMade, IsLadder, Coincides, RootRefused, AddRefused};
+ghost use Rattle.key_terms.specs.Ladder.{row, unheld, octets_at, origin_at, row_of, origin_of, HasRoot, HasSync, IsMade, IsLadder, Coincides, RootRefused, AddRefused, AreApart, IsIndexOf, IsHolder, holding};
 
-use crate::{LadderRow, Origin, Row};
+use crate::index::Index;
+use crate::{Holder, LadderRow, Origin, Row};
 use annex_a_keys::Derived;
-use std::alloc::Global;
+use std::alloc::{AllocError, Global};
 use std::marker::Model;
 
 /// The keys that were derived, each once, in the order of their first derivation. No two rows have
-/// the same octets.
+/// the same octets. A row is found by its octets in constant time, once `reserve` was called after it
+/// came.
 #[derive(Drop)]
 pub struct Ladder {
     rows: Vec<LadderRow>,
+    // the rows that stood when room was last made
+    index: Index,
 }
 
 impl Model for Ladder {
     ghost use Rattle.std.specs.Prelude.{◌-◌, ◌^◌, ◌<◌, min, vec_len, vec_capacity};
-    ghost use Rattle.key_terms.specs.Ladder.{Rows, IsLadder};
+    ghost use Rattle.key_terms.specs.Ladder.{Rows, IsLadder, IsIndexOf};
 
     ghost Value = { Rows };
 
     ghost view = { λ l. record { rows = l.rows.items; spare = min (vec_capacity l.rows) (2 ^ 32 - 1) - vec_len l.rows } };
 
-    ghost invariant = { λ l. IsLadder l.rows.items × (vec_len l.rows < 2 ^ 32) };
+    ghost invariant = { λ l. IsLadder l.rows.items × (vec_len l.rows < 2 ^ 32) × IsIndexOf l.index l.rows.items };
 }
 
 /// Why the ladder refused.
@@ -45,6 +49,7 @@ impl Ladder {
     {
         Ladder {
             rows: Vec::new(alloc),
+            index: Index::new(alloc),
         }
     }
 
@@ -56,6 +61,7 @@ impl Ladder {
         ensures rows { self.new.rows ≡ self.old.rows }
         ensures err { OnErr result (self.new ≡ self.old) }
     {
+        index_all(&mut self.index, &self.rows).map_err(|_| LadderFault::Memory)?;
         self.rows.reserve(rows).map_err(|_| LadderFault::Memory)
     }
 
@@ -121,12 +127,26 @@ impl Ladder {
         row
     }
 
+    /// Notes that this one holds the key of a row; a station's number is at most 7. Nothing else
+    /// changes.
+    #[tactic(auto, using(crate::proofs::Holding::length_holding))]
+    pub fn hold(&mut self, who: Holder, row: Row)
+        requires stands { row.0 < length self.old.rows }
+        requires holder { IsHolder who }
+        ensures rows { self.new.rows ≡ holding who row.0 self.old.rows }
+        ensures len { length self.new.rows ≡ length self.old.rows }
+        ensures spare { self.new.spare ≡ self.old.spare }
+        ensures ladder { IsLadder self.new.rows }
+    {
+        hold_at(&mut self.rows, row.0 as usize, who);
+    }
+
     /// The row with these octets; none exactly where no row has them.
     pub fn find(&self, octets: &[u8; 32]) -> Option<Row>
         ensures row { option_map (λ r. r.0) result ≡ row_of self.now.rows octets.now }
         ensures ladder { IsLadder self.now.rows }
     {
-        let row = position_of(&self.rows, octets)?;
+        let row = find_by(&self.index, &self.rows, octets)?;
         Some(Row(row as u32))
     }
 
@@ -156,6 +176,47 @@ fn put(rows: &mut Vec<LadderRow>, row: LadderRow)
     ensures capacity { vec_capacity rows.old ≤ vec_capacity rows.new }
 {
     rows.push(row).unwrap();
+}
+
+// Notes one more holder of a row.
+fn hold_at(rows: &mut Vec<LadderRow>, place: usize, who: Holder)
+    requires stands { place < length rows.old.items }
+    requires holder { IsHolder who }
+    ensures items { rows.new.items ≡ holding who place rows.old.items }
+    ensures len { vec_len rows.new ≡ vec_len rows.old }
+    ensures capacity { vec_capacity rows.new ≡ vec_capacity rows.old }
+{
+    let mut row = rows[place];
+    row.hold(who);
+    rows[place] = row;
+}
+
+// Brings the index up to date with the rows. Where memory runs out it has some of them.
+fn index_all(index: &mut Index, rows: &[LadderRow]) -> Result<(), AllocError>
+    requires apart { AreApart rows.now }
+    requires index { IsIndexOf index.old rows.now }
+    ensures index { IsIndexOf index.new rows.now }
+    ensures whole { OnOk result (length index.new ≡ length rows.now) }
+{
+    for number in index.len()..rows.len() {
+        index.push(rows[number].octets)?;
+    }
+    Ok(())
+}
+
+// The place of the first row with these octets: among the rows of the index, or else among those
+// that came since.
+fn find_by(index: &Index, rows: &[LadderRow], octets: &[u8; 32]) -> Option<usize>
+    requires index { IsIndexOf index.now rows.now }
+    ensures place { result ≡ row_of rows.now octets.now }
+    ensures within { IfSome result (λ k. k < length rows.now) }
+{
+    if let Some(place) = index.number_of(octets) {
+        return Some(place);
+    }
+    let mark = index.len();
+    let place = position_of(&rows[mark..], octets)?;
+    Some(mark + place)
 }
 
 // The place of the first row with these octets.

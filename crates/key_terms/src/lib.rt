@@ -1,10 +1,13 @@
 //! The ladder: the list of all keys that were derived, each with its derivation.
 #![tactic(auto)]
 
+mod index;
 mod ladder;
+mod proof;
 mod row;
 #[cfg(test)]
 mod tests;
 
 pub use ladder::{Ladder, LadderFault};
+pub use proof::Proof;
 pub use row::{Holder, LadderRow, Origin, Row};

@@ -39,7 +39,7 @@ pub struct LadderRow {
 
 impl LadderRow {
     ghost use Rattle.std.specs.Prelude.{◌≡◌};
-    ghost use Rattle.key_terms.specs.Ladder.{unheld};
+    ghost use Rattle.key_terms.specs.Ladder.{unheld, held_by, IsHolder};
 
     // A row that nobody holds.
     pub(crate) fn unheld(origin: Origin, octets: [u8; 32]) -> LadderRow
@@ -51,6 +51,18 @@ impl LadderRow {
             phone: false,
             core: false,
             stations: [false; 8],
+        }
+    }
+
+    // Notes one more holder.
+    pub(crate) fn hold(&mut self, who: Holder)
+        requires { IsHolder who }
+        ensures { self.new ≡ held_by who self.old }
+    {
+        match who {
+            Holder::Phone => self.phone = true,
+            Holder::Core => self.core = true,
+            Holder::Station(number) => self.stations[number as usize] = true,
         }
     }
 }

@@ -77,3 +77,50 @@ fn a_kenb_with_the_octets_of_a_root_is_a_coincidence(rt: HostRuntime) {
     );
     assert_eq!(rt; ladder.len(), 2);
 }
+
+#[test]
+fn a_row_has_the_holders_that_it_was_given(rt: HostRuntime) {
+    let mut ladder = ladder_with_room(&rt, rt.alloc());
+    assert_eq!(rt; ladder.root(KASME), Ok(Row(0)));
+    assert_eq!(rt; add_kenb(&rt, &mut ladder, 0), Ok(Row(1)));
+    assert_eq!(rt; ladder.len(), 2);
+    ladder.hold(Holder::Phone, Row(1));
+    ladder.hold(Holder::Station(7), Row(1));
+    ladder.hold(Holder::Core, Row(0));
+    let root = ladder.row(Row(0));
+    assert_eq!(rt; (root.phone, root.core), (false, true));
+    assert_eq!(rt; root.stations, [false; 8]);
+    let kenb = ladder.row(Row(1));
+    let mut stations = [false; 8];
+    stations[7] = true;
+    assert_eq!(rt; (kenb.phone, kenb.core), (true, false));
+    assert_eq!(rt; kenb.stations, stations);
+}
+
+// A number in 32 octets, big-endian.
+fn numbered(number: u32) -> [u8; 32] {
+    let mut octets = [0; 32];
+    let last = number.to_be_bytes();
+    octets[28] = last[0];
+    octets[29] = last[1];
+    octets[30] = last[2];
+    octets[31] = last[3];
+    octets
+}
+
+#[test]
+fn each_of_many_roots_is_found(rt: HostRuntime) {
+    let mut ladder = Ladder::new(rt.alloc());
+    for number in 0..200_000 {
+        assert!(rt; ladder.len() < 200_000);
+        assert_eq!(rt; ladder.reserve(1), Ok(()));
+        assert_eq!(rt; ladder.root(numbered(number)), Ok(Row(number)));
+    }
+    assert_eq!(rt; ladder.len(), 200_000);
+    for number in 0..200_000 {
+        assert_eq!(rt; ladder.find(&numbered(number)), Some(Row(number)));
+    }
+    for number in 200_000..400_000 {
+        assert_eq!(rt; ladder.find(&numbered(number)), None);
+    }
+}
