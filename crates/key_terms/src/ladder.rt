@@ -1,7 +1,7 @@
 ghost use Rattle.std.specs.Prelude.{◌≡◌, ◌↔◌, ℕ, ◌+◌, ◌-◌, ◌^◌, ◌<◌, ◌≤◌, [], ◌∷◌, ◌++◌, length, OnOk, OnErr, IfOk, IfErr, IfSome, IsSome, Some, None, IsOkUnless, slice_get, vec_len, vec_capacity};
 ghost use Rattle.std.specs.Option.{option_map};
 ghost use Rattle.hmac_kdf.specs.Kdf.{IsKdfInput, kdf};
-ghost use Rattle.key_terms.specs.Ladder.{row, unheld, octets_at, origin_at, row_of, origin_of, HasRoot, HasSync, IsMade, IsLadder, Coincides, RootRefused, AddRefused, AreApart, IsIndexOf, IsHolder, holding};
+ghost use Rattle.key_terms.specs.Ladder.{row, unheld, octets_at, origin_at, row_of, origin_of, HasRoot, HasSync, IsMade, AreNumbered, IsLadder, Coincides, RootRefused, AddRefused, AreApart, IsIndexOf, IsHolder, holding};
 
 use crate::index::Index;
 use crate::{Holder, LadderRow, Origin, Row};
@@ -162,6 +162,7 @@ impl Ladder {
     /// How many rows there are. They stand for distinct derivations with distinct octets.
     pub fn len(&self) -> usize
         ensures len { result ≡ length self.now.rows }
+        ensures numbered { AreNumbered self.now.rows }
         ensures ladder { IsLadder self.now.rows }
     {
         self.rows.len()
