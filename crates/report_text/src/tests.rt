@@ -1,7 +1,12 @@
-use crate::line;
+ghost use Rattle.std.specs.Prelude.{◌≤◌};
+
+use crate::ladders::{each_holder, without_comma};
+use crate::{chance, ladder_text, line};
 use alg_choice::{Algs, Caps, Eea};
+use annex_a_keys::{AlgType, Cell, Kasme, Kenb};
+use key_terms::{Ladder, LadderRow, Origin, Proof, Row};
 use lte_events::{Answer, Class, KeyNote, Line, Who};
-use rec_base::{RecFault, UserText, Way};
+use rec_base::{Dir, RecFault, Use, UserText, Way};
 use std::alloc::Global;
 use std::process::Abort;
 use std::test::Fail;
@@ -160,4 +165,117 @@ fn an_empty_text_is_printed(rt: HostRuntime) -> Result<(), Fail> {
     text.append(b"hi");
     of.opened = Some(text);
     assert_line(&rt, rt.alloc(), &of, "9 station 0 done text=6869")
+}
+
+// A root of octets 00 to 1f.
+const KASME: [u8; 32] = [
+    0x00, 0x01, 0x02, 0x03, 0x04, 0x05, 0x06, 0x07, 0x08, 0x09, 0x0a, 0x0b, 0x0c, 0x0d, 0x0e, 0x0f,
+    0x10, 0x11, 0x12, 0x13, 0x14, 0x15, 0x16, 0x17, 0x18, 0x19, 0x1a, 0x1b, 0x1c, 0x1d, 0x1e, 0x1f,
+];
+
+// An empty ladder with room for 8 rows.
+fn ladder_with_room(rt: &impl Abort, alloc: Global) -> Ladder
+    ensures { 8 ≤ result.spare }
+{
+    let mut ladder = Ladder::new(alloc);
+    assert_eq!(rt; ladder.reserve(8), Ok(()));
+    ladder
+}
+
+#[test]
+fn rows_of_the_ladder_have_a_line_each(rt: HostRuntime) -> Result<(), Fail> {
+    let mut ladder = ladder_with_room(&rt, rt.alloc());
+    assert_eq!(rt; ladder.root(KASME), Ok(Row(0)));
+    let (kenb, made) = Kasme::of_octets(KASME).kenb(0);
+    let key = ladder.find(&made.key).expect(&rt, "a root");
+    assert_eq!(rt; ladder.row(key).origin, Origin::Root);
+    assert_eq!(rt; ladder.add(&made), Ok(Row(1)));
+    let (_, made) = Kasme::of_octets(KASME).nh_first(&kenb);
+    let key = ladder.find(&made.key).expect(&rt, "a root");
+    assert_eq!(rt; ladder.row(key).origin, Origin::Root);
+    ladder.find(&kenb.octets()).expect(&rt, "a SYNC-input");
+    assert_eq!(rt; ladder.add(&made), Ok(Row(2)));
+    let cell = Cell::new(11, 101).expect(&rt, "a cell in range");
+    let (_, made) = kenb.star(&cell);
+    ladder.find(&made.key).expect(&rt, "a KeNB");
+    assert_eq!(rt; ladder.add(&made), Ok(Row(3)));
+    let (_, made) = kenb.alg(AlgType::RrcEnc, 2);
+    ladder.find(&made.key).expect(&rt, "a KeNB");
+    assert_eq!(rt; ladder.add(&made), Ok(Row(4)));
+    let wanted = "\
+row 0 root 000102030405060708090a0b0c0d0e0f101112131415161718191a1b1c1d1e1f -
+row 1 kenb(0,0) e6267359de012d9bda173d1b6fae57dec0e04e01cfcf57cb33a7573f142b8b95 -
+row 2 nh(0,1) 09aba1730b0aaeee84feac6bc03f66b9aa90d45309b719114a90be777b24b74c -
+row 3 star(1,11,101) 4f92e8cee01ca1f84e022ac503175c61f6792a8fe01fa36a8e154c3910ba1a1c -
+row 4 alg(1,3,2) 9bf10551417d3b3128705dd54a20f8f1ae14c26e3ba014f8e4279841fb8ade28 -
+";
+    let text = ladder_text(rt.alloc(), &ladder)?;
+    assert_eq!(rt; text.as_slice(), wanted.as_bytes());
+    Ok(())
+}
+
+#[test]
+fn holders_stand_in_their_order(rt: HostRuntime) -> Result<(), Fail> {
+    let table = [
+        (false, false, [false; 8], "-"),
+        (true, false, [false; 8], "P"),
+        (
+            false,
+            true,
+            [false, false, false, false, false, false, false, true],
+            "C,S7",
+        ),
+        (true, true, [true; 8], "P,C,S0,S1,S2,S3,S4,S5,S6,S7"),
+        (
+            false,
+            false,
+            [false, true, false, true, false, true, false, false],
+            "S1,S3,S5",
+        ),
+    ];
+    for (phone, core, stations, wanted) in table {
+        let row = LadderRow {
+            origin: Origin::Root,
+            octets: KASME,
+            phone,
+            core,
+            stations,
+        };
+        let names = each_holder(rt.alloc(), &row)?;
+        assert_eq!(rt; without_comma(names.as_bytes()), wanted.as_bytes());
+    }
+    Ok(())
+}
+
+#[test]
+fn coincidences_print_what_shows_them(rt: HostRuntime) -> Result<(), Fail> {
+    let cell = Cell::new(503, 65536).expect(&rt, "a cell in range");
+    let made = Kenb::of_octets(KASME).star(&cell).1;
+    let text = chance(rt.alloc(), 5, &Proof::Rows(Row(2), made))?;
+    let wanted =
+        "5 coincidence rows 2 000102030405060708090a0b0c0d0e0f101112131415161718191a1b1c1d1e1f 1301f700020100000003\n";
+    assert_eq!(rt; text.as_slice(), wanted.as_bytes());
+    let text = chance(rt.alloc(), 0, &Proof::RootIsRow(Row(7), KASME))?;
+    assert_eq!(rt; text.as_slice(), b"0 coincidence root 7\n".as_slice());
+    let up = Use {
+        key: KASME,
+        count: 4294967295,
+        bearer: 5,
+        dir: Dir::Up,
+    };
+    let down = Use {
+        key: key(),
+        count: 1,
+        bearer: 0,
+        dir: Dir::Down,
+    };
+    let text = chance(rt.alloc(), 10, &Proof::Tuples(None, down))?;
+    let wanted =
+        "10 coincidence tuples nobody e0e1e2e3e4e5e6e7e8e9eaebecedeeeff0f1f2f3f4f5f6f7f8f9fafbfcfdfeff/1/0/down\n";
+    assert_eq!(rt; text.as_slice(), wanted.as_bytes());
+    let text = chance(rt.alloc(), 10, &Proof::Tuples(Some(up), down))?;
+    let wanted =
+        "10 coincidence tuples 000102030405060708090a0b0c0d0e0f101112131415161718191a1b1c1d1e1f/4294967295/5/up e0e1e2e3e4e5e6e7e8e9eaebecedeeeff0f1f2f3f4f5f6f7f8f9fafbfcfdfeff/1/0/down\n";
+    assert_eq!(rt; text.as_slice(), wanted.as_bytes());
+    Ok(())
 }
