@@ -1,0 +1,3 @@
+pub mod NasOut
+pub mod Judging
+pub mod PhoneNas

@@ -1,0 +1,53 @@
+-- The reply of a NAS part, and the reply of the whole actor that it stands for.
+use Rattle.std.specs.Prelude.{ℕ, false, List, [], ◌∷◌, map, Option, Some, None, option_map}
+use Rattle.annex_a_keys.specs.declared.derived.Derived.{Derived}
+use Rattle.rec_base.specs.declared.uses.Use.{Use}
+use Rattle.lte_events.specs.declared.addresses.Address.TheVariants.{CoreNas}
+use Rattle.lte_events.specs.declared.answers.Answer.{Answer}
+use Rattle.lte_events.specs.declared.replies.ActorOut.{ActorOut}
+use Rattle.lte_events.specs.declared.replies.Record.{Record}
+use Rattle.lte_machine.specs.Calls.{use_out}
+use Rattle.lte_machine.specs.Ciphers.{annex_b, octets_of, written}
+use Rattle.lte_machine.specs.Wire.{Outgoing, uses_of}
+use Rattle.nas_smc.specs.declared.reply.NasOut.{NasOut}
+
+-- an answer and nothing else
+abbrev pub alone : Answer → NasOut
+alone answer = record {
+  answer = answer;
+  pdu = None;
+  opened = None;
+  trigger = None;
+  derived = [];
+  used = [];
+  accepted = None;
+}
+
+-- an answer, and this message is sent
+abbrev pub sending : Answer → Outgoing (List ℕ) ℕ → NasOut
+sending answer x = record (alone answer) { pdu = Some (octets_of annex_b written x); used = map use_out (uses_of x) }
+
+-- the integrity use of a message is the last of its uses; one that is not protected has none
+abbrev pub tuple_in : List Use → Option Use
+tuple_in [] = None
+tuple_in (integrity ∷ []) = Some integrity
+tuple_in (ciphering ∷ integrity ∷ rest) = Some integrity
+
+-- a message of the phone to the core
+abbrev pub to_core : List ℕ → Record
+to_core octets = record { to = CoreNas; octets = octets }
+
+-- the phone's reply, which adds the derivations of all its parts
+abbrev pub phone_reply : NasOut → List Derived → ActorOut
+phone_reply out derived = record {
+  answer = out.answer;
+  sent = option_map to_core out.pdu;
+  tuple = tuple_in out.used;
+  opened = out.opened;
+  derived = derived;
+  received = None;
+  used = out.used;
+  accepted = out.accepted;
+  note = None;
+  alarm = false;
+}
