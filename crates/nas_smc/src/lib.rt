@@ -8,6 +8,8 @@ mod judging;
 mod partial;
 mod phone;
 mod reply;
+#[cfg(test)]
+mod tests;
 
 pub use phone::PhoneNas;
 pub use reply::NasOut;
