@@ -1,7 +1,7 @@
 ghost use Rattle.std.specs.Prelude.{◌≡◌, ◌+◌, ◌≤◌, ◌<◌, IfNone, IfSome, true, false, map, nat_le, ◌++◌, ◌∷◌, []};
 ghost use Rattle.rec_base.specs.declared.uses.Dir.TheVariants.{Up};
 ghost use Rattle.lte_events.specs.declared.answers.Answer.TheVariants.{Done};
-ghost use Rattle.nas_count.specs.Estimate.{LIMIT as NAS_LIMIT};
+ghost use Rattle.nas_count.specs.Estimate.{count_limit};
 ghost use Rattle.nas_guard.specs.Seal.{is_ciphered};
 ghost use Rattle.nas_rec.specs.Spelling.{spelling_of, InRange};
 ghost use Rattle.lte_machine.specs.Calls.{use_out};
@@ -30,14 +30,14 @@ pub(crate) struct Context {
 
 impl Model for Context {
     ghost use Rattle.std.specs.Prelude.{List, ℕ, ◌≤◌};
-    ghost use Rattle.nas_count.specs.Estimate.{LIMIT};
+    ghost use Rattle.nas_count.specs.Estimate.{count_limit};
     ghost use Rattle.lte_machine.specs.PhoneState.{NasContext};
 
     ghost Value = { NasContext (List ℕ) };
 
     ghost view = { λ c. record { root = c.root; keys = c.keys; send = c.send; receive = c.receive } };
 
-    ghost invariant = { λ c. c.send ≤ LIMIT };
+    ghost invariant = { λ c. c.send ≤ count_limit };
 }
 
 impl Context {
@@ -48,9 +48,9 @@ impl Context {
         requires above_plain { 1 ≤ header }
         requires at_most_four { header ≤ 4 }
         requires in_range { InRange told.now }
-        ensures spent { IfNone result (nat_le NAS_LIMIT self.old.send ≡ true) }
+        ensures spent { IfNone result (nat_le count_limit self.old.send ≡ true) }
         ensures same { IfNone result (self.new ≡ self.old) }
-        ensures left { IfSome result (λ sent. nat_le NAS_LIMIT self.old.send ≡ false) }
+        ensures left { IfSome result (λ sent. nat_le count_limit self.old.send ≡ false) }
         ensures new { IfSome result (λ sent. self.new ≡ one_nas_sent self.old) }
         ensures count { IfSome result (λ sent. sent.1 ≡ self.old.send) }
         ensures value { IfSome result (λ sent. sent.0 ≡ sending Done
@@ -71,7 +71,7 @@ impl Context {
     // Takes a downlink COUNT whose message was verified (TS 24.301 4.4.3.1).
     pub(crate) fn accept(&mut self, count: u32)
         requires at_or_above { self.old.receive ≤ count }
-        requires below { count < NAS_LIMIT }
+        requires below { count < count_limit }
         ensures { self.new ≡ record self.old { receive = count + 1 } }
     {
         self.receive.accept(count);
@@ -80,7 +80,7 @@ impl Context {
     // Leaves out so many uplink COUNTs.
     #[tactic(auto, using(crate::proofs::Counting::skipped_is))]
     pub(crate) fn skip(&mut self, n: u32)
-        ensures { self.new ≡ record self.old { send = skipped n self.old.send NAS_LIMIT } }
+        ensures { self.new ≡ record self.old { send = skipped n self.old.send count_limit } }
     {
         self.send.skip(n);
     }

@@ -4,7 +4,7 @@ ghost use Rattle.rec_base.specs.declared.uses.Dir.TheVariants.{Down};
 ghost use Rattle.key_model.specs.Least.{least};
 ghost use Rattle.key_model.specs.Reading.{octet_reading};
 ghost use Rattle.key_model.specs.Derivation.{derived_of};
-ghost use Rattle.nas_count.specs.Estimate.{LIMIT};
+ghost use Rattle.nas_count.specs.Estimate.{count_limit};
 ghost use Rattle.nas_guard.specs.Open.{IsProtected, first_in, header_in, sn_in};
 ghost use Rattle.nas_guard.specs.Seal.{is_ciphered};
 ghost use Rattle.lte_machine.specs.Calls.{use_out};
@@ -216,7 +216,7 @@ fn opened(
     requires protected { IsProtected (first_in pdu.now) }
     requires header { header ≡ header_in pdu.now }
     requires count { count ≡ least receive.now (sn_in pdu.now) 256 }
-    requires below { count < LIMIT }
+    requires below { count < count_limit }
     ensures { open_octets annex_b
         (OpensNas (nas_use Down keys.now.int count) (ciphering_if (is_ciphered header) (nas_ciphering Down keys.now count))) pdu.now
         ≡ outcome_of result }
