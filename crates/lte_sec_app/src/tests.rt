@@ -38,7 +38,7 @@ fn listed(alloc: Global, call: Option<u64>) -> Result<Vec<u64>, AllocError> {
 // What is shown, the text, the status and the output.
 type Case = (&'static str, &'static str, Status, &'static str);
 
-const CASES: [Case; 24] = [
+const CASES: [Case; 25] = [
     (
         "two lines",
         "root 000102030405060708090a0b0c0d0e0f101112131415161718191a1b1c1d1e1f\nkenb 0 0\n",
