@@ -1,1 +1,2 @@
 pub mod Prep
+pub mod Origin

@@ -7,7 +7,7 @@ use std::marker::Model;
 
 /// What a target station keeps for a phone that may come to one of its cells (TS 33.401 7.2.8.4). No
 /// bearer is in it, so nothing is sent from it.
-#[derive(Debug, Default, Drop)]
+#[derive(Debug, Drop)]
 pub struct Prep {
     /// The number of the phone's connection, at least 1.
     pub conn: u32,
@@ -49,4 +49,36 @@ impl Model for Prep {
       keys = p.keys;
       caps = p.caps;
     } };
+
+    ghost use Rattle.std.specs.Prelude.{◌≤◌, ◌<◌, ◌^◌};
+    ghost use Rattle.ho_prep.specs.Origin.{IsOrigin};
+
+    ghost invariant = { λ p.
+        (1 ≤ p.conn)
+        × (p.conn < 2 ^ 32)
+        × (p.source ≤ 7)
+        × (1 ≤ p.attempt)
+        × (p.attempt < 2 ^ 32)
+        × (1 ≤ p.air)
+        × (p.caps.eea < 256)
+        × (p.caps.eia < 256)
+        × IsOrigin p.by };
+}
+
+// What the unused places of a bounded list of preparations hold.
+impl Default for Prep {
+    fn default() -> Prep {
+        Prep {
+            conn: 1,
+            source: 0,
+            attempt: 1,
+            by: By::default(),
+            cell: Cell::default(),
+            air: 1,
+            key: StationKey::default(),
+            algs: Algs::default(),
+            keys: AsKeys::default(),
+            caps: Caps::default(),
+        }
+    }
 }

@@ -111,7 +111,8 @@ impl Preps {
 
     /// Drops the preparations of lower connections than this, and keeps the others in order.
     pub fn drop_below(&mut self, conn: u32)
-        ensures { self.new ≡ drop_below conn self.old }
+        ensures kept { self.new ≡ drop_below conn self.old }
+        ensures at_most_eight { length self.old ≤ most }
     {
         self.list.retain(|prep| prep.conn >= conn);
     }

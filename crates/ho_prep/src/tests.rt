@@ -1,8 +1,13 @@
+ghost use Rattle.std.specs.Prelude.{◌≤◌};
+
 use super::*;
 use std::process::Abort;
 
 // A preparation of this connection for attempt 10 + air of station 3, at an air address.
-fn prep(conn: u32, air: u8) -> Prep {
+fn prep(conn: u32, air: u8) -> Prep
+    requires conn { 1 ≤ conn }
+    requires air { 1 ≤ air }
+{
     Prep {
         conn,
         source: 3,
@@ -17,7 +22,7 @@ fn preps_of(rt: &impl Abort, conns: &[u32]) -> Preps {
     let mut preps = Preps::new();
     let mut air = 0;
     for conn in conns {
-        assert!(rt; air < 8);
+        assert!(rt; air < 8 && *conn > 0);
         air += 1;
         preps
             .add(prep(*conn, air))

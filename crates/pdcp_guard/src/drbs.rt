@@ -101,7 +101,8 @@ impl Drb {
 
     /// Leaves out so many COUNTs to send with, to 2^32 at the most.
     pub fn skip(&mut self, n: u32)
-        ensures { self.new ≡ sends_next self.old (skipped self.old.counts.send n) }
+        ensures next { self.new ≡ sends_next self.old (skipped self.old.counts.send n) }
+        ensures in_range { self.old.counts.send ≤ count_limit }
     {
         self.counts.skip(n);
     }

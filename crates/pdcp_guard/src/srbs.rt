@@ -119,14 +119,16 @@ impl Srb {
 
     /// Leaves out so many COUNTs to send with, to 2^32 at the most.
     pub fn skip(&mut self, n: u32)
-        ensures { self.new ≡ sends_next self.old (skipped self.old.counts.send n) }
+        ensures next { self.new ≡ sends_next self.old (skipped self.old.counts.send n) }
+        ensures in_range { self.old.counts.send ≤ count_limit }
     {
         self.counts.skip(n);
     }
 
     /// Whether no COUNT is left to send with.
     pub fn spent(&self) -> bool
-        ensures { IsTrue result ↔ (self.now.counts.send ≡ count_limit) }
+        ensures spent { IsTrue result ↔ (self.now.counts.send ≡ count_limit) }
+        ensures in_range { self.now.counts.send ≤ count_limit }
     {
         self.counts.next().is_err()
     }

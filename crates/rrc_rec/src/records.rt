@@ -75,7 +75,8 @@ impl RrcRecord {
     #[tactic(auto, unfolding(crate::specs::Spelling::spelling_of))]
     pub fn write(&self) -> Octets
         requires { InRange self.now }
-        ensures { result ≡ spelling_of self.now }
+        ensures value { result ≡ spelling_of self.now }
+        ensures length { length result ≤ 201 }
     {
         match self {
             RrcRecord::SecurityModeCommand { algs, station, air } => {
