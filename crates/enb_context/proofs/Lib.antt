@@ -1,0 +1,6 @@
+pub mod PrepFacts
+pub mod Sealing
+pub mod Serving
+pub mod AirSteps
+pub mod OrderSteps
+pub mod Refused

@@ -1,0 +1,7 @@
+pub mod Acts
+pub mod Attempt
+pub mod Bearers
+pub mod Orders
+pub mod Preps
+pub mod Step
+pub mod Wanted

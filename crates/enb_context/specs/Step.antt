@@ -1,0 +1,64 @@
+-- One step of the station in octets, by the input as it reads.
+use Rattle.std.specs.Prelude.{ℕ, List, Option, None, Some}
+use Rattle.alg_choice.specs.declared.algs.Algs.{Algs}
+use Rattle.lte_events.specs.declared.answers.Answer.TheVariants.{Done}
+use Rattle.lte_events.specs.declared.replies.ActorOut.{ActorOut}
+use Rattle.key_model.specs.Reading.{octet_reading}
+use Rattle.key_model.specs.HandoverTable.{NumberedKey}
+use Rattle.s1x2_rec.specs.Fields.{Fields}
+use Rattle.lte_machine.specs.Ciphers.{annex_b}
+use Rattle.lte_machine.specs.Opening.{open_octets}
+use Rattle.lte_machine.specs.Reply.{Reply, only, finished}
+use Rattle.lte_machine.specs.Wire.{Outgoing, KeyUse, srb_use}
+use Rattle.lte_machine.specs.StationRows.{ActRow, AirRow}
+use Rattle.lte_machine.specs.StationKeys.{act_does, air_does}
+use Rattle.pdcp_guard.specs.AsKeys.{AsKeys}
+use Rattle.rec_base.specs.declared.bearers.Bearer.{Bearer}
+use Rattle.rec_base.specs.declared.uses.Dir.TheVariants.{Up}
+use Rattle.enb_context.specs.Bearers.{srb_of}
+use Rattle.lte_machine.specs.StationState.{Station, Context, Interface, OnS1, OnX2, StationInput, StationRecord}
+use Rattle.lte_machine.specs.StationStep.{station_step, station_opens, station_pdu_in, plain_station}
+use Rattle.lte_machine.specs.StationChoice.{PlainStation}
+use Rattle.lte_machine.specs.Calls.{actor_out}
+use Rattle.std.specs.Prelude.{Result, Ok, Err}
+
+-- the station afterwards and its reply; a call is this of the input as it reads
+abbrev pub answered : Station (List ℕ) ℕ → StationInput (List ℕ) ℕ → Station (List ℕ) ℕ × ActorOut
+answered s input =
+    let outcome = open_octets annex_b (station_opens octet_reading s input) (station_pdu_in input) in
+    let done = station_step octet_reading s input outcome in
+    (done.0, actor_out done.1)
+
+-- the step at a record on S1, and at one on X2
+abbrev pub on_s1 : Station (List ℕ) ℕ → Fields → Option (NumberedKey (List ℕ) ℕ) → Station (List ℕ) ℕ × ActorOut
+on_s1 s fields key = answered s (StationRecord OnS1 (Ok (record { fields = fields; key = key })))
+
+abbrev pub on_x2 : Station (List ℕ) ℕ → Fields → Option (NumberedKey (List ℕ) ℕ) → Station (List ℕ) ℕ × ActorOut
+on_x2 s fields key = answered s (StationRecord OnX2 (Ok (record { fields = fields; key = key })))
+
+-- the station with this context
+abbrev pub serving : Station (List ℕ) ℕ → Context (List ℕ) ℕ → Station (List ℕ) ℕ
+serving s context = record s { context = Some context }
+
+-- the station as the choice of a row sees it
+abbrev pub seen_plain : Station (List ℕ) ℕ → PlainStation
+seen_plain s = plain_station octet_reading s
+
+-- a reply that sends this and nothing else
+abbrev pub sending : Outgoing (List ℕ) ℕ → ActorOut
+sending x = actor_out (record (only {C = ℕ} Done) { sent = Some x })
+
+-- the step of a row by an act, and of one by a PDU that was accepted under this use
+abbrev pub by_act : Station (List ℕ) ℕ → ActRow → Station (List ℕ) ℕ × ActorOut
+by_act s row = let d = act_does octet_reading row s in (d.0, actor_out (finished None None d.1))
+
+abbrev pub by_air : Station (List ℕ) ℕ → Option (KeyUse (List ℕ)) → AirRow → Station (List ℕ) ℕ × ActorOut
+by_air s accepted row = let d = air_does octet_reading row s in (d.0, actor_out (finished None accepted d.1))
+
+-- the use of RRC integrity of a PDU from the phone
+abbrev pub from_phone : AsKeys (List ℕ) → Bearer → ℕ → KeyUse (List ℕ)
+from_phone keys bearer count = srb_use Up keys.rrc_int (srb_of bearer) count
+
+-- a station of this number with this context
+abbrev pub serving_at : Station (List ℕ) ℕ → ℕ → Context (List ℕ) ℕ → Station (List ℕ) ℕ
+serving_at s id context = record s { id = id; context = Some context }

@@ -1,0 +1,141 @@
+// Acts of the station.
+ghost use Rattle.std.specs.Prelude.{◌≡◌, ◌≤◌, Some, ℕ, List};
+ghost use Rattle.lte_events.specs.declared.acts.StationAct.TheVariants.{Ask, SendUser, SendRrc, Skip};
+ghost use Rattle.lte_machine.specs.Bearers.{which};
+ghost use Rattle.lte_machine.specs.StationState.{Station as State, StationActs};
+ghost use Rattle.lte_machine.specs.StationKeys.{with_skipped};
+ghost use Rattle.pdcp_guard.specs.Drb.{IsDrb};
+ghost use Rattle.pdcp_guard.specs.Srb.{IsSrb};
+ghost use Rattle.enb_context.specs.Step.{answered, serving_at};
+
+use crate::Station;
+use crate::context::Context;
+use crate::sends::sends;
+use lte_events::{ActorOut, Address, Answer};
+use rec_base::{Bearer, ShortText, UserText};
+use rrc_rec::RrcRecord;
+use s1x2_rec::CoreRecord;
+
+impl Station {
+    // Path Switch Request again (TS 36.413 8.4.4), under a new number, whose answer alone is taken now.
+    pub(crate) fn ask(&mut self) -> ActorOut
+        ensures { (self.new, result) ≡ answered self.old (StationActs Ask) }
+    {
+        let drawn = self.number(1);
+        let Some(context) = &mut self.context else {
+            return ActorOut::of(Answer::NoUe);
+        };
+        if context.starting {
+            return ActorOut::of(Answer::NotActive);
+        }
+        if context.origin.is_none() {
+            return ActorOut::of(Answer::NoPathSwitch);
+        }
+        let Some(number) = drawn else {
+            return ActorOut::of(Answer::NumberSpent);
+        };
+        let request = CoreRecord::PathSwitchRequest {
+            conn: context.conn,
+            station: self.id,
+            number,
+            cell: context.cell,
+            caps: context.caps,
+        };
+        context.await_answer(number);
+        self.next = u64::from(number) + 1;
+        sends(Address::CoreS1, &request)
+    }
+
+    // A user packet on a DRB (TS 36.323 5.1.1).
+    pub(crate) fn send_user(&mut self, bearer: Bearer, text: &UserText) -> ActorOut
+        requires { IsDrb bearer }
+        ensures { (self.new, result) ≡ answered self.old (StationActs (SendUser bearer text.now)) }
+    {
+        let id = self.id;
+        let Some(context) = &mut self.context else {
+            return ActorOut::of(Answer::NoUe);
+        };
+        context.send_user(id, bearer, text)
+    }
+
+    // An RRC text on an SRB.
+    pub(crate) fn send_rrc(&mut self, bearer: Bearer, text: &ShortText) -> ActorOut
+        requires { IsSrb bearer }
+        ensures { (self.new, result) ≡ answered self.old (StationActs (SendRrc bearer text.now)) }
+    {
+        let id = self.id;
+        let Some(context) = &mut self.context else {
+            return ActorOut::of(Answer::NoUe);
+        };
+        context.send_rrc(id, bearer, text)
+    }
+
+    // Leaves out so many sending COUNTs of a bearer.
+    pub(crate) fn skip(&mut self, bearer: Bearer, n: u32) -> ActorOut
+        ensures { (self.new, result) ≡ answered self.old (StationActs (Skip bearer n)) }
+    {
+        let Some(context) = &mut self.context else {
+            return ActorOut::of(Answer::NoUe);
+        };
+        if context.starting {
+            return ActorOut::of(Answer::NotActive);
+        }
+        context.skip(bearer, n);
+        ActorOut::of(Answer::Done)
+    }
+}
+
+impl Context {
+    // The answer to the request of this number is outstanding.
+    fn await_answer(&mut self, number: u32)
+        ensures { self.new ≡ record self.old { outstanding = Some number } }
+    {
+        self.outstanding = Some(number);
+    }
+
+    fn skip(&mut self, bearer: Bearer, n: u32)
+        ensures { self.new ≡ with_skipped (which bearer) n self.old }
+    {
+        self.bearers.skip(bearer, n);
+    }
+
+    #[tactic(auto, using(crate::proofs::Serving::which_drb))]
+    fn send_user(&mut self, id: u8, bearer: Bearer, text: &UserText) -> ActorOut
+        requires drb { IsDrb bearer }
+        ensures step { (s : State (List ℕ) ℕ) → (serving_at s id self.new, result) ≡ answered (serving_at s id self.old) (StationActs (SendUser bearer text.now)) }
+        ensures conn { self.new.conn ≡ self.old.conn }
+    {
+        if self.starting {
+            return ActorOut::of(Answer::NotActive);
+        }
+        match self.packet(id, bearer, text) {
+            Some(sent) => sent,
+            None => ActorOut::of(Answer::CountSpent),
+        }
+    }
+
+    #[tactic(auto, using(crate::proofs::Serving::which_srb))]
+    fn send_rrc(&mut self, id: u8, bearer: Bearer, text: &ShortText) -> ActorOut
+        requires srb { IsSrb bearer }
+        ensures step { (s : State (List ℕ) ℕ) → (serving_at s id self.new, result) ≡ answered (serving_at s id self.old) (StationActs (SendRrc bearer text.now)) }
+        ensures conn { self.new.conn ≡ self.old.conn }
+    {
+        if self.starting {
+            return ActorOut::of(Answer::NotActive);
+        }
+        let message = RrcRecord::RrcData(copied(text)).write();
+        match self.signal(id, bearer, true, message.as_slice()) {
+            Some(sent) => sent,
+            None => ActorOut::of(Answer::CountSpent),
+        }
+    }
+}
+
+// The same text.
+fn copied(text: &ShortText) -> ShortText
+    ensures { result ≡ text.now }
+{
+    let mut copy = ShortText::new();
+    copy.append(text.as_slice());
+    copy
+}

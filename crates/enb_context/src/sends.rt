@@ -1,0 +1,34 @@
+ghost use Rattle.std.specs.Prelude.{◌≡◌, ◌+◌, ◌≤◌, ◌∷◌, ◌++◌, Some, List, ℕ, length};
+ghost use Rattle.lte_machine.specs.Calls.{note_out};
+ghost use Rattle.lte_events.specs.Reply.{reply_of};
+ghost use Rattle.lte_machine.specs.Wire.{Between};
+ghost use Rattle.s1x2_rec.specs.Content.{content_of};
+ghost use Rattle.s1x2_rec.specs.Spelling.{InRange};
+ghost use Rattle.enb_context.specs.Step.{sending};
+
+use lte_events::{ActorOut, Address, Answer, Record};
+use s1x2_rec::CoreRecord;
+
+// An answer to a record that held this key.
+pub(crate) fn heard(answer: Answer, key: [u8; 32]) -> ActorOut
+    ensures { result ≡ record (reply_of answer) { received = Some key } }
+{
+    ActorOut {
+        received: Some(key),
+        ..ActorOut::of(answer)
+    }
+}
+
+// What sends a record on S1 or X2.
+pub(crate) fn sends(to: Address, message: &CoreRecord) -> ActorOut
+    requires { InRange (content_of message.now) }
+    ensures { result ≡ sending (Between to (content_of message.now).fields (content_of message.now).key) }
+{
+    ActorOut {
+        sent: Some(Record {
+            to,
+            octets: message.write(),
+        }),
+        ..ActorOut::of(Answer::Done)
+    }
+}
