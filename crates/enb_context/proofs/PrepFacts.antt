@@ -4,7 +4,7 @@ use Rattle.std.specs.Prelude.{◌↔◌, Result, Ok, Err, IsErr, OnOk, IfSome, O
 use Rattle.std.specs.List.{list_any}
 use Rattle.std.proofs.lemmas.Bool.Decides.{nat_tests}
 use Rattle.std.proofs.lemmas.List.Elements.{All-filter, All-push, All-nil}
-use Rattle.ho_prep.specs.Prep.{Prep, map_prep, is_at, is_of, at_air, has_attempt, without, drop_below, most}
+use Rattle.ho_prep.specs.Prep.{Prep, map_prep, is_at, is_of, at_air, has_attempt, without, drop_below, most_preparations}
 use Rattle.lte_machine.specs.StationState.{map_preps, Context}
 use Rattle.enb_context.specs.Preps.{NoneAbove, IsWithin}
 
@@ -55,7 +55,7 @@ no_longer p (x ∷ xs) = by_test (no_longer p xs) (p x)
 
 -- a request that is admitted finds room
 pub drop_below_room : (last conn : ℕ) (ps : List (Prep (List ℕ) ℕ)) → NoneAbove last ps → last ≤ conn → length ps ≤ 8 → (conn ≡ last → length ps < 8) → length (drop_below conn ps) < 8
-drop_below_room last conn ps h le most room = by_test (nat_lt last conn) refl
+drop_below_room last conn ps h le few room = by_test (nat_lt last conn) refl
   where
     by_test : (b : Bool) → nat_lt last conn ≡ b → length (drop_below conn ps) < 8
     by_test true e = let lt : last < conn = grind (arith, nat_tests) in rw (none_left last conn lt ps h.all) (omega arith)
@@ -86,9 +86,9 @@ within_higher last conn None h le = tt
 within_higher last conn (Some c) h le = omega (arith, h)
 
 -- what is added where there is room
-pub added : {P A : Type 0} (n : ℕ) (r : Result (Unit {0}) P) → (IsErr r ↔ (n ≡ most)) → n < 8 → OnOk r A → A
+pub added : {P A : Type 0} (n : ℕ) (r : Result (Unit {0}) P) → (IsErr r ↔ (n ≡ most_preparations)) → n < 8 → OnOk r A → A
 added n (Ok u) full few ok = ok
-added n (Err back) full few ok = absurd (let e : n ≡ most = full.0 refl in omega (arith, e))
+added n (Err back) full few ok = absurd (let e : n ≡ most_preparations = full.0 refl in omega (arith, e))
 
 -- nothing is dropped where nothing stands
 pub none_without : (source attempt : ℕ) (ps : List (Prep (List ℕ) ℕ)) → has_attempt source attempt ps ≡ false → without source attempt ps ≡ ps

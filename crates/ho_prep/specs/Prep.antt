@@ -40,8 +40,8 @@ map_prep f g p = record {
 }
 
 -- how many preparations a station holds at most
-abbrev pub most : ℕ
-most = 8
+abbrev pub most_preparations : ℕ
+most_preparations = 8
 
 -- whether a preparation has this air address
 abbrev pub is_at : {K C : Type 0} → ℕ → Prep K C → Bool

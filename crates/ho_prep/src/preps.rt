@@ -1,6 +1,6 @@
 ghost use Rattle.std.specs.Prelude.{◌≡◌, ◌≤◌, ◌↔◌, [], ◌∷◌, ◌++◌, length, position, IsErr, OnOk, OnErr, IfErr};
 ghost use Rattle.std.specs.Option.{option_copied};
-ghost use Rattle.ho_prep.specs.Prep.{at_air, drop_below, has_attempt, is_at, most, without, without_at};
+ghost use Rattle.ho_prep.specs.Prep.{at_air, drop_below, has_attempt, is_at, most_preparations, without, without_at};
 
 use crate::Prep;
 use arrayvec::ArrayVec;
@@ -35,7 +35,7 @@ impl Preps {
 
     /// Adds a preparation behind the others, or hands it back where eight stand.
     pub fn add(&mut self, prep: Prep) -> Result<(), Prep>
-        ensures full { IsErr result ↔ (length self.old ≡ most) }
+        ensures full { IsErr result ↔ (length self.old ≡ most_preparations) }
         ensures ok { OnOk result (self.new ≡ self.old ++ prep ∷ []) }
         ensures err { OnErr result (self.new ≡ self.old) }
         ensures handed_back { IfErr result (λ back. back ≡ prep) }
@@ -104,7 +104,7 @@ impl Preps {
     /// How many preparations there are, at most eight.
     pub fn len(&self) -> usize
         ensures value { result ≡ length self.now }
-        ensures at_most_eight { length self.now ≤ most }
+        ensures at_most_eight { length self.now ≤ most_preparations }
     {
         self.list.len()
     }
@@ -112,7 +112,7 @@ impl Preps {
     /// Drops the preparations of lower connections than this, and keeps the others in order.
     pub fn drop_below(&mut self, conn: u32)
         ensures kept { self.new ≡ drop_below conn self.old }
-        ensures at_most_eight { length self.old ≤ most }
+        ensures at_most_eight { length self.old ≤ most_preparations }
     {
         self.list.retain(|prep| prep.conn >= conn);
     }

@@ -3,6 +3,7 @@ use Rattle.std.specs.Prelude.{◌≡◌, ℕ, ◌<◌, ◌≤◌, ◌^◌, ◌==
 use Rattle.std.specs.List.{list_any, IsDistinct}
 use Rattle.alg_choice.specs.declared.caps.Caps.{Caps}
 use Rattle.annex_a_keys.specs.Cell.{IsCell}
+use Rattle.rec_base.specs.Lengths.{longest_packet, longest_text, longest_record}
 use Rattle.rec_base.specs.declared.bearers.Bearer.{Bearer}
 use Rattle.rec_base.specs.declared.bearers.Bearer.TheVariants.{Srb1, Srb2}
 use Rattle.lte_events.specs.declared.acts.PhoneAct.{PhoneAct}
@@ -93,20 +94,20 @@ pub record SetupFits (setup : Setup) : Type 0 where
 
 -- and of an event
 abbrev pub PhoneActFits : PhoneAct → Type 0
-PhoneActFits (phone.SendUser bearer text) = IsText 1500 text
-PhoneActFits (phone.SendRrc bearer text) = IsText 200 text
-PhoneActFits (phone.SendNas text) = IsText 200 text
+PhoneActFits (phone.SendUser bearer text) = IsText longest_packet text
+PhoneActFits (phone.SendRrc bearer text) = IsText longest_text text
+PhoneActFits (phone.SendNas text) = IsText longest_text text
 PhoneActFits other = Unit {0}
 
 abbrev pub StationActFits : StationAct → Type 0
 StationActFits (station.Start kind cell) = IsCell cell
-StationActFits (station.SendUser bearer text) = IsText 1500 text
-StationActFits (station.SendRrc bearer text) = IsText 200 text
+StationActFits (station.SendUser bearer text) = IsText longest_packet text
+StationActFits (station.SendRrc bearer text) = IsText longest_text text
 StationActFits other = Unit {0}
 
 abbrev pub CoreActFits : CoreAct → Type 0
 CoreActFits (core.Connect cell) = IsCell cell
-CoreActFits (core.SendNas text) = IsText 200 text
+CoreActFits (core.SendNas text) = IsText longest_text text
 CoreActFits other = Unit {0}
 
 abbrev pub EventFits : Event → Type 0
@@ -115,4 +116,4 @@ EventFits (event.Phone act) = PhoneActFits act
 EventFits (event.Station id act) = StationActFits act
 EventFits (event.Core act) = CoreActFits act
 EventFits (event.Deliver i) = Unit {0}
-EventFits (event.Inject to octets) = IsText 1536 octets
+EventFits (event.Inject to octets) = IsText longest_record octets

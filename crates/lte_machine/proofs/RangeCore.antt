@@ -11,7 +11,7 @@ use Rattle.annex_a_keys.specs.Cell.{Place, IsCell}
 use Rattle.rec_base.specs.declared.faults.RecFault.{RecFault}
 use Rattle.lte_events.specs.declared.acts.CoreAct.{CoreAct}
 use Rattle.lte_events.specs.declared.acts.CoreAct.TheVariants.{StartSmc, Connect, Release, SendNas, Skip}
-use Rattle.nas_count.specs.declared.sending.TheConstants.{LIMIT}
+use Rattle.nas_count.specs.Estimate.{count_limit}
 use Rattle.nas_guard.specs.Keys.{Keys}
 use Rattle.key_model.specs.Reading.{Reading, term_reading_by}
 use Rattle.key_model.specs.Term.{Term}
@@ -198,7 +198,7 @@ record_ranged s (Ok content) h f = fields_ranged s content.fields h f
 
 smc_ranged : (partial : CorePartial (Unit {0})) (chosen : Result Algs NoneChosen) → ActRowRanged (smc_row partial chosen)
 smc_ranged partial (Err none) = tt
-smc_ranged partial (Ok algs) = by_test ActRowRanged (nat_le LIMIT partial.send) _ _ (λ e. tt) (λ e. tt)
+smc_ranged partial (Ok algs) = by_test ActRowRanged (nat_le count_limit partial.send) _ _ (λ e. tt) (λ e. tt)
 
 start_smc_ranged : (priority : List Eea) (partial : Option (CorePartial (Unit {0}))) (procedure : Option (Keys (Unit {0}))) → ActRowRanged (start_smc_row priority partial procedure)
 start_smc_ranged priority None procedure = tt
@@ -221,7 +221,7 @@ release_ranged (Some link) h = h
 
 send_nas_ranged : (o : Option (CoreContext (Unit {0}))) (text : List ℕ) → ActRowRanged (send_nas_row o text)
 send_nas_ranged None text = tt
-send_nas_ranged (Some context) text = by_test ActRowRanged (nat_le LIMIT context.nas.send) _ _ (λ e. tt) (λ e. tt)
+send_nas_ranged (Some context) text = by_test ActRowRanged (nat_le count_limit context.nas.send) _ _ (λ e. tt) (λ e. tt)
 
 skip_nas_ranged : (o : Option (CoreContext (Unit {0}))) (n : ℕ) → ActRowRanged (skip_nas_row o n)
 skip_nas_ranged None n = tt

@@ -2,8 +2,7 @@
 use Rattle.std.specs.Prelude.{ℕ, ◌+◌, ◌-◌, min, nat_le, Bool}
 use Rattle.rec_base.specs.declared.bearers.Bearer.{Bearer}
 use Rattle.rec_base.specs.declared.bearers.Bearer.TheVariants.{Srb1, Srb2, Drb1, Drb2, Drb3, Drb4}
-use Rattle.pdcp_guard.specs.Counts.{Counts}
-use Rattle.pdcp_guard.specs.declared.counting.TheConstants.{LIMIT}
+use Rattle.pdcp_guard.specs.Counts.{Counts, count_limit}
 
 -- SRB1 and SRB2 (TS 36.331 4.2.2)
 pub data Srb : Type 0 where
@@ -86,7 +85,7 @@ abbrev pub skipped : ℕ → ℕ → ℕ → ℕ
 skipped n count end = count + min n (end - count)
 
 abbrev pub some_skipped : ℕ → Counts → Counts
-some_skipped n c = record { send = skipped n c.send LIMIT; receive = c.receive }
+some_skipped n c = record { send = skipped n c.send count_limit; receive = c.receive }
 
 abbrev pub srb_sent : Srb → Bearers → Bearers
 srb_sent srb b = with_srb srb (one_sent (srb_counts srb b)) b
@@ -106,4 +105,4 @@ skipped_on (OnDrb drb) n b = with_drb drb (some_skipped n (drb_counts drb b)) b
 
 -- no COUNT is left to send with
 abbrev pub is_spent : Counts → Bool
-is_spent c = nat_le LIMIT c.send
+is_spent c = nat_le count_limit c.send

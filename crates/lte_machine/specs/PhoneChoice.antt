@@ -7,13 +7,13 @@ use Rattle.alg_choice.specs.Choice.{are_supported}
 use Rattle.annex_a_keys.specs.Cell.{Place}
 use Rattle.key_model.specs.HandoverLines.{steps_to}
 use Rattle.rec_base.specs.declared.faults.RecFault.{RecFault}
+use Rattle.rec_base.specs.Lengths.{longest_packet}
 use Rattle.lte_events.specs.declared.answers.Answer.{Answer}
 use Rattle.lte_events.specs.declared.answers.Answer.TheVariants.{Done, NoContext, WrongKsi, CapsMismatch, AlgUnsupported, MacFails, CountSpent, BadRecord, Short, BadHeader, WrongKind, NotConnected, NotAddressed, NothingToResend, AlreadyConnected}
 use Rattle.lte_events.specs.declared.acts.PhoneAct as acts
 use Rattle.lte_events.specs.declared.acts.PhoneAct.{PhoneAct}
 use Rattle.nas_count.specs.declared.sending.CountSpent as spent
-use Rattle.nas_count.specs.declared.sending.TheConstants.{LIMIT as NAS_LIMIT}
-use Rattle.nas_count.specs.Estimate.{estimate_of}
+use Rattle.nas_count.specs.Estimate.{count_limit, estimate_of}
 use Rattle.nas_guard.specs.Open.{first_in, header_in, sn_in, sent_in}
 use Rattle.nas_rec.specs.declared.records.NasRecord as nas
 use Rattle.nas_rec.specs.declared.records.NasRecord.{NasRecord}
@@ -79,7 +79,7 @@ header_for_phone pdu =
 -- where no uplink COUNT is left, nothing is sent
 abbrev pub rejected : Answer → ℕ → Option (NasContext (Unit {0})) → NasRow
 rejected answer cause None = RejectedPlain answer cause
-rejected answer cause (Some c) = if nat_le NAS_LIMIT c.send then NasRefused answer else RejectedUnder answer cause
+rejected answer cause (Some c) = if nat_le count_limit c.send then NasRefused answer else RejectedUnder answer cause
 
 -- causes of 9.9.3.9: the replayed capabilities are not the phone's, and any other
 abbrev pub capabilities_mismatch : ℕ
@@ -235,11 +235,8 @@ abbrev pub signalling_row : Caps → Srb → ℕ → ℕ → Outcome → AirRow
 signalling_row caps srb count own (Differs wanted got) = AirRefused (MacFails count wanted got)
 signalling_row caps srb count own (Opened text) = signalling_read caps srb count own (read_rrc text)
 
--- the octets of a packet that are handed on. This project's own rule: the first 1,500
-abbrev pub longest_packet : ℕ
-longest_packet = 1500
-
--- a packet on a DRB has no integrity, and always opens (TS 36.323 5.6)
+-- a packet on a DRB has no integrity, and always opens (TS 36.323 5.6). This project's own rule: the first 1,500 octets of
+-- its text are handed on
 abbrev pub packet_row : Drb → ℕ → Outcome → AirRow
 packet_row drb count (Differs wanted got) = AirRefused (MacFails count wanted got)
 packet_row drb count (Opened text) = PacketOpened drb count (take longest_packet text)
@@ -260,7 +257,7 @@ unless_spent false row = row
 -- one under the NAS context in use
 abbrev pub under_context : Option (NasContext (Unit {0})) → ActRow → ActRow
 under_context None row = ActRefused NoContext
-under_context (Some c) row = unless_spent (nat_le NAS_LIMIT c.send) row
+under_context (Some c) row = unless_spent (nat_le count_limit c.send) row
 
 -- a SERVICE REQUEST, of a phone with no connection (TS 24.301 5.6.1.1)
 abbrev pub service_row : Option (NasContext (Unit {0})) → Radio (Unit {0}) ℕ → ActRow

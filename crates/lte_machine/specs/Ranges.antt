@@ -9,6 +9,7 @@ use Rattle.lte_events.specs.declared.setups.Setup.{Setup}
 use Rattle.lte_events.specs.declared.setups.StationSetup.{StationSetup}
 use Rattle.lte_events.specs.Site.{Site}
 use Rattle.annex_a_keys.specs.Cell.{IsCell}
+use Rattle.rec_base.specs.Lengths.{longest_packet, longest_text, longest_record}
 use Rattle.s1x2_rec.specs.Spelling.{IsNumber, IsCaps}
 
 -- of each element of a list
@@ -25,20 +26,20 @@ abbrev pub IsText : ℕ → List ℕ → Type 0
 IsText most text = AreOctets text × (length text ≤ most)
 
 abbrev pub IsPhoneAct : PhoneAct → Type 0
-IsPhoneAct (PhoneAct.SendUser bearer text) = IsText 1500 text
-IsPhoneAct (PhoneAct.SendRrc bearer text) = IsText 200 text
-IsPhoneAct (PhoneAct.SendNas text) = IsText 200 text
+IsPhoneAct (PhoneAct.SendUser bearer text) = IsText longest_packet text
+IsPhoneAct (PhoneAct.SendRrc bearer text) = IsText longest_text text
+IsPhoneAct (PhoneAct.SendNas text) = IsText longest_text text
 IsPhoneAct other = Unit {0}
 
 abbrev pub IsStationAct : StationAct → Type 0
 IsStationAct (StationAct.Start kind cell) = IsCell cell
-IsStationAct (StationAct.SendUser bearer text) = IsText 1500 text
-IsStationAct (StationAct.SendRrc bearer text) = IsText 200 text
+IsStationAct (StationAct.SendUser bearer text) = IsText longest_packet text
+IsStationAct (StationAct.SendRrc bearer text) = IsText longest_text text
 IsStationAct other = Unit {0}
 
 abbrev pub IsCoreAct : CoreAct → Type 0
 IsCoreAct (CoreAct.Connect cell) = IsCell cell
-IsCoreAct (CoreAct.SendNas text) = IsText 200 text
+IsCoreAct (CoreAct.SendNas text) = IsText longest_text text
 IsCoreAct other = Unit {0}
 
 -- an address at which octets may be injected: a phone or core on NAS, a phone or a station on the air
@@ -55,7 +56,7 @@ IsEvent (Event.Phone act) = IsPhoneAct act
 IsEvent (Event.Station id act) = IsStationAct act
 IsEvent (Event.Core act) = IsCoreAct act
 IsEvent (Event.Deliver i) = Unit {0}
-IsEvent (Event.Inject to octets) = TakesInjected to × IsText 1536 octets
+IsEvent (Event.Inject to octets) = TakesInjected to × IsText longest_record octets
 
 -- a station of a setup: its number is 0 to 7, and its first number at least 1
 abbrev pub IsStation : StationSetup → Type 0

@@ -7,6 +7,7 @@ use Rattle.alg_choice.specs.declared.choices.NoAlgorithm.{NoAlgorithm as Unmatch
 use Rattle.alg_choice.specs.Choice.{choice_of}
 use Rattle.annex_a_keys.specs.Cell.{Place}
 use Rattle.rec_base.specs.declared.faults.RecFault.{RecFault}
+use Rattle.rec_base.specs.Lengths.{longest_packet}
 use Rattle.lte_events.specs.declared.answers.Answer.TheVariants.{Done, MacFails, CountSpent, NoAlgorithm, BadRecord, WrongKind, NotAddressed, NoUe, Stale, OldConnection, NotActive, UnknownCell, NoPathSwitch, AttemptOpen, NoAttempt, CommandSent, Repeated, PrepFull, NotReady, NumberSpent}
 use Rattle.lte_events.specs.declared.acts.StationAct.{StationAct}
 use Rattle.lte_events.specs.declared.acts.StationAct.TheVariants.{Start, Command, Cancel, Ask, SendUser, SendRrc, Skip}
@@ -22,7 +23,7 @@ use Rattle.rrc_rec.specs.Reading.{read_rrc}
 use Rattle.s1x2_rec.specs.Fields.{Fields, kind_of, InitialContext, ContextRelease, PathSwitchAnswer, HandoverRequest, HandoverCommand, HandoverCancel, X2Request, X2Ack, X2Cancel, X2Release, ContextModification}
 use Rattle.s1x2_rec.specs.Content.{Content}
 use Rattle.ho_prep.specs.declared.origins.By.{By}
-use Rattle.ho_prep.specs.Prep.{Prep, at_air, has_attempt, most}
+use Rattle.ho_prep.specs.Prep.{Prep, at_air, has_attempt, most_preparations}
 use Rattle.x2_handover.specs.declared.orders.Order.{Order}
 use Rattle.x2_handover.specs.Attempt.{x2_order}
 use Rattle.s1_handover.specs.Attempt.{s1_order}
@@ -116,7 +117,7 @@ wanted_chosen s conn from cell caps row (Ok algs) =
 
 -- as many preparations stand as may
 abbrev pub is_full : PlainStation → Bool
-is_full s = nat_le most (length s.preps)
+is_full s = nat_le most_preparations (length s.preps)
 
 -- the greatest attempt seen of a source
 abbrev pub greatest : PlainStation → ℕ → ℕ
@@ -293,9 +294,9 @@ prepared_row next air count by (Err fault) = AirRefused (BadRecord fault)
 prepared_row next air count by (Ok ReconfigurationComplete) = completed_row next air count by
 prepared_row next air count by (Ok other) = AirRefused NotActive
 
--- the text of a user packet: 1,500 octets at most (this project's own rule: what is longer is cut)
+-- the text of a user packet, 1,500 octets at most (this project's own rule: what is longer is cut)
 abbrev pub user_text : List ℕ → List ℕ
-user_text text = take 1500 text
+user_text text = take longest_packet text
 
 -- after the opening
 abbrev pub air_row : PlainStation → AirFront → Outcome → AirRow

@@ -11,8 +11,8 @@ use Rattle.lte_events.specs.Site.{Site}
 use Rattle.nh_chain.specs.Station.{StationKey, map_station_key}
 use Rattle.pdcp_guard.specs.AsKeys.{AsKeys, map_as_keys}
 use Rattle.ho_prep.specs.Prep.{Prep, map_prep}
-use Rattle.x2_handover.specs.Attempt.{X2Start, X2Acked, X2Sent, map_x2_start, map_x2_acked}
-use Rattle.s1_handover.specs.Attempt.{S1Start, S1Acked, S1Sent}
+use Rattle.x2_handover.specs.Attempt.{X2Start, X2Acked, Commanded, map_x2_start, map_x2_acked}
+use Rattle.s1_handover.specs.Attempt.{S1Start, S1Acked}
 use Rattle.s1x2_rec.specs.Content.{Content, map_content}
 use Rattle.lte_machine.specs.Bearers.{Bearers}
 use Rattle.lte_machine.specs.Reply.{Origin}
@@ -21,12 +21,12 @@ use Rattle.lte_machine.specs.Reply.{Origin}
 pub data X2State (K C : Type 0) : Type 0 where
   X2Open : X2Start K C → X2State K C
   X2Ready : X2Acked K C → X2State K C
-  X2Commanded : X2Sent → X2State K C
+  X2Commanded : Commanded → X2State K C
 
 pub data S1State : Type 0 where
   S1Open : S1Start → S1State
   S1Ready : S1Acked → S1State
-  S1Commanded : S1Sent → S1State
+  S1Commanded : Commanded → S1State
 
 -- a change of the context's key, whose order was sent at once
 pub record Renewal : Type 0 where

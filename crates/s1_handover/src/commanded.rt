@@ -14,9 +14,9 @@ pub struct S1Commanded {
 
 impl Model for S1Commanded {
     ghost use Rattle.std.specs.Prelude.{◌≤◌};
-    ghost use Rattle.s1_handover.specs.Attempt.{S1Sent};
+    ghost use Rattle.x2_handover.specs.Attempt.{Commanded};
 
-    ghost Value = { S1Sent };
+    ghost Value = { Commanded };
 
     ghost use Rattle.x2_handover.specs.InRange.{InRange};
 

@@ -22,8 +22,8 @@ pub record X2Acked (K C : Type 0) : Type 0 where
   pub algs : Algs
   pub air : ℕ
 
--- an attempt whose command was sent: no key and no pair is left
-pub record X2Sent : Type 0 where
+-- an attempt whose command was sent, over X2, within the station or over S1: no key and no pair is left
+pub record Commanded : Type 0 where
   pub number : ℕ
   pub station : ℕ
   pub cell : Place
@@ -53,6 +53,6 @@ x2_order ncc a = record {
 }
 
 -- the attempt after its command
-abbrev pub x2_sent : {K C : Type 0} → (C → ℕ) → X2Acked K C → X2Sent
+abbrev pub x2_sent : {K C : Type 0} → (C → ℕ) → X2Acked K C → Commanded
 x2_sent ncc a =
     record { number = a.start.number; station = a.start.station; cell = a.start.cell; order = x2_order ncc a }

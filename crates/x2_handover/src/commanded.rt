@@ -14,9 +14,9 @@ pub struct X2Commanded {
 
 impl Model for X2Commanded {
     ghost use Rattle.std.specs.Prelude.{◌≤◌};
-    ghost use Rattle.x2_handover.specs.Attempt.{X2Sent};
+    ghost use Rattle.x2_handover.specs.Attempt.{Commanded};
 
-    ghost Value = { X2Sent };
+    ghost Value = { Commanded };
 
     ghost use Rattle.x2_handover.specs.InRange.{InRange};
 
