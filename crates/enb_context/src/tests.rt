@@ -1,6 +1,7 @@
 // The octets come from an independent implementation of the profile: a station's half of a connection, a handover over X2 to
-// station 1, and one back again.
+// station 1, and one back again; and what becomes of the other preparations when one is completed or given up.
 ghost use Rattle.std.specs.Prelude.{◌≤◌, length};
+ghost use Rattle.enb_context.specs.Acts.{IsInput};
 
 use crate::Station;
 use alg_choice::{Eea, Priority};
@@ -53,6 +54,8 @@ const PATH_SWITCH: [u8; 18] = [
     0xa0, 0x20,
 ];
 
+const STARTED: [u8; 6] = [0x00, 0x02, 0x8b, 0x94, 0xa0, 0x5e];
+
 fn octets(of: &[u8]) -> Octets
     requires { length of.now ≤ 1536 }
 {
@@ -65,12 +68,52 @@ fn cell(rt: &impl Abort, pci: u16, earfcn: u32) -> Cell {
     Cell::new(pci, earfcn).expect(rt, "in range")
 }
 
-// Station 0 of two, which draws from 1 on.
-fn station(rt: &impl Abort) -> Station {
+// One of two stations, which draws from this number on.
+fn station(rt: &impl Abort, id: u8, first: u32) -> Station
+    requires id { id ≤ 7 }
+    requires first { 1 ≤ first }
+{
     let mut cells = Cells::new();
     cells.add(0, cell(rt, 10, 100)).expect(rt, "there is room");
     cells.add(1, cell(rt, 11, 101)).expect(rt, "there is room");
-    Station::new(0, &cells, Priority::new(Eea::Eea2, Some(Eea::Eea0)), 1)
+    Station::new(id, &cells, Priority::new(Eea::Eea2, Some(Eea::Eea0)), first)
+}
+
+// A request on X2 (0x30) or S1 (0x25) for the first connection, from station 0 or 1, with an NCC and a key of sevens.
+fn request(kind: u8, source: u8, attempt: u8, to: u8, ncc: u8) -> Octets
+    requires { to ≤ 1 }
+{
+    let mut record = Octets::new();
+    record.append(&[kind, 0, 0, 0, 1, source, 0, 0, 0, attempt]);
+    record.append(&[0, 10 + to, 0, 0, 0, 100 + to, 0xa0, 0x20, ncc]);
+    record.append(&[7; 32]);
+    record
+}
+
+// A PDU on SRB1 at an air address.
+fn srb1(air: u32, pdu: &[u8]) -> StationIn
+    requires { length pdu.now ≤ 1536 }
+    ensures { IsInput result }
+{
+    StationIn::Air(air, Bearer::Srb1, octets(pdu))
+}
+
+fn expect(rt: &impl Abort, station: &mut Station, input: &StationIn, answer: Answer)
+    requires { IsInput input.now }
+{
+    assert_eq!(rt; station.step(input).answer, answer);
+}
+
+// Station 0 has the context of a phone at its first air address.
+fn connected(rt: &impl Abort, first: u32) -> Station
+    requires { 1 ≤ first }
+{
+    let mut station = station(rt, 0, first);
+    let context = StationIn::S1(octets(&CONTEXT));
+    expect(rt, &mut station, &context, Answer::Done);
+    let complete = srb1(first, &STARTED);
+    expect(rt, &mut station, &complete, Answer::Done);
+    station
 }
 
 // The record was sent there.
@@ -86,12 +129,11 @@ fn expect_sent(rt: &impl Abort, out: &ActorOut, to: Address, octets: &[u8]) {
 
 #[test]
 fn a_phone_goes_by_x2_and_comes_back(rt: HostRuntime) {
-    let mut station = station(&rt);
+    let mut station = station(&rt, 0, 1);
     assert_eq!(rt; station.kenb(), None);
     let out = station.step(&StationIn::S1(octets(&CONTEXT)));
     expect_sent(&rt, &out, Address::Phone(0, 1, Bearer::Srb1), &SECURITY);
-    let complete = octets(&[0x00, 0x02, 0x8b, 0x94, 0xa0, 0x5e]);
-    let out = station.step(&StationIn::Air(1, Bearer::Srb1, complete));
+    let out = station.step(&srb1(1, &STARTED));
     assert_eq!(rt; out.answer, Answer::Done);
     let packet = octets(&[0x80, 0x00, 0xc9, 0xb9]);
     let out = station.step(&StationIn::Air(1, Bearer::Drb1, packet));
@@ -117,4 +159,69 @@ fn a_phone_goes_by_x2_and_comes_back(rt: HostRuntime) {
     let out = station.step(&StationIn::Act(StationAct::SendUser(Bearer::Drb1, text)));
     let sent = [0x80, 0x00, 0xa3, 0xa7];
     expect_sent(&rt, &out, Address::Phone(0, 3, Bearer::Drb1), &sent);
+}
+
+#[test]
+fn a_completion_over_s1_leaves_no_other_preparation(rt: HostRuntime) {
+    let mut station = station(&rt, 1, 1);
+    let first = StationIn::X2(request(0x30, 0, 2, 1, 0));
+    expect(&rt, &mut station, &first, Answer::Done);
+    let over_s1 = StationIn::S1(request(0x25, 0, 3, 1, 1));
+    expect(&rt, &mut station, &over_s1, Answer::Done);
+    let third = StationIn::X2(request(0x30, 0, 4, 1, 0));
+    expect(&rt, &mut station, &third, Answer::Done);
+    let complete = srb1(2, &[0x00, 0x67, 0x28, 0x83, 0x10, 0x3b]);
+    let out = station.step(&complete);
+    let notify = [0x28, 0, 0, 0, 1, 1, 0x00, 0x0b, 0, 0, 0, 0x65];
+    expect_sent(&rt, &out, Address::CoreS1, &notify);
+    expect(&rt, &mut station, &srb1(1, &[]), Answer::NotAddressed);
+    expect(&rt, &mut station, &srb1(3, &[]), Answer::NotAddressed);
+}
+
+// What an attempt within the station leaves: of two preparations, both stand until then.
+#[test]
+fn a_handover_within_leaves_no_other_and_its_cancel_all(rt: HostRuntime) {
+    let start = StationIn::Act(StationAct::Start(HoKind::Intra, cell(&rt, 10, 100)));
+    let other = StationIn::X2(request(0x30, 1, 4, 0, 0));
+    for commands in [true, false] {
+        let mut station = connected(&rt, 1);
+        expect(&rt, &mut station, &other, Answer::Done);
+        expect(&rt, &mut station, &start, Answer::Done);
+        expect(&rt, &mut station, &srb1(2, &[]), Answer::Short);
+        expect(&rt, &mut station, &srb1(4, &[]), Answer::Short);
+        if commands {
+            let command = StationIn::Act(StationAct::Command);
+            expect(&rt, &mut station, &command, Answer::Done);
+            let complete = srb1(4, &[0x00, 0xec, 0xc9, 0x00, 0xb0, 0xc6]);
+            expect(&rt, &mut station, &complete, Answer::Done);
+            expect(&rt, &mut station, &srb1(2, &[]), Answer::NotAddressed);
+        } else {
+            let cancel = StationIn::Act(StationAct::Cancel);
+            expect(&rt, &mut station, &cancel, Answer::Done);
+            expect(&rt, &mut station, &srb1(4, &[]), Answer::NotAddressed);
+            expect(&rt, &mut station, &srb1(2, &[]), Answer::Short);
+        }
+    }
+}
+
+#[test]
+fn a_ninth_preparation_and_a_number_past_the_last_are_refused(rt: HostRuntime) {
+    let own = StationIn::Act(StationAct::Start(HoKind::Intra, cell(&rt, 10, 100)));
+    let foreign = StationIn::Act(StationAct::Start(HoKind::Intra, cell(&rt, 11, 101)));
+    let mut full = connected(&rt, 1);
+    for attempt in 1..10 {
+        let answer = if attempt < 9 {
+            Answer::Done
+        } else {
+            Answer::PrepFull
+        };
+        let input = StationIn::X2(request(0x30, 1, attempt, 0, 0));
+        expect(&rt, &mut full, &input, answer);
+    }
+    expect(&rt, &mut full, &own, Answer::PrepFull);
+    expect(&rt, &mut full, &foreign, Answer::UnknownCell);
+    let mut last = connected(&rt, u32::MAX);
+    let input = StationIn::X2(request(0x30, 1, 1, 0, 0));
+    expect(&rt, &mut last, &input, Answer::NumberSpent);
+    expect(&rt, &mut last, &own, Answer::NumberSpent);
 }

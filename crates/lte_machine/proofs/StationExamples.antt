@@ -209,3 +209,35 @@ full_runs : run (first_of 0 1) full ≡
     ∷ notes 0 Given kenb ∷ says (OldConnection 2 1) ∷ says NotAddressed ∷ notes 0 Completed kenb ∷ []
 unfolding read_rrc command_of reconfiguration_of bare data_of of_size text_of number_at number_of field_at srb_count in_32_bits least choice_of has_bit
 full_runs = refl
+
+-- a preparation that becomes the context, over S1 and within the station, leaves no other
+abbrev beside_s1 : List Input
+beside_s1 =
+    keyed OnX2 (X2Request 1 0 2 (place 1) caps) (Star kenb 11 101) 0
+    ∷ keyed OnS1 (HandoverRequest 1 0 3 (place 1) caps) nh1 1
+    ∷ keyed OnX2 (X2Request 1 0 4 (place 1) caps) (Star kenb 11 101) 0
+    ∷ rrc 2 0 (4 ∷ []) ∷ rrc 1 0 (4 ∷ []) ∷ rrc 3 0 (4 ∷ []) ∷ []
+
+beside_s1_runs : run (first_of 1 1) beside_s1 ≡
+    notes 0 Given (Star kenb 11 101) ∷ notes 1 Vertical (Star nh1 11 101) ∷ notes 0 Given (Star kenb 11 101)
+    ∷ notes 1 Completed (Star nh1 11 101) ∷ says NotAddressed ∷ says NotAddressed ∷ []
+unfolding read_rrc command_of reconfiguration_of bare data_of of_size text_of number_at number_of field_at srb_count in_32_bits least choice_of has_bit
+beside_s1_runs = refl
+
+abbrev within : List Input → List Input
+within more =
+    keyed OnS1 (InitialContext 1 (place 0) caps) kenb 0 ∷ rrc 1 0 (2 ∷ [])
+    ∷ keyed OnX2 (X2Request 1 1 4 (place 0) caps) kenb 0 ∷ act (Start HoKind.Intra (place 0)) ∷ more
+
+beside_within_runs : run (first_of 0 1) (within (act Command ∷ rrc 4 0 (4 ∷ []) ∷ rrc 2 0 (4 ∷ []) ∷ [])) ≡
+    notes 0 Given kenb ∷ says Done ∷ notes 0 Given kenb ∷ notes 0 Horizontal (Star kenb 10 100)
+    ∷ says Done ∷ notes 0 Completed (Star kenb 10 100) ∷ says NotAddressed ∷ []
+unfolding read_rrc command_of reconfiguration_of bare data_of of_size text_of number_at number_of field_at srb_count in_32_bits least choice_of has_bit
+beside_within_runs = refl
+
+-- a cancel within the station drops its own preparation and no other
+cancelled_within_runs : run (first_of 0 1) (within (act Cancel ∷ rrc 4 0 (4 ∷ []) ∷ rrc 2 0 (4 ∷ []) ∷ [])) ≡
+    notes 0 Given kenb ∷ says Done ∷ notes 0 Given kenb ∷ notes 0 Horizontal (Star kenb 10 100)
+    ∷ says Done ∷ says NotAddressed ∷ notes 0 Completed kenb ∷ []
+unfolding read_rrc command_of reconfiguration_of bare data_of of_size text_of number_at number_of field_at srb_count in_32_bits least choice_of has_bit
+cancelled_within_runs = refl
