@@ -4,3 +4,4 @@ pub mod Octets
 pub mod Peers
 pub mod Script
 pub mod Tries
+pub mod Used

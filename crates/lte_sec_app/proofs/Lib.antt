@@ -1,7 +1,1 @@
-pub mod Numerals
-pub mod Lines
-pub mod Reading
-pub mod Rows
-pub mod Placing
-pub mod Printing
 pub mod Running

@@ -1,67 +1,57 @@
--- What is so of `ladder` at each status.
-use Rattle.std.proofs.Common.{◌≡◌, ℕ, ◌<◌, ◌≤◌, Option, Some, None, Ok, Err, List, [], length, inl, inr, refl, sym, ap, subst, ◌∙◌, arith}
+-- What is so of a command that reads a text, at each status.
+use Rattle.std.proofs.Common.{◌≡◌, ℕ, ◌<◌, ◌≤◌, Option, Some, None, List, length, inl, inr, refl, sym, ap, subst, ◌∙◌, arith}
 use Rattle.std.specs.Io.KnownBytes.{IsAtEnd}
 use Rattle.std.specs.Option.{IfSome}
 use Rattle.edge_io.specs.Told.{Told}
 use Rattle.edge_io.specs.Octets.{Grows, GrowsByPrefix}
-use Rattle.lte_sec_app.specs.declared.ladder_line.LadderLine.{LadderLine}
+use Rattle.ladder_text.specs.declared.ending.Ending.{Ending}
+use Rattle.ladder_text.specs.declared.ending.Ending.TheVariants as ending
+use Rattle.ladder_text.specs.Text.{reading_of}
+use Rattle.ladder_text.specs.Report.{output_of, Writes}
 use Rattle.lte_sec_app.specs.declared.status.Status.{Status}
 use Rattle.lte_sec_app.specs.declared.status.Status.TheVariants.{Done, Memory, Refused, ReadFault, WriteFault, Coincidence, TooLong}
-use Rattle.lte_sec_app.specs.LadderText.{reading_of}
-use Rattle.lte_sec_app.specs.LadderReport.{Output, output_of, refusal_text, output_from, Writes}
-use Rattle.lte_sec_app.specs.Run.{most_octets, Answers, Answered, LadderAt, LadderIsComplete}
+use Rattle.lte_sec_app.specs.Run.{Output, most_octets, Answers, Answered, WritesPrefix, CommandAt, CommandIsComplete}
+use Rattle.lte_sec_app.specs.Ladder.{ladder_output, status_of}
 
 -- what is so of the octets that were read is so of those that were left
 of_left : (left : Option (List ℕ)) (octets : List ℕ) (P : List ℕ → Type 0) → IfSome left (λ l. octets ≡ l) → P octets → IfSome left P
 of_left None octets P same p = tt
 of_left (Some l) octets P same p = subst P same p
 
-answered : (ends : Status) (octets : List ℕ) (output : Output) (input input' out out' : Told) → IsAtEnd input'.left → IfSome input.left (λ l. octets ≡ l) → length octets ≤ most_octets → output_of (reading_of octets) ≡ output → output.ends ≡ ends → Grows out.written out'.written output.text → Answered ends input input' out out'
-answered ends octets output input input' out out' end left within is status written = (
-  end,
-  of_left input.left octets (λ o. Answers ends o out out') left (record {
-    within = within;
-    status = ap (λ o. o.ends) is ∙ status;
-    output = subst (λ o. Grows out.written out'.written o.text) (sym is) written;
-  }),
-)
+answered : (output : List ℕ → Output) (ends : Status) (octets : List ℕ) (input input' out out' : Told) → IsAtEnd input'.left → IfSome input.left (λ l. octets ≡ l)
+    → length octets ≤ most_octets → (output octets).ends ≡ ends → Grows out.written out'.written (output octets).text → Answered output ends input input' out out'
+answered output ends octets input input' out out' end left within status written =
+    (end, of_left input.left octets (λ o. Answers output ends o out out') left (record { within = within; status = status; written = written }))
 
-cut : (octets : List ℕ) (output : Output) (input out out' : Told) → IfSome input.left (λ l. octets ≡ l) → output_of (reading_of octets) ≡ output → GrowsByPrefix out.written out'.written output.text → IfSome input.left (λ o. GrowsByPrefix out.written out'.written (output_of (reading_of o)).text)
-cut octets output input out out' left is written =
-    of_left input.left octets (λ o. GrowsByPrefix out.written out'.written (output_of (reading_of o)).text) left (subst (λ o. GrowsByPrefix out.written out'.written o.text) (sym is) written)
+cut : (output : List ℕ → Output) (octets : List ℕ) (input out out' : Told) → IfSome input.left (λ l. octets ≡ l) → GrowsByPrefix out.written out'.written (output octets).text
+    → WritesPrefix output input out out'
+cut output octets input out out' left written = of_left input.left octets (λ o. GrowsByPrefix out.written out'.written (output o).text) left written
 
-pub ladder_at : (status : Status) (octets : List ℕ) (output : Output) (input input' out out' : Told) → IsAtEnd input'.left → IfSome input.left (λ l. octets ≡ l) → length octets ≤ most_octets → output_of (reading_of octets) ≡ output → Writes output status out out' → LadderAt status input input' out out'
-ladder_at Done octets output input input' out out' end left within is written = answered Done octets output input input' out out' end left within is written.0 written.1
-ladder_at Refused octets output input input' out out' end left within is written = answered Refused octets output input input' out out' end left within is written.0 written.1
-ladder_at Coincidence octets output input input' out out' end left within is written = answered Coincidence octets output input input' out out' end left within is written.0 written.1
-ladder_at Memory octets output input input' out out' end left within is written = cut octets output input out out' left is written
-ladder_at WriteFault octets output input input' out out' end left within is written = (written.0, end, cut octets output input out out' left is written.1)
-ladder_at status octets output input input' out out' end left within is written = absurd written
+-- what `ladder` wrote
+pub ladder_at : (ending : Ending) (octets : List ℕ) (input input' out out' : Told) → IsAtEnd input'.left → IfSome input.left (λ l. octets ≡ l) → length octets ≤ most_octets
+    → Writes (output_of (reading_of octets)) ending out out' → CommandAt ladder_output (status_of ending) input input' out out'
+ladder_at ending.Done octets input input' out out' end left within written =
+    answered ladder_output Done octets input input' out out' end left within (ap status_of written.0) written.1
+ladder_at ending.Refused octets input input' out out' end left within written =
+    answered ladder_output Refused octets input input' out out' end left within (ap status_of written.0) written.1
+ladder_at ending.Coincidence octets input input' out out' end left within written =
+    answered ladder_output Coincidence octets input input' out out' end left within (ap status_of written.0) written.1
+ladder_at ending.Memory octets input input' out out' end left within written = cut ladder_output octets input out out' left written
+ladder_at ending.WriteFault octets input input' out out' end left within written = (written.0, end, cut ladder_output octets input out out' left written.1)
 
--- the output of lines, and of a bad line
-pub lines_output : (octets : List ℕ) (lines : List LadderLine) → reading_of octets ≡ Ok lines → output_of (reading_of octets) ≡ output_from [] 1 lines
-unfolding output_of
-lines_output octets lines reading = ap output_of reading
+-- the answer to known octets
+known : (output : List ℕ → Output) (ends : Status) (octets : List ℕ) (input out out' : Told) → input.left ≡ Some octets → IfSome input.left (λ o. Answers output ends o out out')
+    → (ends ≡ (output octets).ends) × Grows out.written out'.written (output octets).text
+known output ends octets input out out' left answers =
+    let a = subst (λ o. IfSome o (λ o'. Answers output ends o' out out')) left answers in (sym a.status, a.written)
 
-pub refused_output : (octets : List ℕ) (k : ℕ) → reading_of octets ≡ Err k → output_of (reading_of octets) ≡ record { text = refusal_text k; ends = Refused }
-unfolding output_of
-refused_output octets k reading = ap output_of reading
-
--- the answer to known octets that are lines
-known : (ends : Status) (octets : List ℕ) (lines : List LadderLine) (input out out' : Told) → input.left ≡ Some octets → reading_of octets ≡ Ok lines → IfSome input.left (λ o. Answers ends o out out') → ((output_of (Ok lines)).ends ≡ ends) × Grows out.written out'.written (output_of (Ok lines)).text
-known ends octets lines input out out' left reading answers =
-    let a = subst (λ o. IfSome o (λ o'. Answers ends o' out out')) left answers in
-    (ap (λ r. (output_of r).ends) (sym reading) ∙ a.status, subst (λ r. Grows out.written out'.written (output_of r).text) reading a.output)
-
-pub ladder_complete : (status : Status) (input input' out out' : Told) → LadderAt status input input' out out' → LadderIsComplete status input input' out out'
-ladder_complete Done input input' out out' at octets lines left within reading ends read write = inl (refl, (known Done octets lines input out out' left reading at.1).1)
-ladder_complete Memory input input' out out' at octets lines left within reading ends read write = inr refl
-ladder_complete Refused input input' out out' at octets lines left within reading ends read write =
-    let no = sym ends ∙ (known Refused octets lines input out out' left reading at.1).0 in cc
-ladder_complete Coincidence input input' out out' at octets lines left within reading ends read write =
-    let no = sym ends ∙ (known Coincidence octets lines input out out' left reading at.1).0 in cc
-ladder_complete ReadFault input input' out out' at octets lines left within reading ends read write = absurd (read at.0)
-ladder_complete WriteFault input input' out out' at octets lines left within reading ends read write = absurd (write at.0)
-ladder_complete TooLong input input' out out' at octets lines left within reading ends read write =
+pub complete : (output : List ℕ → Output) (status : Status) (input input' out out' : Told) → CommandAt output status input input' out out' → CommandIsComplete output status input input' out out'
+complete output Done input input' out out' at octets left within read write = inl (known output Done octets input out out' left at.1)
+complete output Refused input input' out out' at octets left within read write = inl (known output Refused octets input out out' left at.1)
+complete output Coincidence input input' out out' at octets left within read write = inl (known output Coincidence octets input out out' left at.1)
+complete output Memory input input' out out' at octets left within read write = inr refl
+complete output ReadFault input input' out out' at octets left within read write = absurd (read at.0)
+complete output WriteFault input input' out out' at octets left within read write = absurd (write at.0)
+complete output TooLong input input' out out' at octets left within read write =
     let long = subst (λ o. IfSome o (λ o'. most_octets < length o')) left at.1 in absurd (omega (arith, long, within))
-ladder_complete status input input' out out' at octets lines left within reading ends read write = absurd at
+complete output status input input' out out' at octets left within read write = absurd at

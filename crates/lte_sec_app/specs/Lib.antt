@@ -1,6 +1,4 @@
 pub mod Status
-pub mod LadderText
-pub mod LadderReport
-pub mod LadderRows
 pub mod Command
 pub mod Run
+pub mod Ladder

@@ -1,13 +1,14 @@
 ghost use Rattle.std.specs.Prelude.{◌≡◌, ◌≢◌, ◌↔◌, false, Some, None, [], IfSome, IsTrue};
 ghost use Rattle.edge_io.specs.Cause.{NoFault};
+ghost use Rattle.edge_io.specs.Used.{UsedAsSource, UsedAsSink};
 ghost use Rattle.lte_sec_app.specs.Command.{named};
-ghost use Rattle.lte_sec_app.specs.Run.{LadderAt, LadderIsComplete, UsedAsSource, UsedAsSink};
+ghost use Rattle.lte_sec_app.specs.Ladder.{ladder_output};
+ghost use Rattle.lte_sec_app.specs.Run.{CommandAt, CommandIsComplete};
 
 use crate::command::{Command, command_of};
-use crate::ladder_report::{write_refusal, write_report};
-use crate::ladder_text::{TextFault, read_lines};
+use crate::ladder::ladder;
 use crate::status::Status;
-use edge_io::{Peers, Port, ReadAll, Sink, Source, read_all};
+use edge_io::{Peers, Port, Sink, Source};
 use std::alloc::Global;
 
 /// The greatest number of octets of an input.
@@ -38,8 +39,8 @@ pub fn run<R: Source, W: Sink, P: Peers, L: Port>(
     ensures bad_words_out { result ≡ Status.BadWords → out.new ≡ out.old }
 
     // What `ladder` writes, and the cause of each of its statuses.
-    ensures ladder { named words.now ≡ Some Command.Ladder → LadderAt result (R.told input.old) (R.told input.new) (W.told out.old) (W.told out.new) }
-    ensures ladder_complete { named words.now ≡ Some Command.Ladder → LadderIsComplete result (R.told input.old) (R.told input.new) (W.told out.old) (W.told out.new) }
+    ensures ladder { named words.now ≡ Some Command.Ladder → CommandAt ladder_output result (R.told input.old) (R.told input.new) (W.told out.old) (W.told out.new) }
+    ensures ladder_complete { named words.now ≡ Some Command.Ladder → CommandIsComplete ladder_output result (R.told input.old) (R.told input.new) (W.told out.old) (W.told out.new) }
 
     // An input that was not read within the limit has no output.
     ensures unread { result ≡ Status.ReadFault → out.new ≡ out.old }
@@ -58,30 +59,5 @@ pub fn run<R: Source, W: Sink, P: Peers, L: Port>(
     match command_of(words) {
         None => Status::BadWords,
         Some(Command::Ladder) => ladder(alloc, input, out),
-    }
-}
-
-// The command `ladder`.
-fn ladder<R: Source, W: Sink>(alloc: Global, input: &mut R, out: &mut W) -> Status
-    requires input_ready { IsTrue (R.told input.old).ready }
-    requires out_ready { IsTrue (W.told out.old).ready }
-    ensures ladder { LadderAt result (R.told input.old) (R.told input.new) (W.told out.old) (W.told out.new) }
-    ensures unread { result ≡ Status.ReadFault → out.new ≡ out.old }
-    ensures too_long { result ≡ Status.TooLong → out.new ≡ out.old }
-    ensures no_read_fault { result ≢ Status.ReadFault → NoFault (R.told input.old) (R.told input.new) }
-    ensures no_write_fault { result ≢ Status.WriteFault → NoFault (W.told out.old) (W.told out.new) }
-    ensures input { UsedAsSource (R.told input.old) (R.told input.new) }
-    ensures out { UsedAsSink (W.told out.old) (W.told out.new) }
-{
-    let octets = match read_all(alloc, input, LIMIT) {
-        Ok(octets) => octets,
-        Err(ReadAll::Memory) => return Status::Memory,
-        Err(ReadAll::ReadFault) => return Status::ReadFault,
-        Err(ReadAll::TooLong) => return Status::TooLong,
-    };
-    match read_lines(alloc, &octets) {
-        Ok(lines) => write_report(alloc, &lines, out),
-        Err(TextFault::BadLine(line)) => write_refusal(alloc, line, out),
-        Err(TextFault::Memory) => Status::Memory,
     }
 }

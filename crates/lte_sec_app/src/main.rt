@@ -3,9 +3,7 @@
 
 mod app;
 mod command;
-mod ladder_line;
-mod ladder_report;
-mod ladder_text;
+mod ladder;
 mod status;
 #[cfg(test)]
 mod tests;

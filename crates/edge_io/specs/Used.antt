@@ -1,0 +1,17 @@
+-- What stays of an object that a call uses on one side alone.
+use Rattle.std.specs.Prelude.{◌≡◌, IsTrue}
+use Rattle.edge_io.specs.Told.{Told}
+use Rattle.edge_io.specs.Cause.{NoCountFell}
+
+-- of one that is used as a source
+pub record UsedAsSource (before after : Told) : Type 0 where
+  pub ready : IsTrue after.ready
+  pub written : after.written ≡ before.written
+  pub counts : NoCountFell before after
+
+-- and of one that is used as a sink
+pub record UsedAsSink (before after : Told) : Type 0 where
+  pub ready : IsTrue after.ready
+  pub left : after.left ≡ before.left
+  pub most : after.most ≡ before.most
+  pub counts : NoCountFell before after

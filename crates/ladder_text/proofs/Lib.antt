@@ -1,0 +1,7 @@
+pub mod Numerals
+pub mod Lines
+pub mod Reading
+pub mod Rows
+pub mod Placing
+pub mod Printing
+pub mod Answering

@@ -1,0 +1,15 @@
+use Rattle.std.proofs.Common.{◌+◌, ◌≤◌, length}
+use Rattle.edge_io.specs.Cause.{NoFault}
+use Rattle.key_terms.specs.Ladder.{IsLadder}
+use Rattle.edge_io.specs.Used.{UsedAsSink}
+use Rattle.ladder_text.proofs.Printing.{Printed}
+use Rattle.ladder_text.proofs.report.write_report.Given as goal
+
+abbrev pub invariant-loop-index : goal.invariant-loop-index
+invariant-loop-index g l = record {
+  printed : Printed l.lines l.index (g.W.Edge.told l.initial.out) (g.W.Edge.told l.out) l.ladder.rows;
+  ladder : IsLadder l.ladder.rows;
+  room : length l.lines ≤ l.index + l.ladder.spare;
+  no_fault : NoFault (g.W.Edge.told l.initial.out) (g.W.Edge.told l.out);
+  out : UsedAsSink (g.W.Edge.told l.initial.out) (g.W.Edge.told l.out);
+}

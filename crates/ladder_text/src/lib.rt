@@ -1,0 +1,12 @@
+//! Ladder texts: lines that derive keys from a KASME on, each answered with its row.
+#![tactic(auto)]
+
+mod answer;
+mod ending;
+mod line;
+mod report;
+mod text;
+
+pub use answer::write_answer;
+pub use ending::Ending;
+pub use line::LadderLine;

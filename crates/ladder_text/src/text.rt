@@ -1,0 +1,177 @@
+ghost use Rattle.std.specs.Prelude.{◌≡◌, ℕ, ◌<◌, ◌≤◌, ◌∷◌, [], length, OnOk, IfOk, IfSome, Ok, Err, position};
+ghost use Rattle.std.specs.List.{list_any};
+ghost use Rattle.ladder_text.specs.Text.{is_feed, lines_of, words_of, same, is_root, is_hop_of, has_star, is_kenb, has_alg, stands_as, meets, with_row, rows_of, next_line, reading_of, AreGood};
+
+use crate::line::LadderLine;
+use annex_a_keys::AlgType;
+use key_terms::Row;
+use std::alloc::{AllocError, AllocFailed, Global};
+
+/// Why a ladder text was not read.
+#[derive(Debug, Drop)]
+pub enum TextFault {
+    /// Memory ran out.
+    Memory,
+    /// The number of the first bad line, counted from 1.
+    BadLine(u32),
+}
+
+impl From<AllocError> for TextFault {
+    ghost use Rattle.std.specs.Prelude.{◌≡◌};
+    ghost use Rattle.ladder_text.specs.declared.text.TextFault.TheVariants.{Memory};
+
+    ghost from_gives = { λ _ fault. fault ≡ Memory };
+
+    fn from(_fault: AllocError) -> TextFault {
+        TextFault::Memory
+    }
+}
+
+impl<T: Drop> From<AllocFailed<T>> for TextFault {
+    ghost use Rattle.std.specs.Prelude.{◌≡◌};
+    ghost use Rattle.ladder_text.specs.declared.text.TextFault.TheVariants.{Memory};
+
+    ghost from_gives = { λ _ fault. fault ≡ Memory };
+
+    fn from(_fault: AllocFailed<T>) -> TextFault {
+        TextFault::Memory
+    }
+}
+
+/// The lines of a ladder text, all checked for form and need.
+pub fn read_lines(alloc: Global, text: &[u8]) -> Result<Vec<LadderLine>, TextFault>
+    ensures lines { IfOk result (λ lines. reading_of text.now ≡ Ok lines.items) }
+    ensures good { IfOk result (λ lines. AreGood [] lines.items) }
+    ensures few { IfOk result (λ lines. length lines.items ≤ 4096) }
+    ensures bad { (k : ℕ) → result ≡ Err (TextFault.BadLine k) → reading_of text.now ≡ Err k }
+{
+    let mut lines = Vec::new(alloc);
+    let mut rows = Vec::new(alloc);
+    let mut rest = text;
+    while !rest.is_empty() {
+        let (line, behind) = first_line(rest);
+        let Some(line) = read_next(alloc, &lines, &rows, line)? else {
+            return Err(TextFault::BadLine(lines.len() as u32 + 1));
+        };
+        add_row(&mut rows, &line)?;
+        lines.push(line)?;
+        rest = behind;
+    }
+    Ok(lines)
+}
+
+// Adds the row that a line makes, if it makes a new one.
+fn add_row(rows: &mut Vec<LadderLine>, line: &LadderLine) -> Result<(), AllocError>
+    ensures { OnOk result (rows.new.items ≡ with_row rows.old.items line.now) }
+{
+    if !stands(rows, line) {
+        rows.push(*line)?;
+    }
+    Ok(())
+}
+
+// The next line, if the text spells one and its need is met.
+fn read_next(
+    alloc: Global,
+    lines: &[LadderLine],
+    rows: &[LadderLine],
+    text: &[u8],
+) -> Result<Option<LadderLine>, AllocError>
+    requires { rows.now ≡ rows_of lines.now }
+    ensures { IfOk result (λ line. line ≡ next_line lines.now (words_of text.now)) }
+{
+    if lines.len() >= 4096 {
+        return Ok(None);
+    }
+    Ok(match LadderLine::read(alloc, text)? {
+        Some(line) if meets(rows, &line) => Some(line),
+        _ => None,
+    })
+}
+
+// The first line of a text, and what is behind it.
+fn first_line(text: &[u8]) -> (&[u8], &[u8])
+    requires { 0 < length text.now }
+    ensures lines { lines_of text.now ≡ result.0.now ∷ lines_of result.1.now }
+    ensures shorter { length result.1.now < length text.now }
+{
+    match first_feed(text) {
+        Some(end) => (&text[..end], &text[end + 1..]),
+        None => (text, &[]),
+    }
+}
+
+// The place of the first line feed.
+fn first_feed(text: &[u8]) -> Option<usize>
+    ensures feed { result ≡ position is_feed text.now }
+    ensures within { IfSome result (λ end. end < length text.now) }
+{
+    text.iter().position(|octet| *octet == b'\n')
+}
+
+// Whether a line's need is met.
+fn meets(rows: &[LadderLine], line: &LadderLine) -> bool
+    ensures { result ≡ meets rows.now line.now }
+{
+    match line {
+        LadderLine::Root(_) => !stands(rows, line),
+        LadderLine::Kenb { root, .. } => has_root(rows, *root),
+        LadderLine::Nh { root, sync } => has_root(rows, *root) && has_hop(rows, *root, *sync),
+        LadderLine::Star { key, .. } => has_as_key(rows, *key),
+        LadderLine::Alg { key, kind, .. } => has_for(rows, *kind, *key),
+    }
+}
+
+// Whether a row is the same derivation from the same rows.
+fn stands(rows: &[LadderLine], line: &LadderLine) -> bool
+    ensures { result ≡ list_any (λ earlier. same earlier line.now) rows.now }
+{
+    rows.contains(line)
+}
+
+// Whether a row is a root.
+fn has_root(rows: &[LadderLine], row: Row) -> bool
+    ensures { result ≡ stands_as is_root rows.now row }
+{
+    matches!(rows.get(row.0 as usize), Some(LadderLine::Root(_)))
+}
+
+// Whether a row is a KeNB or an NH of a root.
+fn has_hop(rows: &[LadderLine], root: Row, row: Row) -> bool
+    ensures { result ≡ stands_as (is_hop_of root) rows.now row }
+{
+    match rows.get(row.0 as usize) {
+        Some(LadderLine::Kenb { root: of, .. } | LadderLine::Nh { root: of, .. }) => root.0 == of.0,
+        _ => false,
+    }
+}
+
+// Whether a row is a key from which KeNB* is derived.
+fn has_as_key(rows: &[LadderLine], row: Row) -> bool
+    ensures { result ≡ stands_as has_star rows.now row }
+{
+    match rows.get(row.0 as usize) {
+        Some(LadderLine::Root(_) | LadderLine::Alg { .. }) | None => false,
+        Some(_) => true,
+    }
+}
+
+// Whether a row is a key from which a key of an algorithm type is derived.
+fn has_for(rows: &[LadderLine], kind: AlgType, row: Row) -> bool
+    ensures { result ≡ stands_as (has_alg kind) rows.now row }
+{
+    match kind {
+        AlgType::NasEnc | AlgType::NasInt => has_root(rows, row),
+        AlgType::RrcEnc | AlgType::RrcInt | AlgType::UpEnc => has_kenb(rows, row),
+    }
+}
+
+// Whether a row is a KeNB, or a KeNB* that becomes one.
+fn has_kenb(rows: &[LadderLine], row: Row) -> bool
+    ensures { result ≡ stands_as is_kenb rows.now row }
+{
+    matches!(
+        rows.get(row.0 as usize),
+        Some(LadderLine::Kenb { .. } | LadderLine::Star { .. })
+    )
+}
