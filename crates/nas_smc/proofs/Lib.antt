@@ -1,3 +1,4 @@
+pub mod CoreJoining
 pub mod Counting
 pub mod Joining
 pub mod Sealing

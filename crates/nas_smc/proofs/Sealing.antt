@@ -2,7 +2,6 @@
 use Rattle.std.proofs.Common.{◌≡◌, ◌≢◌, ℕ, Bool, true, false, cond, List, refl, ap, sym, ◌∙◌}
 use Rattle.std.specs.Str.{bytes_eq}
 use Rattle.std.proofs.lemmas.Slice.Eq.{bytes_eq-Decides}
-use Rattle.rec_base.specs.declared.uses.Dir.TheVariants.{Down}
 use Rattle.nas_guard.specs.Open.{mac_in, covered_in, sent_in}
 use Rattle.lte_machine.specs.Opening.{Opening, OpensNas, Opened, Differs, open_octets, by_macs}
 use Rattle.rec_base.specs.declared.uses.Dir.{Dir}
@@ -33,22 +32,22 @@ differs : (wanted got text : List ℕ) → wanted ≢ got → (b : Bool) → byt
 differs wanted got text h true e = absurd (h ((bytes_eq-Decides wanted got).0 e))
 differs wanted got text h false e = refl
 
-module _ (keys : Keys (List ℕ)) (header count : ℕ) (pdu : List ℕ) where
-  -- the opening of a message to the phone
+module _ (keys : Keys (List ℕ)) (header count : ℕ) (dir : Dir) (pdu : List ℕ) where
+  -- the opening of a message
   abbrev pub opening : Opening (List ℕ)
-  opening = OpensNas (nas_use Down keys.int count) (ciphering_if (is_ciphered header) (nas_ciphering Down keys count))
+  opening = OpensNas (nas_use dir keys.int count) (ciphering_if (is_ciphered header) (nas_ciphering dir keys count))
 
   -- a message whose MAC is right
-  pub opens_so : (text : List ℕ) → mac_of keys.int count nas_bearer Down (covered_in pdu) ≡ mac_in pdu
-      → text ≡ sent_text keys header count Down (sent_in pdu) → open_octets annex_b opening pdu ≡ Opened text
+  pub opens_so : (text : List ℕ) → mac_of keys.int count nas_bearer dir (covered_in pdu) ≡ mac_in pdu
+      → text ≡ sent_text keys header count dir (sent_in pdu) → open_octets annex_b opening pdu ≡ Opened text
   unfolding open_octets
   opens_so text mac is =
-      let wanted = mac_of keys.int count nas_bearer Down (covered_in pdu) in
-      let plain = ciphered_by annex_b (ciphering_if (is_ciphered header) (nas_ciphering Down keys count)) (sent_in pdu) in
-      ap (λ b. by_macs b wanted (mac_in pdu) plain) ((bytes_eq-Decides wanted (mac_in pdu)).1 mac) ∙ ap Opened (sym (is ∙ sent_text_is keys header count Down (sent_in pdu)))
+      let wanted = mac_of keys.int count nas_bearer dir (covered_in pdu) in
+      let plain = ciphered_by annex_b (ciphering_if (is_ciphered header) (nas_ciphering dir keys count)) (sent_in pdu) in
+      ap (λ b. by_macs b wanted (mac_in pdu) plain) ((bytes_eq-Decides wanted (mac_in pdu)).1 mac) ∙ ap Opened (sym (is ∙ sent_text_is keys header count dir (sent_in pdu)))
 
   -- and one whose MAC is wrong
-  pub fails_so : (wanted got : List ℕ) → wanted ≡ mac_of keys.int count nas_bearer Down (covered_in pdu) → got ≡ mac_in pdu → wanted ≢ got
+  pub fails_so : (wanted got : List ℕ) → wanted ≡ mac_of keys.int count nas_bearer dir (covered_in pdu) → got ≡ mac_in pdu → wanted ≢ got
       → open_octets annex_b opening pdu ≡ Differs wanted got
   unfolding open_octets
   fails_so wanted got w g h = rw (← w, ← g) (differs wanted got _ h (bytes_eq wanted got) refl)

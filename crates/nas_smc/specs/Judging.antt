@@ -1,5 +1,5 @@
 -- What a NAS message comes to, as the phone's table has it (TS 24.301 4.4.3 to 4.4.5 and 5.4.3).
-use Rattle.std.specs.Prelude.{ℕ, ◌<◌, ◌≤◌, List, Option, Some, None, option_map, Result, Ok, Err}
+use Rattle.std.specs.Prelude.{ℕ, ◌<◌, ◌≤◌, List, Option, Some, None, option_map, Result}
 use Rattle.lte_events.specs.declared.answers.Answer.{Answer}
 use Rattle.lte_events.specs.declared.answers.Answer.TheVariants.{CapsMismatch}
 use Rattle.lte_events.specs.declared.replies.ActorOut.{ActorOut}
@@ -7,7 +7,7 @@ use Rattle.key_model.specs.Reading.{octet_reading}
 use Rattle.nas_count.specs.Estimate.{count_limit}
 use Rattle.lte_machine.specs.Calls.{actor_out, use_out}
 use Rattle.lte_machine.specs.Ciphers.{annex_b}
-use Rattle.lte_machine.specs.Opening.{Opening, Outcome, Opened, Differs, accepted_of, open_octets}
+use Rattle.lte_machine.specs.Opening.{Opening, Outcome, accepted_of, open_octets}
 use Rattle.lte_machine.specs.PhoneState.{Partial, NasContext, Radio, Phone, map_partial, map_context, map_radio}
 use Rattle.lte_machine.specs.PhoneRows.{NasRow, NasRefused, NasOpened}
 use Rattle.lte_machine.specs.PhoneChoice.{NasFront, nas_row, rejected, context_row, nas_by_header, capabilities_mismatch, rejected_unspecified}
@@ -15,7 +15,6 @@ use Rattle.lte_machine.specs.PhoneKeys.{nas_expects, nas_does}
 use Rattle.lte_machine.specs.Reply.{unseen}
 use Rattle.rec_base.specs.declared.uses.Use.{Use}
 use Rattle.nas_smc.specs.declared.judging.Judged.{Judged}
-use Rattle.nas_smc.specs.declared.judging.Macs.{Macs}
 use Rattle.nas_smc.specs.declared.judging.Verdict.{Verdict}
 use Rattle.nas_smc.specs.declared.judging.Verdict as verdicts
 use Rattle.nas_smc.specs.PhoneNas.{NasPart, phone_of}
@@ -66,11 +65,6 @@ row_at s radio front pdu = nas_row s.caps (plain_context s) (plain_radio radio) 
 -- the integrity use of a message whose MAC was right
 abbrev pub accepted_at : NasPart → Radio (List ℕ) ℕ → NasFront → List ℕ → Option Use
 accepted_at s radio front pdu = option_map use_out (accepted_of (opening_at s radio front) (outcome_at s radio front pdu))
-
--- the outcome by what the code has
-abbrev pub outcome_of : Result (List ℕ) Macs → Outcome
-outcome_of (Ok text) = Opened text
-outcome_of (Err macs) = Differs macs.wanted macs.got
 
 -- the phone after a verdict, and its reply
 abbrev pub done_by : NasPart → Radio (List ℕ) ℕ → Judged → Phone (List ℕ) ℕ × ActorOut

@@ -1,22 +1,21 @@
-ghost use Rattle.std.specs.Prelude.{◌≡◌, ◌+◌, ◌≤◌, ◌<◌, IfNone, IfSome, true, false, map, nat_le, ◌++◌, ◌∷◌, []};
+ghost use Rattle.std.specs.Prelude.{◌≡◌, ◌+◌, ◌≤◌, ◌<◌, IfNone, IfSome, true, false, nat_le};
 ghost use Rattle.rec_base.specs.declared.uses.Dir.TheVariants.{Up};
 ghost use Rattle.lte_events.specs.declared.answers.Answer.TheVariants.{Done};
 ghost use Rattle.nas_count.specs.Estimate.{count_limit};
 ghost use Rattle.nas_guard.specs.Seal.{is_ciphered};
 ghost use Rattle.nas_rec.specs.Spelling.{spelling_of, InRange};
-ghost use Rattle.lte_machine.specs.Calls.{use_out};
 ghost use Rattle.lte_machine.specs.PhoneKeys.{one_nas_sent};
-ghost use Rattle.lte_machine.specs.Wire.{SealedNas, ciphering_if, nas_use, nas_ciphering, ciphering_use};
+ghost use Rattle.lte_machine.specs.Wire.{SealedNas, ciphering_if, nas_use, nas_ciphering};
 ghost use Rattle.lte_machine.specs.Bearers.{skipped};
 ghost use Rattle.nas_smc.specs.NasOut.{sending};
 
 use crate::NasOut;
-use annex_a_keys::{AlgType, Kasme};
-use lte_events::{Answer, Few};
+use crate::protection::protect;
+use annex_a_keys::Kasme;
 use nas_count::{RxCount, TxCount};
-use nas_guard::{NasKeys, seal};
+use nas_guard::NasKeys;
 use nas_rec::NasRecord;
-use rec_base::{Dir, Use};
+use rec_base::Dir;
 use std::marker::Model;
 
 // The NAS context in use: its KASME, its keys, and the COUNTs of both directions (TS 24.301 4.4.3).
@@ -43,7 +42,6 @@ impl Model for Context {
 impl Context {
     // Sends a message of the phone under the next uplink COUNT, which it takes, and answers with that
     // COUNT too, or sends nothing where none is left (TS 24.301 4.4.4.2 and 4.4.5).
-    #[tactic(auto, using(crate::proofs::Sealing::sealed_is))]
     pub(crate) fn seal(&mut self, header: u8, told: &NasRecord) -> Option<(NasOut, u32)>
         requires above_plain { 1 ≤ header }
         requires at_most_four { header ≤ 4 }
@@ -58,17 +56,33 @@ impl Context {
             (ciphering_if (is_ciphered header) (nas_ciphering Up self.old.keys self.old.send))
             (spelling_of told.now))) }
     {
-        let text = told.write();
-        let (pdu, count) = seal(&self.keys, &mut self.send, header, Dir::Up, text.as_slice()).ok()?;
-        let out = NasOut {
-            pdu: Some(pdu),
-            used: uses(&self.keys, header, count),
-            ..NasOut::of(Answer::Done)
-        };
-        Some((out, count))
+        self.protect(header, Dir::Up, told)
     }
 
-    // Takes a downlink COUNT whose message was verified (TS 24.301 4.4.3.1).
+    // The same in a direction.
+    pub(crate) fn protect(
+        &mut self,
+        header: u8,
+        dir: Dir,
+        told: &NasRecord,
+    ) -> Option<(NasOut, u32)>
+        requires above_plain { 1 ≤ header }
+        requires at_most_four { header ≤ 4 }
+        requires in_range { InRange told.now }
+        ensures spent { IfNone result (nat_le count_limit self.old.send ≡ true) }
+        ensures same { IfNone result (self.new ≡ self.old) }
+        ensures left { IfSome result (λ sent. nat_le count_limit self.old.send ≡ false) }
+        ensures new { IfSome result (λ sent. self.new ≡ record self.old { send = self.old.send + 1 }) }
+        ensures count { IfSome result (λ sent. sent.1 ≡ self.old.send) }
+        ensures value { IfSome result (λ sent. sent.0 ≡ sending Done
+            (SealedNas dir header (nas_use dir self.old.keys.int self.old.send)
+            (ciphering_if (is_ciphered header) (nas_ciphering dir self.old.keys self.old.send))
+            (spelling_of told.now))) }
+    {
+        protect(&self.keys, &mut self.send, header, dir, told)
+    }
+
+    // Takes a COUNT whose message was verified (TS 24.301 4.4.3.1).
     pub(crate) fn accept(&mut self, count: u32)
         requires at_or_above { self.old.receive ≤ count }
         requires below { count < count_limit }
@@ -77,40 +91,11 @@ impl Context {
         self.receive.accept(count);
     }
 
-    // Leaves out so many uplink COUNTs.
+    // Leaves out so many sending COUNTs.
     #[tactic(auto, using(crate::proofs::Counting::skipped_is))]
     pub(crate) fn skip(&mut self, n: u32)
         ensures { self.new ≡ record self.old { send = skipped n self.old.send count_limit } }
     {
         self.send.skip(n);
     }
-}
-
-// The uses of the keys in sending: that of encryption where the message is ciphered, and that of
-// integrity.
-fn uses(keys: &NasKeys, header: u8, count: u32) -> Few<Use, 2>
-    ensures { result ≡ map use_out (ciphering_use (ciphering_if (is_ciphered header) (nas_ciphering Up keys.now count)) ++ nas_use Up keys.now.int count ∷ []) }
-{
-    let integrity = Use {
-        key: keys.key(AlgType::NasInt),
-        count,
-        bearer: 0,
-        dir: Dir::Up,
-    };
-    let mut used = Few::new();
-    if ciphers(header) {
-        used.push(Use {
-            key: keys.key(AlgType::NasEnc),
-            ..integrity
-        });
-    }
-    used.push(integrity);
-    used
-}
-
-// Whether a header type has the message ciphered.
-fn ciphers(header: u8) -> bool
-    ensures { result ≡ is_ciphered header }
-{
-    header == 2 || header == 4
 }

@@ -1,31 +1,23 @@
 // The choice of what a NAS message comes to; it changes nothing.
-ghost use Rattle.std.specs.Prelude.{◌≡◌, ◌≢◌, ◌<◌, ◌≤◌, ℕ, List, IfOk, Ok, None, length, map};
-ghost use Rattle.rec_base.specs.declared.uses.Dir.TheVariants.{Down};
-ghost use Rattle.key_model.specs.Least.{least};
+ghost use Rattle.std.specs.Prelude.{◌≡◌, ◌≢◌, ◌≤◌, ℕ, List, IfOk, Ok, None, length, map};
 ghost use Rattle.key_model.specs.Reading.{octet_reading};
 ghost use Rattle.key_model.specs.Derivation.{derived_of};
-ghost use Rattle.nas_count.specs.Estimate.{count_limit};
-ghost use Rattle.nas_guard.specs.Open.{IsProtected, first_in, header_in, sn_in};
-ghost use Rattle.nas_guard.specs.Seal.{is_ciphered};
-ghost use Rattle.lte_machine.specs.Calls.{use_out};
-ghost use Rattle.lte_machine.specs.Ciphers.{annex_b};
+ghost use Rattle.nas_guard.specs.Open.{IsProtected, first_in, header_in};
 ghost use Rattle.lte_machine.specs.Kinds.{same_caps};
-ghost use Rattle.lte_machine.specs.Opening.{OpensNas, open_octets};
 ghost use Rattle.lte_machine.specs.PhoneChoice.{header_for_phone};
 ghost use Rattle.lte_machine.specs.PhoneState.{Radio, nas_keys_of, nas_derivations};
-ghost use Rattle.lte_machine.specs.Wire.{ciphering_if, nas_use, nas_ciphering};
 ghost use Rattle.nas_smc.specs.declared.judging.Verdict.TheVariants.{Refused, Rejected};
-ghost use Rattle.lte_events.specs.declared.answers.Answer.TheVariants.{MacFails};
-ghost use Rattle.nas_smc.specs.Judging.{CountFits, front_of, row_at, accepted_at, outcome_of, plain_context, plain_radio, row_of};
+ghost use Rattle.nas_smc.specs.Judging.{CountFits, front_of, row_at, accepted_at, plain_context, plain_radio, row_of};
 
 use crate::PhoneNas;
+use crate::opening::{integrity_use, opened};
 use alg_choice::{Algs, Caps, supports};
 use annex_a_keys::{AlgType, Derived, Kasme};
 use lte_events::{Answer, Few};
 use nas_count::RxCount;
-use nas_guard::{NasKeys, OpenFault, Opened, open};
+use nas_guard::NasKeys;
 use nas_rec::NasRecord;
-use rec_base::{Dir, Octets, ShortText, Use};
+use rec_base::{Dir, ShortText, Use};
 
 // What a NAS message comes to.
 #[derive(Debug, Drop)]
@@ -45,24 +37,6 @@ pub(crate) enum Verdict {
 pub(crate) struct Judged {
     pub(crate) verdict: Verdict,
     pub(crate) accepted: Option<Use>,
-}
-
-// The MAC computed and the MAC received, where they differ.
-#[derive(Clone, Copy, Debug, PartialEq, Eq)]
-pub(crate) struct Macs {
-    wanted: [u8; 4],
-    got: [u8; 4],
-}
-
-impl Macs {
-    // The answer that tells them.
-    fn fails(&self, count: u32) -> Answer
-        ensures { result ≡ MacFails count self.now.wanted self.now.got }
-    {
-        let wanted = self.wanted;
-        let got = self.got;
-        Answer::MacFails(count, wanted, got)
-    }
 }
 
 impl PhoneNas {
@@ -116,10 +90,10 @@ impl PhoneNas {
             return refused(Answer::CountSpent);
         };
         let (keys, _) = nas_keys(&partial.root, algs);
-        if let Err(macs) = opened(&keys, &receive, 3, count, pdu) {
+        if let Err(macs) = opened(&keys, &receive, 3, Dir::Down, count, pdu) {
             return rejected(macs.fails(count), None);
         }
-        let accepted = Some(integrity_use(&keys, count));
+        let accepted = Some(integrity_use(&keys, Dir::Down, count));
         if !same(&self.caps, &caps) {
             return rejected(Answer::CapsMismatch(self.caps, caps), accepted);
         }
@@ -148,7 +122,14 @@ impl PhoneNas {
         let Ok(count) = context.receive.estimate(pdu[5]) else {
             return refused(Answer::CountSpent);
         };
-        let text = match opened(&context.keys, &context.receive, header, count, pdu) {
+        let text = match opened(
+            &context.keys,
+            &context.receive,
+            header,
+            Dir::Down,
+            count,
+            pdu,
+        ) {
             Ok(text) => text,
             Err(macs) => return refused(macs.fails(count)),
         };
@@ -162,7 +143,7 @@ impl PhoneNas {
         };
         Judged {
             verdict,
-            accepted: Some(integrity_use(&context.keys, count)),
+            accepted: Some(integrity_use(&context.keys, Dir::Down, count)),
         }
     }
 }
@@ -200,46 +181,6 @@ fn header_of(pdu: &[u8]) -> Result<u8, Answer>
         return Err(Answer::Short);
     }
     Ok(header)
-}
-
-// Opens a message at its COUNT: the text, or the MAC computed and the MAC received (TS 24.301 4.4.4.3).
-#[tactic(auto, using(crate::proofs::Sealing::opens_so, crate::proofs::Sealing::fails_so))]
-fn opened(
-    keys: &NasKeys,
-    receive: &RxCount,
-    header: u8,
-    count: u32,
-    pdu: &[u8],
-) -> Result<Octets, Macs>
-    requires long { 6 ≤ length pdu.now }
-    requires length { length pdu.now ≤ 1536 }
-    requires protected { IsProtected (first_in pdu.now) }
-    requires header { header ≡ header_in pdu.now }
-    requires count { count ≡ least receive.now (sn_in pdu.now) 256 }
-    requires below { count < count_limit }
-    ensures { open_octets annex_b
-        (OpensNas (nas_use Down keys.now.int count) (ciphering_if (is_ciphered header) (nas_ciphering Down keys.now count))) pdu.now
-        ≡ outcome_of result }
-{
-    match open(keys, receive, Dir::Down, pdu) {
-        Ok(Opened { text, .. }) => Ok(text),
-        Err(OpenFault::MacFails { wanted, got, .. }) => Err(Macs { wanted, got }),
-        Err(OpenFault::Short) => unreachable!(),
-        Err(OpenFault::BadHeader(_)) => unreachable!(),
-        Err(OpenFault::CountSpent) => unreachable!(),
-    }
-}
-
-// The integrity use of a message to the phone.
-fn integrity_use(keys: &NasKeys, count: u32) -> Use
-    ensures { result ≡ use_out (nas_use Down keys.now.int count) }
-{
-    Use {
-        key: keys.key(AlgType::NasInt),
-        count,
-        bearer: 0,
-        dir: Dir::Down,
-    }
 }
 
 // Whether capabilities are the same.

@@ -1,0 +1,141 @@
+-- The NAS part of a core, and the whole core around it (TS 24.301 4.4, TS 33.401 7.2.6.2 and 7.2.9.2).
+use Rattle.std.specs.Prelude.{ℕ, ◌+◌, ◌==◌, nat_le, Bool, true, false, if◌then◌else◌, List, [], ◌∷◌, replicate, Option, Some, None, option_map}
+use Rattle.alg_choice.specs.declared.algs.Eea.{Eea}
+use Rattle.alg_choice.specs.declared.caps.Caps.{Caps}
+use Rattle.key_model.specs.Derivation.{derived_of, kenb_made}
+use Rattle.key_model.specs.Reading.{octet_reading}
+use Rattle.lte_events.specs.Site.{Site}
+use Rattle.lte_events.specs.declared.addresses.Address.TheVariants.{PhoneNas}
+use Rattle.lte_events.specs.declared.replies.ActorOut.{ActorOut}
+use Rattle.lte_events.specs.declared.replies.Record.{Record}
+use Rattle.lte_machine.specs.Calls.{note_out, record_out}
+use Rattle.lte_machine.specs.CoreChoice.{NUMBERS}
+use Rattle.lte_machine.specs.CoreKeys.{to_station}
+use Rattle.lte_machine.specs.CoreState.{Core, CorePartial, CoreContext, CoreLink}
+use Rattle.nas_guard.specs.Keys.{Keys}
+use Rattle.nas_guard.specs.Open.{header_in}
+use Rattle.nh_chain.specs.Chain.{begun}
+use Rattle.rec_base.specs.declared.ways.Way.TheVariants.{Initial}
+use Rattle.s1x2_rec.specs.Fields.{ContextModification}
+use Rattle.nas_smc.specs.declared.reply.NasOut.{NasOut}
+use Rattle.nas_smc.specs.NasOut.{phone_reply}
+
+-- what an authentication left, and the keys of the procedure that is open for it
+pub record CoreLeft : Type 0 where
+  pub partial : CorePartial (List ℕ)
+  pub procedure : Option (Keys (List ℕ))
+
+-- what a core keeps for NAS
+pub record CorePart : Type 0 where
+  -- its list of encryption algorithms, the first the best
+  pub priority : List Eea
+  -- what the latest authentication left
+  pub left : Option CoreLeft
+  -- the context in use
+  pub context : Option (CoreContext (List ℕ))
+
+abbrev pub partial_in : Option CoreLeft → Option (CorePartial (List ℕ))
+partial_in None = None
+partial_in (Some l) = Some l.partial
+
+abbrev pub procedure_in : Option CoreLeft → Option (Keys (List ℕ))
+procedure_in None = None
+procedure_in (Some l) = l.procedure
+
+-- the same with no procedure open
+abbrev pub closed : CoreLeft → CoreLeft
+closed l = record l { procedure = None }
+
+-- what else a core keeps
+pub record CoreRest : Type 0 where
+  pub cells : List Site
+  -- the capabilities of the latest authentication
+  pub latest : Caps
+  -- the uplink NAS COUNT that triggers a connection
+  pub trigger : Option ℕ
+  -- the next connection number
+  pub next : ℕ
+  -- the connection
+  pub link : Option (CoreLink (List ℕ) ℕ)
+  -- of each station the greatest attempt and the greatest path switch request seen
+  pub attempts : List ℕ
+  pub requests : List ℕ
+
+-- of a core that has authenticated nobody
+abbrev pub first_rest : List Site → ℕ → CoreRest
+first_rest cells first = record {
+  cells = cells;
+  latest = record { eea = 0; eia = 0 };
+  trigger = None;
+  next = first;
+  link = None;
+  attempts = replicate 8 0;
+  requests = replicate 8 0;
+}
+
+-- the core with this NAS part and this rest
+abbrev pub core_of : CorePart → CoreRest → Core (List ℕ) ℕ
+core_of s rest = record {
+  cells = rest.cells;
+  priority = s.priority;
+  latest = rest.latest;
+  partial = partial_in s.left;
+  procedure = procedure_in s.left;
+  context = s.context;
+  trigger = rest.trigger;
+  next = rest.next;
+  link = rest.link;
+  attempts = rest.attempts;
+  requests = rest.requests;
+}
+
+-- a message of the core to the phone
+abbrev pub to_phone : List ℕ → Record
+to_phone octets = record { to = PhoneNas; octets = octets }
+
+-- the core's reply
+abbrev pub core_reply : NasOut → ActorOut
+core_reply out = record (phone_reply out out.derived) { sent = option_map to_phone out.pdu }
+
+-- the header type of a message with a new context, which at a core is a SECURITY MODE COMPLETE (TS 24.301 9.3.1)
+abbrev pub is_for_new_context : List ℕ → Bool
+is_for_new_context pdu = header_in pdu == 4
+
+-- a message asks for a connection: its COUNT is the trigger (TS 33.401 7.2.6.2)
+abbrev pub triggers : CorePart → NasOut → ℕ → CoreRest → Core (List ℕ) ℕ × ActorOut
+triggers s out count rest = (core_of s (record rest { trigger = Some count }), core_reply out)
+
+-- the key of a connection changes at once, to KeNB of the new context and of this COUNT, and the connection goes on under the
+-- next number (TS 33.401 7.2.9.2 and A.3)
+abbrev pub changes : CorePart → NasOut → ℕ → CoreRest → CoreLink (List ℕ) ℕ → Option (CoreContext (List ℕ)) → Core (List ℕ) ℕ × ActorOut
+changes s out count rest link None = (core_of s rest, core_reply out)
+changes s out count rest link (Some c) =
+    let r = octet_reading in
+    let kenb = r.kenb c.nas.root count in (
+      core_of s (record rest {
+        trigger = None;
+        next = rest.next + 1;
+        link = Some (record { conn = rest.next; chain = begun r c.nas.root kenb; station = link.station });
+      }),
+      record (core_reply out) {
+        sent = Some (record_out (to_station link.station (ContextModification link.conn rest.next) (Some (record { key = kenb; number = r.first }))));
+        derived = derived_of (kenb_made r c.nas.root count) ∷ [];
+        note = Some (note_out (record { ncc = r.ncc r.first; way = Initial; key = kenb }));
+      },
+    )
+
+-- a new context is in use: a connection that stands changes its key, if a number is left for it (TS 33.401 7.2.9.2)
+abbrev pub completes : CorePart → NasOut → ℕ → CoreRest → Option (CoreLink (List ℕ) ℕ) → Core (List ℕ) ℕ × ActorOut
+completes s out count rest None = triggers s out count rest
+completes s out count rest (Some link) =
+    if nat_le NUMBERS rest.next then triggers s out count rest else changes s out count rest link s.context
+
+-- the whole core after a call of its NAS part, and its reply: first by whether a message asked for a connection, which the
+-- COUNT of it tells, and then by whether that message made a new context
+abbrev pub asked : CorePart → NasOut → CoreRest → Option ℕ → Bool → Core (List ℕ) ℕ × ActorOut
+asked s out rest None new = (core_of s rest, core_reply out)
+asked s out rest (Some count) false = triggers s out count rest
+asked s out rest (Some count) true = completes s out count rest rest.link
+
+abbrev pub core_after : CorePart → NasOut → Bool → CoreRest → Core (List ℕ) ℕ × ActorOut
+core_after s out new rest = asked s out rest out.trigger new
