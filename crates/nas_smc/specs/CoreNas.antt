@@ -102,40 +102,43 @@ abbrev pub is_for_new_context : List ℕ → Bool
 is_for_new_context pdu = header_in pdu == 4
 
 -- a message asks for a connection: its COUNT is the trigger (TS 33.401 7.2.6.2)
-abbrev pub triggers : CorePart → NasOut → ℕ → CoreRest → Core (List ℕ) ℕ × ActorOut
-triggers s out count rest = (core_of s (record rest { trigger = Some count }), core_reply out)
+abbrev pub triggers : Core (List ℕ) ℕ → NasOut → ℕ → Core (List ℕ) ℕ × ActorOut
+triggers s out count = (record s { trigger = Some count }, core_reply out)
 
--- the key of a connection changes at once, to KeNB of the new context and of this COUNT, and the connection goes on under the
--- next number (TS 33.401 7.2.9.2 and A.3)
-abbrev pub changes : CorePart → NasOut → ℕ → CoreRest → CoreLink (List ℕ) ℕ → Option (CoreContext (List ℕ)) → Core (List ℕ) ℕ × ActorOut
-changes s out count rest link None = (core_of s rest, core_reply out)
-changes s out count rest link (Some c) =
+-- the key of a connection with this number at this station changes at once, to KeNB of this KASME and COUNT, and the connection
+-- goes on under the next number (TS 33.401 7.2.9.2 and A.3)
+abbrev pub changed : Core (List ℕ) ℕ → NasOut → List ℕ → ℕ → ℕ → ℕ → ℕ → Core (List ℕ) ℕ × ActorOut
+changed s out root count conn station next =
     let r = octet_reading in
-    let kenb = r.kenb c.nas.root count in (
-      core_of s (record rest {
+    let kenb = r.kenb root count in (
+      record s {
         trigger = None;
-        next = rest.next + 1;
-        link = Some (record { conn = rest.next; chain = begun r c.nas.root kenb; station = link.station });
-      }),
+        next = next + 1;
+        link = Some (record { conn = next; chain = begun r root kenb; station = station });
+      },
       record (core_reply out) {
-        sent = Some (record_out (to_station link.station (ContextModification link.conn rest.next) (Some (record { key = kenb; number = r.first }))));
-        derived = derived_of (kenb_made r c.nas.root count) ∷ [];
+        sent = Some (record_out (to_station station (ContextModification conn next) (Some (record { key = kenb; number = r.first }))));
+        derived = derived_of (kenb_made r root count) ∷ [];
         note = Some (note_out (record { ncc = r.ncc r.first; way = Initial; key = kenb }));
       },
     )
 
+abbrev pub changes : Core (List ℕ) ℕ → NasOut → ℕ → CoreLink (List ℕ) ℕ → Option (CoreContext (List ℕ)) → Core (List ℕ) ℕ × ActorOut
+changes s out count link None = (s, core_reply out)
+changes s out count link (Some c) = changed s out c.nas.root count link.conn link.station s.next
+
 -- a new context is in use: a connection that stands changes its key, if a number is left for it (TS 33.401 7.2.9.2)
-abbrev pub completes : CorePart → NasOut → ℕ → CoreRest → Option (CoreLink (List ℕ) ℕ) → Core (List ℕ) ℕ × ActorOut
-completes s out count rest None = triggers s out count rest
-completes s out count rest (Some link) =
-    if nat_le NUMBERS rest.next then triggers s out count rest else changes s out count rest link s.context
+abbrev pub completes : Core (List ℕ) ℕ → NasOut → ℕ → Option (CoreLink (List ℕ) ℕ) → Core (List ℕ) ℕ × ActorOut
+completes s out count None = triggers s out count
+completes s out count (Some link) =
+    if nat_le NUMBERS s.next then triggers s out count else changes s out count link s.context
 
 -- the whole core after a call of its NAS part, and its reply: first by whether a message asked for a connection, which the
 -- COUNT of it tells, and then by whether that message made a new context
-abbrev pub asked : CorePart → NasOut → CoreRest → Option ℕ → Bool → Core (List ℕ) ℕ × ActorOut
-asked s out rest None new = (core_of s rest, core_reply out)
-asked s out rest (Some count) false = triggers s out count rest
-asked s out rest (Some count) true = completes s out count rest rest.link
+abbrev pub asked : Core (List ℕ) ℕ → NasOut → Option ℕ → Bool → Core (List ℕ) ℕ × ActorOut
+asked s out None new = (s, core_reply out)
+asked s out (Some count) false = triggers s out count
+asked s out (Some count) true = completes s out count s.link
 
-abbrev pub core_after : CorePart → NasOut → Bool → CoreRest → Core (List ℕ) ℕ × ActorOut
-core_after s out new rest = asked s out rest out.trigger new
+abbrev pub core_after : Core (List ℕ) ℕ → NasOut → Bool → Core (List ℕ) ℕ × ActorOut
+core_after s out new = asked s out out.trigger new

@@ -5,7 +5,7 @@ ghost use Rattle.lte_machine.specs.CoreKeys.{nas_taken};
 ghost use Rattle.lte_machine.specs.CoreRows.{PlainReject, ServiceAsked, NasOpened, SealedReject};
 ghost use Rattle.nas_smc.specs.declared.core_judging.CoreVerdict.TheVariants.{Completed};
 ghost use Rattle.nas_smc.specs.NasOut.{alone};
-ghost use Rattle.nas_smc.specs.CoreNas.{CoreRest, closed, core_after, procedure_in};
+ghost use Rattle.nas_smc.specs.CoreNas.{CoreRest, closed, core_after, core_of, procedure_in};
 ghost use Rattle.nas_smc.specs.CoreJudging.{CountFits, IsOpen, IsOfKind, FitsContext, done_by, row_of};
 
 use crate::context::Context;
@@ -22,7 +22,7 @@ impl CoreNas {
     pub(crate) fn act(&mut self, judged: CoreJudged) -> NasOut
         requires { CountFits self.old judged.verdict }
         ensures { (rest : CoreRest) (new : Bool) → IsOfKind new judged.verdict →
-            done_by self.old rest (row_of rest judged.verdict) judged.accepted ≡ core_after self.new result new rest }
+            done_by self.old rest (row_of rest judged.verdict) judged.accepted ≡ core_after (core_of self.new rest) result new }
     {
         let CoreJudged { verdict, accepted } = judged;
         match verdict {
@@ -37,7 +37,7 @@ impl CoreNas {
 
     // A SECURITY MODE REJECT that is not protected ends the procedure.
     fn close(&mut self, accepted: Option<Use>) -> NasOut
-        ensures { (rest : CoreRest) (new : Bool) → done_by self.old rest PlainReject accepted ≡ core_after self.new result new rest }
+        ensures { (rest : CoreRest) (new : Bool) → done_by self.old rest PlainReject accepted ≡ core_after (core_of self.new rest) result new }
     {
         self.end();
         done(Answer::Done, accepted)
@@ -49,7 +49,7 @@ impl CoreNas {
         requires below { count < count_limit }
         requires open { IsOpen (procedure_in self.old.left) }
         ensures { (rest : CoreRest) →
-            done_by self.old rest (row_of rest (Completed count)) accepted ≡ core_after self.new result true rest }
+            done_by self.old rest (row_of rest (Completed count)) accepted ≡ core_after (core_of self.new rest) result true }
     {
         let Some(left) = self.left.take() else {
             unreachable!()
@@ -81,7 +81,7 @@ impl CoreNas {
     // A SERVICE REQUEST asks for a connection.
     fn ask(&mut self, count: u32, accepted: Option<Use>) -> NasOut
         requires { FitsContext self.old.context count }
-        ensures { (rest : CoreRest) → done_by self.old rest (ServiceAsked count) accepted ≡ core_after self.new result false rest }
+        ensures { (rest : CoreRest) → done_by self.old rest (ServiceAsked count) accepted ≡ core_after (core_of self.new rest) result false }
     {
         self.received(count);
         NasOut {
@@ -93,7 +93,7 @@ impl CoreNas {
     // Takes a NAS text.
     fn accept(&mut self, count: u32, text: ShortText, accepted: Option<Use>) -> NasOut
         requires { FitsContext self.old.context count }
-        ensures { (rest : CoreRest) (new : Bool) → done_by self.old rest (NasOpened count text) accepted ≡ core_after self.new result new rest }
+        ensures { (rest : CoreRest) (new : Bool) → done_by self.old rest (NasOpened count text) accepted ≡ core_after (core_of self.new rest) result new }
     {
         self.received(count);
         NasOut {
@@ -105,7 +105,7 @@ impl CoreNas {
     // A SECURITY MODE REJECT under the context in use ends the procedure.
     fn reject(&mut self, count: u32, accepted: Option<Use>) -> NasOut
         requires { FitsContext self.old.context count }
-        ensures { (rest : CoreRest) (new : Bool) → done_by self.old rest (SealedReject count) accepted ≡ core_after self.new result new rest }
+        ensures { (rest : CoreRest) (new : Bool) → done_by self.old rest (SealedReject count) accepted ≡ core_after (core_of self.new rest) result new }
     {
         self.received(count);
         self.end();

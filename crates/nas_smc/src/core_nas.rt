@@ -74,7 +74,7 @@ impl CoreNas {
     /// Each leaves everything as it was.
     pub fn start_smc(&mut self) -> NasOut
         ensures { (rest : CoreRest) →
-            core_call (core_of self.old rest) (Act StartSmc) ≡ core_after self.new result false rest }
+            core_call (core_of self.old rest) (Act StartSmc) ≡ core_after (core_of self.new rest) result false }
     {
         let priority = self.priority;
         let Some(left) = self.left.as_mut() else {
@@ -112,7 +112,7 @@ impl CoreNas {
     pub fn on_pdu(&mut self, pdu: &[u8]) -> NasOut
         requires { length pdu.now ≤ 1536 }
         ensures { (rest : CoreRest) →
-            core_call (core_of self.old rest) (Nas pdu.now) ≡ core_after self.new result (is_for_new_context pdu.now) rest }
+            core_call (core_of self.old rest) (Nas pdu.now) ≡ core_after (core_of self.new rest) result (is_for_new_context pdu.now) }
     {
         let judged = self.judge(pdu);
         self.act(judged)
@@ -124,7 +124,7 @@ impl CoreNas {
     /// leave everything as it was.
     pub fn send(&mut self, text: &ShortText) -> NasOut
         ensures { (rest : CoreRest) →
-            core_call (core_of self.old rest) (Act (SendNas text.now)) ≡ core_after self.new result false rest }
+            core_call (core_of self.old rest) (Act (SendNas text.now)) ≡ core_after (core_of self.new rest) result false }
     {
         let Some(context) = self.context.as_mut() else {
             return NasOut::of(Answer::NoContext);
@@ -140,7 +140,7 @@ impl CoreNas {
     /// `NoContext` where no context is in use.
     pub fn skip(&mut self, n: u32) -> NasOut
         ensures { (rest : CoreRest) →
-            core_call (core_of self.old rest) (Act (Skip n)) ≡ core_after self.new result false rest }
+            core_call (core_of self.old rest) (Act (Skip n)) ≡ core_after (core_of self.new rest) result false }
     {
         let Some(context) = self.context.as_mut() else {
             return NasOut::of(Answer::NoContext);
