@@ -1,0 +1,42 @@
+-- One step of the core in octets, by the input as it reads.
+use Rattle.std.specs.Prelude.{ℕ, ◌≤◌, List, Option, Some, option_map, Ok}
+use Rattle.alg_choice.specs.declared.caps.Caps.{Caps}
+use Rattle.key_model.specs.HandoverTable.{NumberedKey}
+use Rattle.key_model.specs.Reading.{octet_reading}
+use Rattle.lte_events.specs.declared.answers.Answer.TheVariants.{Done}
+use Rattle.lte_events.specs.declared.inputs.CoreIn.{CoreIn}
+use Rattle.lte_events.specs.declared.inputs.CoreIn.TheVariants.{Auth}
+use Rattle.lte_events.specs.declared.replies.ActorOut.{ActorOut}
+use Rattle.lte_machine.specs.Calls.{actor_out}
+use Rattle.lte_machine.specs.Ciphers.{annex_b}
+use Rattle.lte_machine.specs.CoreChoice.{caps_in_use}
+use Rattle.lte_machine.specs.CoreState.{Core, CoreContext, CoreInput, CoreRecord, map_core_context}
+use Rattle.lte_machine.specs.CoreStep.{core_step, core_opens, core_pdu_in}
+use Rattle.lte_machine.specs.Opening.{open_octets}
+use Rattle.lte_machine.specs.Reply.{only, unseen}
+use Rattle.lte_machine.specs.Wire.{Outgoing}
+use Rattle.s1x2_rec.specs.Fields.{Fields}
+
+-- the KSI of an authentication is 0 to 6
+abbrev pub IsInput : CoreIn → Type 0
+IsInput (Auth ksi root caps) = ksi ≤ 6
+IsInput other = Unit {0}
+
+-- the core afterwards and its reply; a call is this of the input as it reads
+abbrev pub answered : Core (List ℕ) ℕ → CoreInput (List ℕ) ℕ → Core (List ℕ) ℕ × ActorOut
+answered s input =
+    let outcome = open_octets annex_b (core_opens octet_reading s input) (core_pdu_in input) in
+    let done = core_step octet_reading s input outcome in
+    (done.0, actor_out done.1)
+
+-- the step at a record on S1
+abbrev pub on_s1 : Core (List ℕ) ℕ → Fields → Option (NumberedKey (List ℕ) ℕ) → Core (List ℕ) ℕ × ActorOut
+on_s1 s fields key = answered s (CoreRecord (Ok (record { fields = fields; key = key })))
+
+-- a reply that sends this and nothing else
+abbrev pub sending : Outgoing (List ℕ) ℕ → ActorOut
+sending x = actor_out (record (only {C = ℕ} Done) { sent = Some x })
+
+-- the capabilities of the context in use
+abbrev pub caps_of : Option (CoreContext (List ℕ)) → Caps
+caps_of context = caps_in_use (option_map (map_core_context unseen) context)

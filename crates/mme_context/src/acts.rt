@@ -1,0 +1,108 @@
+// Acts of the core, and the next connection number.
+ghost use Rattle.std.specs.Prelude.{◌≡◌, ◌≤◌, ◌∷◌, [], IfNone, IfSome, Some, true, false, nat_le};
+ghost use Rattle.lte_events.specs.declared.acts.CoreAct.TheVariants.{Connect, Release};
+ghost use Rattle.lte_machine.specs.CoreChoice.{NUMBERS};
+ghost use Rattle.lte_machine.specs.CoreState.{CoreActs};
+ghost use Rattle.lte_machine.specs.CoreKeys.{to_station};
+ghost use Rattle.rec_base.specs.declared.ways.Way.TheVariants.{Initial};
+ghost use Rattle.s1x2_rec.specs.Fields.{InitialContext};
+ghost use Rattle.mme_context.specs.Step.{answered, sending};
+
+use crate::Core;
+use crate::link::Link;
+use crate::sends::{sends, sends_key};
+use alg_choice::Caps;
+use annex_a_keys::{Cell, Derived, Kenb};
+use lte_events::{ActorOut, Answer, CoreAct, KeyNote};
+use nh_chain::CoreChain;
+use rec_base::Way;
+use s1x2_rec::CoreRecord;
+
+impl Core {
+    // An act of its own.
+    pub(crate) fn act(&mut self, act: &CoreAct) -> ActorOut
+        ensures { (self.new, result) ≡ answered self.old (CoreActs act.now) }
+    {
+        match act {
+            CoreAct::StartSmc => self.start_smc(),
+            CoreAct::Connect(cell) => self.connect(cell),
+            CoreAct::Release => self.release(),
+            CoreAct::SendNas(text) => self.send_nas(text),
+            CoreAct::Skip(n) => self.skip(*n),
+        }
+    }
+
+    // A connection with KeNB of the latest trigger (TS 33.401 7.2.6.2 and A.3, TS 36.413 8.3.1), in place of
+    // one that stands.
+    fn connect(&mut self, cell: &Cell) -> ActorOut
+        ensures { (self.new, result) ≡ answered self.old (CoreActs (Connect cell.now)) }
+    {
+        let Some(station) = self.cells.station_of(cell) else {
+            return ActorOut::of(Answer::UnknownCell);
+        };
+        let Some(root) = self.nas.root() else {
+            return ActorOut::of(Answer::NoContext);
+        };
+        let caps = self.caps_in_use();
+        let Some(count) = self.trigger else {
+            return ActorOut::of(Answer::NoTrigger);
+        };
+        let Some(conn) = self.number() else {
+            return ActorOut::of(Answer::NumberSpent);
+        };
+        let (chain, kenb, made) = CoreChain::begin(&root, count);
+        self.trigger = None;
+        self.next = u64::from(conn) + 1;
+        self.link = Some(Link {
+            conn,
+            chain,
+            station,
+        });
+        begins(station, conn, *cell, caps, &kenb, made)
+    }
+
+    // UE Context Release Command (TS 36.413 8.3.3).
+    fn release(&mut self) -> ActorOut
+        ensures { (self.new, result) ≡ answered self.old (CoreActs Release) }
+    {
+        let Some(link) = &self.link else {
+            return ActorOut::of(Answer::NoUe);
+        };
+        let (conn, station) = (link.conn, link.station);
+        self.link = None;
+        sends(station, &CoreRecord::ContextRelease { conn })
+    }
+
+    // The next connection number, where one is left.
+    pub(crate) fn number(&self) -> Option<u32>
+        ensures spent { IfNone result (nat_le NUMBERS self.now.next ≡ true) }
+        ensures left { IfSome result (λ number. nat_le NUMBERS self.now.next ≡ false) }
+        ensures value { IfSome result (λ number. number ≡ self.now.next) }
+        ensures in_range { IfSome result (λ number. 1 ≤ number) }
+    {
+        if self.next >= 1 << 32 {
+            return None;
+        }
+        Some(self.next as u32)
+    }
+}
+
+// Initial Context Setup Request (TS 36.413 8.3.1), whose KeNB has NCC 0.
+fn begins(station: u8, conn: u32, cell: Cell, caps: Caps, kenb: &Kenb, made: Derived) -> ActorOut
+    requires { 1 ≤ conn }
+    ensures { result ≡ record (sending (to_station station (InitialContext conn cell caps) (Some (record { key = kenb.now; number = 0 }))))
+        { derived = made ∷ []; note = Some (record { ncc = 0; way = Initial; key = kenb.now }) } }
+{
+    let message = CoreRecord::InitialContext {
+        conn,
+        cell,
+        caps,
+        kenb: *kenb,
+    };
+    let note = KeyNote {
+        ncc: 0,
+        way: Way::Initial,
+        key: kenb.octets(),
+    };
+    sends_key(station, &message, made, note)
+}

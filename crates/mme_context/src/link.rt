@@ -1,0 +1,46 @@
+ghost use Rattle.std.specs.Prelude.{◌≡◌, ◌≤◌};
+ghost use Rattle.key_model.specs.Derivation.{derived_of, nh_made};
+ghost use Rattle.key_model.specs.Reading.{octet_reading};
+ghost use Rattle.nh_chain.specs.Chain.{present_pair, stepped};
+
+use annex_a_keys::Derived;
+use nh_chain::{CoreChain, NhPair};
+use std::marker::Model;
+
+// A connection: its number, its chain of NH and NCC, and the station where the phone is.
+#[derive(Drop)]
+pub(crate) struct Link {
+    pub(crate) conn: u32,
+    pub(crate) chain: CoreChain,
+    pub(crate) station: u8,
+}
+
+impl Model for Link {
+    ghost use Rattle.std.specs.Prelude.{List, ℕ, ◌≤◌};
+    ghost use Rattle.lte_machine.specs.CoreState.{CoreLink};
+
+    ghost Value = { CoreLink (List ℕ) ℕ };
+
+    ghost view = { λ l. record { conn = l.conn; chain = l.chain; station = l.station } };
+
+    ghost invariant = { λ l. (1 ≤ l.conn) × (l.station ≤ 7) };
+}
+
+impl Link {
+    // The next pair of the chain, and its derivation (TS 33.401 A.4).
+    pub(crate) fn step(&mut self) -> (NhPair, Derived)
+        ensures link { self.new ≡ record self.old { chain = stepped octet_reading self.old.chain } }
+        ensures pair { result.0 ≡ present_pair (stepped octet_reading self.old.chain) }
+        ensures derived { result.1 ≡ derived_of (nh_made octet_reading self.old.chain.root self.old.chain.sync) }
+    {
+        self.chain.step()
+    }
+
+    // The phone is at this station now.
+    pub(crate) fn move_to(&mut self, station: u8)
+        requires { station ≤ 7 }
+        ensures { self.new ≡ record self.old { station = station } }
+    {
+        self.station = station;
+    }
+}

@@ -1,0 +1,100 @@
+ghost use Rattle.std.specs.Prelude.{◌≡◌, ◌≢◌, ◌≤◌};
+ghost use Rattle.lte_events.specs.declared.answers.Answer.TheVariants.{Done};
+ghost use Rattle.lte_machine.specs.Calls.{core_call};
+ghost use Rattle.lte_machine.specs.CoreState.{first_core};
+ghost use Rattle.mme_context.specs.Step.{IsInput};
+
+use crate::link::Link;
+use alg_choice::{Caps, Priority};
+use lte_events::{ActorOut, Cells, CoreIn};
+use nas_smc::CoreNas;
+use std::marker::Model;
+
+/// The core of LTE with what it keeps of the phone (TS 24.301 4.4, TS 33.401 7.2.8). A contract sees it as
+/// the core of the written machine, with keys in octets and chain numbers as NCCs.
+#[derive(Drop)]
+pub struct Core {
+    pub(crate) nas: CoreNas,
+    pub(crate) cells: Cells,
+    pub(crate) latest: Caps,
+    pub(crate) trigger: Option<u32>,
+    pub(crate) next: u64,
+    pub(crate) link: Option<Link>,
+    pub(crate) attempts: [u32; 8],
+    pub(crate) requests: [u32; 8],
+}
+
+impl Model for Core {
+    ghost use Rattle.std.specs.Prelude.{List, ℕ, ◌≤◌};
+    ghost use Rattle.lte_machine.specs.CoreState.{Core as State};
+    ghost use Rattle.nas_smc.specs.CoreNas.{core_of};
+
+    ghost Value = { State (List ℕ) ℕ };
+
+    ghost view = { λ c. core_of c.nas (record {
+      cells = c.cells;
+      latest = c.latest;
+      trigger = c.trigger;
+      next = c.next;
+      link = c.link;
+      attempts = c.attempts;
+      requests = c.requests;
+    }) };
+
+    ghost invariant = { λ c. (1 ≤ c.next) × (c.next ≤ 4294967296) };
+}
+
+impl Core {
+    /// A core that has authenticated nobody: the cells of all stations, its algorithms by priority, and the
+    /// number of its first connection, at least 1.
+    pub fn new(cells: &Cells, priority: Priority, first: u32) -> Core
+        requires { 1 ≤ first }
+        ensures { result ≡ first_core cells.now priority first }
+    {
+        Core {
+            nas: CoreNas::new(priority),
+            cells: copied(cells),
+            latest: Caps { eea: 0, eia: 0 },
+            trigger: None,
+            next: u64::from(first),
+            link: None,
+            attempts: [0; 8],
+            requests: [0; 8],
+        }
+    }
+
+    /// One step: what comes, and the reply. The KSI of an authentication is 0 to 6.
+    ///
+    /// The step is that of the written machine, each answer with its cause in the tables of its rows, and it
+    /// takes no memory. A refused step leaves the core as it was.
+    pub fn step(&mut self, input: &CoreIn) -> ActorOut
+        requires { IsInput input.now }
+        ensures step { (self.new, result) ≡ core_call self.old input.now }
+        ensures refused { result.answer ≢ Done → self.new ≡ self.old }
+    {
+        self.routed(input)
+    }
+
+    // The step, by what comes.
+    fn routed(&mut self, input: &CoreIn) -> ActorOut
+        requires { IsInput input.now }
+        ensures { (self.new, result) ≡ core_call self.old input.now }
+    {
+        match input {
+            CoreIn::Auth(ksi, root, caps) => self.authenticate(*ksi, *root, *caps),
+            CoreIn::Act(act) => self.act(act),
+            CoreIn::Nas(pdu) => self.nas(pdu.as_slice()),
+            CoreIn::S1(octets) => self.s1(octets.as_slice()),
+        }
+    }
+}
+
+// The same cells.
+fn copied(cells: &Cells) -> Cells
+    ensures { result ≡ cells.now }
+{
+    match cells.clone() {
+        Ok(copy) => copy,
+        Err(_) => Cells::new(),
+    }
+}

@@ -1,0 +1,278 @@
+// Records on S1 (TS 36.413).
+ghost use Rattle.std.specs.Prelude.{◌≡◌, ◌≤◌, None, Ok, Some};
+ghost use Rattle.lte_events.specs.Reply.{reply_of};
+ghost use Rattle.lte_events.specs.declared.answers.Answer.TheVariants.{WrongKind};
+ghost use Rattle.lte_machine.specs.CoreState.{CoreRecord as OnS1};
+ghost use Rattle.lte_machine.specs.Kinds.{same_caps};
+ghost use Rattle.rec_base.specs.declared.ways.Way.TheVariants.{Chained};
+ghost use Rattle.s1x2_rec.specs.Content.{content_of};
+ghost use Rattle.s1x2_rec.specs.Fields.{PathSwitchRequest as Switching, HandoverRequired as Required, HandoverRequestAck as Acknowledged, HandoverNotify as Notified, HandoverCancel as Cancelled};
+ghost use Rattle.s1x2_rec.specs.Reading.{read_core};
+ghost use Rattle.s1x2_rec.specs.Spelling.{InRange};
+ghost use Rattle.mme_context.specs.Step.{answered, caps_of, on_s1};
+
+use crate::Core;
+use crate::sends::{heard, sends, sends_key};
+use alg_choice::{Algs, Caps};
+use annex_a_keys::Cell;
+use lte_events::{ActorOut, Answer, KeyNote};
+use rec_base::Way;
+use s1x2_rec::CoreRecord;
+
+impl Core {
+    // A record on S1.
+    pub(crate) fn s1(&mut self, octets: &[u8]) -> ActorOut
+        ensures { (self.new, result) ≡ answered self.old (OnS1 (read_core octets.now)) }
+    {
+        let message = match CoreRecord::read(octets) {
+            Ok(message) => message,
+            Err(fault) => return ActorOut::of(Answer::BadRecord(fault)),
+        };
+        self.message(&message)
+    }
+
+    // By the kinds that a core takes.
+    fn message(&mut self, message: &CoreRecord) -> ActorOut
+        requires { InRange (content_of message.now) }
+        ensures { (self.new, result) ≡ answered self.old (OnS1 (Ok (content_of message.now))) }
+    {
+        match *message {
+            CoreRecord::PathSwitchRequest {
+                conn,
+                station,
+                number,
+                cell,
+                caps,
+            } => self.path_switch_request(conn, station, number, cell, caps),
+            CoreRecord::HandoverRequired {
+                conn,
+                station,
+                attempt,
+                cell,
+            } => self.handover_required(conn, station, attempt, cell),
+            CoreRecord::HandoverRequestAck {
+                conn,
+                source,
+                attempt,
+                cell,
+                ncc,
+                algs,
+                air,
+            } => self.handover_request_ack(conn, source, attempt, cell, ncc, algs, air),
+            CoreRecord::HandoverNotify {
+                conn,
+                station,
+                cell,
+            } => self.handover_notify(conn, station, cell),
+            CoreRecord::HandoverCancel {
+                conn,
+                source,
+                attempt,
+                cell,
+            } => self.handover_cancel(conn, source, attempt, cell),
+            CoreRecord::InitialContext { kenb, .. } => {
+                heard(Answer::WrongKind(0x20), kenb.octets())
+            }
+            CoreRecord::ContextRelease { .. } => wrong(0x21),
+            CoreRecord::PathSwitchAnswer { nh, .. } => heard(Answer::WrongKind(0x23), nh.octets()),
+            CoreRecord::HandoverRequest { nh, .. } => heard(Answer::WrongKind(0x25), nh.octets()),
+            CoreRecord::HandoverCommand { .. } => wrong(0x27),
+            CoreRecord::X2Request { star, .. } => heard(Answer::WrongKind(0x30), star.octets()),
+            CoreRecord::X2Ack { .. } => wrong(0x31),
+            CoreRecord::X2Cancel { .. } => wrong(0x32),
+            CoreRecord::X2Release { .. } => wrong(0x33),
+            CoreRecord::ContextModification { kenb, .. } => {
+                heard(Answer::WrongKind(0x34), kenb.octets())
+            }
+        }
+    }
+
+    // Path Switch Request (TS 36.413 8.4.4): the station gets the next pair. Capabilities that differ from
+    // those of the latest authentication raise an alarm (TS 33.401 7.2.4.2.2 and 7.2.8.4.2).
+    fn path_switch_request(
+        &mut self,
+        conn: u32,
+        station: u8,
+        number: u32,
+        cell: Cell,
+        caps: Caps,
+    ) -> ActorOut
+        requires conn { 1 ≤ conn }
+        requires station { station ≤ 7 }
+        requires number { 1 ≤ number }
+        ensures { (self.new, result) ≡ on_s1 self.old (Switching conn station number cell caps) None }
+    {
+        let alarm = !same(&caps, &self.latest);
+        let seen = self.requests[usize::from(station)];
+        let Some(link) = self.link.as_mut() else {
+            return ActorOut::of(Answer::OldConnection(0, conn));
+        };
+        if link.conn != conn {
+            return ActorOut::of(Answer::OldConnection(link.conn, conn));
+        }
+        if number <= seen {
+            return ActorOut::of(Answer::Repeated(seen, number));
+        }
+        let (pair, made) = link.step();
+        link.move_to(station);
+        self.requests[usize::from(station)] = number;
+        let (ncc, nh) = (pair.ncc(), pair.nh());
+        let message = CoreRecord::PathSwitchAnswer {
+            conn,
+            number,
+            ncc,
+            nh,
+        };
+        ActorOut {
+            alarm,
+            ..sends_key(station, &message, made, chained(ncc, nh.octets()))
+        }
+    }
+
+    // Handover Required (TS 36.413 8.4.1): the target gets the next pair (TS 33.401 7.2.8.4.3).
+    fn handover_required(&mut self, conn: u32, source: u8, attempt: u32, cell: Cell) -> ActorOut
+        requires conn { 1 ≤ conn }
+        requires source { source ≤ 7 }
+        requires attempt { 1 ≤ attempt }
+        ensures { (self.new, result) ≡ on_s1 self.old (Required conn source attempt cell) None }
+    {
+        let caps = self.caps_in_use();
+        let seen = self.attempts[usize::from(source)];
+        let target = self.cells.station_of(&cell);
+        let Some(link) = self.link.as_mut() else {
+            return ActorOut::of(Answer::OldConnection(0, conn));
+        };
+        if link.conn != conn {
+            return ActorOut::of(Answer::OldConnection(link.conn, conn));
+        }
+        if attempt <= seen {
+            return ActorOut::of(Answer::Repeated(seen, attempt));
+        }
+        let Some(target) = target else {
+            return ActorOut::of(Answer::UnknownCell);
+        };
+        let (pair, made) = link.step();
+        self.attempts[usize::from(source)] = attempt;
+        let (ncc, nh) = (pair.ncc(), pair.nh());
+        let message = CoreRecord::HandoverRequest {
+            conn,
+            source,
+            attempt,
+            cell,
+            caps,
+            ncc,
+            nh,
+        };
+        sends_key(target, &message, made, chained(ncc, nh.octets()))
+    }
+
+    // Handover Request Acknowledge (TS 36.413 8.4.2): the source gets the Handover Command.
+    fn handover_request_ack(
+        &mut self,
+        conn: u32,
+        source: u8,
+        attempt: u32,
+        cell: Cell,
+        ncc: u8,
+        algs: Algs,
+        air: u32,
+    ) -> ActorOut
+        requires conn { 1 ≤ conn }
+        requires source { source ≤ 7 }
+        requires attempt { 1 ≤ attempt }
+        requires ncc { ncc ≤ 7 }
+        requires air { 1 ≤ air }
+        ensures { (self.new, result) ≡ on_s1 self.old (Acknowledged conn source attempt cell ncc algs air) None }
+    {
+        let Some(link) = &self.link else {
+            return ActorOut::of(Answer::OldConnection(0, conn));
+        };
+        if link.conn != conn {
+            return ActorOut::of(Answer::OldConnection(link.conn, conn));
+        }
+        let message = CoreRecord::HandoverCommand {
+            conn,
+            attempt,
+            cell,
+            ncc,
+            algs,
+            air,
+        };
+        sends(source, &message)
+    }
+
+    // Handover Notify (TS 36.413 8.4.3): the phone is at this station.
+    fn handover_notify(&mut self, conn: u32, station: u8, cell: Cell) -> ActorOut
+        requires { station ≤ 7 }
+        ensures { (self.new, result) ≡ on_s1 self.old (Notified conn station cell) None }
+    {
+        let Some(link) = self.link.as_mut() else {
+            return ActorOut::of(Answer::OldConnection(0, conn));
+        };
+        if link.conn != conn {
+            return ActorOut::of(Answer::OldConnection(link.conn, conn));
+        }
+        link.move_to(station);
+        ActorOut::of(Answer::Done)
+    }
+
+    // Handover Cancel (TS 36.413 8.4.5), which goes on to the target.
+    fn handover_cancel(&mut self, conn: u32, source: u8, attempt: u32, cell: Cell) -> ActorOut
+        requires conn { 1 ≤ conn }
+        requires source { source ≤ 7 }
+        requires attempt { 1 ≤ attempt }
+        ensures { (self.new, result) ≡ on_s1 self.old (Cancelled conn source attempt cell) None }
+    {
+        let Some(link) = &self.link else {
+            return ActorOut::of(Answer::OldConnection(0, conn));
+        };
+        if link.conn != conn {
+            return ActorOut::of(Answer::OldConnection(link.conn, conn));
+        }
+        let Some(target) = self.cells.station_of(&cell) else {
+            return ActorOut::of(Answer::UnknownCell);
+        };
+        let message = CoreRecord::HandoverCancel {
+            conn,
+            source,
+            attempt,
+            cell,
+        };
+        sends(target, &message)
+    }
+
+    // The capabilities of the context in use; a connection never stands without one.
+    pub(crate) fn caps_in_use(&self) -> Caps
+        ensures { result ≡ caps_of self.now.context }
+    {
+        match self.nas.caps() {
+            Some(caps) => caps,
+            None => Caps { eea: 0, eia: 0 },
+        }
+    }
+}
+
+// The note of a step of the chain.
+fn chained(ncc: u8, key: [u8; 32]) -> KeyNote
+    ensures { result ≡ record { ncc = ncc; way = Chained; key = key } }
+{
+    KeyNote {
+        ncc,
+        way: Way::Chained,
+        key,
+    }
+}
+
+// Whether capabilities are the same.
+fn same(caps: &Caps, latest: &Caps) -> bool
+    ensures { result ≡ same_caps caps.now latest.now }
+{
+    caps.eea == latest.eea && caps.eia == latest.eia
+}
+
+// A kind that is not taken there.
+fn wrong(kind: u8) -> ActorOut
+    ensures { result ≡ reply_of (WrongKind kind) }
+{
+    ActorOut::of(Answer::WrongKind(kind))
+}
