@@ -138,6 +138,13 @@ impl PhoneNas {
         NasOut::of(Answer::Done)
     }
 
+    /// The phone's security capabilities (TS 24.301 9.9.3.34).
+    pub fn caps(&self) -> Caps
+        ensures { result ≡ self.now.caps }
+    {
+        self.caps
+    }
+
     /// The KASME of the context in use. `None` where none is.
     pub fn root(&self) -> Option<Kasme>
         ensures { result ≡ option_map (λ c. c.root) self.now.context }
