@@ -1,0 +1,7 @@
+//! The six radio bearers of a connection, at the phone and at a station (TS 36.323 4.2.1, TS 36.331
+//! 4.2.2): SRB1, SRB2 and DRB1 to DRB4, each by its code.
+#![tactic(auto)]
+
+mod bearers;
+
+pub use bearers::{Bearers, is_srb, is_srb1};

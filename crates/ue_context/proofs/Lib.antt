@@ -1,0 +1,3 @@
+pub mod AirSteps
+pub mod Refusing
+pub mod StartSteps

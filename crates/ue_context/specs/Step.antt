@@ -1,0 +1,48 @@
+-- One step of the phone in octets, by its parts.
+use Rattle.std.specs.Prelude.{ℕ, List, Bool, Result, Ok, Err, Option, Some, None}
+use Rattle.alg_choice.specs.declared.algs.Algs.{Algs}
+use Rattle.rec_base.specs.declared.bearers.Bearer.{Bearer}
+use Rattle.rec_base.specs.declared.uses.Dir.TheVariants.{Down}
+use Rattle.lte_events.specs.declared.answers.Answer.{Answer}
+use Rattle.lte_events.specs.declared.answers.Answer.TheVariants.{Done}
+use Rattle.lte_events.specs.declared.replies.ActorOut.{ActorOut}
+use Rattle.key_model.specs.Reading.{octet_reading}
+use Rattle.pdcp_guard.specs.AsKeys.{AsKeys}
+use Rattle.pdcp_guard.specs.declared.pdus.PdcpFault.{PdcpFault}
+use Rattle.lte_machine.specs.Calls.{actor_out}
+use Rattle.lte_machine.specs.PhoneChoice.{AirFront, AirSettled, AtStart}
+use Rattle.lte_machine.specs.PhoneKeys.{air_does}
+use Rattle.lte_machine.specs.PhoneRows.{AirRow, AirRefused}
+use Rattle.lte_machine.specs.PhoneState.{Phone, Radio, Connected}
+use Rattle.lte_machine.specs.Refusals.{of_pdcp}
+use Rattle.lte_machine.specs.Reply.{only, finished}
+use Rattle.lte_machine.specs.Wire.{KeyUse, Outgoing, srb_use}
+use Rattle.radio_bearers.specs.Bearers.{srb_of}
+use Rattle.ue_context.specs.declared.starting.Start.{Start}
+
+-- a reply that sends this and nothing else
+abbrev pub sending : Outgoing (List ℕ) ℕ → ActorOut
+sending x = actor_out (record (only {C = ℕ} Done) { sent = Some x })
+
+-- the step of a row by a PDU that was accepted under this use
+abbrev pub by_air : Phone (List ℕ) ℕ → Option (KeyUse (List ℕ)) → AirRow → Phone (List ℕ) ℕ × ActorOut
+by_air s accepted row = let d = air_does octet_reading row s in (d.0, actor_out (finished None accepted d.1))
+
+-- the use of RRC integrity of a PDU to the phone
+abbrev pub to_phone : AsKeys (List ℕ) → Bearer → ℕ → KeyUse (List ℕ)
+to_phone keys bearer count = srb_use Down keys.rrc_int (srb_of bearer) count
+
+-- the COUNT of a PDU, or the answer where it has none
+abbrev pub counted : Result ℕ PdcpFault → Result ℕ Answer
+counted (Ok count) = Ok count
+counted (Err fault) = Err (of_pdcp fault)
+
+-- what is known of the record that starts security before it is opened
+abbrev pub start_front : ℕ → ℕ → Result Start Answer → AirFront
+start_front station air (Ok start) = AtStart start.count start.algs start.named station air
+start_front station air (Err answer) = AirSettled (AirRefused answer)
+
+-- the key of the connection: KeNB, or KeNB* since a handover
+abbrev pub kenb_of : Radio (List ℕ) ℕ → Option (List ℕ)
+kenb_of (Connected l) = Some l.kenb
+kenb_of other = None

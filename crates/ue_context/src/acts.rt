@@ -1,0 +1,129 @@
+// Acts of the phone on its connection.
+ghost use Rattle.std.specs.Prelude.{◌≡◌, Some};
+ghost use Rattle.lte_events.specs.declared.inputs.PhoneIn.TheVariants.{Act};
+ghost use Rattle.lte_events.specs.declared.acts.PhoneAct.TheVariants.{GoIdle, ResendComplete, SendRrc, SendUser, Skip};
+ghost use Rattle.pdcp_guard.specs.Srb.{IsSrb};
+ghost use Rattle.pdcp_guard.specs.Drb.{IsDrb};
+ghost use Rattle.lte_machine.specs.Bearers.{which, skipped_on};
+ghost use Rattle.lte_machine.specs.Calls.{phone_call};
+ghost use Rattle.nas_smc.specs.PhoneNas.{NasPart};
+ghost use Rattle.ue_context.specs.Parts.{linked};
+
+use crate::Phone;
+use crate::link::Link;
+use crate::radio::Radio;
+use lte_events::{ActorOut, Answer};
+use rec_base::{Bearer, ShortText, UserText};
+use rrc_rec::RrcRecord;
+
+impl Phone {
+    // The completion of the last handover or key change once more.
+    pub(crate) fn resend_complete(&mut self) -> ActorOut
+        ensures { (self.new, result) ≡ phone_call self.old (Act ResendComplete) }
+    {
+        let Radio::Connected(link) = &mut self.radio else {
+            return ActorOut::of(Answer::NotConnected);
+        };
+        link.resend_complete()
+    }
+
+    // Leaves the connection, or stops to wait for one. An idle phone keeps no key of its connection (TS
+    // 33.401 7.2.6.3).
+    pub(crate) fn go_idle(&mut self) -> ActorOut
+        ensures { (self.new, result) ≡ phone_call self.old (Act GoIdle) }
+    {
+        match &self.radio {
+            Radio::Idle => ActorOut::of(Answer::NotConnected),
+            Radio::Connecting(_) | Radio::Connected(_) => {
+                self.radio = Radio::Idle;
+                ActorOut::of(Answer::Done)
+            }
+        }
+    }
+
+    // A user packet on a DRB (TS 36.323 5.1.1).
+    pub(crate) fn send_user(&mut self, bearer: Bearer, text: &UserText) -> ActorOut
+        requires { IsDrb bearer }
+        ensures { (self.new, result) ≡ phone_call self.old (Act (SendUser bearer text.now)) }
+    {
+        let Radio::Connected(link) = &mut self.radio else {
+            return ActorOut::of(Answer::NotConnected);
+        };
+        link.send_user(bearer, text)
+    }
+
+    // An RRC text on an SRB.
+    pub(crate) fn send_rrc(&mut self, bearer: Bearer, text: &ShortText) -> ActorOut
+        requires { IsSrb bearer }
+        ensures { (self.new, result) ≡ phone_call self.old (Act (SendRrc bearer text.now)) }
+    {
+        let Radio::Connected(link) = &mut self.radio else {
+            return ActorOut::of(Answer::NotConnected);
+        };
+        link.send_rrc(bearer, text)
+    }
+
+    // Leaves out so many sending COUNTs of a bearer.
+    pub(crate) fn skip_bearer(&mut self, bearer: Bearer, n: u32) -> ActorOut
+        ensures { (self.new, result) ≡ phone_call self.old (Act (Skip (Some bearer) n)) }
+    {
+        let Radio::Connected(link) = &mut self.radio else {
+            return ActorOut::of(Answer::NotConnected);
+        };
+        link.skip(bearer, n);
+        ActorOut::of(Answer::Done)
+    }
+}
+
+impl Link {
+    fn resend_complete(&mut self) -> ActorOut
+        ensures { (n : NasPart) → (linked n self.new, result) ≡ phone_call (linked n self.old) (Act ResendComplete) }
+    {
+        if !self.by_handover {
+            return ActorOut::of(Answer::NothingToResend);
+        }
+        let complete = RrcRecord::ReconfigurationComplete.write();
+        match self.signal(Bearer::Srb1, true, complete.as_slice()) {
+            Some(sent) => sent,
+            None => ActorOut::of(Answer::CountSpent),
+        }
+    }
+
+    #[tactic(auto, using(radio_bearers::proofs::Which::which_drb))]
+    fn send_user(&mut self, bearer: Bearer, text: &UserText) -> ActorOut
+        requires { IsDrb bearer }
+        ensures { (n : NasPart) → (linked n self.new, result) ≡ phone_call (linked n self.old) (Act (SendUser bearer text.now)) }
+    {
+        match self.packet(bearer, text) {
+            Some(sent) => sent,
+            None => ActorOut::of(Answer::CountSpent),
+        }
+    }
+
+    #[tactic(auto, using(radio_bearers::proofs::Which::which_srb))]
+    fn send_rrc(&mut self, bearer: Bearer, text: &ShortText) -> ActorOut
+        requires { IsSrb bearer }
+        ensures { (n : NasPart) → (linked n self.new, result) ≡ phone_call (linked n self.old) (Act (SendRrc bearer text.now)) }
+    {
+        let message = RrcRecord::RrcData(copied(text)).write();
+        match self.signal(bearer, true, message.as_slice()) {
+            Some(sent) => sent,
+            None => ActorOut::of(Answer::CountSpent),
+        }
+    }
+
+    fn skip(&mut self, bearer: Bearer, n: u32)
+        ensures { self.new ≡ record self.old { bearers = skipped_on (which bearer) n self.old.bearers } }
+    {
+        self.bearers.skip(bearer, n);
+    }
+}
+
+// The same text.
+fn copied(text: &ShortText) -> ShortText
+    ensures { result ≡ text.now }
+{
+    let mut copy = ShortText::new();
+    copy.append(text.as_slice());
+    copy
+}

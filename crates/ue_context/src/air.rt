@@ -1,0 +1,178 @@
+// PDUs of radio bearers while the phone is connected (TS 36.323 5.6 and 5.7, TS 36.331 5.3).
+ghost use Rattle.std.specs.Prelude.{◌≡◌, ◌≤◌, ◌==◌, ◌&&◌, None, Ok, Some, true, length};
+ghost use Rattle.pdcp_guard.specs.Srb.{IsSrb};
+ghost use Rattle.pdcp_guard.specs.Drb.{IsDrb};
+ghost use Rattle.lte_events.specs.declared.inputs.PhoneIn.TheVariants.{Air};
+ghost use Rattle.lte_events.specs.declared.answers.Answer.TheVariants.{Done};
+ghost use Rattle.lte_events.specs.Reply.{reply_of};
+ghost use Rattle.rrc_rec.specs.Reading.{read_rrc};
+ghost use Rattle.rrc_rec.specs.Spelling.{InRange};
+ghost use Rattle.lte_machine.specs.Bearers.{which, OnSrb, OnDrb, srb_counts, srb_taken};
+ghost use Rattle.lte_machine.specs.Calls.{phone_call};
+ghost use Rattle.lte_machine.specs.PhoneChoice.{signalling_read};
+ghost use Rattle.radio_bearers.specs.Bearers.{srb_of, drb_of};
+ghost use Rattle.ue_context.specs.Parts.{linked};
+ghost use Rattle.ue_context.specs.Step.{by_air, to_phone};
+
+use crate::answers::{answer_of, cut, kind_of, use_of};
+use crate::link::Link;
+use lte_events::{ActorOut, Answer};
+use nas_smc::PhoneNas;
+use pdcp_guard::PdcpOpened;
+use radio_bearers::is_srb;
+use rec_base::{Bearer, Dir, ShortText, UserText};
+use rrc_rec::RrcRecord;
+
+impl Link {
+    // A PDU of a station and an air address there; others than its own are not for this connection.
+    pub(crate) fn air(
+        &mut self,
+        nas: &PhoneNas,
+        station: u8,
+        air: u32,
+        bearer: Bearer,
+        pdu: &[u8],
+    ) -> ActorOut
+        requires { length pdu.now ≤ 1536 }
+        ensures { (linked nas.now self.new, result) ≡ phone_call (linked nas.now self.old) (Air station air bearer pdu.now) }
+    {
+        if !self.is_at(station, air) {
+            return ActorOut::of(Answer::NotAddressed);
+        }
+        if is_srb(bearer) {
+            return self.air_srb(nas, station, air, bearer, pdu);
+        }
+        self.air_drb(nas, station, air, bearer, pdu)
+    }
+
+    // Whether the connection is at this station and air address.
+    fn is_at(&self, station: u8, air: u32) -> bool
+        ensures { result ≡ ((self.now.station == station) && (self.now.air == air)) }
+    {
+        self.station == station && self.air == air
+    }
+
+    // On an SRB: integrity protected and ciphered.
+    fn air_srb(
+        &mut self,
+        nas: &PhoneNas,
+        station: u8,
+        air: u32,
+        bearer: Bearer,
+        pdu: &[u8],
+    ) -> ActorOut
+        requires here { ((self.old.station == station) && (self.old.air == air)) ≡ true }
+        requires on { which bearer ≡ OnSrb (srb_of bearer) }
+        requires srb { IsSrb bearer }
+        requires pdu { length pdu.now ≤ 1536 }
+        ensures { (linked nas.now self.new, result) ≡ phone_call (linked nas.now self.old) (Air station air bearer pdu.now) }
+    {
+        let opened = match self
+            .bearers
+            .open_srb(bearer, &self.keys, Dir::Down, true, pdu)
+        {
+            Ok(opened) => opened,
+            Err(fault) => return ActorOut::of(answer_of(fault)),
+        };
+        self.take_rrc(nas, bearer, &opened)
+    }
+
+    // What was opened on an SRB: data, a handover command or a key change.
+    fn take_rrc(&mut self, nas: &PhoneNas, bearer: Bearer, opened: &PdcpOpened) -> ActorOut
+        requires srb { IsSrb bearer }
+        requires count { (srb_counts (srb_of bearer) self.old.bearers).receive ≤ opened.now.count }
+        ensures { (linked nas.now self.new, result) ≡ by_air (linked nas.now self.old) (Some (to_phone self.old.keys bearer opened.now.count))
+            (signalling_read nas.now.caps (srb_of bearer) opened.now.count self.old.chain.number (read_rrc opened.now.text)) }
+    {
+        let accepted = Some(use_of(&self.keys, bearer, opened.count));
+        let message = match RrcRecord::read(opened.text.as_slice()) {
+            Ok(message) => message,
+            Err(fault) => {
+                return ActorOut {
+                    accepted,
+                    ..ActorOut::of(Answer::BadRecord(fault))
+                };
+            }
+        };
+        let out = self.take_message(nas, bearer, opened.count, &message);
+        ActorOut { accepted, ..out }
+    }
+
+    // By the kinds that a phone takes on a connection.
+    fn take_message(
+        &mut self,
+        nas: &PhoneNas,
+        bearer: Bearer,
+        count: u32,
+        message: &RrcRecord,
+    ) -> ActorOut
+        requires srb { IsSrb bearer }
+        requires count { (srb_counts (srb_of bearer) self.old.bearers).receive ≤ count }
+        requires in_range { InRange message.now }
+        ensures { (linked nas.now self.new, result) ≡ by_air (linked nas.now self.old) None
+            (signalling_read nas.now.caps (srb_of bearer) count self.old.chain.number (Ok message.now)) }
+    {
+        match message {
+            RrcRecord::RrcData(text) => self.take_data(bearer, count, text),
+            RrcRecord::Reconfiguration {
+                cell,
+                ncc,
+                algs,
+                station,
+                air,
+            } => self.hand_over(nas, bearer, cell, *ncc, *algs, *station, *air),
+            RrcRecord::KeyChange {
+                cell,
+                algs,
+                station,
+                air,
+            } => self.change_key(nas, bearer, cell, *algs, *station, *air),
+            RrcRecord::SecurityModeCommand { .. }
+            | RrcRecord::SecurityModeComplete
+            | RrcRecord::ReconfigurationComplete => {
+                ActorOut::of(Answer::WrongKind(kind_of(message)))
+            }
+        }
+    }
+
+    // An RRC text that is data.
+    fn take_data(&mut self, bearer: Bearer, count: u32, text: &ShortText) -> ActorOut
+        requires srb { IsSrb bearer }
+        requires count { (srb_counts (srb_of bearer) self.old.bearers).receive ≤ count }
+        ensures link { self.new ≡ record self.old { bearers = srb_taken (srb_of bearer) count self.old.bearers } }
+        ensures value { result ≡ record (reply_of Done) { opened = Some text.now } }
+    {
+        self.bearers.accept_srb(bearer, count);
+        let mut opened = UserText::new();
+        opened.append(text.as_slice());
+        ActorOut {
+            opened: Some(opened),
+            ..ActorOut::of(Answer::Done)
+        }
+    }
+
+    // On a DRB: nothing is verified, and a text is cut to its first 1,500 octets.
+    fn air_drb(
+        &mut self,
+        nas: &PhoneNas,
+        station: u8,
+        air: u32,
+        bearer: Bearer,
+        pdu: &[u8],
+    ) -> ActorOut
+        requires here { ((self.old.station == station) && (self.old.air == air)) ≡ true }
+        requires on { which bearer ≡ OnDrb (drb_of bearer) }
+        requires drb { IsDrb bearer }
+        requires pdu { length pdu.now ≤ 1536 }
+        ensures { (linked nas.now self.new, result) ≡ phone_call (linked nas.now self.old) (Air station air bearer pdu.now) }
+    {
+        let opened = match self.bearers.receive_drb(bearer, &self.keys, Dir::Down, pdu) {
+            Ok(opened) => opened,
+            Err(fault) => return ActorOut::of(answer_of(fault)),
+        };
+        ActorOut {
+            opened: Some(cut(opened.text.as_slice())),
+            ..ActorOut::of(Answer::Done)
+        }
+    }
+}

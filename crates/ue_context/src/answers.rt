@@ -1,0 +1,63 @@
+// Answers and uses by what the layers below tell.
+ghost use Rattle.std.specs.Prelude.{◌≡◌, ◌≤◌, length, take};
+ghost use Rattle.pdcp_guard.specs.Srb.{IsSrb};
+ghost use Rattle.lte_machine.specs.Calls.{use_out};
+ghost use Rattle.lte_machine.specs.Kinds.{rrc_kind};
+ghost use Rattle.lte_machine.specs.PhoneChoice.{longest_packet};
+ghost use Rattle.lte_machine.specs.Refusals.{of_pdcp};
+ghost use Rattle.ue_context.specs.Step.{to_phone};
+
+use annex_a_keys::AlgType;
+use lte_events::Answer;
+use pdcp_guard::{AsKeys, PdcpFault};
+use rec_base::{Bearer, Dir, Use, UserText};
+use rrc_rec::RrcRecord;
+
+// The answer for a fault of the layer below.
+pub(crate) fn answer_of(fault: PdcpFault) -> Answer
+    ensures { result ≡ of_pdcp fault }
+{
+    match fault {
+        PdcpFault::Short => Answer::Short,
+        PdcpFault::BadHeader(octet) => Answer::BadHeader(octet),
+        PdcpFault::CountSpent => Answer::CountSpent,
+        PdcpFault::MacFails { count, wanted, got } => Answer::MacFails(count, wanted, got),
+    }
+}
+
+// The kind of an RRC text.
+pub(crate) fn kind_of(text: &RrcRecord) -> u8
+    ensures { result ≡ rrc_kind text.now }
+{
+    match text {
+        RrcRecord::SecurityModeCommand { .. } => 0x01,
+        RrcRecord::SecurityModeComplete => 0x02,
+        RrcRecord::Reconfiguration { .. } => 0x03,
+        RrcRecord::ReconfigurationComplete => 0x04,
+        RrcRecord::RrcData(_) => 0x05,
+        RrcRecord::KeyChange { .. } => 0x06,
+    }
+}
+
+// The use under which a PDU of an SRB was accepted.
+pub(crate) fn use_of(keys: &AsKeys, bearer: Bearer, count: u32) -> Use
+    requires { IsSrb bearer }
+    ensures { result ≡ use_out (to_phone keys.now bearer count) }
+{
+    Use {
+        key: keys.key(AlgType::RrcInt),
+        count,
+        bearer: bearer.bearer5(),
+        dir: Dir::Down,
+    }
+}
+
+// The first 1,500 octets of a packet.
+pub(crate) fn cut(octets: &[u8]) -> UserText
+    requires { length octets.now ≤ 1536 }
+    ensures { result ≡ take longest_packet octets.now }
+{
+    let mut text = UserText::new();
+    text.append(&octets[..octets.len().min(1500)]);
+    text
+}

@@ -1,0 +1,170 @@
+// Handover commands and key changes, as the phone obeys them (TS 33.401 7.2.8.4.4 and 7.2.9.2, TS 36.331
+// 5.3.5.4).
+ghost use Rattle.std.specs.Prelude.{◌≡◌, ◌≤◌, ◌++◌, None, Some, true, length, map};
+ghost use Rattle.std.specs.Bool.{OnTrue, OnFalse};
+ghost use Rattle.pdcp_guard.specs.Srb.{IsSrb};
+ghost use Rattle.key_model.specs.Derivation.{derived_of};
+ghost use Rattle.key_model.specs.HandoverLines.{steps_to};
+ghost use Rattle.key_model.specs.Reading.{octet_reading};
+ghost use Rattle.pdcp_guard.specs.AsKeys.{as_keys_of, as_derivations};
+ghost use Rattle.rrc_rec.specs.declared.records.RrcRecord.TheVariants.{ReconfigurationComplete};
+ghost use Rattle.lte_machine.specs.Bearers.{Signalling1, Signalling2, new_bearers, srb_sent};
+ghost use Rattle.lte_machine.specs.PhoneChoice.{change_taken, command_taken};
+ghost use Rattle.lte_machine.specs.PhoneKeys.{rrc_sealed};
+ghost use Rattle.lte_machine.specs.PhoneRows.{HandedOver, KeyChanged};
+ghost use Rattle.nas_smc.specs.PhoneNas.{NasPart};
+ghost use Rattle.radio_bearers.specs.Bearers.{srb_of};
+ghost use Rattle.ue_context.specs.Parts.{linked};
+ghost use Rattle.ue_context.specs.Step.{by_air, sending};
+
+use crate::link::Link;
+use alg_choice::{Algs, supports};
+use annex_a_keys::{Cell, Derived, Star};
+use lte_events::{ActorOut, Answer, Few, KeyNote};
+use nas_smc::PhoneNas;
+use nh_chain::PhoneChain;
+use pdcp_guard::AsKeys;
+use radio_bearers::Bearers;
+use rec_base::{Bearer, Way};
+use rrc_rec::RrcRecord;
+
+impl Link {
+    // A handover command: on SRB1 (TS 36.331 4.2.2), and with algorithms of the phone's own.
+    pub(crate) fn hand_over(
+        &mut self,
+        nas: &PhoneNas,
+        bearer: Bearer,
+        cell: &Cell,
+        ncc: u8,
+        algs: Algs,
+        station: u8,
+        air: u32,
+    ) -> ActorOut
+        requires srb { IsSrb bearer }
+        requires ncc { ncc ≤ 7 }
+        ensures { (linked nas.now self.new, result) ≡ by_air (linked nas.now self.old) None
+            (command_taken nas.now.caps (srb_of bearer) self.old.chain.number cell.now ncc algs station air) }
+    {
+        if is_srb2(bearer) {
+            return ActorOut::of(Answer::WrongKind(0x03));
+        }
+        if !supports(&nas.caps(), &algs) {
+            return ActorOut::of(Answer::AlgUnsupported(algs));
+        }
+        self.obey(cell, ncc, algs, station, air)
+    }
+
+    // KeNB* for the cell of what the chain reaches on the NCC (TS 33.401 7.2.8.4.4).
+    fn obey(&mut self, cell: &Cell, ncc: u8, algs: Algs, station: u8, air: u32) -> ActorOut
+        requires { ncc ≤ 7 }
+        ensures { (n : NasPart) → (linked n self.new, result) ≡ by_air (linked n self.old) None
+            (HandedOver cell.now (steps_to self.old.chain.number ncc) algs station air) }
+    {
+        let (star, way, made) = self.chain.reach(&self.kenb, ncc, cell);
+        self.arrive(star, way, made.as_slice(), algs, station, air)
+    }
+
+    // A key change: the same tests, and the KASME of the NAS context in use is another one than that of the
+    // connection.
+    pub(crate) fn change_key(
+        &mut self,
+        nas: &PhoneNas,
+        bearer: Bearer,
+        cell: &Cell,
+        algs: Algs,
+        station: u8,
+        air: u32,
+    ) -> ActorOut
+        requires { IsSrb bearer }
+        ensures { (linked nas.now self.new, result) ≡ by_air (linked nas.now self.old) None
+            (change_taken nas.now.caps (srb_of bearer) cell.now algs station air) }
+    {
+        if is_srb2(bearer) {
+            return ActorOut::of(Answer::WrongKind(0x06));
+        }
+        if !supports(&nas.caps(), &algs) {
+            return ActorOut::of(Answer::AlgUnsupported(algs));
+        }
+        self.renew(nas, cell, algs, station, air)
+    }
+
+    // A new chain that begins with KeNB of the KASME in use and COUNT 0, and KeNB* of it for the cell (TS
+    // 33.401 7.2.9.2, A.3 and A.5).
+    fn renew(&mut self, nas: &PhoneNas, cell: &Cell, algs: Algs, station: u8, air: u32) -> ActorOut
+        ensures { (linked nas.now self.new, result) ≡ by_air (linked nas.now self.old) None (KeyChanged cell.now algs station air) }
+    {
+        let Some(root) = nas.root() else {
+            return ActorOut::of(Answer::Done);
+        };
+        if root == self.root {
+            return ActorOut::of(Answer::NoTrigger);
+        }
+        let (kenb, first) = root.kenb(0);
+        let (star, second) = kenb.star(cell);
+        self.chain = PhoneChain::begin(&root, &kenb);
+        self.root = root;
+        self.arrive(star, Way::Initial, &[first, second], algs, station, air)
+    }
+
+    // The connection in its new cell: new keys, all bearers anew, and RRCConnectionReconfigurationComplete
+    // (TS 36.331 5.3.5.4, TS 36.323 5.2).
+    fn arrive(
+        &mut self,
+        star: Star,
+        way: Way,
+        made: &[Derived],
+        algs: Algs,
+        station: u8,
+        air: u32,
+    ) -> ActorOut
+        requires { length made.now ≤ 8 }
+        ensures link { self.new ≡ record {
+          station = station;
+          air = air;
+          chain = self.old.chain;
+          kenb = star;
+          keys = as_keys_of octet_reading star algs;
+          bearers = srb_sent Signalling1 new_bearers;
+          by_handover = true;
+        } }
+        ensures value { result ≡ record (sending (rrc_sealed (as_keys_of octet_reading star algs) station air Signalling1 0 ReconfigurationComplete)) {
+          derived = made.now ++ map derived_of (as_derivations octet_reading star algs);
+          note = Some (record { ncc = self.old.chain.number; way = way; key = star });
+        } }
+    {
+        let kenb = star.install();
+        let (keys, rest) = AsKeys::derive(&kenb, algs);
+        let mut derived = Few::new();
+        derived.append(made);
+        derived.append(rest.as_slice());
+        self.station = station;
+        self.air = air;
+        self.kenb = kenb;
+        self.keys = keys;
+        self.bearers = Bearers::new();
+        self.by_handover = true;
+        let note = KeyNote {
+            ncc: self.chain.ncc(),
+            way,
+            key: kenb.octets(),
+        };
+        let complete = RrcRecord::ReconfigurationComplete.write();
+        let Some(out) = self.signal(Bearer::Srb1, true, complete.as_slice()) else {
+            unreachable!()
+        };
+        ActorOut {
+            derived,
+            note: Some(note),
+            ..out
+        }
+    }
+}
+
+// Whether a bearer is SRB2.
+fn is_srb2(bearer: Bearer) -> bool
+    requires { IsSrb bearer }
+    ensures second { OnTrue result (srb_of bearer ≡ Signalling2) }
+    ensures first { OnFalse result (srb_of bearer ≡ Signalling1) }
+{
+    bearer == Bearer::Srb2
+}
