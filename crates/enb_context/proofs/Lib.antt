@@ -1,5 +1,4 @@
 pub mod PrepFacts
-pub mod Sealing
 pub mod Serving
 pub mod AirSteps
 pub mod OrderSteps

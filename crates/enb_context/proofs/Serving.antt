@@ -7,7 +7,7 @@ use Rattle.rec_base.specs.declared.bearers.Bearer.TheVariants.{Srb1, Srb2, Drb1,
 use Rattle.pdcp_guard.specs.Srb.{IsSrb}
 use Rattle.pdcp_guard.specs.Drb.{IsDrb}
 use Rattle.lte_machine.specs.Bearers.{which, OnSrb, OnDrb}
-use Rattle.enb_context.specs.Bearers.{srb_of, drb_of}
+use Rattle.radio_bearers.specs.Bearers.{srb_of, drb_of}
 use Rattle.enb_context.specs.Step.{answered, serving, serving_at}
 
 -- what is so of every station with this context is so of this one

@@ -1,6 +1,5 @@
 pub mod Acts
 pub mod Attempt
-pub mod Bearers
 pub mod Orders
 pub mod Preps
 pub mod Step

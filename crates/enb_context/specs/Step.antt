@@ -15,7 +15,7 @@ use Rattle.lte_machine.specs.StationKeys.{act_does, air_does}
 use Rattle.pdcp_guard.specs.AsKeys.{AsKeys}
 use Rattle.rec_base.specs.declared.bearers.Bearer.{Bearer}
 use Rattle.rec_base.specs.declared.uses.Dir.TheVariants.{Up}
-use Rattle.enb_context.specs.Bearers.{srb_of}
+use Rattle.radio_bearers.specs.Bearers.{srb_of}
 use Rattle.lte_machine.specs.StationState.{Station, Context, Interface, OnS1, OnX2, StationInput, StationRecord}
 use Rattle.lte_machine.specs.StationStep.{station_step, station_opens, station_pdu_in, plain_station}
 use Rattle.lte_machine.specs.StationChoice.{PlainStation}

@@ -10,14 +10,14 @@ ghost use Rattle.lte_machine.specs.StationState.{Station as State, AirPdu};
 ghost use Rattle.lte_machine.specs.StationChoice.{rrc_row, starting_row, user_text};
 ghost use Rattle.lte_machine.specs.Calls.{use_out};
 ghost use Rattle.lte_machine.specs.Kinds.{rrc_kind};
-ghost use Rattle.enb_context.specs.Bearers.{srb_of, drb_of};
+ghost use Rattle.radio_bearers.specs.Bearers.{srb_of, drb_of};
 ghost use Rattle.enb_context.specs.Step.{answered, serving, by_air, from_phone};
 
-use crate::bearers::is_srb;
 use crate::context::Context;
 use annex_a_keys::AlgType;
 use lte_events::{ActorOut, Answer};
 use pdcp_guard::{AsKeys, PdcpFault, PdcpOpened};
+use radio_bearers::is_srb;
 use rec_base::{Bearer, Dir, Use, UserText};
 use rrc_rec::RrcRecord;
 
@@ -101,7 +101,7 @@ impl Context {
                 return ActorOut::of(Answer::NotActive);
             }
         }
-        let opened = match self.bearers.open_srb(Bearer::Srb1, &self.keys, false, pdu) {
+        let opened = match self.bearers.open_srb(Bearer::Srb1, &self.keys, Dir::Up, false, pdu) {
             Ok(opened) => opened,
             Err(fault) => return ActorOut::of(answer_of(fault)),
         };
@@ -141,7 +141,7 @@ impl Context {
         ensures step { (s : State (List ℕ) ℕ) → (serving s self.new, result) ≡ answered (serving s self.old) (AirPdu air bearer pdu.now) }
         ensures conn { self.new.conn ≡ self.old.conn }
     {
-        let opened = match self.bearers.open_srb(bearer, &self.keys, true, pdu) {
+        let opened = match self.bearers.open_srb(bearer, &self.keys, Dir::Up, true, pdu) {
             Ok(opened) => opened,
             Err(fault) => return ActorOut::of(answer_of(fault)),
         };
@@ -196,7 +196,7 @@ impl Context {
         ensures step { (s : State (List ℕ) ℕ) → (serving s self.new, result) ≡ answered (serving s self.old) (AirPdu air bearer pdu.now) }
         ensures conn { self.new.conn ≡ self.old.conn }
     {
-        let opened = match self.bearers.receive_drb(bearer, &self.keys, pdu) {
+        let opened = match self.bearers.receive_drb(bearer, &self.keys, Dir::Up, pdu) {
             Ok(opened) => opened,
             Err(fault) => return ActorOut::of(answer_of(fault)),
         };

@@ -1,10 +1,10 @@
 use crate::attempt::Attempt;
-use crate::bearers::Bearers;
 use crate::origin::Origin;
 use alg_choice::{Algs, Caps};
 use annex_a_keys::Cell;
 use nh_chain::StationKey;
 use pdcp_guard::AsKeys;
+use radio_bearers::Bearers;
 use std::marker::Model;
 
 // The context of the phone: its connection, cell and air address, its key, algorithms, keys of the

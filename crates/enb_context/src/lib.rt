@@ -6,7 +6,6 @@ mod acts;
 mod admission;
 mod air;
 mod attempt;
-mod bearers;
 mod context;
 mod handover;
 mod key_change;

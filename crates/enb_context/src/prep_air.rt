@@ -15,7 +15,6 @@ ghost use Rattle.enb_context.specs.Step.{answered, by_air, from_phone};
 
 use crate::Station;
 use crate::air::{answer_of, use_of};
-use crate::bearers::{Bearers, is_srb1};
 use crate::context::Context;
 use crate::origin::Origin;
 use crate::sends::sends;
@@ -23,6 +22,7 @@ use ho_prep::{By, Prep};
 use lte_events::{ActorOut, Address, Answer, KeyNote};
 use nh_chain::StationKey;
 use pdcp_guard::{PdcpOpened, Srb};
+use radio_bearers::{Bearers, is_srb1};
 use rec_base::{Bearer, Dir, Way};
 use rrc_rec::RrcRecord;
 use s1x2_rec::CoreRecord;

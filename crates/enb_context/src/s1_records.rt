@@ -11,7 +11,6 @@ ghost use Rattle.enb_context.specs.Step.{on_s1, serving};
 
 use crate::Station;
 use crate::attempt::{Attempt, S1State};
-use crate::bearers::Bearers;
 use crate::context::Context;
 use crate::sends::{heard, sends};
 use alg_choice::{Algs, Caps};
@@ -20,6 +19,7 @@ use ho_prep::{By, Prep};
 use lte_events::{ActorOut, Address, Answer, Few, KeyNote};
 use nh_chain::{NhPair, StationKey};
 use pdcp_guard::AsKeys;
+use radio_bearers::Bearers;
 use rec_base::{Bearer, Way};
 use rrc_rec::RrcRecord;
 use s1x2_rec::CoreRecord;

@@ -6,7 +6,7 @@ ghost use Rattle.pdcp_guard.specs.Drb.{IsDrb};
 ghost use Rattle.lte_machine.specs.Bearers.{srb_counts, drb_counts, srb_sent, drb_sent, is_spent, of_srb, of_drb};
 ghost use Rattle.lte_machine.specs.StationRecords.{packet_sent};
 ghost use Rattle.lte_machine.specs.Wire.{SealedRrc, ciphering_if, srb_use, srb_ciphering};
-ghost use Rattle.enb_context.specs.Bearers.{srb_of, drb_of};
+ghost use Rattle.radio_bearers.specs.Bearers.{srb_of, drb_of};
 ghost use Rattle.enb_context.specs.Step.{sending};
 
 use crate::context::Context;
@@ -37,7 +37,7 @@ impl Context {
     {
         let sent = self
             .bearers
-            .send_srb(bearer, &self.keys, cipher, text)
+            .send_srb(bearer, &self.keys, Dir::Down, cipher, text)
             .ok()?;
         let protection = Use {
             key: self.keys.key(AlgType::RrcInt),
@@ -74,7 +74,7 @@ impl Context {
         ensures value { IfSome result (λ out. out ≡ sending
             (packet_sent id self.old.air self.old.keys (drb_of bearer) (drb_counts (drb_of bearer) self.old.bearers).send text.now)) }
     {
-        let sent = self.bearers.send_drb(bearer, &self.keys, text).ok()?;
+        let sent = self.bearers.send_drb(bearer, &self.keys, Dir::Down, text).ok()?;
         let ciphering = Use {
             key: self.keys.key(AlgType::UpEnc),
             count: sent.count,

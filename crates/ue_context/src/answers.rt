@@ -3,7 +3,7 @@ ghost use Rattle.std.specs.Prelude.{◌≡◌, ◌≤◌, length, take};
 ghost use Rattle.pdcp_guard.specs.Srb.{IsSrb};
 ghost use Rattle.lte_machine.specs.Calls.{use_out};
 ghost use Rattle.lte_machine.specs.Kinds.{rrc_kind};
-ghost use Rattle.lte_machine.specs.PhoneChoice.{longest_packet};
+ghost use Rattle.rec_base.specs.Lengths.{longest_packet};
 ghost use Rattle.lte_machine.specs.Refusals.{of_pdcp};
 ghost use Rattle.ue_context.specs.Step.{to_phone};
 
