@@ -20,7 +20,8 @@ use Rattle.lte_machine.specs.Bearers.{which, OnSrb, OnDrb, srb_counts, drb_count
 use Rattle.lte_machine.specs.Calls.{phone_call, use_out}
 use Rattle.lte_machine.specs.Ciphers.{annex_b}
 use Rattle.lte_machine.specs.Opening.{Outcome, Opened, Differs, OpensSrb, OpensDrb, open_octets, accepted_of}
-use Rattle.lte_machine.specs.PhoneChoice.{AirFront, AirSettled, AtSignalling, AtPacket, air_front, air_row, signalling_at, packet_at, signalling_read, longest_packet}
+use Rattle.lte_machine.specs.PhoneChoice.{AirFront, AirSettled, AtSignalling, AtPacket, air_front, air_row, signalling_at, packet_at, signalling_read}
+use Rattle.rec_base.specs.Lengths.{longest_packet}
 use Rattle.lte_machine.specs.PhoneKeys.{air_expects}
 use Rattle.lte_machine.specs.PhoneRows.{AirRow, AirRefused, PacketOpened}
 use Rattle.lte_machine.specs.PhoneState.{Phone, Link, map_radio}
