@@ -1,8 +1,7 @@
 -- The steps at a PDU of a radio bearer, by what the code below opens.
-use Rattle.std.proofs.Common.{◌≡◌, ℕ, ◌≤◌, ◌<◌, Bool, true, false, cond, List, length, Some, None, Ok, Err, refl, ap, arith, ◌∙◌, sym, nat_lt}
-use Rattle.std.specs.Prelude.{◌==◌, nat_le, min, take, Option, Result, option_map}
+use Rattle.std.proofs.Common.{◌≡◌, ℕ, ◌≤◌, Bool, true, false, cond, List, length, Some, None, Ok, Err, refl, ap, arith, ◌∙◌, sym, nat_lt}
+use Rattle.std.specs.Prelude.{◌==◌, Option, Result, option_map}
 use Rattle.std.proofs.lemmas.Bool.Decides.{nat_tests}
-use Rattle.std.proofs.lemmas.Grind.{common_steps}
 use Rattle.lte_events.specs.declared.answers.Answer.TheVariants.{MacFails, NotAddressed, NotActive}
 use Rattle.lte_events.specs.declared.replies.ActorOut.{ActorOut}
 use Rattle.lte_events.specs.Reply.{reply_of}
@@ -26,13 +25,11 @@ use Rattle.lte_machine.specs.Bearers.{Which, which, Signalling1, Signalling2, On
 use Rattle.lte_machine.specs.Ciphers.{annex_b}
 use Rattle.lte_machine.specs.Opening.{Outcome, Opened, Differs, OpensSrb, OpensDrb, open_octets, accepted_of}
 use Rattle.lte_machine.specs.Refusals.{of_pdcp}
-use Rattle.lte_machine.specs.Reply.{finished}
-use Rattle.lte_machine.specs.Wire.{ciphering_if, srb_use, srb_ciphering, drb_ciphering}
-use Rattle.lte_machine.specs.Calls.{actor_out}
+use Rattle.lte_machine.specs.Wire.{ciphering_if, srb_ciphering, drb_ciphering}
 use Rattle.lte_machine.specs.StationState.{Station, Context, AirPdu, map_preps, map_context}
 use Rattle.lte_machine.specs.StationRows.{AirRow, AirRefused, PacketOpened}
-use Rattle.lte_machine.specs.StationChoice.{AirFront, air_front_by, prepared_front, AirSettled, OnSignalling, OnStarting, OnPrepared, OnUser, counted, air_front, air_row, context_front, active_front, starting_front, rrc_row, starting_row, prepared_row, user_text}
-use Rattle.lte_machine.specs.StationKeys.{air_does, air_expects}
+use Rattle.lte_machine.specs.StationChoice.{AirFront, air_front_by, prepared_front, AirSettled, OnSignalling, OnStarting, OnPrepared, OnUser, counted, air_front, air_row, rrc_row, starting_row, prepared_row, user_text}
+use Rattle.lte_machine.specs.StationKeys.{air_expects}
 use Rattle.radio_bearers.specs.Bearers.{srb_of, drb_of, outcome_of, is_first}
 use Rattle.enb_context.specs.Preps.{IsElsewhere}
 use Rattle.enb_context.specs.Step.{answered, serving, seen_plain, by_air, from_phone}
@@ -251,10 +248,3 @@ first_is Drb1 h = cc
 first_is Drb2 h = cc
 first_is Drb3 h = cc
 first_is Drb4 h = cc
-
-pub cut_is : (n : ℕ) (xs : List ℕ) → take (min (length xs) n) xs ≡ take n xs
-cut_is n xs = by_test (nat_le n (length xs)) refl
-  where
-    by_test : (b : Bool) → nat_le n (length xs) ≡ b → take (min (length xs) n) xs ≡ take n xs
-    by_test true e = let le : n ≤ length xs = grind (arith, nat_tests) in let m : min (length xs) n ≡ n = omega arith in rw m refl
-    by_test false e = let lt : length xs < n = grind (arith, nat_tests) in let m : min (length xs) n ≡ length xs = omega arith in let le : length xs ≤ n = omega arith in rw m grind (arith, common_steps)

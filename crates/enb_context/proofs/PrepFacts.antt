@@ -1,10 +1,9 @@
 -- Facts on the preparations of a station.
-use Rattle.std.proofs.Common.{◌≡◌, ℕ, suc, ◌<◌, ◌≤◌, Bool, true, false, cond, List, [], ◌∷◌, ◌++◌, length, All, Some, None, find, refl, ap, sym, arith, get_or}
-use Rattle.std.specs.Prelude.{◌↔◌, Result, Ok, Err, IsErr, OnOk, IfSome, Option, None, nat_le, nat_lt, not, filter, ◌||◌, ◌+◌}
-use Rattle.std.specs.List.{list_any}
+use Rattle.std.proofs.Common.{◌≡◌, ℕ, suc, ◌<◌, ◌≤◌, Bool, true, false, cond, List, [], ◌∷◌, ◌++◌, length, All, Some, None, find, refl, ap, sym, arith}
+use Rattle.std.specs.Prelude.{◌↔◌, Result, Ok, Err, IsErr, OnOk, IfSome, Option, None, nat_le, nat_lt, not, filter, ◌||◌}
 use Rattle.std.proofs.lemmas.Bool.Decides.{nat_tests}
 use Rattle.std.proofs.lemmas.List.Elements.{All-filter, All-push, All-nil}
-use Rattle.ho_prep.specs.Prep.{Prep, map_prep, is_at, is_of, at_air, has_attempt, without, drop_below, most_preparations}
+use Rattle.ho_prep.specs.Prep.{Prep, is_at, is_of, at_air, has_attempt, without, drop_below, most_preparations}
 use Rattle.lte_machine.specs.StationState.{map_preps, Context}
 use Rattle.enb_context.specs.Preps.{NoneAbove, IsWithin}
 

@@ -1,6 +1,5 @@
 -- One step of the station in octets, by the input as it reads.
 use Rattle.std.specs.Prelude.{ℕ, List, Option, None, Some}
-use Rattle.alg_choice.specs.declared.algs.Algs.{Algs}
 use Rattle.lte_events.specs.declared.answers.Answer.TheVariants.{Done}
 use Rattle.lte_events.specs.declared.replies.ActorOut.{ActorOut}
 use Rattle.key_model.specs.Reading.{octet_reading}
@@ -8,7 +7,7 @@ use Rattle.key_model.specs.HandoverTable.{NumberedKey}
 use Rattle.s1x2_rec.specs.Fields.{Fields}
 use Rattle.lte_machine.specs.Ciphers.{annex_b}
 use Rattle.lte_machine.specs.Opening.{open_octets}
-use Rattle.lte_machine.specs.Reply.{Reply, only, finished}
+use Rattle.lte_machine.specs.Reply.{only, finished}
 use Rattle.lte_machine.specs.Wire.{Outgoing, KeyUse, srb_use}
 use Rattle.lte_machine.specs.StationRows.{ActRow, AirRow}
 use Rattle.lte_machine.specs.StationKeys.{act_does, air_does}
@@ -16,11 +15,11 @@ use Rattle.pdcp_guard.specs.AsKeys.{AsKeys}
 use Rattle.rec_base.specs.declared.bearers.Bearer.{Bearer}
 use Rattle.rec_base.specs.declared.uses.Dir.TheVariants.{Up}
 use Rattle.radio_bearers.specs.Bearers.{srb_of}
-use Rattle.lte_machine.specs.StationState.{Station, Context, Interface, OnS1, OnX2, StationInput, StationRecord}
+use Rattle.lte_machine.specs.StationState.{Station, Context, OnS1, OnX2, StationInput, StationRecord}
 use Rattle.lte_machine.specs.StationStep.{station_step, station_opens, station_pdu_in, plain_station}
 use Rattle.lte_machine.specs.StationChoice.{PlainStation}
 use Rattle.lte_machine.specs.Calls.{actor_out}
-use Rattle.std.specs.Prelude.{Result, Ok, Err}
+use Rattle.std.specs.Prelude.{Ok}
 
 -- the station afterwards and its reply; a call is this of the input as it reads
 abbrev pub answered : Station (List ℕ) ℕ → StationInput (List ℕ) ℕ → Station (List ℕ) ℕ × ActorOut

@@ -1,5 +1,5 @@
 // Handovers at their source (TS 33.401 7.2.8.4, TS 36.300 10.1.2.1).
-ghost use Rattle.std.specs.Prelude.{◌≡◌, ◌≤◌, ◌∷◌, [], Some, IfOk, map, ℕ, List};
+ghost use Rattle.std.specs.Prelude.{◌≡◌, ◌≤◌, ◌∷◌, [], Some, IfOk, map, ℕ};
 ghost use Rattle.lte_events.specs.declared.acts.HoKind.{HoKind as Kind};
 ghost use Rattle.lte_events.specs.declared.acts.StationAct.TheVariants.{Start};
 ghost use Rattle.key_model.specs.Reading.{octet_reading};

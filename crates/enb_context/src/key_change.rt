@@ -1,5 +1,5 @@
 // The change of the context's key (TS 36.413 8.3.4, TS 33.401 7.2.9.2).
-ghost use Rattle.std.specs.Prelude.{◌≡◌, ◌≤◌, ◌+◌, ◌∷◌, [], Some, IfSome, IfNone, true, false, ℕ, List};
+ghost use Rattle.std.specs.Prelude.{◌≡◌, ◌≤◌, ◌+◌, ◌∷◌, [], Some, IfSome, IfNone, true, false, ℕ};
 ghost use Rattle.s1x2_rec.specs.Fields.{ContextModification as Modified};
 ghost use Rattle.lte_machine.specs.Bearers.{Signalling1, srb_sent, is_spent};
 ghost use Rattle.lte_machine.specs.StationState.{Renewing};

@@ -14,7 +14,6 @@ ghost use Rattle.enb_context.specs.Preps.{IsElsewhere, IsFound};
 ghost use Rattle.enb_context.specs.Step.{answered, by_air, from_phone};
 
 use crate::Station;
-use crate::air::{answer_of, use_of};
 use crate::context::Context;
 use crate::origin::Origin;
 use crate::sends::sends;
@@ -22,7 +21,7 @@ use ho_prep::{By, Prep};
 use lte_events::{ActorOut, Address, Answer, KeyNote};
 use nh_chain::StationKey;
 use pdcp_guard::{PdcpOpened, Srb};
-use radio_bearers::{Bearers, is_srb1};
+use radio_bearers::{Bearers, answer_of, is_srb1, verified_use};
 use rec_base::{Bearer, Dir, Way};
 use rrc_rec::RrcRecord;
 use s1x2_rec::CoreRecord;
@@ -56,7 +55,7 @@ impl Station {
         let Some(prep) = self.preps.at_air(air) else {
             return ActorOut::of(Answer::NotAddressed);
         };
-        let accepted = Some(use_of(&prep.keys, Bearer::Srb1, opened.count));
+        let accepted = Some(verified_use(&prep.keys, Bearer::Srb1, opened.count, Dir::Up));
         let out = match RrcRecord::read(opened.text.as_slice()) {
             Err(fault) => ActorOut::of(Answer::BadRecord(fault)),
             Ok(RrcRecord::ReconfigurationComplete) => self.complete(air, opened.count),

@@ -1,5 +1,4 @@
-ghost use Rattle.std.specs.Prelude.{◌≡◌, ◌+◌, ◌≤◌, ◌∷◌, ◌++◌, Some, List, ℕ, length};
-ghost use Rattle.lte_machine.specs.Calls.{note_out};
+ghost use Rattle.std.specs.Prelude.{◌≡◌, ◌+◌, ◌≤◌, ◌∷◌, ◌++◌, Some, ℕ};
 ghost use Rattle.lte_events.specs.Reply.{reply_of};
 ghost use Rattle.lte_machine.specs.Wire.{Between};
 ghost use Rattle.s1x2_rec.specs.Content.{content_of};

@@ -3,7 +3,7 @@ ghost use Rattle.std.specs.Prelude.{◌≡◌, ◌≤◌, IfNone, IfSome, true, 
 ghost use Rattle.rec_base.specs.declared.uses.Dir.TheVariants.{Down};
 ghost use Rattle.pdcp_guard.specs.Srb.{IsSrb};
 ghost use Rattle.pdcp_guard.specs.Drb.{IsDrb};
-ghost use Rattle.lte_machine.specs.Bearers.{srb_counts, drb_counts, srb_sent, drb_sent, is_spent, of_srb, of_drb};
+ghost use Rattle.lte_machine.specs.Bearers.{srb_counts, drb_counts, srb_sent, drb_sent, is_spent};
 ghost use Rattle.lte_machine.specs.StationRecords.{packet_sent};
 ghost use Rattle.lte_machine.specs.Wire.{SealedRrc, ciphering_if, srb_use, srb_ciphering};
 ghost use Rattle.radio_bearers.specs.Bearers.{srb_of, drb_of};
@@ -74,7 +74,10 @@ impl Context {
         ensures value { IfSome result (λ out. out ≡ sending
             (packet_sent id self.old.air self.old.keys (drb_of bearer) (drb_counts (drb_of bearer) self.old.bearers).send text.now)) }
     {
-        let sent = self.bearers.send_drb(bearer, &self.keys, Dir::Down, text).ok()?;
+        let sent = self
+            .bearers
+            .send_drb(bearer, &self.keys, Dir::Down, text)
+            .ok()?;
         let ciphering = Use {
             key: self.keys.key(AlgType::UpEnc),
             count: sent.count,

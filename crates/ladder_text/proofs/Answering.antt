@@ -1,11 +1,11 @@
 -- The output of lines, and of a bad line.
-use Rattle.std.proofs.Common.{◌≡◌, ℕ, Ok, Err, List, [], sym, ap, subst, ◌∙◌}
+use Rattle.std.proofs.Common.{◌≡◌, ℕ, Ok, Err, List, [], sym, ap, subst}
 use Rattle.edge_io.specs.Told.{Told}
 use Rattle.ladder_text.specs.declared.line.LadderLine.{LadderLine}
 use Rattle.ladder_text.specs.declared.ending.Ending.{Ending}
 use Rattle.ladder_text.specs.declared.ending.Ending.TheVariants.{Refused}
 use Rattle.ladder_text.specs.Text.{reading_of}
-use Rattle.ladder_text.specs.Report.{Output, output_of, refusal_text, output_from, Writes}
+use Rattle.ladder_text.specs.Report.{output_of, refusal_text, output_from, Writes}
 
 -- the output of lines, and of a bad line
 pub lines_output : (octets : List ℕ) (lines : List LadderLine) (ending : Ending) (out out' : Told) → reading_of octets ≡ Ok lines

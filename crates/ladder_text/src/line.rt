@@ -1,4 +1,4 @@
-ghost use Rattle.std.specs.Prelude.{◌≡◌, true, ◌^◌, ◌<◌, List, ℕ, map, take, IfOk, IfSome};
+ghost use Rattle.std.specs.Prelude.{◌≡◌, true, ◌^◌, ◌<◌, ℕ, map, take, IfOk};
 ghost use Rattle.std.specs.Char.{is_ascii_digit};
 ghost use Rattle.std.specs.List.{list_all};
 ghost use Rattle.ladder_text.specs.Text.{words_of, starts_well, is_numeral, number_of, row_of, count_of, cell_of, type_of, takes, identity_of, key_of, line_of_two, line_of_three, line_of_four, line_of};

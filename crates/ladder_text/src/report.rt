@@ -11,8 +11,8 @@ ghost use Rattle.ladder_text.specs.Report.{KeyRow, key_at, derived_in, kind_of, 
 ghost use Rattle.edge_io.specs.Used.{UsedAsSink};
 ghost use Rattle.ladder_text.specs.Rows.{StandsFor, Awaits, answer_at};
 
-use crate::line::LadderLine;
 use crate::ending::Ending;
+use crate::line::LadderLine;
 use annex_a_keys::{AlgType, Derived, Kasme, Kenb, Nh};
 use edge_io::{Sink, write_all};
 use key_terms::{Ladder, LadderFault, Row};

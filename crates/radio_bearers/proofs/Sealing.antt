@@ -1,20 +1,15 @@
 -- The PDUs of the code below are those of the written machine.
-use Rattle.std.proofs.Common.{◌≡◌, ℕ, suc, ◌+◌, ◌-◌, ◌<◌, ◌≤◌, Bool, true, false, cond, List, [], ◌∷◌, ◌++◌, length, take, drop, Some, None, Ok, Err, refl, ap, arith, ◌∙◌, sym}
-use Rattle.std.specs.Prelude.{nat_le, min, slice_index, Result, Option}
-use Rattle.std.specs.Str.{bytes_eq}
-use Rattle.std.proofs.lemmas.Bool.Decides.{nat_tests}
+use Rattle.std.proofs.Common.{◌≡◌, ℕ, ◌≤◌, Bool, true, false, cond, List, [], ◌∷◌, length, take, Ok, Err, refl, arith}
+use Rattle.std.specs.Prelude.{slice_index}
 use Rattle.rec_base.specs.declared.bearers.Bearer.{Bearer}
 use Rattle.rec_base.specs.declared.bearers.Bearer.TheVariants.{Srb1, Srb2, Drb1, Drb2, Drb3, Drb4}
 use Rattle.rec_base.specs.declared.uses.Dir.{Dir}
-use Rattle.pdcp_guard.specs.declared.pdus.PdcpOpened.{PdcpOpened}
-use Rattle.pdcp_guard.specs.declared.pdus.PdcpFault.{PdcpFault}
 use Rattle.pdcp_guard.specs.declared.pdus.PdcpFault.TheVariants.{MacFails}
 use Rattle.pdcp_guard.specs.AsKeys.{AsKeys}
-use Rattle.pdcp_guard.specs.Srb.{IsSrb, srb_sealed, srb_ciphered, srb_opened_at, srb_text, srb_got, srb_wanted, srb_first}
+use Rattle.pdcp_guard.specs.Srb.{IsSrb, srb_sealed, srb_ciphered, srb_opened_at}
 use Rattle.pdcp_guard.specs.Drb.{IsDrb, drb_sealed, drb_ciphered, drb_opened_at}
-use Rattle.lte_machine.specs.Bearers.{of_srb, of_drb}
 use Rattle.lte_machine.specs.Ciphers.{annex_b, srb_octets, drb_octets}
-use Rattle.lte_machine.specs.Opening.{Outcome, Opened, Differs, OpensSrb, OpensDrb, open_octets, by_macs}
+use Rattle.lte_machine.specs.Opening.{Opened, OpensSrb, OpensDrb, open_octets, by_macs}
 use Rattle.lte_machine.specs.Wire.{ciphering_if, srb_use, srb_ciphering, drb_ciphering}
 use Rattle.radio_bearers.specs.Bearers.{srb_of, drb_of, outcome_of}
 

@@ -1,7 +1,7 @@
 -- A bearer as one of the two kinds, and what an SRB opens to.
 use Rattle.std.specs.Prelude.{Bool, true, false, [], Result, Ok, Err}
 use Rattle.rec_base.specs.declared.bearers.Bearer.{Bearer}
-use Rattle.rec_base.specs.declared.bearers.Bearer.TheVariants.{Srb1, Srb2, Drb1, Drb2, Drb3, Drb4}
+use Rattle.rec_base.specs.declared.bearers.Bearer.TheVariants.{Srb2, Drb2, Drb3, Drb4}
 use Rattle.pdcp_guard.specs.declared.pdus.PdcpOpened.{PdcpOpened}
 use Rattle.pdcp_guard.specs.declared.pdus.PdcpFault.{PdcpFault}
 use Rattle.pdcp_guard.specs.declared.pdus.PdcpFault.TheVariants.{MacFails}

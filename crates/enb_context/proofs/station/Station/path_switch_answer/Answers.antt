@@ -1,4 +1,4 @@
-use Rattle.std.proofs.Common.{None, Some, Ok, rules}
+use Rattle.std.proofs.Common.{Some, Ok, rules}
 use Rattle.lte_machine.specs.StationState.{StationRecord, OnS1}
 use Rattle.s1x2_rec.specs.Fields.{PathSwitchAnswer}
 use Rattle.enb_context.proofs.Serving.{serves}

@@ -1,4 +1,3 @@
-use Rattle.std.proofs.Common.{rules}
 use Rattle.enb_context.proofs.PrepFacts.{all_found_within}
 use Rattle.enb_context.proofs.station.Station.take_only.Goals as goal
 

@@ -1,4 +1,4 @@
-use Rattle.std.proofs.Common.{None, Some, Ok, rules}
+use Rattle.std.proofs.Common.{None, Ok, rules}
 use Rattle.lte_machine.specs.StationState.{StationRecord, OnX2}
 use Rattle.s1x2_rec.specs.Fields.{X2Ack}
 use Rattle.enb_context.proofs.Serving.{serves}
