@@ -33,7 +33,7 @@ use Rattle.lte_machine.specs.World.{Holder, AtPhone, AtCore, AtStation, Machine,
 use Rattle.lte_machine.specs.Machines.{content_of, machine_by}
 use Rattle.lte_machine.specs.Run.{stations_of, first_world}
 use Rattle.lte_machine.specs.Distinct.{keys_of, Member}
-use Rattle.lte_machine.specs.Mixed.{run}
+use Rattle.lte_machine.proofs.Mixed.{run}
 use Rattle.lte_machine.specs.Known.{PairKnown, StationKnown, SentKnown, IsReported, AllReported}
 use Rattle.lte_machine.proofs.History.{Laddered, no_history}
 use Rattle.lte_machine.proofs.KnownLists.{OfSome, all_append, all_one, all_find, all_chosen, all_more, all_put, AllOut, phone_more, station_more, core_more, sent_more, uses_in_known}

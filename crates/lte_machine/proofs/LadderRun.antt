@@ -34,7 +34,7 @@ use Rattle.lte_machine.specs.World.{World}
 use Rattle.lte_machine.specs.Machines.{sender_of}
 use Rattle.lte_machine.specs.Run.{Running, replay, first_world}
 use Rattle.lte_machine.specs.Distinct.{keys_of, Member, OneValueOneTerm}
-use Rattle.lte_machine.specs.Mixed.{run, written_with}
+use Rattle.lte_machine.proofs.Mixed.{run, written_with}
 use Rattle.lte_machine.specs.Standing.{RowsStandForTerms, OctetRowsStand}
 use Rattle.lte_machine.specs.Known.{IsReported, NasContextKnown, PartialKnown, RadioKnown, PhoneKnown, ContextKnown, PrepKnown, StationKnown, ProcedureKnown, CoreContextKnown, CoreKnown, CipheringKnown, OpeningKnown, OrAlgOf, AllReported}
 use Rattle.std.specs.Str.{bytes_eq}

@@ -44,3 +44,4 @@ pub mod KnownWorld
 pub mod StillRun
 pub mod LadderRun
 pub mod MixedRun
+pub mod Mixed

@@ -36,7 +36,7 @@ use Rattle.lte_machine.specs.World.{Machine, World, phone_after, core_after, sta
 use Rattle.lte_machine.specs.Machines.{sender_of, machine_over}
 use Rattle.lte_machine.specs.Run.{Running, replay, first_world}
 use Rattle.lte_machine.specs.Distinct.{keys_of, Member, OneValueOneTerm}
-use Rattle.lte_machine.specs.Mixed.{run, by_terms, mixed}
+use Rattle.lte_machine.proofs.Mixed.{run, by_terms, mixed}
 use Rattle.lte_machine.specs.Known.{RadioKnown, StationKnown, CipheringKnown, SentKnown, OpeningKnown, IsReported}
 use Rattle.lte_machine.proofs.History.{one_value_one_term}
 use Rattle.lte_machine.proofs.KnownLists.{OfSome, all_find, all_chosen, as_chain}

@@ -7,7 +7,7 @@ use Rattle.lte_machine.specs.Tuples.{Chance, Rows}
 use Rattle.lte_machine.specs.World.{Machine, World, Line, happens}
 use Rattle.lte_machine.specs.Step.{by_ladder, by_chance, opening_chance, attempted}
 use Rattle.lte_machine.specs.Run.{Running, Stopped, after, turn, replay}
-use Rattle.lte_machine.specs.Mixed.{run}
+use Rattle.lte_machine.proofs.Mixed.{run}
 
 pub still_one : {K C S : Type 0} {u v : World K C S} → Running u ≡ Running v → u ≡ v
 still_one e = cc

@@ -31,7 +31,6 @@ pub mod Carried
 pub mod BothRuns
 pub mod Ranges
 pub mod Distinct
-pub mod Mixed
 pub mod Known
 pub mod Standing
 pub mod Calls

@@ -25,3 +25,4 @@ pub mod Terms
 pub mod Told
 pub mod Whole
 pub mod World
+pub mod Openings

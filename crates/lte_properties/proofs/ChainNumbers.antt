@@ -6,3 +6,4 @@ pub mod Moves
 pub mod Needs
 pub mod Station
 pub mod World
+pub mod RowFacts

@@ -10,7 +10,7 @@ use Rattle.lte_machine.specs.Opening.{open_by_uses}
 use Rattle.lte_machine.specs.World.{World}
 use Rattle.lte_machine.specs.Machines.{sender_of, written_machine, written_in_values}
 use Rattle.lte_machine.specs.Run.{first_world}
-use Rattle.lte_machine.specs.Mixed.{by_terms}
+use Rattle.lte_machine.proofs.Mixed.{by_terms}
 use Rattle.lte_machine.specs.Ranges.{AllOf, IsEvent, IsSetup}
 use Rattle.lte_machine.specs.Standing.{RunsTo}
 use Rattle.lte_machine.proofs.AnnexB.{under_keys_ciphers}
@@ -18,7 +18,8 @@ use Rattle.lte_properties.specs.Agreement.{CompletedLines, KeysTold}
 use Rattle.lte_properties.proofs.Agreement.Whole.{always_ok}
 use Rattle.lte_properties.proofs.Agreement.Lines.{lines_of}
 use Rattle.lte_properties.proofs.Agreement.Noted.{keys_told}
-use Rattle.lte_properties.proofs.EveryRun.{reflexive, way_is}
+use Rattle.lte_properties.proofs.EveryRun.{way_is}
+use Rattle.lte_properties.proofs.SameKeys.{reflexive}
 use Rattle.lte_properties.proofs.Agreement.World.{Conns, WorldOk}
 
 -- the first events are events

@@ -9,11 +9,10 @@ use Rattle.key_model.specs.Value.{value_of, same_value}
 use Rattle.lte_machine.specs.Wire.{Outgoing}
 use Rattle.lte_machine.specs.Ciphers.{Ciphers, AreCiphers, under_keys, octets_of}
 use Rattle.lte_machine.specs.Opening.{Opening, Outcome, open_octets, open_by_uses}
-use Rattle.key_model.proofs.TermFacts.{same_value-Decides}
 use Rattle.lte_machine.specs.World.{Machine, World, happens}
 use Rattle.lte_machine.specs.Machines.{sender_of, written_machine, written_in_values}
 use Rattle.lte_machine.specs.Run.{Running, replay, run, first_world}
-use Rattle.lte_machine.specs.Mixed.{by_terms, mixed}
+use Rattle.lte_machine.proofs.Mixed.{by_terms, mixed}
 use Rattle.lte_machine.specs.Ranges.{AllOf, IsEvent, IsSetup}
 use Rattle.lte_machine.specs.Standing.{RunsTo}
 use Rattle.lte_machine.proofs.AnnexB.{under_keys_ciphers}
@@ -23,17 +22,19 @@ use Rattle.lte_machine.proofs.StillRun.{goes_on, still_is_run, turns_to}
 use Rattle.lte_properties.specs.ChainHolds.{core_numbers, noted}
 use Rattle.lte_properties.specs.Chains.{AreChains, ChainsHold}
 use Rattle.lte_properties.specs.Agreement.{Agrees, AgreementHolds, NoneThere, NoneEver}
-use Rattle.lte_properties.specs.Freshness.{NoUseTwice, ValuesApart}
+use Rattle.lte_properties.specs.Freshness.{NoUseTwice}
+use Rattle.lte_properties.proofs.Freshness.Premises.{ValuesApart}
 use Rattle.lte_properties.specs.SharedKeys.{SharedApart}
 use Rattle.lte_machine.proofs.KnownWorld.{first_grounds}
 use Rattle.lte_properties.specs.Packets.{OpensToSent}
-use Rattle.lte_properties.proofs.Opening.Opens.{IsReflexive, by_uses_open}
+use Rattle.lte_properties.proofs.Opening.Opens.{by_uses_open}
 use Rattle.lte_properties.proofs.Opening.Sender.{roots_along}
 use Rattle.lte_properties.proofs.Opening.Whole.{packets_open}
 use Rattle.lte_properties.proofs.Agreement.Whole.{agreement_over, chains_over}
 use Rattle.lte_properties.proofs.Freshness.Whole.{no_use_twice_by_terms, no_value_twice_by_terms}
 use Rattle.lte_properties.proofs.KeySeparation.Ever.{sharing_holds_by}
-use Rattle.lte_properties.specs.AgreeOpenings.{OpensByTerms}
+use Rattle.lte_properties.proofs.Agreement.Openings.{OpensByTerms}
+use Rattle.lte_properties.proofs.SameKeys.{reflexive}
 
 -- each world on the way of a run that meets no coincidence is one of such a run
 on_the_way : {K C S : Type 0} (by_octets : Opening K → List ℕ → Outcome) (m : Machine K C S) (w : World K C S) (es : List Event) (u : World K C S)
@@ -44,10 +45,6 @@ on_the_way by_octets m w (e ∷ es) u is zero = refl
 on_the_way by_octets m w (e ∷ es) u is (suc n) =
     ap (λ r. replay by_octets m r (take n es)) (turns_to by_octets m w e es u is)
     ∙ on_the_way by_octets m (happens m w e).0 es u (goes_on by_octets m w e es u is).1 n
-
--- a value is itself
-pub reflexive : IsReflexive same_value
-reflexive t = (same_value-Decides t t).1 refl
 
 -- machines that come to the same worlds on the way have the same core's numbers
 same_numbers : (m n : Machine Term ℕ (Outgoing Term ℕ)) (w : World Term ℕ (Outgoing Term ℕ)) (top : ℕ → ℕ) (es : List Event)

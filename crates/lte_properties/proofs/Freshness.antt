@@ -12,3 +12,8 @@ pub mod StationFront
 pub mod StationKeeps
 pub mod Whole
 pub mod World
+pub mod Stands
+pub mod Uses
+pub mod PhoneUses
+pub mod Sequence
+pub mod Premises

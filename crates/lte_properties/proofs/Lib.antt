@@ -6,3 +6,4 @@ pub mod Freshness
 pub mod KeySeparation
 pub mod NasWalk
 pub mod Opening
+pub mod SameKeys

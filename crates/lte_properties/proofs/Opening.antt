@@ -6,10 +6,11 @@ mod Examples
 pub mod Fits
 pub mod Nas
 pub mod NasRows
-pub mod NasWalk
 pub mod Opens
 pub mod Ready
 pub mod Sender
 pub mod Steps
 pub mod Whole
 pub mod World
+pub mod NasOpens
+pub mod Openings

@@ -1,7 +1,7 @@
 -- Agreement of phone and stations on keys over handovers (TS 33.401 7.2.8): what a station made for an air address against
 -- what the phone took there.
 use Rattle.std.specs.Prelude.{if◌then◌else◌, ◌≡◌, ◌≢◌, ℕ, ◌-◌, ◌≤◌, ◌<◌, ◌==◌, ◌&&◌, Bool, ◌⊎◌, List, [], ◌∷◌, ◌++◌, find, take, Option, Some, None, ⊤}
-use Rattle.key_model.specs.Term.{Term, Root, Kenb, Nh, Star, Alg, same_term}
+use Rattle.key_model.specs.Term.{Term, Kenb, Star, same_term}
 use Rattle.ho_prep.specs.Prep.{Prep}
 use Rattle.lte_machine.specs.Reply.{Note, Origin, From, BySetup, ByAttempt, ByChange, Made, Before, Came, Secured, Commanded, Changed, Took}
 use Rattle.lte_machine.specs.PhoneState.{Link, Radio, Idle, Connecting, Connected}
@@ -16,7 +16,7 @@ use Rattle.key_model.specs.Chain.{nh, ncc_of}
 use Rattle.lte_events.specs.declared.events.Event.{Event}
 use Rattle.lte_properties.specs.ChainBelow.{AllOf}
 use Rattle.lte_properties.specs.ChainHolds.{run}
-use Rattle.lte_properties.specs.FreshOrder.{nas_count_of}
+use Rattle.lte_properties.specs.Origins.{root_of, nas_count_of}
 
 -- an item of a list
 abbrev pub IsIn : {A : Type 0} → A → List A → Type 0
@@ -40,14 +40,6 @@ OneOf m n = (o : Origin) → m.from ≡ ByAttempt o → n.from ≡ ByAttempt o �
 
 abbrev pub TriedOnce : {S : Type 0} → World Term ℕ S → Type 0
 TriedOnce w = AllOf (λ m. AllOf (OneOf m) w.made) w.made
-
--- the KASME that a key comes from
-abbrev pub root_of : Term → Term
-root_of (Root r octets) = Root r octets
-root_of (Kenb r n) = r
-root_of (Nh r t) = r
-root_of (Star t pci earfcn) = root_of t
-root_of (Alg t type id) = root_of t
 
 -- a key change that was made from another authentication than the phone's counts as eight
 abbrev pub change_ahead : Term → Term → ℕ

@@ -1,16 +1,13 @@
 -- What holds of the chain numbers in every world of every run (TS 33.401 7.2.8).
-use Rattle.std.specs.Prelude.{ℕ, ◌≤◌, ◌==◌, if◌then◌else◌, List, [], ◌∷◌, Option, Some, None, ⊤}
+use Rattle.std.specs.Prelude.{ℕ, ◌==◌, if◌then◌else◌, List, [], ◌∷◌, Option, Some, None}
 use Rattle.lte_events.specs.declared.events.Event.{Event}
 use Rattle.lte_events.specs.declared.setups.Setup.{Setup}
 use Rattle.key_model.specs.Term.{Term}
-use Rattle.key_model.specs.HandoverTable.{NumberedKey}
 use Rattle.lte_machine.specs.Wire.{Outgoing}
-use Rattle.lte_machine.specs.StationState.{Station, Context}
-use Rattle.lte_machine.specs.StationRows.{RecordRow, PairTaken, PreparedByS1, PreparedByX2, StationRow, OfRecord}
 use Rattle.lte_machine.specs.CoreState.{CoreLink}
 use Rattle.lte_machine.specs.World.{Machine, World, happens}
 use Rattle.lte_machine.specs.Run.{first_world}
-use Rattle.lte_properties.specs.ChainBelow.{AllOf, EachNumber, IsUnder, StationBelow, RecordBelow, CoreTop}
+use Rattle.lte_properties.specs.ChainBelow.{AllOf, StationBelow, RecordBelow, CoreTop}
 use Rattle.lte_properties.specs.ChainAbove.{StationAbove, InFlight}
 pub use Rattle.lte_machine.specs.Run.{run}
 pub use Rattle.lte_machine.specs.Machines.{machine_by}
@@ -38,20 +35,3 @@ pub record Holds (top : ℕ → ℕ) (w : World Term ℕ (Outgoing Term ℕ)) : 
 abbrev pub ChainNumbersHold : Machine Term ℕ (Outgoing Term ℕ) → Setup → List Event → Type 0
 ChainNumbersHold m setup events =
     Holds (core_numbers m (first_world setup) (λ conn. 0) events) (run m (first_world setup) events)
-
--- what a row needs of the key of the record that it read. A pair that is taken is above each number of the context, and
--- at most the core's number
-abbrev pub PairNeeds : (ℕ → ℕ) → ℕ → Option (Context Term ℕ) → Type 0
-PairNeeds top n None = ⊤
-PairNeeds top n (Some c) = EachNumber (IsUnder n) c × (n ≤ top c.conn)
-
-abbrev pub RecordNeeds : (ℕ → ℕ) → Station Term ℕ → RecordRow → NumberedKey Term ℕ → Type 0
-RecordNeeds top s (PairTaken conn origin) key = PairNeeds top key.number s.context
-RecordNeeds top s (PreparedByS1 w) key = key.number ≤ top w.conn
-RecordNeeds top s (PreparedByX2 w) key = key.number ≤ top w.conn
-RecordNeeds top s other key = ⊤
-
-abbrev pub RowNeeds : (ℕ → ℕ) → Station Term ℕ → StationRow → Option (NumberedKey Term ℕ) → Type 0
-RowNeeds top s row None = ⊤
-RowNeeds top s (OfRecord row) (Some key) = RecordNeeds top s row key
-RowNeeds top s other (Some key) = ⊤

@@ -13,10 +13,10 @@ use Rattle.lte_machine.specs.CoreState.{CoreLink}
 use Rattle.lte_machine.specs.Wire.{Outgoing, Between}
 use Rattle.lte_machine.specs.World.{Machine, World}
 use Rattle.lte_machine.specs.Run.{first_world}
-use Rattle.lte_properties.specs.Agreement.{IsIn, root_of, made_at, ahead, HadTaken}
+use Rattle.lte_properties.specs.Agreement.{IsIn, made_at, ahead, HadTaken}
+use Rattle.lte_properties.specs.Origins.{root_of, nas_count_of}
 use Rattle.lte_properties.specs.ChainBelow.{AllOf}
 use Rattle.lte_properties.specs.ChainHolds.{core_numbers, run}
-use Rattle.lte_properties.specs.FreshOrder.{nas_count_of}
 
 -- the key of a chain, an NH or the KeNB that it begins with, from which a KeNB comes by KeNB* steps
 abbrev pub chain_key : Term → Term

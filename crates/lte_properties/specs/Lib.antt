@@ -1,16 +1,10 @@
 pub mod ChainBelow
 pub mod ChainAbove
 pub mod ChainHolds
-pub mod ChainRows
 pub mod Agreement
-pub mod AgreeOpenings
 pub mod Chains
 pub mod Freshness
-pub mod FreshOrder
-pub mod FreshUses
-pub mod FreshHolds
-pub mod FreshPhone
 pub mod Separation
 pub mod SharedKeys
 pub mod Packets
-pub mod PacketOpenings
+pub mod Origins

@@ -28,7 +28,7 @@ use Rattle.lte_machine.specs.Step.{Attempted, phone_attempts, core_attempts, att
 use Rattle.ho_prep.specs.Prep.{at_air}
 use Rattle.lte_properties.specs.ChainHolds.{machine_by}
 use Rattle.lte_properties.specs.Agreement.{made_at}
-use Rattle.lte_properties.specs.AgreeOpenings.{IsHonest, IsCalm, outcome_of, Honest, Calm}
+use Rattle.lte_properties.proofs.Agreement.Openings.{IsHonest, IsCalm, outcome_of, Honest, Calm}
 use Rattle.lte_properties.proofs.ChainNumbers.Lists.{OfSome, all_get}
 use Rattle.lte_properties.proofs.Agreement.Ghost.{Ghost, RadioOk, SentOk}
 use Rattle.lte_properties.proofs.Agreement.PhoneWalk.{CameDown}
@@ -60,7 +60,7 @@ use Rattle.lte_machine.specs.CoreState.{CoreContext}
 use Rattle.nas_guard.specs.Keys.{Keys}
 use Rattle.ho_prep.specs.Prep.{Prep}
 use Rattle.lte_properties.specs.Agreement.{IsIn}
-use Rattle.lte_properties.specs.AgreeOpenings.{WasSealed, CipheredAs}
+use Rattle.lte_properties.proofs.Agreement.Openings.{WasSealed, CipheredAs}
 use Rattle.lte_properties.proofs.Agreement.Ghost.{keys_of, LinkIs}
 use Rattle.lte_properties.proofs.Agreement.PhoneWalk.{by_test, one_key, both_named}
 use Rattle.lte_properties.proofs.Agreement.Later.{same_found}

@@ -15,11 +15,11 @@ use Rattle.lte_machine.specs.CoreState.{CoreLink}
 use Rattle.lte_machine.specs.Reply.{From, BySetup, ByAttempt, ByChange, Made, Tried, Came, Secured, Commanded, Changed, Took}
 use Rattle.lte_machine.specs.StationState.{Context, Attempt, OverX2, OverS1, Within, Renewing, X2State, X2Open, X2Ready, X2Commanded, S1State, S1Open, S1Ready, S1Commanded}
 use Rattle.lte_machine.specs.Wire.{Outgoing, Between}
-use Rattle.lte_properties.specs.Agreement.{IsIn, root_of, TookMade, ObeysMade, Grows}
+use Rattle.lte_properties.specs.Agreement.{IsIn, TookMade, ObeysMade, Grows}
+use Rattle.lte_properties.specs.Origins.{root_of, nas_count_of}
 use Rattle.lte_properties.specs.Chains.{chain_key, OnChain, Chains, IsKeyOf, IsPairOf, ArePairsOf, GivenOn, TriedOn, ContextOn, OpenedUnder, x2_attempt, s1_attempt, AttemptOn, AttemptsOn, PrepOn, LinkOn, RecordOn, StarOf, MadeHow, BelongsTo, TookOn, AreChains}
 use Rattle.lte_properties.specs.ChainBelow.{AllOf, LinkTop}
 use Rattle.lte_properties.specs.ChainHolds.{Holds}
-use Rattle.lte_properties.specs.FreshOrder.{nas_count_of}
 use Rattle.lte_properties.proofs.ChainNumbers.Lists.{all_map}
 use Rattle.lte_properties.proofs.Agreement.Terms.{climb, lands, climb-nh, root_base, root_nh, on_chain_lands}
 use Rattle.lte_properties.proofs.Agreement.Ghost.{is_tried_at, taken, TermOk, PairOk, PairsOk, FromIs, FromOk, MadeOk, GivenOk, TriedOk, TookOk, UnderKey, X2Ok, S1Ok, AttemptOk, CtxOk, PrepOk, StationOk, CoreLinkOk, SentOk}

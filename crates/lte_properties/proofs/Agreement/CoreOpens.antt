@@ -19,7 +19,7 @@ use Rattle.lte_machine.specs.CoreStep.{plain_core}
 use Rattle.lte_machine.specs.Opening.{Outcome, Opened}
 use Rattle.lte_machine.specs.Reply.{unseen}
 use Rattle.lte_machine.specs.Wire.{Outgoing, SealedNas, PlainNas, SealedRrc, UserPacket, Between}
-use Rattle.lte_properties.specs.AgreeOpenings.{WasCounted, IsHonest}
+use Rattle.lte_properties.proofs.Agreement.Openings.{WasCounted, IsHonest}
 use Rattle.lte_properties.proofs.NasWalk.{nas_front, nas_row, nas_walk}
 use Rattle.lte_properties.proofs.Agreement.Core.{CoreNasNeeds, ChangeNeeds}
 use Rattle.lte_properties.proofs.Agreement.PhoneWalk.{by_test}

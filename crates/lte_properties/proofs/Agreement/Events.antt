@@ -27,7 +27,7 @@ use Rattle.lte_machine.specs.Step.{Attempted, phone_attempts, core_attempts, sta
 use Rattle.lte_properties.specs.ChainBelow.{AllOf}
 use Rattle.lte_properties.specs.ChainAbove.{StationAbove, InFlight}
 use Rattle.lte_properties.specs.ChainHolds.{machine_by}
-use Rattle.lte_properties.specs.AgreeOpenings.{IsHonest, IsCalm, outcome_of, Honest, Calm}
+use Rattle.lte_properties.proofs.Agreement.Openings.{IsHonest, IsCalm, outcome_of, Honest, Calm}
 use Rattle.lte_properties.proofs.ChainNumbers.Lists.{OfSome, all_map, all_both, all_chosen}
 use Rattle.lte_properties.proofs.Agreement.Ghost.{CoreLinkOk, SentOk, BetweenOk}
 use Rattle.lte_properties.proofs.Agreement.Later.{Later, later_itself, later_after}
@@ -38,7 +38,7 @@ use Rattle.lte_properties.proofs.Agreement.Core.{equal_below, StaysOff, as_befor
 use Rattle.lte_properties.proofs.Agreement.CoreOpens.{CameNas, core_nas_walks}
 use Rattle.lte_properties.proofs.Agreement.StationWalk.{CellFits}
 use Rattle.lte_properties.specs.ChainHolds.{run, noted, core_numbers, Holds}
-use Rattle.lte_properties.specs.AgreeOpenings.{Along}
+use Rattle.lte_properties.proofs.Agreement.Openings.{Along}
 use Rattle.lte_properties.proofs.ChainNumbers.World.{happens_holds}
 use Rattle.lte_properties.proofs.Agreement.World.{TheWorld, Conns, ghost, WorldOk, Goes, OctetsTell, Settled, by_world_goes, phone_turn_goes, phone_air_goes, core_turn_goes, found_of, station_acts_goes, station_air_goes, station_s1_goes, station_x2_goes}
 

@@ -31,10 +31,10 @@ use Rattle.lte_machine.specs.StationState.{Station, Context, Attempt, OverX2, Ov
 use Rattle.lte_machine.specs.CoreState.{Core, CoreLink}
 use Rattle.std.specs.Prelude.{slice_index, length, ◌==◌, ◌&&◌, Bool, true, false, find, ⊤}
 use Rattle.lte_properties.specs.ChainBelow.{AllOf}
-use Rattle.lte_properties.specs.Agreement.{root_of, made_at, Obeys, Grows, HadTaken, TakenIfTried}
+use Rattle.lte_properties.specs.Agreement.{made_at, Obeys, Grows, HadTaken, TakenIfTried}
+use Rattle.lte_properties.specs.Origins.{root_of, nas_count_of}
 use Rattle.lte_properties.proofs.Agreement.Terms.{lands, ChainOf}
 use Rattle.lte_properties.specs.Chains.{chain_key, OnChain}
-use Rattle.lte_properties.specs.FreshOrder.{nas_count_of}
 
 -- of each connection its KASME, the COUNT of its KeNB and the greatest chain number so far; the next connection; and what
 -- was told of the run

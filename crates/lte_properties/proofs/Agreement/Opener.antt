@@ -21,7 +21,7 @@ use Rattle.lte_machine.specs.Opening.{Opening, OpensNothing, OpensNas, OpensSrb,
 use Rattle.lte_machine.specs.World.{World}
 use Rattle.lte_machine.specs.Step.{attempted}
 use Rattle.lte_properties.specs.ChainHolds.{machine_by}
-use Rattle.lte_properties.specs.AgreeOpenings.{IsHonest, Honest, OpensByTerms}
+use Rattle.lte_properties.proofs.Agreement.Openings.{IsHonest, Honest, OpensByTerms}
 use Rattle.lte_properties.proofs.Agreement.PhoneWalk.{by_test}
 use Rattle.lte_properties.proofs.Agreement.World.{PlainReads, HeaderReads, OctetsTell}
 

@@ -6,8 +6,8 @@ use Rattle.key_model.specs.Term.{Term}
 use Rattle.lte_machine.specs.Reply.{From, BySetup, ByAttempt, ByChange, Origin, Made, Before, Came, Secured, Commanded, Changed, Took}
 use Rattle.lte_properties.specs.Agreement.{made_at, ObeysMade, Obeys, Joins, Follow}
 use Rattle.lte_properties.specs.ChainBelow.{AllOf}
-use Rattle.lte_properties.specs.FreshOrder.{IsBefore, IsNotAfter}
-use Rattle.lte_properties.specs.FreshPhone.{TookInOrder}
+use Rattle.lte_properties.proofs.Freshness.Sequence.{IsBefore, IsNotAfter}
+use Rattle.lte_properties.proofs.Freshness.PhoneUses.{TookInOrder}
 use Rattle.lte_properties.proofs.Freshness.Order.{not_before_itself, not_after_before}
 use Rattle.lte_properties.proofs.Agreement.Ghost.{is_took_at, took_at}
 use Rattle.lte_properties.proofs.Agreement.Later.{same_found}

@@ -19,10 +19,10 @@ use Rattle.lte_machine.specs.PhoneState.{Partial, NasContext, Link, Radio, Conne
 use Rattle.lte_machine.specs.PhoneRows.{AuthRow, Authenticated, NasRow, NasRefused, RejectedPlain, RejectedUnder, ContextTaken, ContextTakenConnected, NasOpened, AirRow, AirRefused, LinkSecured, HandedOver, KeyChanged, RrcOpened, PacketOpened, ActRow, ActRefused, ServiceRequested, CompleteResent, WentIdle, PacketSent, RrcSent, NasSent, NasSkipped, BearerSkipped, PhoneRow, OfAuth, OfNas, OfAir, OfAct}
 use Rattle.lte_machine.specs.PhoneKeys.{PhoneDone, auth_does, rejected_under, context_taken, context_taken_connected, nas_opened, nas_does, link_secured, handed_over, before_of, changed_unless, key_changed, rrc_opened, packet_opened, air_does, service_requested, complete_resent, packet_sent, rrc_sent, nas_sent, nas_skipped, bearer_skipped, act_does, phone_does}
 use Rattle.lte_properties.specs.ChainBelow.{AllOf}
-use Rattle.lte_properties.specs.Agreement.{made_at, root_of, change_ahead, ahead, TookMade, ObeysCommand, ObeysChange, Obeys, Grows, HadTaken}
+use Rattle.lte_properties.specs.Agreement.{made_at, change_ahead, ahead, TookMade, ObeysCommand, ObeysChange, Obeys, Grows, HadTaken}
+use Rattle.lte_properties.specs.Origins.{root_of, nas_count_of}
 use Rattle.lte_properties.proofs.Agreement.Terms.{climb, lands, climb-nh, IsKenb, number_lands, ChainOf, reached_key, reached_number, reached_chain, steps_below, steps_near, lands_near, steps_far, lands_far}
 use Rattle.lte_properties.specs.Chains.{chain_key}
-use Rattle.lte_properties.specs.FreshOrder.{nas_count_of}
 use Rattle.lte_properties.proofs.Agreement.Ghost.{Ghost, is_took_at, took_at, taken, FromIs, HereIs, Leads, FromOk, MadeOk, TookOk, OrderIs, ChangeIs, LinkIs, RadioOk, OutOk}
 use Rattle.lte_properties.proofs.Agreement.Told.{found_new, both_same, made_there}
 use Rattle.lte_properties.proofs.Agreement.Later.{Later, found_later, in_front, in_last, same_found}

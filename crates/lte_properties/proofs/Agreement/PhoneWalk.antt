@@ -26,7 +26,7 @@ use Rattle.lte_machine.specs.PhoneState.{Waiting, Link, Radio, Idle, Connecting,
 use Rattle.lte_machine.specs.PhoneChoice.{unciphered_text, start_read, start_at, waiting_front, signalling_at, packet_at, linked_front, air_front, AirFront, AtStart, command_taken, change_taken, signalling_read, air_row}
 use Rattle.lte_machine.specs.PhoneKeys.{air_expects, start_expects, signalling_expects}
 use Rattle.lte_properties.specs.Agreement.{made_at}
-use Rattle.lte_properties.specs.AgreeOpenings.{WasSealed, IsHonest, CipheredAs, IsCalm, is_ciphered}
+use Rattle.lte_properties.proofs.Agreement.Openings.{WasSealed, IsHonest, CipheredAs, IsCalm, is_ciphered}
 use Rattle.lte_properties.proofs.Agreement.Ghost.{Ghost, took_at, keys_of, TextOk, CipheredSo, DownOk, LinkIs, RadioOk, OrderIs, ChangeIs}
 use Rattle.lte_properties.proofs.Agreement.Later.{same_found}
 use Rattle.lte_properties.proofs.Agreement.Phone.{StartNeeds, CommandNeeds, ChangeNeeds, AirNeeds}

@@ -32,7 +32,7 @@ use Rattle.lte_machine.specs.StationChoice.{PlainStation, PlainContext, PlainAtt
 use Rattle.lte_machine.specs.StationKeys.{air_expects, starting_expects, prepared_expects}
 use Rattle.lte_machine.specs.StationStep.{plain_station}
 use Rattle.lte_properties.specs.Agreement.{HadTaken}
-use Rattle.lte_properties.specs.AgreeOpenings.{WasSealed, IsHonest}
+use Rattle.lte_properties.proofs.Agreement.Openings.{WasSealed, IsHonest}
 use Rattle.lte_properties.proofs.Agreement.Ghost.{Ghost, HereIs, IsOrder, X2Ok, S1Ok, AttemptOk, StartedOk, CtxOk, PrepOk, StationOk, UpOk}
 use Rattle.lte_properties.proofs.Agreement.Later.{same_found}
 use Rattle.lte_properties.proofs.Agreement.Phone.{all_found}

@@ -11,9 +11,8 @@ use Rattle.key_model.specs.HandoverLines.{nh_after, steps_to}
 use Rattle.key_model.proofs.LeastFacts.{least_near, least_from_remainder, eight_ahead}
 use Rattle.nh_chain.specs.Chain.{ChainState, number_after}
 use Rattle.nh_chain.specs.Reach.{reached_after}
-use Rattle.lte_properties.specs.Agreement.{root_of}
+use Rattle.lte_properties.specs.Origins.{root_of, nas_count_of}
 use Rattle.lte_properties.specs.Chains.{chain_key, OnChain}
-use Rattle.lte_properties.specs.FreshOrder.{nas_count_of}
 
 -- so many NH steps from a key
 abbrev pub climb : Term → Term → ℕ → Term

@@ -19,7 +19,8 @@ use Rattle.rrc_rec.proofs.Laws.{spelled_is_read}
 use Rattle.lte_machine.specs.Reply.{From, BySetup, ByAttempt, ByChange, Made, Tried, Took}
 use Rattle.lte_machine.specs.World.{with_one}
 use Rattle.lte_properties.specs.ChainBelow.{AllOf}
-use Rattle.lte_properties.specs.Agreement.{is_made_at, made_at, root_of, HadTaken, TakenIfTried}
+use Rattle.lte_properties.specs.Agreement.{is_made_at, made_at, HadTaken, TakenIfTried}
+use Rattle.lte_properties.specs.Origins.{root_of}
 use Rattle.lte_properties.proofs.Agreement.Terms.{climb, lands, climb-nh, base_nh, root_nh, root_base, number_base}
 use Rattle.lte_properties.specs.Chains.{chain_key}
 use Rattle.lte_properties.proofs.Agreement.Ghost.{Ghost, is_tried_at, tried_at, TermOk, PairOk, FreshFrom}

@@ -18,9 +18,9 @@ use Rattle.lte_machine.specs.Run.{first_world}
 use Rattle.lte_properties.specs.ChainBelow.{AllOf}
 use Rattle.lte_properties.specs.ChainHolds.{machine_by, run, noted, core_numbers, Holds}
 use Rattle.lte_properties.specs.Agreement.{NoneEver, CompletedLines, AgreementHolds}
-use Rattle.lte_properties.specs.AgreeOpenings.{Honest, Calm, Along, OpensByTerms}
+use Rattle.lte_properties.proofs.Agreement.Openings.{Honest, Calm, Along, OpensByTerms}
 use Rattle.lte_properties.proofs.ChainNumbers.World.{happens_holds, run_holds, first_holds}
-use Rattle.lte_properties.specs.FreshPhone.{RadioInOrder, PhoneFresh}
+use Rattle.lte_properties.proofs.Freshness.PhoneUses.{RadioInOrder, PhoneFresh}
 use Rattle.lte_properties.proofs.Freshness.PhoneRun.{in_order, happens_order, first_order}
 use Rattle.lte_properties.proofs.Agreement.Later.{later_itself}
 use Rattle.lte_properties.proofs.Agreement.Told.{SiteOk}
@@ -34,7 +34,7 @@ use Rattle.lte_machine.proofs.RangeHolds.{ContextRanged, StationRanged, Ranged}
 use Rattle.lte_machine.proofs.RangeWorld.{ranged_keeps, first_ranged}
 use Rattle.lte_machine.specs.StationState.{Station, Context}
 use Rattle.key_model.proofs.TermFacts.{same_term-Decides}
-use Rattle.lte_properties.proofs.Opening.Opens.{IsReflexive}
+use Rattle.lte_properties.proofs.SameKeys.{IsReflexive}
 use Rattle.lte_properties.proofs.Agreement.Lines.{line_told}
 use Rattle.lte_properties.proofs.Agreement.Chains.{are_chains}
 use Rattle.lte_properties.specs.Chains.{ChainsHold}

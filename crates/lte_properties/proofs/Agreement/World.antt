@@ -38,12 +38,12 @@ use Rattle.lte_properties.specs.ChainAbove.{ContextAbove, StationAbove, InFlight
 use Rattle.lte_properties.specs.ChainHolds.{machine_by}
 use Rattle.lte_machine.specs.PhoneState.{Radio, Idle, Connecting, Connected}
 use Rattle.lte_machine.specs.CoreChoice.{core_header}
-use Rattle.lte_properties.specs.FreshPhone.{TookInOrder, RadioInOrder, PhoneInOrder}
+use Rattle.lte_properties.proofs.Freshness.PhoneUses.{TookInOrder, RadioInOrder, PhoneInOrder}
 use Rattle.lte_properties.specs.Agreement.{made_at, OneOf, TriedOnce, Obeys, Follow}
 use Rattle.lte_properties.proofs.Agreement.Seen.{NotBoth, seen_beside, once_more}
 use Rattle.lte_properties.proofs.Agreement.Follows.{InTurn}
 use Rattle.lte_properties.proofs.Agreement.Order.{new_at}
-use Rattle.lte_properties.specs.AgreeOpenings.{IsHonest, IsCalm, outcome_of}
+use Rattle.lte_properties.proofs.Agreement.Openings.{IsHonest, IsCalm, outcome_of}
 use Rattle.lte_properties.proofs.ChainNumbers.Lists.{OfSome, all_one, all_find, all_map, all_both, all_put}
 use Rattle.lte_properties.proofs.Agreement.Ghost.{Ghost, tried_at, SeenBy, CoreOk, RadioOk, StationOk, SentOk, MadeOk, TriedOk, TookOk, OutOk, BetweenOk}
 use Rattle.lte_properties.proofs.Agreement.Later.{Later, later_itself, ctx_later, preps_later, radio_later, sent_later, made_later, tried_later, took_later}

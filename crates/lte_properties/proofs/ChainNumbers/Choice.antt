@@ -14,7 +14,7 @@ use Rattle.lte_machine.specs.StationState.{Station, Context, OverX2, OverS1, Wit
 use Rattle.lte_machine.specs.StationRows.{Wanted, RecordRow, PairTaken, PreparedByS1, PreparedByX2}
 use Rattle.lte_machine.specs.StationChoice.{PlainContext, PlainAttempt, initial_chosen, initial_row, release_row, answer_row_by, answer_row, wanted_chosen, is_full, wanted_row, acked_open, s1_acked_row, s1_ack_row, x2_acked_row, x2_ack_row, cancel_row, x2_released_row, x2_release_row, s1_row, x2_row, record_row, is_own, runs_out, modification_row, renewed_alone}
 use Rattle.lte_machine.specs.StationStep.{plain_station}
-use Rattle.lte_properties.specs.ChainRows.{TakenFor, RecordFits, RenewedFor}
+use Rattle.lte_properties.proofs.ChainNumbers.RowFacts.{TakenFor, RecordFits, RenewedFor}
 use Rattle.lte_machine.specs.Bearers.{is_spent}
 
 -- by the two ends of a test

@@ -20,7 +20,7 @@ use Rattle.lte_machine.specs.Reply.{Origin}
 use Rattle.lte_machine.specs.StationState.{OverX2, OverS1, Within, X2State, X2Open, X2Ready, X2Commanded, S1State, S1Open, S1Ready, S1Commanded, Renewing}
 use Rattle.lte_machine.specs.StationRows.{ActRow}
 use Rattle.lte_machine.specs.StationChoice.{PlainStation, PlainContext, PlainAttempt, is_full, AirFront, AirSettled, OnStarting, OnSignalling, OnUser, OnPrepared, counted, starting_front, active_front, context_front, prepared_front, air_front_by, air_front, starting_row, rrc_row, completed_row, prepared_row, air_row, active_row, unless_spent, begun_row, alone_row, target_row, start_row, x2_command_row, s1_command_row, attempt_command_row, command_row, x2_cancel_row, s1_cancel_row, within_cancel_row, attempt_cancel_row, give_up_row, came_row, ask_row, packet_row, send_rrc_row, skip_row, act_row, runs_out, is_misplaced}
-use Rattle.lte_properties.specs.ChainRows.{AirDraws, ActDraws}
+use Rattle.lte_properties.proofs.ChainNumbers.RowFacts.{AirDraws, ActDraws}
 use Rattle.lte_properties.proofs.ChainNumbers.Choice.{by_test}
 
 -- AIR

@@ -28,8 +28,8 @@ use Rattle.lte_machine.specs.StationStep.{plain_station, key_read, station_row_o
 use Rattle.lte_machine.specs.Machines.{content_of}
 use Rattle.lte_properties.specs.ChainBelow.{StationBelow, conn_of, RecordBelow}
 use Rattle.lte_properties.specs.ChainAbove.{AnswerOk, AnswerTo, StationAbove, InFlight}
-use Rattle.lte_properties.specs.ChainHolds.{PairNeeds, RecordNeeds, RowNeeds}
-use Rattle.lte_properties.specs.ChainRows.{TakenFor, RecordFits, RecordDraws}
+use Rattle.lte_properties.proofs.ChainNumbers.RowFacts.{PairNeeds, RecordNeeds, RowNeeds}
+use Rattle.lte_properties.proofs.ChainNumbers.RowFacts.{TakenFor, RecordFits, RecordDraws}
 use Rattle.lte_properties.proofs.ChainNumbers.Choice.{record_row_fits}
 use Rattle.lte_properties.proofs.ChainNumbers.Draws.{air_row_draws, act_row_draws}
 use Rattle.lte_properties.proofs.ChainNumbers.Station.{Kept, station_does_kept}

@@ -20,8 +20,8 @@ use Rattle.lte_machine.specs.StationKeys.{spent_in, commanded, given_up, with_se
 use Rattle.lte_machine.specs.StationRecords.{s1_acked, x2_acked, with_pair, with_s1_ack, with_x2_ack, with_wanted, source_release, context_given, pair_taken, prepared_by_s1, prepared_by_x2, record_does, key_renewed}
 use Rattle.lte_properties.specs.ChainBelow.{AllOf, OfPair, star_in, EachNumber, AtMost, IsUnder, IsAbove, ContextBelow, PrepBelow, StationBelow, RecordBelow}
 use Rattle.lte_properties.specs.ChainAbove.{ContextAbove, HasNoPair, StationAbove, InFlight}
-use Rattle.lte_properties.specs.ChainHolds.{PairNeeds, RowNeeds}
-use Rattle.lte_properties.specs.ChainRows.{RecordDraws, AirDraws, ActDraws, RowDraws}
+use Rattle.lte_properties.proofs.ChainNumbers.RowFacts.{PairNeeds, RowNeeds}
+use Rattle.lte_properties.proofs.ChainNumbers.RowFacts.{RecordDraws, AirDraws, ActDraws, RowDraws}
 use Rattle.lte_properties.proofs.ChainNumbers.Choice.{none_some, by_some}
 use Rattle.lte_properties.proofs.ChainNumbers.Lists.{OfSome, all_append, all_filter, all_find}
 use Rattle.lte_properties.proofs.ChainNumbers.Moves.{Stands, Moves, Stays, Renewed}

@@ -39,7 +39,7 @@ use Rattle.lte_machine.specs.Run.{stations_of, first_world}
 use Rattle.lte_properties.specs.ChainBelow.{AllOf, AtMost, ContextBelow, PrepBelow, StationBelow, conn_of, RecordBelow}
 use Rattle.lte_properties.specs.ChainAbove.{StationAbove, InFlight}
 use Rattle.lte_properties.specs.ChainHolds.{machine_by, run, noted, core_numbers, Holds, ChainNumbersHold}
-use Rattle.lte_properties.specs.ChainRows.{CoreFits, LinkIs, NasDraws}
+use Rattle.lte_properties.proofs.ChainNumbers.RowFacts.{CoreFits, LinkIs, NasDraws}
 use Rattle.lte_properties.proofs.ChainNumbers.Lists.{OfSome, all_one, all_find, all_map, all_both, all_put, all_chosen}
 use Rattle.lte_properties.proofs.ChainNumbers.Moves.{flight_moves}
 use Rattle.lte_properties.proofs.ChainNumbers.Station.{OwnRequest, SentOk}

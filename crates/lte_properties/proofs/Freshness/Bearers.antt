@@ -2,7 +2,7 @@
 use Rattle.std.proofs.Common.{ℕ, ◌<◌, ◌≤◌, ◌==◌, Bool, true, false, if◌then◌else◌, arith}
 use Rattle.rec_base.specs.Bearer.{bearer5_of}
 use Rattle.lte_machine.specs.Bearers.{Srb, Signalling1, Signalling2, Drb, User1, User2, User3, User4, Which, OnSrb, OnDrb, Bearers, of_srb, of_drb, srb_counts, drb_counts, srb_sent, drb_sent, srb_taken, drb_taken, skipped_on}
-use Rattle.lte_properties.specs.FreshUses.{send_on, next_on}
+use Rattle.lte_properties.proofs.Freshness.Uses.{send_on, next_on}
 
 -- no COUNT to send with falls
 abbrev pub Rise : Bearers → Bearers → Type 0

@@ -18,9 +18,9 @@ use Rattle.lte_machine.specs.CoreRows.{CoreNasRow, NasRefused, PlainReject, SmcC
 use Rattle.lte_machine.specs.CoreKeys.{smc_started, smc_complete, nas_taken, nas_sent_to, service_asked, nas_opened, sealed_reject, nas_sent, nas_skipped, context_set_up, path_switched, handover_asked, handover_notified, core_does_nas, core_does_record, core_does_act, nas_text, key_changed}
 use Rattle.lte_machine.specs.World.{uses_in}
 use Rattle.lte_properties.specs.ChainBelow.{AllOf}
-use Rattle.lte_properties.specs.FreshOrder.{authentication_of}
-use Rattle.lte_properties.specs.FreshUses.{Home, home_at, Homes, Grows, OnKey, IsNas, NasDown, CoreUse, AllApart}
-use Rattle.lte_properties.specs.FreshHolds.{IsPast, NasKeysOf, core_partial_root, core_context_root, due, core_mark, CoreStands, RecordStands}
+use Rattle.lte_properties.proofs.Freshness.Sequence.{authentication_of}
+use Rattle.lte_properties.proofs.Freshness.Uses.{Home, home_at, Homes, Grows, OnKey, IsNas, NasDown, CoreUse, AllApart}
+use Rattle.lte_properties.proofs.Freshness.Stands.{IsPast, NasKeysOf, core_partial_root, core_context_root, due, core_mark, CoreStands, RecordStands}
 use Rattle.lte_properties.proofs.ChainNumbers.Choice.{by_some}
 use Rattle.lte_properties.proofs.Freshness.Order.{homed, homed_here, homed_is, homed_grows}
 use Rattle.lte_properties.proofs.Freshness.Lists.{both_apart}

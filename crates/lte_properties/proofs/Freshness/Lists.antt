@@ -8,8 +8,9 @@ use Rattle.lte_machine.specs.Wire.{KeyUse}
 use Rattle.lte_machine.specs.Ladder.{RowOrigin, OfRoot, Of}
 use Rattle.lte_machine.specs.World.{is_root_row}
 use Rattle.lte_properties.specs.ChainBelow.{AllOf}
-use Rattle.lte_properties.specs.Freshness.{NoUseTwice, ValuesApart}
-use Rattle.lte_properties.specs.FreshUses.{AllApart}
+use Rattle.lte_properties.specs.Freshness.{NoUseTwice}
+use Rattle.lte_properties.proofs.Freshness.Premises.{ValuesApart}
+use Rattle.lte_properties.proofs.Freshness.Uses.{AllApart}
 use Rattle.lte_properties.proofs.ChainNumbers.Choice.{by_some, none_some}
 use Rattle.lte_properties.proofs.ChainNumbers.Lists.{all_append, all_map}
 

@@ -9,9 +9,10 @@ use Rattle.key_model.specs.HandoverLines.{nh_after}
 use Rattle.key_model.proofs.TermFacts.{same_term-Decides}
 use Rattle.nh_chain.specs.Chain.{ChainState}
 use Rattle.nh_chain.specs.Reach.{reached_after}
-use Rattle.lte_properties.specs.FreshOrder.{authentication_of, nas_count_of, IsBefore, IsNotAfter, IsLevel}
-use Rattle.lte_properties.specs.FreshUses.{Home, Homes, Grows, OnKey, home_of}
-use Rattle.lte_properties.specs.FreshHolds.{Mark, IsPast}
+use Rattle.lte_properties.proofs.Freshness.Sequence.{authentication_of, IsBefore, IsNotAfter, IsLevel}
+use Rattle.lte_properties.specs.Origins.{nas_count_of}
+use Rattle.lte_properties.proofs.Freshness.Uses.{Home, Homes, Grows, OnKey, home_of}
+use Rattle.lte_properties.proofs.Freshness.Stands.{Mark, IsPast}
 use Rattle.lte_properties.proofs.ChainNumbers.Choice.{by_some}
 
 -- ORDER

@@ -21,13 +21,13 @@ use Rattle.lte_machine.specs.PhoneRows.{AirRow, AirRefused, LinkSecured, HandedO
 use Rattle.lte_machine.specs.PhoneKeys.{rrc_sealed, with_bearers, link_secured, arrived, handed_over, rrc_opened, packet_opened, air_does, service_requested, complete_resent, packet_sent, rrc_sent, nas_sent, nas_skipped, bearer_skipped, act_does, before_of, changed_unless, key_changed}
 use Rattle.lte_machine.specs.World.{uses_in}
 use Rattle.lte_properties.specs.ChainBelow.{AllOf}
-use Rattle.lte_properties.specs.FreshOrder.{authentication_of, IsBefore, IsNotAfter, IsLevel}
-use Rattle.lte_properties.specs.FreshUses.{Home, home_at, Homes, OnKey, IsAs, next_on, send_on, AllApart}
-use Rattle.lte_properties.specs.FreshHolds.{IsPast, AsKeysOf, partial_root, phone_mark, PhoneStands, RecordStands, KeyOlder, kasme_in_use}
+use Rattle.lte_properties.proofs.Freshness.Sequence.{authentication_of, IsBefore, IsNotAfter, IsLevel}
+use Rattle.lte_properties.proofs.Freshness.Uses.{Home, home_at, Homes, OnKey, IsAs, next_on, send_on, AllApart}
+use Rattle.lte_properties.proofs.Freshness.Stands.{IsPast, AsKeysOf, partial_root, phone_mark, PhoneStands, RecordStands, KeyOlder, kasme_in_use}
 use Rattle.lte_properties.proofs.Freshness.Order.{not_before_itself, before_is_not_after, not_after_itself, not_after_before, past_alike, star_is_later, homed, homed_here, homed_is, homed_grows}
 use Rattle.lte_properties.proofs.Freshness.Lists.{both_apart}
 use Rattle.lte_properties.proofs.Freshness.Bearers.{Rise, below_stays, srb_taken_rises, drb_taken_rises, srb_sent_rises, drb_sent_rises, left_out_rises, srb_is_next, srb_is_used, drb_is_next, drb_is_used}
-use Rattle.lte_properties.proofs.Opening.Opens.{IsReflexive}
+use Rattle.lte_properties.proofs.SameKeys.{IsReflexive}
 use Rattle.lte_properties.proofs.Freshness.PhoneNas.{NewUp, PhoneKeeps, types_apart, true_false, still, sealed, left_out, requested}
 
 module _ (roots : ℕ) (taken : Homes) where

@@ -15,9 +15,9 @@ use Rattle.lte_machine.specs.PhoneRows.{NasRow, NasRefused, RejectedPlain, Rejec
 use Rattle.lte_machine.specs.PhoneKeys.{one_nas_sent, context_of, rejected_under, context_taken, context_taken_connected, nas_opened, nas_does}
 use Rattle.lte_machine.specs.World.{uses_in}
 use Rattle.lte_properties.specs.ChainBelow.{AllOf}
-use Rattle.lte_properties.specs.FreshOrder.{authentication_of, IsBefore}
-use Rattle.lte_properties.specs.FreshUses.{Home, home_at, Homes, Grows, IsNas, NasUp, AsUp, UpUse, AllApart}
-use Rattle.lte_properties.specs.FreshHolds.{Mark, IsPast, partial_root, phone_mark, RadioStands, PhoneStands, RecordStands, RadioOlder, kasme_in_use}
+use Rattle.lte_properties.proofs.Freshness.Sequence.{authentication_of, IsBefore}
+use Rattle.lte_properties.proofs.Freshness.Uses.{Home, home_at, Homes, Grows, IsNas, NasUp, AsUp, UpUse, AllApart}
+use Rattle.lte_properties.proofs.Freshness.Stands.{Mark, IsPast, partial_root, phone_mark, RadioStands, PhoneStands, RecordStands, RadioOlder, kasme_in_use}
 use Rattle.lte_properties.proofs.Freshness.Order.{past_is_before}
 use Rattle.lte_properties.proofs.Freshness.Lists.{both_apart}
 

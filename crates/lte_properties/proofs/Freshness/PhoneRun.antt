@@ -22,17 +22,17 @@ use Rattle.lte_machine.specs.World.{Machine, World, with_one, phone_turn, core_t
 use Rattle.lte_machine.specs.Run.{first_world}
 use Rattle.lte_properties.specs.ChainBelow.{AllOf}
 use Rattle.lte_properties.specs.ChainHolds.{machine_by, run}
-use Rattle.lte_properties.specs.FreshOrder.{IsBefore, IsNotAfter}
-use Rattle.lte_properties.specs.FreshUses.{Home, home_at, Homes}
-use Rattle.lte_properties.specs.FreshHolds.{partial_root, phone_mark, RadioStands}
-use Rattle.lte_properties.specs.FreshPhone.{TookInOrder, NeverTook, RadioInOrder, PhoneInOrder, PhoneFresh}
+use Rattle.lte_properties.proofs.Freshness.Sequence.{IsBefore, IsNotAfter}
+use Rattle.lte_properties.proofs.Freshness.Uses.{Home, home_at, Homes}
+use Rattle.lte_properties.proofs.Freshness.Stands.{partial_root, phone_mark, RadioStands}
+use Rattle.lte_properties.proofs.Freshness.PhoneUses.{TookInOrder, NeverTook, RadioInOrder, PhoneInOrder, PhoneFresh}
 use Rattle.lte_properties.proofs.ChainNumbers.Choice.{none_some}
 use Rattle.lte_properties.proofs.ChainNumbers.Lists.{all_append, all_one, all_map}
 use Rattle.lte_properties.proofs.Freshness.Lists.{roots_kept, one_root_more}
 use Rattle.lte_properties.proofs.Freshness.Order.{not_before_itself}
 use Rattle.lte_properties.proofs.Freshness.World.{some_of}
 use Rattle.lte_properties.proofs.Freshness.Run.{IsTurn, turn_keeps, phone_more}
-use Rattle.lte_properties.proofs.Opening.Opens.{IsReflexive}
+use Rattle.lte_properties.proofs.SameKeys.{IsReflexive}
 
 -- one more key, that comes after all
 order_append : (xs : List (Took Term ℕ)) (x : Took Term ℕ) → TookInOrder xs → AllOf (λ y. IsBefore y.key x.key) xs → TookInOrder (xs ++ x ∷ [])

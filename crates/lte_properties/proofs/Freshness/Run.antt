@@ -34,10 +34,10 @@ use Rattle.lte_machine.specs.Machines.{sender_of}
 use Rattle.lte_machine.specs.Step.{attempts_at, arrival_attempts, delivery_attempts, injection_attempts}
 use Rattle.lte_properties.specs.ChainBelow.{AllOf}
 use Rattle.lte_properties.specs.ChainHolds.{machine_by, run}
-use Rattle.lte_properties.specs.Freshness.{srb_accepted, SealedAsAccepted, SentUnder, AllSentUnder}
-use Rattle.lte_properties.specs.FreshOrder.{authentication_of}
-use Rattle.lte_properties.specs.FreshUses.{home_at, Homes, OnKey, IsNas, IsAs, NasUp, AsUp, UpUse, NasDown, CoreUse, StationUse}
-use Rattle.lte_properties.specs.FreshHolds.{Mark, IsPast, partial_root, context_root, phone_mark, RadioStands, PhoneStands, core_partial_root, core_context_root, core_mark, CoreStands, StationStands, BetweenStands, RecordStands, Fresh}
+use Rattle.lte_properties.proofs.Freshness.Premises.{srb_accepted, SealedAsAccepted, SentUnder, AllSentUnder}
+use Rattle.lte_properties.proofs.Freshness.Sequence.{authentication_of}
+use Rattle.lte_properties.proofs.Freshness.Uses.{home_at, Homes, OnKey, IsNas, IsAs, NasUp, AsUp, UpUse, NasDown, CoreUse, StationUse}
+use Rattle.lte_properties.proofs.Freshness.Stands.{Mark, IsPast, partial_root, context_root, phone_mark, RadioStands, PhoneStands, core_partial_root, core_context_root, core_mark, CoreStands, StationStands, BetweenStands, RecordStands, Fresh}
 use Rattle.lte_properties.proofs.ChainNumbers.Choice.{by_some, none_some, same_of}
 use Rattle.lte_properties.proofs.ChainNumbers.Draws.{air_row_draws, act_row_draws}
 use Rattle.lte_properties.proofs.ChainNumbers.Lists.{OfSome, all_find, all_get, all_map, all_both}
@@ -50,7 +50,7 @@ use Rattle.lte_properties.proofs.Freshness.CoreFront.{nas_needs, act_needs}
 use Rattle.lte_properties.proofs.Freshness.Station as station
 use Rattle.lte_properties.proofs.Freshness.StationFront.{act_row_counts, air_row_needs, record_needs, GoesHere, on_s1, on_x2}
 use Rattle.lte_properties.proofs.Freshness.World.{phone_fresh, core_fresh, station_fresh}
-use Rattle.lte_properties.proofs.Opening.Opens.{IsReflexive}
+use Rattle.lte_properties.proofs.SameKeys.{IsReflexive}
 
 -- AUTHENTICATIONS
 

@@ -28,9 +28,9 @@ use Rattle.lte_machine.specs.StationKeys.{with_security, with_rrc_taken, with_pa
 use Rattle.lte_machine.specs.StationRecords.{signalling_sent, packet_sent, initial_context, context_given, with_pair, pair_taken, wanted_prep, prepared_by_s1, prepared_by_x2, with_wanted, with_s1_ack, with_x2_ack, record_does, own_prep, order_text, key_renewed, change_text}
 use Rattle.lte_machine.specs.World.{uses_in}
 use Rattle.lte_properties.specs.ChainBelow.{AllOf}
-use Rattle.lte_properties.specs.ChainRows.{AirDraws, ActDraws}
-use Rattle.lte_properties.specs.FreshUses.{Home, home_at, Homes, IsAs, is_star, home_of, home, NoneWaits, IsSpent, next_on, send_on, ContextAhead, AsDown, StationUse, AllApart}
-use Rattle.lte_properties.specs.FreshHolds.{AsKeysOf, ContextStands, PrepStands, StationStands, RecordStands}
+use Rattle.lte_properties.proofs.ChainNumbers.RowFacts.{AirDraws, ActDraws}
+use Rattle.lte_properties.proofs.Freshness.Uses.{Home, home_at, Homes, IsAs, is_star, home_of, home, NoneWaits, IsSpent, next_on, send_on, ContextAhead, AsDown, StationUse, AllApart}
+use Rattle.lte_properties.proofs.Freshness.Stands.{AsKeysOf, ContextStands, PrepStands, StationStands, RecordStands}
 use Rattle.lte_properties.proofs.ChainNumbers.Choice.{by_some}
 use Rattle.lte_properties.proofs.ChainNumbers.Lists.{OfSome, all_append, all_filter, all_find, all_map}
 use Rattle.lte_properties.proofs.Freshness.Lists.{both_apart}

@@ -33,10 +33,10 @@ use Rattle.lte_machine.specs.StationKeys.{air_expects, prepared_expects}
 use Rattle.lte_machine.specs.StationChoice.{PlainStation, PlainContext, PlainAttempt, AirFront, AirSettled, OnStarting, OnSignalling, OnUser, OnPrepared, counted, starting_front, active_front, context_front, prepared_front, air_front_by, air_front, starting_row, rrc_row, completed_row, prepared_row, air_row, runs_out, record_row, active_row, unless_spent, is_full, begun_row, alone_row, target_row, is_misplaced, start_row, x2_command_row, s1_command_row, attempt_command_row, command_row, attempt_cancel_row, give_up_row, came_row, ask_row, packet_row, send_rrc_row, skip_row, act_row}
 use Rattle.lte_machine.specs.StationStep.{plain_station}
 use Rattle.lte_properties.specs.ChainBelow.{AllOf}
-use Rattle.lte_properties.specs.ChainRows.{RecordFits, RenewedFor}
-use Rattle.lte_properties.specs.Freshness.{srb_accepted}
-use Rattle.lte_properties.specs.FreshUses.{home_at, Homes, OnKey}
-use Rattle.lte_properties.specs.FreshHolds.{PrepStands, BetweenStands}
+use Rattle.lte_properties.proofs.ChainNumbers.RowFacts.{RecordFits, RenewedFor}
+use Rattle.lte_properties.proofs.Freshness.Premises.{srb_accepted}
+use Rattle.lte_properties.proofs.Freshness.Uses.{home_at, Homes, OnKey}
+use Rattle.lte_properties.proofs.Freshness.Stands.{PrepStands, BetweenStands}
 use Rattle.lte_properties.proofs.ChainNumbers.Choice.{by_test, record_row_fits}
 use Rattle.lte_properties.proofs.ChainNumbers.Lists.{OfSome, all_find}
 use Rattle.lte_properties.proofs.Freshness.StationKeeps.{RecordNeeds, TakenHere, AirNeeds, ActCounts}

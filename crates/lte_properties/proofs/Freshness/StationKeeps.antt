@@ -12,8 +12,8 @@ use Rattle.lte_machine.specs.StationState.{Station, Context}
 use Rattle.lte_machine.specs.StationRows.{RecordRow, ContextGiven, PreparedByS1, PreparedByX2, AirRow, CompletedByS1, CompletedWithin, CompletedByX2, ActRow, HandoverCommanded, PacketSent, RrcSent, KeyRenewed, ChangeCommanded}
 use Rattle.lte_machine.specs.World.{uses_in}
 use Rattle.lte_properties.specs.ChainBelow.{AllOf}
-use Rattle.lte_properties.specs.FreshUses.{Home, home_at, Homes, OnKey, IsAs, is_star, home, NoneWaits, IsSpent, AsDown, StationUse, AllApart}
-use Rattle.lte_properties.specs.FreshHolds.{StationStands, RecordStands}
+use Rattle.lte_properties.proofs.Freshness.Uses.{Home, home_at, Homes, OnKey, IsAs, is_star, home, NoneWaits, IsSpent, AsDown, StationUse, AllApart}
+use Rattle.lte_properties.proofs.Freshness.Stands.{StationStands, RecordStands}
 use Rattle.lte_properties.proofs.Freshness.Bearers.{Rise, rise_same}
 
 -- STEPS

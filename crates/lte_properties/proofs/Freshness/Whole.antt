@@ -21,13 +21,14 @@ use Rattle.lte_machine.specs.Step.{attempted}
 use Rattle.lte_machine.specs.Run.{stations_of, first_world}
 use Rattle.lte_properties.specs.ChainBelow.{AllOf}
 use Rattle.lte_properties.specs.ChainHolds.{machine_by, run}
-use Rattle.lte_properties.specs.Freshness.{NoUseTwice, ValuesApart, srb_accepted, SentUnder, AllSentUnder}
-use Rattle.lte_properties.specs.FreshUses.{StationUse}
-use Rattle.lte_properties.specs.FreshHolds.{StationStands, Fresh}
+use Rattle.lte_properties.specs.Freshness.{NoUseTwice}
+use Rattle.lte_properties.proofs.Freshness.Premises.{ValuesApart, srb_accepted, SentUnder, AllSentUnder}
+use Rattle.lte_properties.proofs.Freshness.Uses.{StationUse}
+use Rattle.lte_properties.proofs.Freshness.Stands.{StationStands, Fresh}
 use Rattle.lte_properties.proofs.ChainNumbers.Choice.{by_some, none_some, same_of}
 use Rattle.lte_properties.proofs.Freshness.Lists.{no_use_twice, no_value_twice}
 use Rattle.lte_properties.proofs.Freshness.Run.{run_fresh}
-use Rattle.lte_properties.proofs.Opening.Opens.{IsReflexive}
+use Rattle.lte_properties.proofs.SameKeys.{IsReflexive}
 
 -- THE FIRST WORLD
 

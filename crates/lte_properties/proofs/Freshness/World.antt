@@ -15,8 +15,8 @@ use Rattle.lte_machine.specs.StationState.{Station, Context}
 use Rattle.lte_machine.specs.CoreState.{Core}
 use Rattle.lte_machine.specs.World.{Machine, World, uses_in, with_one, phone_after, core_after, station_after}
 use Rattle.lte_properties.specs.ChainBelow.{AllOf}
-use Rattle.lte_properties.specs.FreshUses.{Home, home_at, Homes, Grows, OnKey, IsNas, IsAs, is_star, home, NasUp, AsUp, UpUse, NasDown, CoreUse, ContextAhead, AsDown, StationUse}
-use Rattle.lte_properties.specs.FreshHolds.{ContextStands, StationStands, BetweenStands, RecordStands, Fresh}
+use Rattle.lte_properties.proofs.Freshness.Uses.{Home, home_at, Homes, Grows, OnKey, IsNas, IsAs, is_star, home, NasUp, AsUp, UpUse, NasDown, CoreUse, ContextAhead, AsDown, StationUse}
+use Rattle.lte_properties.proofs.Freshness.Stands.{ContextStands, StationStands, BetweenStands, RecordStands, Fresh}
 use Rattle.lte_properties.proofs.ChainNumbers.Choice.{by_some}
 use Rattle.lte_properties.proofs.ChainNumbers.Lists.{OfSome, all_append, all_one, all_map, all_both, all_put}
 use Rattle.lte_properties.proofs.Freshness.Order.{home_grows, on_key}

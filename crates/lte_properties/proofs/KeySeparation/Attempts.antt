@@ -32,7 +32,7 @@ use Rattle.lte_machine.specs.Machines.{content_of}
 use Rattle.lte_machine.specs.Run.{stations_of, first_world}
 use Rattle.lte_properties.specs.ChainBelow.{AllOf}
 use Rattle.lte_properties.specs.ChainHolds.{machine_by, run}
-use Rattle.lte_properties.specs.ChainRows.{RecordFits, RecordDraws, AirDraws, ActDraws, RowDraws}
+use Rattle.lte_properties.proofs.ChainNumbers.RowFacts.{RecordFits, RecordDraws, AirDraws, ActDraws, RowDraws}
 use Rattle.lte_properties.specs.Separation.{AttemptsDiffer}
 use Rattle.lte_properties.proofs.ChainNumbers.Choice.{record_row_fits}
 use Rattle.lte_properties.proofs.ChainNumbers.Draws.{air_row_draws, act_row_draws}

@@ -27,7 +27,7 @@ use Rattle.lte_machine.specs.CoreState.{Core}
 use Rattle.lte_machine.specs.World.{World, Holding, with_one, is_root_row, next_root}
 use Rattle.lte_machine.specs.Machines.{content_of}
 use Rattle.lte_properties.specs.ChainBelow.{AllOf}
-use Rattle.lte_properties.specs.ChainRows.{RecordFits}
+use Rattle.lte_properties.proofs.ChainNumbers.RowFacts.{RecordFits}
 use Rattle.lte_properties.specs.Separation.{Gives, GivenTo}
 use Rattle.lte_properties.proofs.ChainNumbers.Choice.{record_row_fits}
 use Rattle.lte_properties.proofs.ChainNumbers.Lists.{OfSome, all_append, all_one, all_map}

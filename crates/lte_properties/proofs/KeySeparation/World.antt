@@ -39,7 +39,7 @@ use Rattle.lte_machine.specs.Machines.{content_of}
 use Rattle.lte_machine.specs.Run.{stations_of, first_world}
 use Rattle.lte_properties.specs.ChainBelow.{AllOf}
 use Rattle.lte_properties.specs.ChainHolds.{machine_by, run}
-use Rattle.lte_properties.specs.ChainRows.{CoreFits}
+use Rattle.lte_properties.proofs.ChainNumbers.RowFacts.{CoreFits}
 use Rattle.lte_properties.specs.Separation.{GivenTo}
 use Rattle.lte_properties.proofs.ChainNumbers.Lists.{OfSome, all_append, all_find, all_put, all_chosen}
 use Rattle.lte_properties.proofs.ChainNumbers.Core.{core_record_fits}

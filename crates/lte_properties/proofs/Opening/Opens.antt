@@ -11,6 +11,7 @@ use Rattle.lte_machine.specs.Wire.{KeyUse, Ciphering, Outgoing, SealedNas, Seale
 use Rattle.lte_machine.specs.Ciphers.{Ciphers, AreCiphers, drb_octets}
 use Rattle.lte_machine.specs.Opening.{Opening, OpensNas, OpensSrb, OpensDrb, Outcome, Opened, open_by_uses, open_case, judged, same_dir, same_uses, same_ciphering}
 use Rattle.lte_machine.proofs.Opens.{drb_opens}
+use Rattle.lte_properties.proofs.SameKeys.{IsReflexive}
 
 -- an opener that opens what comes from its sender under the uses that it was sealed with, and a packet by its octets
 pub record OpensBack (c : Ciphers Term) (opener : Opening Term → List ℕ → Option (Outgoing Term ℕ) → Outcome) : Type 0 where
@@ -20,10 +21,6 @@ pub record OpensBack (c : Ciphers Term) (opener : Opening Term → List ℕ → 
       → opener (OpensSrb u e) pdu (Some (SealedRrc dir station air srb u e text)) ≡ Opened text
   pub drb : (e : Ciphering Term) (dir : Dir) (station air : ℕ) (drb : Drb) (text : List ℕ)
       → opener (OpensDrb e) (drb_octets c e text) (Some (UserPacket dir station air drb e text)) ≡ Opened text
-
--- a test of keys by which each key is one with itself
-abbrev pub IsReflexive : (Term → Term → Bool) → Type 0
-IsReflexive same = (t : Term) → same t t ≡ true
 
 dir_itself : (d : Dir) → same_dir d d ≡ true
 dir_itself Up = refl

@@ -19,7 +19,7 @@ use Rattle.lte_machine.specs.Step.{attempted, attempts_at, arrival_attempts, del
 use Rattle.lte_machine.specs.Machines.{machine_over, sender_of}
 use Rattle.lte_machine.specs.Run.{Running, replay}
 use Rattle.lte_machine.specs.Distinct.{keys_of, Member, OneValueOneTerm}
-use Rattle.lte_machine.specs.Mixed.{by_terms, mixed}
+use Rattle.lte_machine.proofs.Mixed.{by_terms, mixed}
 use Rattle.lte_machine.specs.Known.{SentKnown, IsReported}
 use Rattle.lte_machine.proofs.History.{one_value_one_term}
 use Rattle.lte_machine.proofs.KnownLadder.{still_in}
@@ -28,8 +28,8 @@ use Rattle.lte_machine.proofs.KnownWorld.{Grounds, happens_grounds}
 use Rattle.lte_machine.proofs.LadderRun.{one_use}
 use Rattle.lte_machine.proofs.MixedRun.{happens_same}
 use Rattle.lte_machine.proofs.StillRun.{goes_on}
-use Rattle.lte_properties.specs.AgreeOpenings.{Along}
-use Rattle.lte_properties.specs.PacketOpenings.{SenderIs, SameRoot}
+use Rattle.lte_properties.proofs.Agreement.Openings.{Along}
+use Rattle.lte_properties.proofs.Opening.Openings.{SenderIs, SameRoot}
 
 -- WHAT IS REPORTED STAYS SO
 

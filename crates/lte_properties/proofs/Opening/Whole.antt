@@ -30,9 +30,9 @@ use Rattle.lte_machine.specs.Machines.{machine_over, sender_of}
 use Rattle.lte_machine.specs.Distinct.{keys_of}
 use Rattle.lte_properties.specs.ChainBelow.{AllOf}
 use Rattle.lte_properties.specs.ChainHolds.{machine_by, run, noted, Holds}
-use Rattle.lte_properties.specs.AgreeOpenings.{Honest, Calm, Along, OpensByTerms}
+use Rattle.lte_properties.proofs.Agreement.Openings.{Honest, Calm, Along, OpensByTerms}
 use Rattle.lte_properties.specs.Packets.{OpensToSent}
-use Rattle.lte_properties.specs.PacketOpenings.{SenderIs, SameRoot}
+use Rattle.lte_properties.proofs.Opening.Openings.{SenderIs, SameRoot}
 use Rattle.lte_properties.proofs.ChainNumbers.Lists.{OfSome, all_chosen}
 use Rattle.lte_properties.proofs.ChainNumbers.World.{happens_holds, first_holds}
 use Rattle.lte_properties.proofs.Agreement.Ghost.{Ghost}
@@ -43,11 +43,12 @@ use Rattle.lte_properties.proofs.Agreement.Events.{happens_goes}
 use Rattle.lte_properties.proofs.Agreement.Holds.{cells_of, no_conns, first_ok}
 use Rattle.lte_properties.proofs.Agreement.Opener.{octets_tell}
 use Rattle.lte_properties.proofs.Agreement.Whole.{honest_along, settled_from_first, calm_over}
-use Rattle.lte_properties.proofs.Opening.Opens.{IsReflexive, OpensBack}
+use Rattle.lte_properties.proofs.Opening.Opens.{OpensBack}
+use Rattle.lte_properties.proofs.SameKeys.{IsReflexive}
 use Rattle.lte_properties.proofs.Opening.Delivered.{opens_where_fits}
 use Rattle.lte_properties.proofs.Opening.Nas.{Choices, SentOk, More, phone_more, core_more, sent_more}
 use Rattle.lte_properties.proofs.Opening.NasRows.{phone_goes, core_auth_goes}
-use Rattle.lte_properties.proofs.Opening.NasWalk.{core_act_needs, phone_act_needs}
+use Rattle.lte_properties.proofs.Opening.NasOpens.{core_act_needs, phone_act_needs}
 use Rattle.lte_properties.proofs.Opening.Air.{AirOk, air_later}
 use Rattle.lte_properties.proofs.Opening.AirWalk.{station_act_needs, phone_act_sends}
 use Rattle.lte_properties.proofs.Opening.World.{PacketsOk, Keeps, one_root_more, chosen_at, chosen_below, chosen_there, CameTo, arrives_keeps, by_world_keeps, phone_turn_keeps, core_turn_keeps, station_turn_keeps}

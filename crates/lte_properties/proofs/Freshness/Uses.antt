@@ -8,7 +8,7 @@ use Rattle.lte_machine.specs.PhoneState.{Partial, NasContext, Radio, Idle, Conne
 use Rattle.lte_machine.specs.StationState.{Station, Context}
 use Rattle.lte_machine.specs.CoreState.{Core, CorePartial, CoreContext}
 use Rattle.lte_properties.specs.ChainBelow.{AllOf}
-use Rattle.lte_properties.specs.FreshOrder.{authentication_of}
+use Rattle.lte_properties.proofs.Freshness.Sequence.{authentication_of}
 
 -- where a KeNB belongs: a station, and the air address at which the phone took it or the connection that the core gave it
 -- for

@@ -7,9 +7,9 @@ use Rattle.lte_machine.specs.Reply.{Took}
 use Rattle.lte_machine.specs.PhoneState.{Radio, Idle, Connecting, Connected}
 use Rattle.lte_machine.specs.World.{World, next_root}
 use Rattle.lte_properties.specs.ChainBelow.{AllOf}
-use Rattle.lte_properties.specs.FreshOrder.{IsBefore, IsNotAfter}
-use Rattle.lte_properties.specs.FreshUses.{home_at, Homes}
-use Rattle.lte_properties.specs.FreshHolds.{PhoneStands}
+use Rattle.lte_properties.proofs.Freshness.Sequence.{IsBefore, IsNotAfter}
+use Rattle.lte_properties.proofs.Freshness.Uses.{home_at, Homes}
+use Rattle.lte_properties.proofs.Freshness.Stands.{PhoneStands}
 
 -- each key that was taken comes before those that were taken later
 abbrev pub TookInOrder : List (Took Term ℕ) → Type 0

@@ -52,7 +52,7 @@ use Rattle.lte_machine.specs.Machines.{sender_of}
 use Rattle.lte_machine.specs.Ladder.{RowOrigin, Of}
 use Rattle.lte_machine.specs.Distinct.{Member, keys_of}
 use Rattle.key_model.specs.Derivation.{Derivation}
-use Rattle.lte_properties.specs.PacketOpenings.{SealedUnder, SenderIs}
+use Rattle.lte_properties.proofs.Opening.Openings.{SealedUnder, SenderIs}
 use Rattle.lte_properties.proofs.ChainNumbers.Choice.{by_test, above_of}
 use Rattle.lte_properties.proofs.Opening.Counts.{nas_parts, header_down, header_other}
 use Rattle.lte_properties.proofs.Opening.Nas.{Choices, RootHas, SealedSo, SealedOk}

@@ -1,4 +1,5 @@
--- What the choice of a row established: of the record that was read, and of the numbers that were drawn.
+-- What the choice of a row established: of the record that was read, and of the numbers that were drawn; and what a row needs
+-- of the key that it read.
 use Rattle.std.specs.Prelude.{◌≡◌, ℕ, ◌+◌, ◌≤◌, ◌<◌, false, slice_index, Option, Some, None, ⊤}
 use Rattle.alg_choice.specs.declared.caps.Caps.{Caps}
 use Rattle.annex_a_keys.specs.Cell.{Place}
@@ -7,6 +8,9 @@ use Rattle.lte_machine.specs.Reply.{Origin}
 use Rattle.lte_machine.specs.StationState.{Station, Context}
 use Rattle.lte_machine.specs.StationRows.{Wanted, RecordRow, ContextGiven, PairTaken, PreparedByS1, PreparedByX2, KeyRenewed, AirRow, CompletedByX2, ActRow, StartedByX2, StartedByS1, StartedWithin, PathSwitchAsked, StationRow, OfRecord, OfAir, OfAct}
 use Rattle.lte_machine.specs.CoreState.{CoreLink}
+use Rattle.key_model.specs.Term.{Term}
+use Rattle.key_model.specs.HandoverTable.{NumberedKey}
+use Rattle.lte_properties.specs.ChainBelow.{EachNumber, IsUnder}
 use Rattle.lte_machine.specs.CoreRows.{CoreNasRow, SmcChange, CoreRecordRow, PathSwitched, HandoverAsked, CoreActRow, ContextSetUp}
 
 -- an answer is taken for the outstanding number of the context
@@ -80,3 +84,20 @@ NasDraws link next other = ⊤
 abbrev pub CoreDraws : ℕ → CoreActRow → Type 0
 CoreDraws next (ContextSetUp conn cell target caps count) = conn ≡ next
 CoreDraws next other = ⊤
+
+-- what a row needs of the key of the record that it read. A pair that is taken is above each number of the context, and
+-- at most the core's number
+abbrev pub PairNeeds : (ℕ → ℕ) → ℕ → Option (Context Term ℕ) → Type 0
+PairNeeds top n None = ⊤
+PairNeeds top n (Some c) = EachNumber (IsUnder n) c × (n ≤ top c.conn)
+
+abbrev pub RecordNeeds : (ℕ → ℕ) → Station Term ℕ → RecordRow → NumberedKey Term ℕ → Type 0
+RecordNeeds top s (PairTaken conn origin) key = PairNeeds top key.number s.context
+RecordNeeds top s (PreparedByS1 w) key = key.number ≤ top w.conn
+RecordNeeds top s (PreparedByX2 w) key = key.number ≤ top w.conn
+RecordNeeds top s other key = ⊤
+
+abbrev pub RowNeeds : (ℕ → ℕ) → Station Term ℕ → StationRow → Option (NumberedKey Term ℕ) → Type 0
+RowNeeds top s row None = ⊤
+RowNeeds top s (OfRecord row) (Some key) = RecordNeeds top s row key
+RowNeeds top s other (Some key) = ⊤

@@ -17,8 +17,9 @@ use Rattle.lte_machine.specs.StationState.{Station, Context}
 use Rattle.lte_machine.specs.CoreState.{Core, CorePartial, CoreContext}
 use Rattle.lte_machine.specs.World.{World, next_root}
 use Rattle.lte_properties.specs.ChainBelow.{AllOf}
-use Rattle.lte_properties.specs.FreshOrder.{authentication_of, nas_count_of, IsBefore, IsNotAfter, IsLevel}
-use Rattle.lte_properties.specs.FreshUses.{Home, home_at, Homes, is_star, home, IsSpent, OnKey, UpUse, CoreUse, StationUse, AllApart}
+use Rattle.lte_properties.proofs.Freshness.Sequence.{authentication_of, IsBefore, IsNotAfter, IsLevel}
+use Rattle.lte_properties.specs.Origins.{nas_count_of}
+use Rattle.lte_properties.proofs.Freshness.Uses.{Home, home_at, Homes, is_star, home, IsSpent, OnKey, UpUse, CoreUse, StationUse, AllApart}
 
 -- KASMES
 

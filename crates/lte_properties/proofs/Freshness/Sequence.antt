@@ -2,6 +2,7 @@
 use Rattle.std.specs.Prelude.{◌≡◌, ℕ, ◌+◌, ◌<◌, ◌≤◌}
 use Rattle.key_model.specs.Term.{Term, Root, Kenb, Nh, Star, Alg}
 use Rattle.key_model.specs.Number.{chain_number}
+use Rattle.lte_properties.specs.Origins.{nas_count_of}
 
 -- the authentication that left the KASME of a key (6.1.1)
 abbrev pub authentication_of : Term → ℕ
@@ -10,14 +11,6 @@ authentication_of (Kenb r n) = authentication_of r
 authentication_of (Nh r t) = authentication_of t
 authentication_of (Star t pci earfcn) = authentication_of t
 authentication_of (Alg t type id) = authentication_of t
-
--- the uplink NAS COUNT of the KeNB that a key comes from (A.3)
-abbrev pub nas_count_of : Term → ℕ
-nas_count_of (Root r octets) = 0
-nas_count_of (Kenb r n) = n
-nas_count_of (Nh r t) = nas_count_of t
-nas_count_of (Star t pci earfcn) = nas_count_of t
-nas_count_of (Alg t type id) = nas_count_of t
 
 -- the handovers since the last NH or KeNB (A.5)
 abbrev pub stars_of : Term → ℕ

@@ -1,4 +1,4 @@
--- What is so of each NAS opening of a run that has met no coincidence, step by step: proved in `PacketSender`.
+-- What is so of each NAS opening of a run that has met no coincidence, step by step: proved in `Sender`.
 use Rattle.std.specs.Prelude.{◌≡◌, ℕ, List, Option, Some, None, ⊤}
 use Rattle.rec_base.specs.declared.uses.Dir.TheVariants.{Down}
 use Rattle.lte_events.specs.declared.answers.Answer.TheVariants.{Done}
