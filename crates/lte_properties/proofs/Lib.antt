@@ -7,3 +7,4 @@ pub mod KeySeparation
 pub mod NasWalk
 pub mod Opening
 pub mod SameKeys
+pub mod AccountsHold

@@ -8,3 +8,4 @@ pub mod Separation
 pub mod SharedKeys
 pub mod Packets
 pub mod Origins
+pub mod Accounts

@@ -5,6 +5,7 @@
 //! The statements stand in `specs/`. Each function here has an empty body: its contract is a law.
 #![tactic(auto)]
 
+mod accounts;
 mod chain;
 mod keys_agree;
 mod keys_shared;
@@ -14,6 +15,7 @@ mod packets_open;
 mod separation;
 mod uses_differ;
 
+pub use accounts::{holders_derived_or_received_each_key, uses_are_those_of_the_records_sent};
 pub use chain::chain_numbers_hold_in_every_run;
 pub use keys_agree::phone_and_target_agree_in_every_run;
 pub use keys_shared::only_source_and_target_share_the_key_in_every_run;
