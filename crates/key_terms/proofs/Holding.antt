@@ -24,7 +24,7 @@ holding_set who zero (r ∷ rows) d = refl
 holding_set who (suc k) (r ∷ rows) d = ap (λ rs. r ∷ rs) (holding_set who k rows d)
 
 -- what a row is but for its holders
-abbrev plain : LadderRow → Origin × List ℕ
+abbrev pub plain : LadderRow → Origin × List ℕ
 plain r = (r.origin, r.octets)
 
 plain_held : (who : Holder) (r : LadderRow) → plain (held_by who r) ≡ plain r
@@ -32,13 +32,13 @@ plain_held Phone r = refl
 plain_held Core r = refl
 plain_held (Station number) r = refl
 
-plain_holding : (who : Holder) (k : ℕ) (rows : List LadderRow) → map plain (holding who k rows) ≡ map plain rows
+pub plain_holding : (who : Holder) (k : ℕ) (rows : List LadderRow) → map plain (holding who k rows) ≡ map plain rows
 plain_holding who k [] = refl
 plain_holding who zero (r ∷ rows) = ap (λ p. p ∷ map plain rows) (plain_held who r)
 plain_holding who (suc k) (r ∷ rows) = ap (λ ps. plain r ∷ ps) (plain_holding who k rows)
 
 -- what is read of the plain rows
-read_same : {A : Type 0} (f : Origin × List ℕ → A) (rows after : List LadderRow) → map plain after ≡ map plain rows → (k : ℕ) → option_map (λ r. f (plain r)) (slice_get after k) ≡ option_map (λ r. f (plain r)) (slice_get rows k)
+pub read_same : {A : Type 0} (f : Origin × List ℕ → A) (rows after : List LadderRow) → map plain after ≡ map plain rows → (k : ℕ) → option_map (λ r. f (plain r)) (slice_get after k) ≡ option_map (λ r. f (plain r)) (slice_get rows k)
 read_same f rows after same k =
     sym (slice_get-map (λ r. f (plain r)) after k) ∙ ap (λ xs. slice_get xs k) (mapped f after ∙ ap (map f) same ∙ sym (mapped f rows)) ∙ slice_get-map (λ r. f (plain r)) rows k
   where
@@ -47,17 +47,17 @@ read_same f rows after same k =
     mapped f (r ∷ rows) = ap (λ xs. f (plain r) ∷ xs) (mapped f rows)
 
 -- the first row with these octets
-row_of_same : (rows after : List LadderRow) → map plain after ≡ map plain rows → (octets : List ℕ) → row_of after octets ≡ row_of rows octets
+pub row_of_same : (rows after : List LadderRow) → map plain after ≡ map plain rows → (octets : List ℕ) → row_of after octets ≡ row_of rows octets
 row_of_same rows after same octets =
     sym (position_map plain (λ p. bytes_eq p.1 octets) after) ∙ ap (λ ps. position (λ p. bytes_eq p.1 octets) ps) same ∙ position_map plain (λ p. bytes_eq p.1 octets) rows
 
-root_same : (rows after : List LadderRow) → map plain after ≡ map plain rows → (key : ℕ) (input : KdfInput) → HasRoot rows key input → HasRoot after key input
+pub root_same : (rows after : List LadderRow) → map plain after ≡ map plain rows → (key : ℕ) (input : KdfInput) → HasRoot rows key input → HasRoot after key input
 root_same rows after same key (Kenb count) root = read_same (λ p. p.0) rows after same key ∙ root
 root_same rows after same key (Nh sync) root = read_same (λ p. p.0) rows after same key ∙ root
 root_same rows after same key (Star pci earfcn) root = tt
 root_same rows after same key (Alg kind identity) root = tt
 
-sync_same : (rows after : List LadderRow) → map plain after ≡ map plain rows → (input : KdfInput) → HasSync rows input → HasSync after input
+pub sync_same : (rows after : List LadderRow) → map plain after ≡ map plain rows → (input : KdfInput) → HasSync rows input → HasSync after input
 sync_same rows after same (Kenb count) sync = tt
 sync_same rows after same (Nh octets) sync = subst IsSome (sym (row_of_same rows after same octets)) sync
 sync_same rows after same (Star pci earfcn) sync = tt

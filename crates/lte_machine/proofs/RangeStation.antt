@@ -68,10 +68,10 @@ preps_plain r [] h = tt
 preps_plain r (p ∷ ps) h = (h.0, preps_plain r ps h.1)
 
 -- what the choice sees is in range too
-station_plain : {K C : Type 0} (r : Reading K C) (s : Station K C) → StationRanged s → StationRanged (plain_station r s)
+pub station_plain : {K C : Type 0} (r : Reading K C) (s : Station K C) → StationRanged s → StationRanged (plain_station r s)
 station_plain r s h = (h.0, h.1, context_plain r s.context h.2, preps_plain r s.preps h.3)
 
-input_plain : {K C : Type 0} (r : Reading K C) (i : StationInput K C) → StationInputRanged i → StationInputRanged (map_station_input unseen r.ncc i)
+pub input_plain : {K C : Type 0} (r : Reading K C) (i : StationInput K C) → StationInputRanged i → StationInputRanged (map_station_input unseen r.ncc i)
 input_plain r (StationActs act) h = h
 input_plain r (AirPdu air bearer pdu) h = tt
 input_plain r (StationRecord interface (Ok content)) h = h

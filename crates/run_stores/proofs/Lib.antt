@@ -1,0 +1,9 @@
+pub mod Numbered
+pub mod Joining
+pub mod Cells
+pub mod CellsElsewhere
+pub mod Adding
+pub mod Keeping
+pub mod EveryRun
+pub mod Shown
+pub mod Found

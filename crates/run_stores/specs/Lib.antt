@@ -1,0 +1,5 @@
+pub mod Rows
+pub mod Joins
+pub mod Proofs
+pub mod Records
+pub mod Additions
