@@ -124,3 +124,32 @@ fn each_of_many_roots_is_found(rt: HostRuntime) {
         assert_eq!(rt; ladder.find(&numbered(number)), None);
     }
 }
+
+// Makes room for a row, also where that is refused once: then the ladder is as before, and the next try
+// succeeds.
+fn reserve_twice(rt: &impl Abort, ladder: &mut Ladder, octets: &[u8; 32])
+    ensures { 1 ≤ ladder.new.spare }
+{
+    let len = ladder.len();
+    assert!(rt; len < 1_000_000);
+    let found = ladder.find(octets);
+    if ladder.reserve(1) == Err(LadderFault::Memory) {
+        assert_eq!(rt; ladder.len(), len);
+        assert_eq!(rt; ladder.find(octets), found);
+    }
+    assert!(rt; ladder.len() < 1_000_000);
+    assert_eq!(rt; ladder.reserve(1), Ok(()));
+}
+
+#[test]
+fn a_refused_growth_changes_nothing(rt: HostRuntime) {
+    let mut ladder = Ladder::new(rt.alloc());
+    for number in 0..200 {
+        let octets = numbered(number);
+        reserve_twice(&rt, &mut ladder, &octets);
+        assert_eq!(rt; ladder.root(octets), Ok(Row(number)));
+    }
+    for number in 0..200 {
+        assert_eq!(rt; ladder.find(&numbered(number)), Some(Row(number)));
+    }
+}

@@ -99,3 +99,33 @@ fn each_of_many_records_is_found(rt: HostRuntime) {
         assert_eq!(rt; bag.find(Class::Air, &numbered(number)), None);
     }
 }
+
+// Makes room, also where that is refused once: then the bag is as before, and the next try succeeds.
+fn reserve_twice(rt: &impl Abort, bag: &mut Bag, octets: &[u8]) {
+    let len = bag.len();
+    assert!(rt; len < 1_000_000);
+    let found = bag.find(Class::Air, octets);
+    if bag.reserve() == Err(BagMemory) {
+        assert_eq!(rt; bag.len(), len);
+        assert_eq!(rt; bag.find(Class::Air, octets), found);
+        assert_eq!(rt; bag.get(0).is_some(), len > 0);
+        assert_eq!(rt; bag.reserve(), Ok(()));
+    }
+}
+
+#[test]
+fn a_refused_growth_changes_nothing(rt: HostRuntime) {
+    let mut bag = Bag::new(rt.alloc());
+    let air = Address::StationAir(0, 1, Bearer::Drb1);
+    for number in 0..200 {
+        let octets = numbered(number);
+        reserve_twice(&rt, &mut bag, &octets);
+        assert!(rt; bag.len() < 1_000_000);
+        assert_eq!(rt; bag.reserve(), Ok(()));
+        let rec = record_of(&rt, air, &octets);
+        assert_eq!(rt; bag.put(&rec, None), number);
+    }
+    for number in 0..200 {
+        assert_eq!(rt; bag.find(Class::Air, &numbered(number)), Some(number));
+    }
+}
