@@ -1,7 +1,8 @@
 ghost use Rattle.std.specs.Prelude.{◌≡◌, ◌≢◌, ◌≤◌};
 ghost use Rattle.lte_events.specs.declared.answers.Answer.TheVariants.{Done};
-ghost use Rattle.lte_machine.specs.Calls.{core_call};
+ghost use Rattle.lte_machine.specs.Calls.{core_call, core_input};
 ghost use Rattle.lte_machine.specs.CoreState.{first_core};
+ghost use Rattle.mme_context.specs.Numbers.{Tells};
 ghost use Rattle.mme_context.specs.Step.{IsInput};
 
 use crate::link::Link;
@@ -71,6 +72,9 @@ impl Core {
         requires { IsInput input.now }
         ensures step { (self.new, result) ≡ core_call self.old input.now }
         ensures refused { result.answer ≢ Done → self.new ≡ self.old }
+        // Of another connection: its number, 0 with none, and that of the record. Seen before: the greatest request or
+        // attempt seen of the station, and that of the record.
+        ensures numbers { Tells self.old (core_input input.now) result.answer }
     {
         self.routed(input)
     }
