@@ -1,15 +1,14 @@
 -- The steps at a PDU of a radio bearer, by what the code below opens.
-use Rattle.std.proofs.Common.{◌≡◌, ℕ, ◌≤◌, ◌<◌, Bool, true, false, cond, List, length, Some, None, Ok, Err, refl, ap, arith, ◌∙◌, sym, nat_lt}
-use Rattle.std.specs.Prelude.{◌==◌, ◌&&◌, nat_le, min, take, Option, Result, option_map}
+use Rattle.std.proofs.Common.{◌≡◌, ℕ, ◌≤◌, Bool, true, false, cond, List, length, Some, None, Ok, Err, refl, ap, arith, ◌∙◌, sym, nat_lt}
+use Rattle.std.specs.Prelude.{◌==◌, ◌&&◌, take, Result}
 use Rattle.std.proofs.lemmas.Bool.Decides.{nat_tests}
-use Rattle.std.proofs.lemmas.Grind.{common_steps}
-use Rattle.lte_events.specs.declared.answers.Answer.TheVariants.{MacFails}
 use Rattle.lte_events.specs.declared.inputs.PhoneIn.TheVariants.{Air}
 use Rattle.lte_events.specs.declared.replies.ActorOut.{ActorOut}
 use Rattle.lte_events.specs.Reply.{reply_of}
 use Rattle.key_model.specs.Reading.{octet_reading}
 use Rattle.rec_base.specs.declared.bearers.Bearer.{Bearer}
 use Rattle.rec_base.specs.declared.uses.Dir.TheVariants.{Down}
+use Rattle.rec_base.specs.Lengths.{longest_packet}
 use Rattle.rrc_rec.specs.Reading.{read_rrc}
 use Rattle.pdcp_guard.specs.declared.pdus.PdcpOpened.{PdcpOpened}
 use Rattle.pdcp_guard.specs.declared.pdus.PdcpFault.{PdcpFault}
@@ -19,11 +18,10 @@ use Rattle.pdcp_guard.specs.Drb.{IsDrb, drb_count, drb_opened, drb_opened_by, dr
 use Rattle.lte_machine.specs.Bearers.{which, OnSrb, OnDrb, srb_counts, drb_counts}
 use Rattle.lte_machine.specs.Calls.{phone_call, use_out}
 use Rattle.lte_machine.specs.Ciphers.{annex_b}
-use Rattle.lte_machine.specs.Opening.{Outcome, Opened, Differs, OpensSrb, OpensDrb, open_octets, accepted_of}
-use Rattle.lte_machine.specs.PhoneChoice.{AirFront, AirSettled, AtSignalling, AtPacket, air_front, air_row, signalling_at, packet_at, signalling_read}
-use Rattle.rec_base.specs.Lengths.{longest_packet}
+use Rattle.lte_machine.specs.Opening.{Outcome, OpensSrb, OpensDrb, open_octets, accepted_of}
+use Rattle.lte_machine.specs.PhoneChoice.{AirFront, AtSignalling, AtPacket, air_front, air_row, signalling_at, packet_at, signalling_read}
 use Rattle.lte_machine.specs.PhoneKeys.{air_expects}
-use Rattle.lte_machine.specs.PhoneRows.{AirRow, AirRefused, PacketOpened}
+use Rattle.lte_machine.specs.PhoneRows.{AirRow, PacketOpened}
 use Rattle.lte_machine.specs.PhoneState.{Phone, Link, map_radio}
 use Rattle.lte_machine.specs.Refusals.{of_pdcp}
 use Rattle.lte_machine.specs.Reply.{unseen}
@@ -130,13 +128,6 @@ module _ (n : NasPart) (l : Link (List ℕ) ℕ) (station air : ℕ) (bearer : B
       → done ≡ by_air (linked n l) None (PacketOpened (drb_of bearer) o.count (take longest_packet o.text))
       → done ≡ phone_call (linked n l) (Air station air bearer pdu)
   drb_taken_so o done on is e told = told ∙ sym (at_drb on is ∙ ap by_packet e)
-
-pub cut_is : (n : ℕ) (xs : List ℕ) → take (min (length xs) n) xs ≡ take n xs
-cut_is n xs = by_test (nat_le n (length xs)) refl
-  where
-    by_test : (b : Bool) → nat_le n (length xs) ≡ b → take (min (length xs) n) xs ≡ take n xs
-    by_test true e = let le : n ≤ length xs = grind (arith, nat_tests) in let m : min (length xs) n ≡ n = omega arith in rw m refl
-    by_test false e = let lt : length xs < n = grind (arith, nat_tests) in let m : min (length xs) n ≡ length xs = omega arith in let le : length xs ≤ n = omega arith in rw m grind (arith, common_steps)
 
 -- a row by what was accepted too
 pub accepted_so : (s t : Phone (List ℕ) ℕ) (row : AirRow) (u : KeyUse (List ℕ)) (out : ActorOut)

@@ -6,8 +6,6 @@ use Rattle.alg_choice.specs.declared.caps.Caps.{Caps}
 use Rattle.alg_choice.specs.Choice.{are_supported}
 use Rattle.annex_a_keys.specs.Cell.{Place}
 use Rattle.rec_base.specs.declared.faults.RecFault.{RecFault}
-use Rattle.rec_base.specs.declared.uses.Use.{Use}
-use Rattle.lte_events.specs.declared.acts.PhoneAct.{PhoneAct}
 use Rattle.lte_events.specs.declared.answers.Answer.{Answer}
 use Rattle.lte_events.specs.declared.answers.Answer.TheVariants.{Done, WrongKsi, CapsMismatch, AlgUnsupported, MacFails}
 use Rattle.lte_events.specs.declared.inputs.PhoneIn.{PhoneIn}
@@ -25,10 +23,10 @@ use Rattle.lte_machine.specs.Calls.{phone_call, phone_input, actor_out, record_o
 use Rattle.lte_machine.specs.Ciphers.{annex_b}
 use Rattle.lte_machine.specs.Kinds.{same_caps}
 use Rattle.lte_machine.specs.Opening.{Outcome, Opened, Differs, open_octets}
-use Rattle.lte_machine.specs.PhoneChoice.{PlainPhone, NasFront, NasSettled, AtCommand, AtMessage, header_for_phone, rejected, rejected_unspecified, capabilities_mismatch, command_at, command_read, command_front, command_row, context_row, message_at, message_front, message_read, message_row, nas_by_header, nas_row, act_row, air_front, air_row}
-use Rattle.lte_machine.specs.PhoneKeys.{PhoneDone, nas_does, air_does, act_does, before_of, changed_unless, handed_over, key_changed, link_secured, rrc_opened, packet_opened, service_requested, complete_resent, packet_sent, rrc_sent, nas_sent, nas_skipped, bearer_skipped, rejected_under, context_taken, context_taken_connected, nas_opened}
-use Rattle.lte_machine.specs.PhoneRows.{NasRow, NasRefused, RejectedPlain, RejectedUnder, ContextTaken, ContextTakenConnected, NasOpened, AirRow, AirRefused, LinkSecured, HandedOver, KeyChanged, RrcOpened, PacketOpened, ActRow, ActRefused, ServiceRequested, CompleteResent, WentIdle, PacketSent, RrcSent, NasSent, NasSkipped, BearerSkipped}
-use Rattle.lte_machine.specs.PhoneState.{Partial, NasContext, Radio, Idle, Connecting, Connected, Phone, map_context, map_partial, map_radio}
+use Rattle.lte_machine.specs.PhoneChoice.{PlainPhone, NasFront, NasSettled, header_for_phone, rejected, rejected_unspecified, capabilities_mismatch, command_at, command_read, command_front, command_row, context_row, message_at, message_front, message_read, message_row, nas_by_header, nas_row, act_row, air_front, air_row}
+use Rattle.lte_machine.specs.PhoneKeys.{PhoneDone, nas_does, air_does, act_does, before_of, changed_unless, handed_over, key_changed, link_secured, rrc_opened, packet_opened, service_requested, complete_resent, packet_sent, rrc_sent, nas_sent, nas_skipped, bearer_skipped, context_taken, context_taken_connected, nas_opened}
+use Rattle.lte_machine.specs.PhoneRows.{NasRow, NasRefused, RejectedUnder, AirRow, AirRefused, LinkSecured, HandedOver, KeyChanged, RrcOpened, PacketOpened, ActRow, ActRefused, ServiceRequested, CompleteResent, WentIdle, PacketSent, RrcSent, NasSent, NasSkipped, BearerSkipped}
+use Rattle.lte_machine.specs.PhoneState.{Partial, NasContext, Radio, Idle, Connecting, Connected, Phone, map_context, map_radio}
 use Rattle.lte_machine.specs.PhoneStep as steps
 use Rattle.lte_machine.specs.PhoneStep.{phone_opens, phone_pdu_in, phone_step, plain_phone}
 use Rattle.lte_machine.specs.Reply.{unseen}
@@ -116,11 +114,11 @@ air_quiet (KeyChanged cell algs station air) s refused = changed_quiet cell algs
 air_quiet (RrcOpened srb count text) s refused = rrc_quiet srb count text s s.radio refused
 air_quiet (PacketOpened drb count text) s refused = packet_quiet drb count text s s.radio refused
 
-request_quiet :  (s : State) (o : Option (NasContext (List ℕ))) → Quiet (service_requested octet_reading s o)
+request_quiet : (s : State) (o : Option (NasContext (List ℕ))) → Quiet (service_requested octet_reading s o)
 request_quiet s None refused = absurd (refused refl)
 request_quiet s (Some c) refused = absurd (refused refl)
 
-resent_quiet :  (s : State) (radio : Radio (List ℕ) ℕ) → Quiet (complete_resent s radio)
+resent_quiet : (s : State) (radio : Radio (List ℕ) ℕ) → Quiet (complete_resent s radio)
 resent_quiet s Idle refused = absurd (refused refl)
 resent_quiet s (Connecting w) refused = absurd (refused refl)
 resent_quiet s (Connected l) refused = absurd (refused refl)
@@ -227,7 +225,7 @@ module _ (s : State) (o : Option (NasContext (List ℕ))) (radio : Radio (Unit {
       (cond (are_supported s.caps algs) (command_at algs caps (estimate_of 0 (sn_in pdu))) (NasSettled (rejected (AlgUnsupported algs) rejected_unspecified (seen s o))))
       (NasSettled (rejected (WrongKsi held ksi) rejected_unspecified (seen s o)))
       (either CommandTold (are_supported s.caps algs) (command_at algs caps (estimate_of 0 (sn_in pdu))) (NasSettled (rejected (AlgUnsupported algs) rejected_unspecified (seen s o)))
-        (at_told algs caps (estimate_of 0 (sn_in pdu))) (rejected_told s (AlgUnsupported algs) rejected_unspecified o refl))
+      (at_told algs caps (estimate_of 0 (sn_in pdu))) (rejected_told s (AlgUnsupported algs) rejected_unspecified o refl))
       (rejected_told s (WrongKsi held ksi) rejected_unspecified o refl) refused
   read_told held pdu (Ok nas.TheVariants.SecurityModeComplete) refused = refl
   read_told held pdu (Ok (nas.TheVariants.SecurityModeReject cause)) refused = refl

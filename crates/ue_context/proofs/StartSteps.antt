@@ -1,10 +1,9 @@
 -- The steps of a phone that waits for the security of its connection.
-use Rattle.std.proofs.Common.{◌≡◌, ℕ, ◌≤◌, ◌<◌, ◌-◌, ◌%◌, Bool, true, false, cond, List, [], length, Some, None, Ok, Err, refl, ap, arith, ◌∙◌, sym, nat_lt}
-use Rattle.std.specs.Prelude.{Option, Result}
+use Rattle.std.proofs.Common.{◌≡◌, ℕ, ◌<◌, ◌-◌, ◌%◌, Bool, true, false, cond, List, [], Some, None, Ok, Err, refl, ap, arith, ◌∙◌, sym, nat_lt}
+use Rattle.std.specs.Prelude.{Result}
 use Rattle.std.proofs.lemmas.Bool.Decides.{nat_tests}
 use Rattle.alg_choice.specs.declared.algs.Algs.{Algs}
 use Rattle.lte_events.specs.declared.answers.Answer.{Answer}
-use Rattle.lte_events.specs.declared.answers.Answer.TheVariants.{MacFails}
 use Rattle.lte_events.specs.declared.inputs.PhoneIn.TheVariants.{Air}
 use Rattle.lte_events.specs.declared.replies.ActorOut.{ActorOut}
 use Rattle.lte_events.specs.Reply.{reply_of}
@@ -21,7 +20,7 @@ use Rattle.pdcp_guard.specs.Counts.{in_32_bits}
 use Rattle.pdcp_guard.specs.Srb.{srb_count, srb_opened, srb_opened_by, srb_opened_at}
 use Rattle.lte_machine.specs.Bearers.{OnSrb, Signalling1}
 use Rattle.lte_machine.specs.Calls.{phone_call}
-use Rattle.lte_machine.specs.Opening.{Outcome, Opened, Differs, OpensSrb, accepted_of}
+use Rattle.lte_machine.specs.Opening.{Outcome, Opened, OpensSrb, accepted_of}
 use Rattle.lte_machine.specs.PhoneChoice.{AirSettled, AtStart, waiting_front, start_row}
 use Rattle.lte_machine.specs.PhoneRows.{AirRefused}
 use Rattle.lte_machine.specs.PhoneState.{Phone, Waiting}
@@ -31,7 +30,7 @@ use Rattle.radio_bearers.specs.Bearers.{outcome_of}
 use Rattle.radio_bearers.proofs.Sealing.{srb_opened_is}
 use Rattle.ue_context.specs.Parts.{waiting}
 use Rattle.ue_context.specs.Step.{by_air, to_phone}
-use Rattle.ue_context.proofs.AirSteps.{by_front, fronted, long_enough}
+use Rattle.ue_context.proofs.AirSteps.{fronted, long_enough}
 
 -- the first COUNT with a sequence number is the sequence number
 pub first_count_is : (x : ℕ) → x < 32 → in_32_bits (least 0 (x % 32) 32) ≡ Ok x

@@ -1,6 +1,5 @@
 -- One step of the phone in octets, by its parts.
-use Rattle.std.specs.Prelude.{ℕ, List, Bool, Result, Ok, Err, Option, Some, None}
-use Rattle.alg_choice.specs.declared.algs.Algs.{Algs}
+use Rattle.std.specs.Prelude.{ℕ, List, Result, Ok, Err, Option, Some, None}
 use Rattle.rec_base.specs.declared.bearers.Bearer.{Bearer}
 use Rattle.rec_base.specs.declared.uses.Dir.TheVariants.{Down}
 use Rattle.lte_events.specs.declared.answers.Answer.{Answer}

@@ -14,12 +14,11 @@ ghost use Rattle.radio_bearers.specs.Bearers.{srb_of, drb_of};
 ghost use Rattle.ue_context.specs.Parts.{linked};
 ghost use Rattle.ue_context.specs.Step.{by_air, to_phone};
 
-use crate::answers::{answer_of, cut, kind_of, use_of};
 use crate::link::Link;
 use lte_events::{ActorOut, Answer};
 use nas_smc::PhoneNas;
 use pdcp_guard::PdcpOpened;
-use radio_bearers::is_srb;
+use radio_bearers::{answer_of, is_srb, kind_of, packet_text, verified_use};
 use rec_base::{Bearer, Dir, ShortText, UserText};
 use rrc_rec::RrcRecord;
 
@@ -84,7 +83,7 @@ impl Link {
         ensures { (linked nas.now self.new, result) ≡ by_air (linked nas.now self.old) (Some (to_phone self.old.keys bearer opened.now.count))
             (signalling_read nas.now.caps (srb_of bearer) opened.now.count self.old.chain.number (read_rrc opened.now.text)) }
     {
-        let accepted = Some(use_of(&self.keys, bearer, opened.count));
+        let accepted = Some(verified_use(&self.keys, bearer, opened.count, Dir::Down));
         let message = match RrcRecord::read(opened.text.as_slice()) {
             Ok(message) => message,
             Err(fault) => {
@@ -171,7 +170,7 @@ impl Link {
             Err(fault) => return ActorOut::of(answer_of(fault)),
         };
         ActorOut {
-            opened: Some(cut(opened.text.as_slice())),
+            opened: Some(packet_text(opened.text.as_slice())),
             ..ActorOut::of(Answer::Done)
         }
     }

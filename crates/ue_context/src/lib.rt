@@ -4,7 +4,6 @@
 
 mod acts;
 mod air;
-mod answers;
 mod handover;
 mod link;
 mod nas;
@@ -13,6 +12,8 @@ mod radio;
 mod signals;
 mod starting;
 mod step;
+#[cfg(test)]
+mod tests;
 mod waiting;
 
 pub use phone::Phone;

@@ -16,7 +16,6 @@ ghost use Rattle.nas_smc.specs.PhoneNas.{NasPart};
 ghost use Rattle.ue_context.specs.Parts.{linked, started, waiting};
 ghost use Rattle.ue_context.specs.Step.{by_air, counted, start_front, to_phone};
 
-use crate::answers::{answer_of, kind_of, use_of};
 use crate::link::Link;
 use crate::waiting::Waiting;
 use alg_choice::{Algs, Caps, supports};
@@ -24,7 +23,7 @@ use lte_events::{ActorOut, Answer, Few, KeyNote};
 use nas_smc::PhoneNas;
 use nh_chain::PhoneChain;
 use pdcp_guard::{AsKeys, Srb};
-use radio_bearers::Bearers;
+use radio_bearers::{Bearers, answer_of, kind_of, verified_use};
 use rec_base::{Bearer, Dir, Way};
 use rrc_rec::RrcRecord;
 
@@ -75,7 +74,7 @@ impl Waiting {
             (start_row start.now.count start.now.algs start.now.named station air (Opened [])) }
     {
         let (keys, _) = AsKeys::derive(&self.kenb, start.algs);
-        let accepted = Some(use_of(&keys, Bearer::Srb1, start.count));
+        let accepted = Some(verified_use(&keys, Bearer::Srb1, start.count, Dir::Down));
         if !start.named {
             let out = ActorOut {
                 accepted,
