@@ -45,3 +45,5 @@ pub mod StillRun
 pub mod LadderRun
 pub mod MixedRun
 pub mod Mixed
+pub mod Fitting
+pub mod EventByEvent

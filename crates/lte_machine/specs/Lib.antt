@@ -34,3 +34,4 @@ pub mod Distinct
 pub mod Known
 pub mod Standing
 pub mod Calls
+pub mod ByEvent
