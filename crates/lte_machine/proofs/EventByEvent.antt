@@ -1,5 +1,5 @@
 -- A run and what it tells, event by event.
-use Rattle.std.proofs.Common.{◌≡◌, refl, sym, ap, ◌∙◌, subst, ℕ, zero, suc, ◌+◌, ◌<◌, arith, List, [], ◌∷◌, ◌++◌, map, take, length, Option, Some, None}
+use Rattle.std.proofs.Common.{◌≡◌, refl, sym, ap, ◌∙◌, ℕ, zero, suc, List, [], ◌∷◌, ◌++◌, take, length, Option, Some, None}
 use Rattle.std.specs.Prelude.{slice_get}
 use Rattle.lte_events.specs.declared.events.Event.{Event}
 use Rattle.lte_events.specs.declared.setups.Setup.{Setup}
@@ -12,9 +12,9 @@ use Rattle.lte_machine.specs.Ladder.{Clash, ladder_of}
 use Rattle.lte_machine.specs.Machines.{Kept, written_machine}
 use Rattle.lte_machine.specs.Opening.{Opening, Outcome, open_octets}
 use Rattle.lte_machine.specs.Ranges.{AllOf, IsEvent, IsSetup}
-use Rattle.lte_machine.specs.Run.{RunState, Running, Stopped, after, turn, replay, EventReport, Reported, Coincided, reported, event_report, report, first_world}
+use Rattle.lte_machine.specs.Run.{RunState, Running, Stopped, after, turn, replay, Reported, reported, event_report, report, first_world}
 use Rattle.lte_machine.specs.Step.{StepResult, Continues, Stops, by_ladder, by_chance, opening_chance, attempted, next}
-use Rattle.lte_machine.specs.Tuples.{Chance, Rows}
+use Rattle.lte_machine.specs.Tuples.{Chance}
 use Rattle.lte_machine.specs.Wire.{Outgoing}
 use Rattle.lte_machine.specs.World.{Machine, World, Line, happens}
 use Rattle.lte_machine.proofs.AnnexB.{annex_b_ciphers}
@@ -122,7 +122,7 @@ step_after setup events k w e u line h =
     replay_snoc (open_octets annex_b_terms) (written_machine annex_b) (Running (first_world setup)) (take k events) e
     ∙ ap (λ r. turn (open_octets annex_b_terms) (written_machine annex_b) r e) h.before ∙ ap after h.goes_on
 
-take_more : (es : List Event) (k : ℕ) (e : Event) → slice_get es k ≡ Some e → take (suc k) es ≡ take k es ++ e ∷ []
+pub take_more : (es : List Event) (k : ℕ) (e : Event) → slice_get es k ≡ Some e → take (suc k) es ≡ take k es ++ e ∷ []
 take_more [] k e is = absurd cc
 take_more (d ∷ es) zero e is = let one : d ≡ e = cc in ap (λ x. x ∷ []) one
 take_more (d ∷ es) (suc k) e is = ap (λ xs. d ∷ xs) (take_more es k e is)

@@ -1,10 +1,9 @@
 -- What the types of a setup and an event say, and the conditions of a start and of an event, are the ranges of a run.
-use Rattle.std.proofs.Common.{◌≡◌, ◌≢◌, refl, ℕ, suc, ◌==◌, ◌<◌, ◌≤◌, Bool, true, false, List, [], ◌∷◌, inl, inr, subst, sym, arith}
-use Rattle.std.specs.Prelude.{◌||◌, ◌⊎◌, IsTrue, All, length, ◌^◌}
-use Rattle.std.specs.List.{list_any, IsDistinct, AllByRecursion}
+use Rattle.std.proofs.Common.{◌≡◌, ◌≢◌, refl, ℕ, suc, ◌==◌, ◌<◌, ◌≤◌, Bool, true, false, List, [], ◌∷◌, inl, inr, subst, arith}
+use Rattle.std.specs.Prelude.{◌||◌, IsTrue, All, ◌^◌}
+use Rattle.std.specs.List.{IsDistinct, AllByRecursion}
 use Rattle.std.proofs.lemmas.Bool.{eqb-true, eqb-false}
 use Rattle.annex_a_keys.specs.Cell.{IsCell}
-use Rattle.rec_base.specs.declared.bearers.Bearer.{Bearer}
 use Rattle.lte_events.specs.Site.{Site}
 use Rattle.lte_events.specs.Conditions.{has_station, CanStart, CanHappen, SetupFits, EventFits}
 use Rattle.lte_events.specs.Conditions as condition
@@ -15,7 +14,7 @@ use Rattle.lte_events.specs.declared.addresses.Address.{Address}
 use Rattle.lte_events.specs.declared.events.Event.{Event}
 use Rattle.lte_events.specs.declared.setups.Setup.{Setup}
 use Rattle.lte_events.specs.declared.setups.StationSetup.{StationSetup}
-use Rattle.lte_machine.specs.Ranges.{AllOf, AreOctets, IsText, IsPhoneAct, IsStationAct, IsCoreAct, TakesInjected, IsEvent, IsStation, IdsDiffer, HasId, IsSiteOf, IsSetup}
+use Rattle.lte_machine.specs.Ranges.{AllOf, IsText, IsPhoneAct, IsStationAct, IsCoreAct, TakesInjected, IsEvent, IsStation, IdsDiffer, HasId, IsSiteOf, IsSetup}
 
 pub all_of : {A : Type 0} (P : A → Type 0) (xs : List A) → All P xs → AllOf P xs
 all_of P [] h = tt

@@ -1,5 +1,5 @@
 -- A run event by event: the world before an event, the event, the world after it and its line.
-use Rattle.std.specs.Prelude.{◌≡◌, ℕ, List, ◌∷◌, ◌++◌, take, slice_get, Option, Some}
+use Rattle.std.specs.Prelude.{◌≡◌, ℕ, List, ◌∷◌, ◌++◌, take, slice_get, Some}
 use Rattle.lte_events.specs.declared.events.Event.{Event}
 use Rattle.lte_events.specs.declared.setups.Setup.{Setup}
 use Rattle.key_model.specs.Chain.{ncc_of}
@@ -10,7 +10,7 @@ use Rattle.lte_machine.specs.Carried.{map_world}
 use Rattle.lte_machine.specs.Ciphers.{annex_b}
 use Rattle.lte_machine.specs.Machines.{Kept, kept_in_values, written_machine}
 use Rattle.lte_machine.specs.Opening.{Opening, Outcome, open_octets}
-use Rattle.lte_machine.specs.Run.{RunState, Running, Stopped, replay}
+use Rattle.lte_machine.specs.Run.{Running, replay}
 use Rattle.lte_machine.specs.Step.{Continues, Stops, next}
 use Rattle.lte_machine.specs.Tuples.{Chance}
 use Rattle.lte_machine.specs.Wire.{Outgoing}

@@ -11,7 +11,9 @@ mod ranges;
 mod refusals;
 mod runs;
 
-pub use by_event::{a_run_goes_event_by_event, each_line_is_that_of_its_step, the_run_in_octets_goes_on_in_a_value};
+pub use by_event::{
+    a_run_goes_event_by_event, each_line_is_that_of_its_step, the_run_in_octets_goes_on_in_a_value,
+};
 pub use calls::{replies_are_kept, turns_are_calls};
 pub use ladder_rows::{every_key_was_reported, rows_stand_for_the_distinct_terms};
 pub use ranges::what_fits_is_in_range;
