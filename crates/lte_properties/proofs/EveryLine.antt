@@ -23,7 +23,7 @@ use Rattle.lte_properties.proofs.SameKeys.{reflexive}
 use Rattle.lte_properties.proofs.Agreement.World.{Conns, WorldOk}
 
 -- the first events are events
-each_of_first : (n : ℕ) (es : List Event) → AllOf IsEvent es → AllOf IsEvent (take n es)
+pub each_of_first : (n : ℕ) (es : List Event) → AllOf IsEvent es → AllOf IsEvent (take n es)
 each_of_first zero es h = tt
 each_of_first (suc n) [] h = tt
 each_of_first (suc n) (e ∷ es) h = (h.0, each_of_first n es h.1)

@@ -8,3 +8,4 @@ pub mod NasWalk
 pub mod Opening
 pub mod SameKeys
 pub mod AccountsHold
+pub mod StepByStep

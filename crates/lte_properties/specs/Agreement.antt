@@ -235,9 +235,11 @@ MadeIsTold w u l =
     (u.made ≡ w.made)
     ⊎ ((m : Made Term ℕ) × (u.made ≡ w.made ++ m ∷ []) × Reported l (Who.Station m.station) m.key m.number)
 
+-- a line of the phone has a note exactly where the phone takes a key
 abbrev pub TookIsTold : {S : Type 0} → World Term ℕ S → World Term ℕ S → Line Term → Type 0
 TookIsTold w u l =
-    (u.took ≡ w.took) ⊎ ((x : Took Term ℕ) × (u.took ≡ w.took ++ x ∷ []) × Reported l Who.Phone x.key x.number)
+    ((u.took ≡ w.took) × (l.who ≡ Who.Phone → l.note ≡ None))
+    ⊎ ((x : Took Term ℕ) × (u.took ≡ w.took ++ x ∷ []) × Reported l Who.Phone x.key x.number)
 
 -- at each event of a run
 abbrev pub KeysTold : Machine Term ℕ (Outgoing Term ℕ) → World Term ℕ (Outgoing Term ℕ) → List Event → Type 0

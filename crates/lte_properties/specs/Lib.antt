@@ -9,3 +9,4 @@ pub mod SharedKeys
 pub mod Packets
 pub mod Origins
 pub mod Accounts
+pub mod BySteps

@@ -6,6 +6,7 @@
 #![tactic(auto)]
 
 mod accounts;
+mod by_steps;
 mod chain;
 mod keys_agree;
 mod keys_shared;
@@ -16,6 +17,7 @@ mod separation;
 mod uses_differ;
 
 pub use accounts::{holders_derived_or_received_each_key, uses_are_those_of_the_records_sent};
+pub use by_steps::each_step_of_a_run_agrees;
 pub use chain::chain_numbers_hold_in_every_run;
 pub use keys_agree::phone_and_target_agree_in_every_run;
 pub use keys_shared::only_source_and_target_share_the_key_in_every_run;

@@ -168,9 +168,25 @@ made_told made None id l is h = inl refl
 made_told made (Some m) id l is h =
     inr (m, refl, noted_tells l (Who.Station m.station) m.key m.number (is ∙ ap Who.Station (sym h.0)) l.note refl h.1)
 
+no_note : (o : Option (Note Term)) → TookNoted o None → o ≡ None
+no_note None h = refl
+no_note (Some note) h = absurd h
+
+core_is_none : Who.Core ≡ Who.Phone → ⊥
+core_is_none e = cc
+
+station_is_none : (id : ℕ) → Who.Station id ≡ Who.Phone → ⊥
+station_is_none id e = cc
+
+both_is_none : Who.Both ≡ Who.Phone → ⊥
+both_is_none e = cc
+
+world_is_none : Who.World ≡ Who.Phone → ⊥
+world_is_none e = cc
+
 took_told : (took : List (Took Term ℕ)) (o : Option (Took Term ℕ)) (l : Line Term) → l.who ≡ Who.Phone → TookNoted l.note o
-    → (with_one o took ≡ took) ⊎ ((x : Took Term ℕ) × (with_one o took ≡ took ++ x ∷ []) × Reported l Who.Phone x.key x.number)
-took_told took None l is h = inl refl
+    → ((with_one o took ≡ took) × (l.who ≡ Who.Phone → l.note ≡ None)) ⊎ ((x : Took Term ℕ) × (with_one o took ≡ took ++ x ∷ []) × Reported l Who.Phone x.key x.number)
+took_told took None l is h = inl (refl, λ e. no_note l.note h)
 took_told took (Some x) l is h = inr (x, refl, noted_tells l Who.Phone x.key x.number is l.note refl h)
 
 abbrev BothTold : TheWorld → TheWorld × Line Term → Type 0
@@ -189,10 +205,10 @@ module _ (same : Term → Term → Bool) (root : ℕ → List ℕ → Term) (oct
         (inl refl, took_told w.took (phone_does (term_reading_by same) row (phone_root input) w.phone).1.took h.1 refl (phone_notes same row (phone_root input) w.phone))
 
     core_told : (input : CoreInput Term ℕ) (came : Option (Outgoing Term ℕ)) → BothTold w (core_turn m w input came)
-    core_told input came = (inl refl, inl refl)
+    core_told input came = (inl refl, inl (refl, λ e. absurd (core_is_none e)))
 
     turn_told : (id : ℕ) (input : StationInput Term ℕ) (came : Option (Outgoing Term ℕ)) (o : Option (Station Term ℕ)) → station_of_id id w.stations ≡ o → BothTold w (turn_of m w id input came o)
-    turn_told id input came None e = (inl refl, inl refl)
+    turn_told id input came None e = (inl refl, inl (refl, λ f. absurd (world_is_none f)))
     turn_told id input came (Some s) e =
         let h = turn_of m w id input came (Some s) in
         let outcome = opener (station_opens (term_reading_by same) s input) (station_pdu_in input) came in
@@ -201,7 +217,7 @@ module _ (same : Term → Term → Bool) (root : ℕ → List ℕ → Term) (oct
         let is : s.id ≡ id = eqb-true s.id id (found_holds (λ t. t.id == id) w.stations s e) in (
           made_told w.made (station_does (term_reading_by same) row (station_key input) s).1.made id h.1 refl
               (subst (λ n. MadeNoted n h.1.note (station_does (term_reading_by same) row (station_key input) s).1.made) is notes),
-          inl refl,
+          inl (refl, λ f. absurd (station_is_none id f)),
         )
 
     arrives_told : (to : Address) (pdu : List ℕ) (came : Option (Outgoing Term ℕ)) → BothTold w (arrives m w to pdu came)
@@ -214,16 +230,16 @@ module _ (same : Term → Term → Bool) (root : ℕ → List ℕ → Term) (oct
     arrives_told (Address.StationX2 station) pdu came = turn_told station (StationRecord OnX2 (content_in m came)) came (station_of_id station w.stations) refl
 
     delivered_told : (o : Option (Outgoing Term ℕ)) → BothTold w (delivered m w o)
-    delivered_told None = (inl refl, inl refl)
+    delivered_told None = (inl refl, inl (refl, λ f. absurd (world_is_none f)))
     delivered_told (Some x) = arrives_told (address_of x) (octets x) (Some x)
 
     injected_told : (to : Address) (pdu : List ℕ) (o : Option ℕ) → BothTold w (injected m w to pdu o)
     injected_told to pdu None = arrives_told to pdu None
-    injected_told to pdu (Some number) = (inl refl, inl refl)
+    injected_told to pdu (Some number) = (inl refl, inl (refl, λ f. absurd (world_is_none f)))
 
     auth_told : (ksi : ℕ) (key : Term) (caps : Caps) (o : Option ℕ) → BothTold w (auth_unless m w ksi key caps o)
-    auth_told ksi key caps None = (inl refl, inl refl)
-    auth_told ksi key caps (Some row) = (inl refl, inl refl)
+    auth_told ksi key caps None = (inl refl, inl (refl, λ f. absurd (both_is_none f)))
+    auth_told ksi key caps (Some row) = (inl refl, inl (refl, λ f. absurd (world_is_none f)))
 
     happens_told : (e : Event) → BothTold w (happens m w e)
     happens_told (Event.Auth ksi key caps) = let k = root (next_root w) key in auth_told ksi k caps (known_root m w k)

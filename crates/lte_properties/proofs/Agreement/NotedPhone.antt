@@ -20,7 +20,8 @@ NotedAs None key number = ⊥
 NotedAs (Some note) key number = (note.key ≡ key) × (note.ncc ≡ ncc_of number)
 
 abbrev pub TookNoted : Option (Note Term) → Option (Took Term ℕ) → Type 0
-TookNoted told None = ⊤
+TookNoted None None = ⊤
+TookNoted (Some note) None = ⊥
 TookNoted told (Some x) = NotedAs told x.key x.number
 
 abbrev Noted : PhoneDone Term ℕ → Type 0
