@@ -12,7 +12,7 @@ use Rattle.lte_events.specs.declared.events.Event.{Event}
 use Rattle.s1x2_rec.specs.Content.{Content}
 use Rattle.key_model.specs.Derivation.{Derivation}
 use Rattle.key_model.specs.Term.{Term}
-use Rattle.lte_machine.specs.Ladder.{RowOrigin, OfRoot, Of, row_key}
+use Rattle.lte_machine.specs.Ladder.{OfRoot, Of, row_key}
 use Rattle.lte_machine.specs.Opening.{Opening, Outcome}
 use Rattle.lte_machine.specs.Reply.{Reply}
 use Rattle.lte_machine.specs.PhoneState.{Phone, PhoneInput, PhoneActs, PhoneNasPdu, PhoneAirPdu}
@@ -22,10 +22,11 @@ use Rattle.lte_machine.specs.StationStep.{key_read, station_key, station_step, s
 use Rattle.lte_machine.specs.CoreState.{Core, CoreInput, CoreActs, CoreNasPdu, CoreRecord}
 use Rattle.lte_machine.specs.CoreStep.{core_step, core_opens, core_pdu_in, core_received}
 use Rattle.lte_machine.specs.Wire.{KeyUse, Outgoing, uses_of, address_of}
-use Rattle.lte_machine.specs.World.{Machine, World, Line, Holder, AtPhone, AtCore, AtStation, Holding, holds, with_one, uses_in, phone_after, core_after, station_after, by_world, phone_turn, core_turn, turn_of, station_turn, station_of_id, auth_unless, known_root, next_root, content_in, arrives, chosen, delivered, class_of, is_sent, injected, happens}
+use Rattle.lte_machine.specs.World.{Machine, World, Holder, AtPhone, AtCore, AtStation, holds, with_one, uses_in, phone_after, core_after, station_after, by_world, phone_turn, core_turn, turn_of, station_of_id, auth_unless, known_root, next_root, content_in, arrives, chosen, delivered, class_of, is_sent, injected, happens}
 use Rattle.lte_machine.specs.Machines.{machine_by}
+use Rattle.lte_machine.specs.Ranges.{AllOf}
 use Rattle.lte_machine.specs.Run.{run}
-use Rattle.lte_properties.specs.Accounts.{UsesAreThoseSent, holders_of, key_at, key_of_record, key_delivered, with_read, each_holds, Gains, HoldersGain}
+use Rattle.lte_properties.specs.Accounts.{UsesAreThoseSent, IsRowOf, key_at, key_of_record, key_delivered, with_read, each_holds, Gains, HoldersGain}
 
 -- USES
 
@@ -102,34 +103,38 @@ core_read (Ok content) = refl
 core_read (Err fault) = refl
 
 module _ {K C S : Type 0} (m : Machine K C S) (w : World K C S) where
-  phone_gains : (d : Phone K C × Reply K C) → Gains w d.1.received (phone_after m w d)
-  phone_gains d = record { derived = map Of d.1.derived; history = refl; held = ap (λ v. w.held ++ v) (holds_is AtPhone d.1.received d.1.derived) }
+  only_derived : (ds : List (Derivation K)) → AllOf (IsRowOf m) (map Of ds)
+  only_derived [] = tt
+  only_derived (d ∷ ds) = (tt, only_derived ds)
 
-  core_gains : (d : Core K C × Reply K C) → Gains w d.1.received (core_after m w d)
-  core_gains d = record { derived = map Of d.1.derived; history = refl; held = ap (λ v. w.held ++ v) (holds_is AtCore d.1.received d.1.derived) }
+  phone_gains : (d : Phone K C × Reply K C) → Gains m w d.1.received (phone_after m w d)
+  phone_gains d = record { derived = map Of d.1.derived; history = refl; roots = only_derived d.1.derived; held = ap (λ v. w.held ++ v) (holds_is AtPhone d.1.received d.1.derived) }
 
-  station_gains : (id : ℕ) (d : Station K C × Reply K C) → Gains w d.1.received (station_after m w id d)
-  station_gains id d = record { derived = map Of d.1.derived; history = refl; held = ap (λ v. w.held ++ v) (holds_is (AtStation id) d.1.received d.1.derived) }
+  core_gains : (d : Core K C × Reply K C) → Gains m w d.1.received (core_after m w d)
+  core_gains d = record { derived = map Of d.1.derived; history = refl; roots = only_derived d.1.derived; held = ap (λ v. w.held ++ v) (holds_is AtCore d.1.received d.1.derived) }
 
-  none_gains : (came : Option K) (answer : Answer) → Gains w came (by_world m w answer)
-  none_gains None answer = record { derived = []; history = sym (append-nil w.history); held = sym (append-nil w.held) }
-  none_gains (Some key) answer = record { derived = []; history = sym (append-nil w.history); held = sym (append-nil w.held) }
+  station_gains : (id : ℕ) (d : Station K C × Reply K C) → Gains m w d.1.received (station_after m w id d)
+  station_gains id d = record { derived = map Of d.1.derived; history = refl; roots = only_derived d.1.derived; held = ap (λ v. w.held ++ v) (holds_is (AtStation id) d.1.received d.1.derived) }
 
-  turn_gains : (id : ℕ) (input : StationInput K C) (came : Option S) (o : Option (Station K C)) → Gains w (option_map (λ k. k.key) (station_key input)) (turn_of m w id input came o)
+  none_gains : (came : Option K) (answer : Answer) → Gains m w came (by_world m w answer)
+  none_gains None answer = record { derived = []; history = sym (append-nil w.history); roots = tt; held = sym (append-nil w.held) }
+  none_gains (Some key) answer = record { derived = []; history = sym (append-nil w.history); roots = tt; held = sym (append-nil w.held) }
+
+  turn_gains : (id : ℕ) (input : StationInput K C) (came : Option S) (o : Option (Station K C)) → Gains m w (option_map (λ k. k.key) (station_key input)) (turn_of m w id input came o)
   turn_gains id input came None = none_gains (option_map (λ k. k.key) (station_key input)) NoUe
   turn_gains id input came (Some s) = station_gains id (station_step m.reading s input (m.opener (station_opens m.reading s input) (station_pdu_in input) came))
 
-  phone_turns : (input : PhoneInput K) (came : Option S) → Gains w None (phone_turn m w input came)
+  phone_turns : (input : PhoneInput K) (came : Option S) → Gains m w None (phone_turn m w input came)
   phone_turns input came = phone_gains (phone_step m.reading w.phone input (m.opener (phone_opens m.reading w.phone input) (phone_pdu_in input) came))
 
-  core_turns : (input : CoreInput K C) (came : Option S) → Gains w (core_received input) (core_turn m w input came)
+  core_turns : (input : CoreInput K C) (came : Option S) → Gains m w (core_received input) (core_turn m w input came)
   core_turns input came = core_gains (core_step m.reading w.core input (m.opener (core_opens m.reading w.core input) (core_pdu_in input) came))
 
-  arrives_gains : (to : Address) (pdu : List ℕ) (came : Option S) → Gains w (key_at to (content_in m came)) (arrives m w to pdu came)
+  arrives_gains : (to : Address) (pdu : List ℕ) (came : Option S) → Gains m w (key_at to (content_in m came)) (arrives m w to pdu came)
   arrives_gains Address.PhoneNas pdu came = phone_turns (PhoneNasPdu pdu) came
   arrives_gains (Address.Phone station air bearer) pdu came = phone_turns (PhoneAirPdu station air bearer pdu) came
   arrives_gains Address.CoreNas pdu came = core_turns (CoreNasPdu pdu) came
-  arrives_gains Address.CoreS1 pdu came = subst (λ o. Gains w o (core_turn m w (CoreRecord (content_in m came)) came)) (core_read (content_in m came)) (core_turns (CoreRecord (content_in m came)) came)
+  arrives_gains Address.CoreS1 pdu came = subst (λ o. Gains m w o (core_turn m w (CoreRecord (content_in m came)) came)) (core_read (content_in m came)) (core_turns (CoreRecord (content_in m came)) came)
   arrives_gains (Address.StationAir station air bearer) pdu came = turn_gains station (AirPdu air bearer pdu) came (station_of_id station w.stations)
   arrives_gains (Address.StationS1 station) pdu came = turn_gains station (StationRecord OnS1 (content_in m came)) came (station_of_id station w.stations)
   arrives_gains (Address.StationX2 station) pdu came = turn_gains station (StationRecord OnX2 (content_in m came)) came (station_of_id station w.stations)
@@ -143,20 +148,20 @@ module _ {K C S : Type 0} (m : Machine K C S) (w : World K C S) where
   no_key (Address.StationS1 station) = refl
   no_key (Address.StationX2 station) = refl
 
-  delivered_gains : (o : Option S) → Gains w (key_of_record m o) (delivered m w o)
+  delivered_gains : (o : Option S) → Gains m w (key_of_record m o) (delivered m w o)
   delivered_gains None = none_gains None NoRecord
   delivered_gains (Some x) = arrives_gains (m.address x) (m.octets x) (Some x)
 
-  injected_gains : (to : Address) (pdu : List ℕ) (o : Option ℕ) → Gains w None (injected m w to pdu o)
-  injected_gains to pdu None = subst (λ k. Gains w k (arrives m w to pdu None)) (no_key to) (arrives_gains to pdu None)
+  injected_gains : (to : Address) (pdu : List ℕ) (o : Option ℕ) → Gains m w None (injected m w to pdu o)
+  injected_gains to pdu None = subst (λ k. Gains m w k (arrives m w to pdu None)) (no_key to) (arrives_gains to pdu None)
   injected_gains to pdu (Some number) = none_gains None (Sent number)
 
-  auth_gains : (ksi : ℕ) (key : K) (caps : Caps) (o : Option ℕ) → Gains w None (auth_unless m w ksi key caps o)
-  auth_gains ksi key caps None = record { derived = OfRoot key ∷ []; history = refl; held = refl }
-  auth_gains ksi key caps (Some row) = none_gains None (RepeatedRoot row)
+  auth_gains : (ksi : ℕ) (kasme : List ℕ) (caps : Caps) (o : Option ℕ) → Gains m w None (auth_unless m w ksi (m.root (next_root w) kasme) caps o)
+  auth_gains ksi kasme caps None = record { derived = OfRoot (m.root (next_root w) kasme) ∷ []; history = refl; roots = ((next_root w, kasme, refl), tt); held = refl }
+  auth_gains ksi kasme caps (Some row) = none_gains None (RepeatedRoot row)
 
-  pub happens_gains : (e : Event) → Gains w (key_delivered m w e) (happens m w e)
-  happens_gains (Event.Auth ksi key caps) = auth_gains ksi (m.root (next_root w) key) caps (known_root m w (m.root (next_root w) key))
+  pub happens_gains : (e : Event) → Gains m w (key_delivered m w e) (happens m w e)
+  happens_gains (Event.Auth ksi key caps) = auth_gains ksi key caps (known_root m w (m.root (next_root w) key))
   happens_gains (Event.Phone act) = phone_turns (PhoneActs act) None
   happens_gains (Event.Station id act) = turn_gains id (StationActs act) None (station_of_id id w.stations)
   happens_gains (Event.Core act) = core_turns (CoreActs act) None
@@ -166,3 +171,14 @@ module _ {K C S : Type 0} (m : Machine K C S) (w : World K C S) where
 pub holders_gain : {K C S : Type 0} (m : Machine K C S) (w : World K C S) (es : List Event) → HoldersGain m w es
 holders_gain m w [] = tt
 holders_gain m w (e ∷ es) = (happens_gains m w e, holders_gain m (happens m w e).0 es)
+
+-- each row of a run's history is a derivation or a root of the machine
+all_parts : {A : Type 0} (P : A → Type 0) (xs ys : List A) → AllOf P xs → AllOf P ys → AllOf P (xs ++ ys)
+all_parts P [] ys h k = k
+all_parts P (x ∷ xs) ys h k = (h.0, all_parts P xs ys h.1 k)
+
+pub rows_are : {K C S : Type 0} (m : Machine K C S) (w : World K C S) (es : List Event) → AllOf (IsRowOf m) w.history → AllOf (IsRowOf m) (run m w es).history
+rows_are m w [] h = h
+rows_are m w (e ∷ es) h =
+    let g = happens_gains m w e in
+    rows_are m (happens m w e).0 es (subst (AllOf (IsRowOf m)) (sym g.history) (all_parts (IsRowOf m) w.history g.derived h g.roots))

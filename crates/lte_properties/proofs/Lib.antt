@@ -9,3 +9,5 @@ pub mod Opening
 pub mod SameKeys
 pub mod AccountsHold
 pub mod StepByStep
+pub mod OctetLaws
+pub mod HeadlineHolds

@@ -1,6 +1,6 @@
 -- What the phone takes at a step was made at an earlier one.
 use Rattle.std.proofs.Common.{◌≡◌, refl, sym, ap, ◌∙◌, subst, ℕ, zero, suc, ◌<◌, arith, Bool, true, false, cond, List, [], ◌∷◌, ◌++◌, take, Option, Some, None, inl, inr}
-use Rattle.std.specs.Prelude.{◌⊎◌, slice_get, find, ⊤}
+use Rattle.std.specs.Prelude.{◌⊎◌, slice_get, find}
 use Rattle.std.specs.Option.{option_or}
 use Rattle.std.proofs.lemmas.List.Folds.{find-append}
 use Rattle.lte_events.specs.declared.events.Event.{Event}
@@ -8,15 +8,15 @@ use Rattle.lte_events.specs.declared.lines.Who.{Who}
 use Rattle.lte_events.specs.declared.setups.Setup.{Setup}
 use Rattle.key_model.specs.Chain.{ncc_of}
 use Rattle.key_model.specs.Term.{Term, Root}
-use Rattle.key_model.specs.Value.{value_of, same_value}
+use Rattle.key_model.specs.Value.{same_value}
 use Rattle.lte_machine.specs.BothRuns.{annex_b_terms, written_run}
 use Rattle.lte_machine.specs.ByEvent.{IsStep}
 use Rattle.lte_machine.specs.Ciphers.{annex_b, octets_of}
 use Rattle.lte_machine.specs.Machines.{sender_of, written_machine, written_in_values}
 use Rattle.lte_machine.specs.Opening.{open_octets, open_by_uses}
 use Rattle.lte_machine.specs.Ranges.{AllOf, IsEvent, IsSetup}
-use Rattle.lte_machine.specs.Reply.{Note, Made, Came, Secured, Commanded, Changed, Took}
-use Rattle.lte_machine.specs.Run.{RunState, Running, Stopped, after, turn, replay, run, first_world}
+use Rattle.lte_machine.specs.Reply.{Made, Came, Secured, Commanded, Changed, Took}
+use Rattle.lte_machine.specs.Run.{Running, Stopped, after, turn, run, first_world}
 use Rattle.lte_machine.specs.Step.{StepResult, Continues, Stops, next}
 use Rattle.lte_machine.specs.Wire.{Outgoing}
 use Rattle.lte_machine.specs.World.{World, Line, happens}

@@ -8,9 +8,10 @@ use Rattle.lte_events.specs.declared.events.Event.{Event}
 use Rattle.lte_events.specs.declared.lines.Who.{Who}
 use Rattle.s1x2_rec.specs.Content.{Content}
 use Rattle.key_model.specs.Term.{Term}
-use Rattle.lte_machine.specs.Ladder.{RowOrigin, row_key}
+use Rattle.lte_machine.specs.Ladder.{RowOrigin, OfRoot, Of, row_key}
+use Rattle.lte_machine.specs.Ranges.{AllOf}
 use Rattle.lte_machine.specs.StationStep.{key_read}
-use Rattle.lte_machine.specs.Wire.{KeyUse, Outgoing, uses_of}
+use Rattle.lte_machine.specs.Wire.{Outgoing, uses_of}
 use Rattle.lte_machine.specs.World.{Machine, World, Line, Holder, AtPhone, AtCore, AtStation, Holding, chosen, happens}
 
 -- the uses are what the records sent were ciphered and sealed with, in order
@@ -48,15 +49,22 @@ with_read (Some key) keys = key ∷ keys
 abbrev pub each_holds : {K : Type 0} → List Holder → K → List (Holding K)
 each_holds holders key = map (λ h. record { holder = h; key = key }) holders
 
+-- a row of the history is a derivation, or a root of the machine: a KASME of an authentication
+abbrev pub IsRowOf : {K C S : Type 0} → Machine K C S → RowOrigin K → Type 0
+IsRowOf m (OfRoot key) = (number : ℕ) × (octets : List ℕ) × (key ≡ m.root number octets)
+IsRowOf m (Of d) = ⊤
+
 -- an event adds to the holders exactly these: who acts, with the key that came and with each root and key that the event
 -- adds to the history
-pub record Gains {K C S : Type 0} (w : World K C S) (came : Option K) (h : World K C S × Line K) : Type 0 where
+pub record Gains {K C S : Type 0} (m : Machine K C S) (w : World K C S) (came : Option K) (h : World K C S × Line K) : Type 0 where
   pub derived : List (RowOrigin K)
   pub history : h.0.history ≡ w.history ++ derived
+  -- each root is one of the machine's
+  pub roots : AllOf (IsRowOf m) derived
   pub held : h.0.held ≡ w.held ++ flat_map (each_holds (holders_of h.1.who)) (with_read came (map row_key derived))
 
 -- at each event of a run
 abbrev pub HoldersGain : {K C S : Type 0} → Machine K C S → World K C S → List Event → Type 0
 HoldersGain m w [] = ⊤
 HoldersGain m w (e ∷ es) =
-    let h = happens m w e in Gains w (key_delivered m w e) h × HoldersGain m h.0 es
+    let h = happens m w e in Gains m w (key_delivered m w e) h × HoldersGain m h.0 es

@@ -133,25 +133,25 @@ abbrev pub OneTerm : {S : Type 0} → World Term ℕ S → Type 0
 OneTerm w = AllOf (λ x. AllOf (λ y. x.station ≡ y.station → x.air ≡ y.air → x.key ≡ y.key) w.took) w.took
 
 -- the context of a station at an air address
-abbrev pub ContextAt : ℕ → Option (Context Term ℕ) → (Context Term ℕ → Type 0) → Type 0
+abbrev pub ContextAt : {K C : Type 0} → ℕ → Option (Context K C) → (Context K C → Type 0) → Type 0
 ContextAt air None P = ⊤
 ContextAt air (Some c) P = c.air ≡ air → P c
 
 -- of each station of this number
-abbrev pub AtStation : {S : Type 0} → World Term ℕ S → ℕ → (Station Term ℕ → Type 0) → Type 0
+abbrev pub AtStation : {K C S : Type 0} → World K C S → ℕ → (Station K C → Type 0) → Type 0
 AtStation w id P = AllOf (λ s. s.id ≡ id → P s) w.stations
 
 -- phone and station have one key, one chain number and the same algorithms
-abbrev pub Agree : Link Term ℕ → Context Term ℕ → Type 0
+abbrev pub Agree : {K C : Type 0} → Link K C → Context K C → Type 0
 Agree l c = (l.kenb ≡ c.key.kenb) × (l.chain.number ≡ c.key.number) × (l.keys ≡ c.keys) × (l.keys.algs ≡ c.algs)
 
-abbrev pub JoinedBy : {S : Type 0} → World Term ℕ S → Radio Term ℕ → Type 0
+abbrev pub JoinedBy : {K C S : Type 0} → World K C S → Radio K C → Type 0
 JoinedBy w Idle = ⊤
 JoinedBy w (Connecting waiting) = ⊤
 JoinedBy w (Connected l) = AtStation w l.station (λ s. ContextAt l.air s.context (Agree l))
 
 -- wherever the phone is connected at a station and air address, and the station's context has that air address
-abbrev pub JoinedAgree : {S : Type 0} → World Term ℕ S → Type 0
+abbrev pub JoinedAgree : {K C S : Type 0} → World K C S → Type 0
 JoinedAgree w = JoinedBy w w.phone.radio
 
 -- the key made there was eight or more steps ahead of the phone's key before

@@ -10,3 +10,5 @@ pub mod Packets
 pub mod Origins
 pub mod Accounts
 pub mod BySteps
+pub mod InOctets
+pub mod Headline

@@ -8,6 +8,8 @@
 mod accounts;
 mod by_steps;
 mod chain;
+mod headline;
+mod in_octets;
 mod keys_agree;
 mod keys_shared;
 mod keys_told;
@@ -19,6 +21,8 @@ mod uses_differ;
 pub use accounts::{holders_derived_or_received_each_key, uses_are_those_of_the_records_sent};
 pub use by_steps::each_step_of_a_run_agrees;
 pub use chain::chain_numbers_hold_in_every_run;
+pub use headline::the_headline_holds;
+pub use in_octets::runs_in_octets_keep_what_terms_do;
 pub use keys_agree::phone_and_target_agree_in_every_run;
 pub use keys_shared::only_source_and_target_share_the_key_in_every_run;
 pub use keys_told::lines_tell_the_keys_in_every_run;

@@ -1,0 +1,103 @@
+-- The headline holds of every setup and events in range.
+use Rattle.std.proofs.Common.{◌≡◌, ◌≢◌, arith, refl, sym, subst, ℕ, ◌<◌, ◌≤◌, List, take}
+use Rattle.lte_events.specs.declared.events.Event.{Event}
+use Rattle.lte_events.specs.declared.setups.Setup.{Setup}
+use Rattle.key_model.specs.Term.{Term, Root}
+use Rattle.key_model.specs.Value.{same_value}
+use Rattle.lte_machine.specs.BothRuns.{annex_b_terms, written_run, octet_run}
+use Rattle.lte_machine.specs.ByEvent.{IsValueOfRun}
+use Rattle.lte_machine.specs.Ciphers.{annex_b, octets_of}
+use Rattle.lte_machine.specs.Machines.{Kept, machine_in_octets, sender_of, written_machine, written_in_values}
+use Rattle.lte_machine.specs.Opening.{open_octets, open_by_uses}
+use Rattle.lte_machine.specs.Ranges.{AllOf, IsEvent, IsSetup}
+use Rattle.lte_machine.specs.Reply.{Made, Came, Secured, Commanded, Changed, Took}
+use Rattle.lte_machine.specs.Run.{Running, run, first_world}
+use Rattle.lte_machine.specs.Wire.{Outgoing}
+use Rattle.lte_machine.specs.World.{World, Line}
+use Rattle.lte_machine.proofs.AnnexB.{annex_b_ciphers}
+use Rattle.lte_machine.proofs.EventByEvent.{written_still, ends_at}
+use Rattle.lte_machine.proofs.StillRun.{still_is_run}
+use Rattle.lte_machine.proofs.WholeRun.{tale_is_value}
+use Rattle.lte_properties.specs.Accounts.{UsesAreThoseSent}
+use Rattle.lte_properties.specs.Agreement.{ahead, TookMade, NoneThere, ObeysMade, Agrees}
+use Rattle.lte_properties.specs.BySteps.{Follows}
+use Rattle.lte_properties.specs.Headline.{OfTarget, Headline}
+use Rattle.lte_properties.specs.Separation.{Separates}
+use Rattle.lte_properties.proofs.AccountsHold.{uses_are_sent}
+use Rattle.lte_properties.proofs.EveryLine.{each_of_first}
+use Rattle.lte_properties.proofs.EveryRun.{agrees, none_ever, shared}
+use Rattle.lte_properties.proofs.KeySeparation.Ever.{separation_holds}
+use Rattle.lte_properties.proofs.OctetLaws.{uses_octets, joined_octets, no_kasme_octets, packet_told}
+use Rattle.lte_properties.proofs.StepByStep.{follows, step_completed}
+
+abbrev TheWorld : Type 0
+TheWorld = World Term ℕ (Outgoing Term ℕ)
+
+-- near and far, of a handover command and of a key change
+near_took : (x : Took Term ℕ) (m : Made Term ℕ) (came : Came Term ℕ) → ObeysMade x came m → ahead m came < 8 → TookMade x m
+near_took x m Secured o low = o.0
+near_took x m (Commanded before) o low = o.near low
+near_took x m (Changed before root) o low = o.near low
+
+far_differs : (x : Took Term ℕ) (m : Made Term ℕ) (came : Came Term ℕ) → ObeysMade x came m → 8 ≤ ahead m came → x.key ≢ m.key
+far_differs x m Secured o low = absurd (omega (arith, low))
+far_differs x m (Commanded before) o low = (o.far low).0
+far_differs x m (Changed before root) o low = o.far low
+
+of_target : (setup : Setup) (events : List Event) (k : ℕ) (x : Took Term ℕ) (came : Came Term ℕ) (line : Line Term) → x.came ≡ came → Follows setup events k x line → OfTarget setup events k x came line
+of_target setup events k x came line is f = record {
+  made = f.made;
+  when = f.when;
+  told = f.told;
+  makes = f.makes;
+  earlier = f.earlier;
+  station = f.there.0;
+  air = f.there.1;
+  near = λ low. (near_took x f.made came obeys low, f.near (subst (λ c. ahead f.made c < 8) (sym is) low));
+  far = λ high. far_differs x f.made came obeys high;
+}
+  where
+    obeys : ObeysMade x came f.made
+    obeys = subst (λ c. ObeysMade x c f.made) is f.obeys
+
+module _ (setup : Setup) (events : List Event) (set : IsSetup setup) (are : AllOf IsEvent events) where
+  first : (n : ℕ) → AllOf IsEvent (take n events)
+  first n = each_of_first n events are
+
+  value : (n : ℕ) (u : World (List ℕ) ℕ Kept) → octet_run setup (take n events) ≡ Running u → IsValueOfRun setup (take n events) u
+  value n u runs = written_still setup (take n events) set (first n) u runs
+
+  agree : (n : ℕ) (w : TheWorld) → written_run setup (take n events) ≡ Running w → Agrees w
+  agree n w runs = agrees annex_b annex_b_ciphers setup (take n events) w runs set (first n)
+
+  here : (n : ℕ) (w : TheWorld) → written_run setup (take n events) ≡ Running w → w ≡ run (written_machine annex_b) (first_world setup) (take n events)
+  here n w runs = still_is_run (open_octets annex_b_terms) (written_machine annex_b) (first_world setup) (take n events) w runs
+
+  never_there : (m : ℕ) (v : TheWorld) → written_run setup (take m events) ≡ Running v → (n : ℕ) (w : TheWorld) → written_run setup (take n (take m events)) ≡ Running w → NoneThere w v
+  never_there m v runs n w way =
+      let none = none_ever annex_b annex_b_ciphers setup (take m events) v runs set (first m) n in
+      subst (λ (a : TheWorld). NoneThere w a) (sym (here m v runs))
+      (subst (λ (a : TheWorld). NoneThere a (run (written_machine annex_b) (first_world setup) (take m events)))
+      (sym (still_is_run (open_octets annex_b_terms) (written_machine annex_b) (first_world setup) (take n (take m events)) w way)) none)
+
+  pub headline : Headline setup events
+  headline = record {
+    report = tale_is_value annex_b annex_b_ciphers setup set events are;
+    values = value;
+    ends = λ chance over. ends_at (open_octets annex_b) (machine_in_octets annex_b) (first_world setup) events chance over;
+    agreement = λ k x before line h. of_target setup events k x (Commanded before) line h.1 (follows setup events set are k x line h.0);
+    renewal = λ k x before root line h is. of_target setup events k x (Changed before root) line is (follows setup events set are k x line h);
+    last = λ n w runs. (agree n w runs).last;
+    never = never_there;
+    completed = λ n w runs. (agree n w runs).completed;
+    told = λ k w e u line is. step_completed setup events set are k w e u line is;
+    joined = λ n u runs. joined_octets setup (take n events) u (value n u runs) set (first n);
+    opening = λ k sent h. packet_told setup events set are k sent h;
+    freshness = λ n u runs. uses_octets setup (take n events) u (value n u runs);
+    all_uses = λ n w runs. subst (λ (v : TheWorld). UsesAreThoseSent v) (sym (here n w runs))
+        (uses_are_sent same_value Root (octets_of annex_b_terms written_in_values) sender_of (open_by_uses same_value annex_b_terms) (first_world setup) (take n events) refl);
+    shared = λ n w runs. shared annex_b annex_b_ciphers setup (take n events) w runs set (first n);
+    separation = λ n w runs. subst (λ (v : TheWorld). Separates setup.cells v) (sym (here n w runs))
+        (separation_holds same_value annex_b_terms written_in_values setup (take n events));
+    no_kasme = λ n u runs. no_kasme_octets setup (take n events) u (value n u runs);
+  }

@@ -1,0 +1,44 @@
+-- What is said of a run in octets: of the worlds by which it goes on, and of what it tells.
+use Rattle.std.specs.Prelude.{◌≡◌, ℕ, ℤ, List, take, slice_get, Some}
+use Rattle.lte_events.specs.declared.answers.Answer.TheVariants.{Done}
+use Rattle.lte_events.specs.declared.events.Event.{Event}
+use Rattle.lte_events.specs.declared.setups.Setup.{Setup}
+use Rattle.key_model.specs.Term.{Term}
+use Rattle.lte_machine.specs.BothRuns.{octet_run, octet_report}
+use Rattle.lte_machine.specs.ByEvent.{IsStep}
+use Rattle.lte_machine.specs.Ladder.{OfRoot}
+use Rattle.lte_machine.specs.Machines.{Kept}
+use Rattle.lte_machine.specs.Run.{Running, Reported}
+use Rattle.lte_machine.specs.Wire.{Outgoing}
+use Rattle.lte_machine.specs.World.{World, Line, AtStation, chosen}
+use Rattle.lte_properties.specs.Agreement.{IsIn}
+use Rattle.lte_properties.specs.Packets.{IsPacket, IsReady, InWindow, next_for, count_of, window_of}
+
+-- in each world by which the run in octets goes on
+abbrev pub EachWorld : Setup → List Event → (World (List ℕ) ℕ Kept → Type 0) → Type 0
+EachWorld setup events P = (n : ℕ) (u : World (List ℕ) ℕ Kept) → octet_run setup (take n events) ≡ Running u → P u
+
+-- no station ever held the octets of a KASME (TS 33.401 6.2)
+abbrev pub NoKasmeHeld : World (List ℕ) ℕ Kept → Type 0
+NoKasmeHeld u =
+    (id : ℕ) (key : List ℕ) → IsIn (record { holder = AtStation id; key = key }) u.held → IsIn (OfRoot key) u.history → ⊥
+
+-- step k delivers a packet, as it was sent, to a receiver that is ready for it, and in whose window its COUNT is
+pub record BringsPacket (setup : Setup) (events : List Event) (k : ℕ) (sent : List ℕ) : Type 0 where
+  pub number : ℤ
+  pub packet : Outgoing Term ℕ
+  pub world : World Term ℕ (Outgoing Term ℕ)
+  pub after : World Term ℕ (Outgoing Term ℕ)
+  pub line : Line Term
+  pub step : IsStep setup events k world (Event.Deliver number) after line
+  pub record_sent : chosen number world.sent ≡ Some packet
+  pub is_packet : IsPacket packet sent
+  pub ready : IsReady world packet
+  pub in_window : InWindow (next_for world packet) (count_of packet) (window_of packet)
+
+-- what the run in octets tells at place k: it is done, and opened this text
+pub record TellsText (setup : Setup) (events : List Event) (k : ℕ) (sent : List ℕ) : Type 0 where
+  pub line : Line (List ℕ)
+  pub told : slice_get (octet_report setup events) k ≡ Some (Reported line)
+  pub done : line.answer ≡ Done
+  pub opened : line.opened ≡ Some sent
