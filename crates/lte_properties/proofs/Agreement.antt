@@ -4,6 +4,7 @@ pub mod Core
 pub mod CoreOpens
 pub mod Events
 mod Examples
+mod StepExamples
 pub mod Follows
 pub mod Ghost
 pub mod Holds
