@@ -9,6 +9,8 @@ mod core_context;
 mod core_judging;
 mod core_nas;
 mod core_partial;
+#[cfg(test)]
+mod core_tests;
 mod judging;
 mod opening;
 mod partial;
