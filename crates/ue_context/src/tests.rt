@@ -1,5 +1,6 @@
 // The octets come from an independent implementation of the profile, and for other NCCs and COUNTs from
-// HMAC-SHA-256, AES-CTR and AES-CMAC of another implementation, under the KASME of octets 00 to 1f.
+// HMAC-SHA-256, AES-CTR and AES-CMAC of another implementation, under the
+// KASMEs of octets 00 to 1f and of octets 20 to 3f.
 ghost use Rattle.std.specs.Prelude.{◌≤◌, length};
 ghost use Rattle.ue_context.specs.Acts.{IsInput};
 
@@ -43,6 +44,16 @@ const AT_HOME: [u8; 32] = [
     0xb8, 0x99, 0x6f, 0x22, 0xdc, 0x78, 0x2c, 0x22, 0x6f, 0x0e, 0x1f, 0x47, 0x08, 0x3b, 0x5d, 0xee,
 ];
 
+const RENEWAL: [u8; 18] = [
+    0x01, 0xda, 0x1d, 0x93, 0x0f, 0xb7, 0x00, 0x4e, 0x71, 0xe2, 0x62, 0x5a, 0x28, 0xf7, 0xf5, 0xed,
+    0xf9, 0xf4,
+];
+
+const RENEWED: [u8; 32] = [
+    0x4a, 0x1b, 0x24, 0xcf, 0x07, 0x3e, 0xe5, 0x34, 0x01, 0x07, 0xb2, 0x77, 0x55, 0x2f, 0x59, 0x8e,
+    0xf4, 0x44, 0x39, 0xc9, 0x99, 0x85, 0xe9, 0x15, 0xc4, 0xdb, 0x0b, 0x21, 0xde, 0x0a, 0xc2, 0x64,
+];
+
 fn octets(of: &[u8]) -> Octets
     requires { length of.now ≤ 1536 }
 {
@@ -59,17 +70,24 @@ fn signal(station: u8, air: u32, pdu: &[u8]) -> PhoneIn
     PhoneIn::Air(station, air, Bearer::Srb1, octets(pdu))
 }
 
+// The KASME of 32 octets that rise from this one.
+fn kasme(first: u8) -> Kasme
+    requires { first ≤ 32 }
+{
+    let mut octets = [0; 32];
+    for i in 0..32u8 {
+        octets[i as usize] = first + i;
+    }
+    Kasme::of_octets(octets)
+}
+
 // A phone with a NAS context, which waits for the security of its connection.
 fn waiting() -> Phone {
-    let mut root = [0; 32];
-    for i in 0..32u8 {
-        root[i as usize] = i;
-    }
     let mut phone = Phone::new(Caps {
         eea: 0xa0,
         eia: 0x20,
     });
-    let _ = phone.step(&PhoneIn::Auth(0, Kasme::of_octets(root)));
+    let _ = phone.step(&PhoneIn::Auth(0, kasme(0)));
     let _ = phone.step(&PhoneIn::Nas(octets(&COMMAND)));
     phone
 }
@@ -269,4 +287,38 @@ fn forged_and_late_records_change_nothing(rt: HostRuntime) {
     let out = phone.step(&signal(0, 1, &ORDER));
     assert_eq!(rt; out.answer, Answer::NotAddressed);
     assert_eq!(rt; phone.kenb(), Some(AT_TARGET));
+}
+
+#[test]
+fn key_change_begins_a_new_chain(rt: HostRuntime) {
+    let mut phone = connected();
+    let out = phone.step(&signal(0, 1, &RENEWAL));
+    assert_eq!(rt; out.answer, Answer::NoTrigger);
+    let _ = phone.step(&PhoneIn::Auth(1, kasme(32)));
+    let command = [
+        0x37, 0xe9, 0x02, 0xea, 0x62, 0x00, 0x01, 0x01, 0x22, 0xa0, 0x20,
+    ];
+    let out = phone.step(&PhoneIn::Nas(octets(&command)));
+    let complete = [0x47, 0x64, 0x16, 0x7f, 0xe2, 0x00, 0x49];
+    expect_sent(&rt, &out, Address::CoreNas, &complete);
+    assert_eq!(rt; out.derived.as_slice().len(), 2);
+    assert_eq!(rt; phone.kenb(), Some(KENB));
+    let out = phone.step(&signal(0, 1, &RENEWAL));
+    let complete = [0x00, 0x3b, 0xe9, 0xb2, 0xbb, 0xd3];
+    expect_sent(
+        &rt,
+        &out,
+        Address::StationAir(0, 3, Bearer::Srb1),
+        &complete,
+    );
+    assert_eq!(rt;
+        out.note,
+        Some(KeyNote {
+            ncc: 0,
+            way: Way::Initial,
+            key: RENEWED
+        })
+    );
+    assert_eq!(rt; out.derived.as_slice().len(), 5);
+    assert_eq!(rt; phone.kenb(), Some(RENEWED));
 }
