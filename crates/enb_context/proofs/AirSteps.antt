@@ -10,7 +10,7 @@ use Rattle.rec_base.specs.declared.bearers.Bearer.{Bearer}
 use Rattle.rec_base.specs.declared.bearers.Bearer.TheVariants.{Srb1, Srb2, Drb1, Drb2, Drb3, Drb4}
 use Rattle.ho_prep.specs.Prep.{Prep, map_prep, at_air}
 use Rattle.lte_machine.specs.Reply.{unseen}
-use Rattle.lte_machine.proofs.StationLists.{at_air_map}
+use Rattle.ho_prep.proofs.CarryFacts.{at_air-map}
 use Rattle.rec_base.specs.declared.faults.RecFault.{RecFault}
 use Rattle.rec_base.specs.declared.uses.Dir.TheVariants.{Up}
 use Rattle.rrc_rec.specs.declared.records.RrcRecord.{RrcRecord}
@@ -146,7 +146,7 @@ at_prep s p air pdu elsewhere found =
     (λ count. rw found refl) (λ count w g. refl) (λ count text. refl) 0
   where
     prep_front : at_air air (map_preps unseen octet_reading.ncc s.preps) ≡ Some (map_prep unseen octet_reading.ncc p)
-    prep_front = at_air_map unseen octet_reading.ncc air s.preps ∙ ap (option_map (map_prep unseen octet_reading.ncc)) found
+    prep_front = at_air-map unseen octet_reading.ncc air s.preps ∙ ap (option_map (map_prep unseen octet_reading.ncc)) found
 
     at_context : (o : Option (Context (List ℕ) ℕ)) → IsElsewhere air o
         → air_front_by (option_map (map_context unseen octet_reading.ncc) o) (at_air air (map_preps unseen octet_reading.ncc s.preps)) air (OnSrb Signalling1) pdu
@@ -214,7 +214,7 @@ prep_absent s air bearer pdu out elsewhere none told =
     ap (λ x. (s, x)) told ∙ sym (fronted s air bearer pdu (AirSettled (AirRefused NotAddressed)) (at_context s.context elsewhere))
   where
     prep_front : at_air air (map_preps unseen octet_reading.ncc s.preps) ≡ None
-    prep_front = at_air_map unseen octet_reading.ncc air s.preps ∙ ap (option_map (map_prep unseen octet_reading.ncc)) none
+    prep_front = at_air-map unseen octet_reading.ncc air s.preps ∙ ap (option_map (map_prep unseen octet_reading.ncc)) none
 
     at_context : (o : Option (Context (List ℕ) ℕ)) → IsElsewhere air o
         → air_front_by (option_map (map_context unseen octet_reading.ncc) o) (at_air air (map_preps unseen octet_reading.ncc s.preps)) air (which bearer) pdu
@@ -228,7 +228,7 @@ prep_other s p air bearer pdu out elsewhere found other told =
     ap (λ x. (s, x)) told ∙ sym (fronted s air bearer pdu (AirSettled (AirRefused NotActive)) (at_context s.context elsewhere))
   where
     prep_front : at_air air (map_preps unseen octet_reading.ncc s.preps) ≡ Some (map_prep unseen octet_reading.ncc p)
-    prep_front = at_air_map unseen octet_reading.ncc air s.preps ∙ ap (option_map (map_prep unseen octet_reading.ncc)) found
+    prep_front = at_air-map unseen octet_reading.ncc air s.preps ∙ ap (option_map (map_prep unseen octet_reading.ncc)) found
 
     settled : (on : Which) → is_first on ≡ false → prepared_front (Some (map_prep unseen octet_reading.ncc p)) air on pdu ≡ AirSettled (AirRefused NotActive)
     settled (OnSrb Signalling1) h = cc

@@ -2,20 +2,20 @@
 use Rattle.std.proofs.Common.{◌≡◌, ℕ, suc, ◌<◌, ◌≤◌, Bool, true, false, cond, List, [], ◌∷◌, ◌++◌, length, All, Some, None, find, refl, ap, sym, arith}
 use Rattle.std.specs.Prelude.{◌↔◌, Result, Ok, Err, IsErr, OnOk, IfSome, Option, None, nat_le, nat_lt, not, filter, ◌||◌}
 use Rattle.std.proofs.lemmas.Bool.Decides.{nat_tests}
+use Rattle.std.proofs.lemmas.List.{length-map}
 use Rattle.std.proofs.lemmas.List.Elements.{All-filter, All-push, All-nil}
-use Rattle.ho_prep.specs.Prep.{Prep, is_at, is_of, at_air, has_attempt, without, drop_below, most_preparations}
+use Rattle.ho_prep.proofs.CarryFacts.{has_attempt-map}
+use Rattle.ho_prep.specs.Prep.{Prep, map_prep, is_at, is_of, at_air, has_attempt, without, drop_below, most_preparations}
 use Rattle.lte_machine.specs.StationState.{map_preps, Context}
 use Rattle.enb_context.specs.Preps.{NoneAbove, IsWithin}
 
 -- a plain question has the same answer without keys
 module _ {K C L D : Type 0} (f : K → L) (g : C → D) where
   pub length_map_preps : (ps : List (Prep K C)) → length (map_preps f g ps) ≡ length ps
-  length_map_preps [] = refl
-  length_map_preps (p ∷ ps) = ap suc (length_map_preps ps)
+  length_map_preps ps = length-map ps (map_prep f g)
 
   pub has_attempt_map_preps : (source attempt : ℕ) (ps : List (Prep K C)) → has_attempt source attempt (map_preps f g ps) ≡ has_attempt source attempt ps
-  has_attempt_map_preps source attempt [] = refl
-  has_attempt_map_preps source attempt (p ∷ ps) = ap (λ rest. is_of source attempt p || rest) (has_attempt_map_preps source attempt ps)
+  has_attempt_map_preps source attempt ps = has_attempt-map f g source attempt ps
 
 pub none_above_nil : (last : ℕ) → NoneAbove last []
 none_above_nil last = record { all = All-nil _ }

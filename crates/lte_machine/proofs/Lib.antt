@@ -1,9 +1,7 @@
 pub mod Opens
 pub mod AnnexB
-pub mod ReachMap
 pub mod PhoneMap
 pub mod PhoneRefused
-pub mod StationLists
 pub mod StationPlain
 pub mod StationMap
 pub mod StationRefused

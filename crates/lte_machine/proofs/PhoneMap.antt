@@ -9,7 +9,7 @@ use Rattle.lte_events.specs.declared.answers.Answer.{Answer}
 use Rattle.key_model.specs.Reading.{Reading, Carries}
 use Rattle.key_model.specs.Derivation.{map_derivation}
 use Rattle.key_model.specs.Use.{map_use}
-use Rattle.nh_chain.specs.Reach.{Reached, reached_after}
+use Rattle.nh_chain.specs.Reach.{Reached, map_reached, reached_after}
 use Rattle.pdcp_guard.specs.AsKeys.{as_derivations}
 use Rattle.lte_machine.specs.Bearers.{Srb, Drb, Which}
 use Rattle.lte_machine.specs.Wire.{Ciphering, map_ciphering, ciphering_if}
@@ -20,7 +20,7 @@ use Rattle.lte_machine.specs.PhoneRows.{Authenticated, NasRow, NasRefused, Rejec
 use Rattle.lte_machine.specs.PhoneChoice.{NasFront, NasSettled, AtCommand, AtMessage, AirFront, AirSettled, AtStart, AtSignalling, AtPacket, PhoneFront, Settled, FromNas, FromAir, phone_front, phone_row}
 use Rattle.lte_machine.specs.PhoneKeys.{command_expects, message_expects, nas_expects, start_expects, signalling_expects, packet_expects, air_expects, phone_expects, authenticated, rejected_under, context_taken, context_taken_connected, nas_opened, nas_does, link_secured, arrived, handed_over, rrc_opened, packet_opened, air_does, service_requested, complete_resent, packet_sent, rrc_sent, nas_sent, nas_skipped, bearer_skipped, act_does, phone_does, before_of, reached_anew, changed_unless, key_changed}
 use Rattle.lte_machine.specs.PhoneStep.{phone_root, plain_phone, plain_input, front_of, phone_opens, phone_step, map_phone_step}
-use Rattle.lte_machine.proofs.ReachMap.{map_reached, reached_after-map}
+use Rattle.nh_chain.proofs.CarryFacts.{reached_after-map}
 
 -- the use under which a record was accepted
 accepted_of-map : {K L : Type 0} (f : K → L) (o : Opening K) (outcome : Outcome) → option_map (map_use f) (accepted_of o outcome) ≡ accepted_of (map_opening f o) outcome

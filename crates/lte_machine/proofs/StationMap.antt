@@ -1,5 +1,5 @@
 -- One step of a station, its keys read in another way, is the step of the station read so: opening and keys alike.
-use Rattle.std.specs.Prelude.{◌≡◌, ℕ, List, Option, Some, None, option_map, Result, Ok, Err}
+use Rattle.std.specs.Prelude.{◌≡◌, ℕ, List, [], ◌∷◌, Option, Some, None, option_map, Result, Ok, Err}
 use Rattle.std.proofs.Common.{refl, sym, ap, ◌∙◌}
 use Rattle.alg_choice.specs.declared.algs.Algs.{Algs}
 use Rattle.alg_choice.specs.declared.caps.Caps.{Caps}
@@ -27,7 +27,8 @@ use Rattle.lte_machine.specs.StationKeys as keys
 use Rattle.lte_machine.specs.StationRecords as record_keys
 use Rattle.lte_machine.specs.StationStep.{key_read, station_key, station_front_of, station_opens, station_row_of, station_step, map_station_done}
 use Rattle.lte_machine.proofs.StationPlain.{station_plain, input_plain}
-use Rattle.lte_machine.proofs.StationLists.{at_air_map, without_map, drop_below_map, push_map}
+use Rattle.ho_prep.proofs.CarryFacts.{at_air-map, without-map, drop_below-map}
+use Rattle.std.proofs.lemmas.List.{map-append}
 
 -- what a handover opens with, its keys read in another way
 abbrev map_opened : {K C L D : Type 0} → (K → L) → (C → D) → Opened K C → Opened L D
@@ -70,7 +71,7 @@ module _ {K C L D : Type 0} {r : Reading K C} {q : Reading L D} {f : K → L} {g
   air_expects_map (OnSignalling srb count) s = signalling_expects_map srb count s.context
   air_expects_map (OnUser drb count) s = user_expects_map drb count s.context
   air_expects_map (OnPrepared air by count) s =
-      prepared_expects_map count (at_air air s.preps) ∙ ap (keys.prepared_expects count) (sym (at_air_map f g air s.preps))
+      prepared_expects_map count (at_air air s.preps) ∙ ap (keys.prepared_expects count) (sym (at_air-map f g air s.preps))
 
   expects_map : (front : StationFront) (s : Station K C) →
       map_opening f (keys.station_expects front s) ≡ keys.station_expects front (map_station f g s)
@@ -122,7 +123,7 @@ module _ {K C L D : Type 0} {r : Reading K C} {q : Reading L D} {f : K → L} {g
   wanted_preps_map : (w : Wanted) (p : Prep K C) (s : Station K C) →
       map_station f g (record_keys.with_wanted w p s) ≡ record_keys.with_wanted w (map_prep f g p) (map_station f g s)
   wanted_preps_map w p s =
-      rw (push_map f g (drop_below w.conn s.preps) p, ← drop_below_map f g w.conn s.preps) refl
+      rw (map-append (map_prep f g) (drop_below w.conn s.preps) (p ∷ []), ← drop_below-map f g w.conn s.preps) refl
 
   prepared_by_x2_map : (w : Wanted) (key : Option (NumberedKey K C)) (s : Station K C) →
       map_station_done f g (record_keys.prepared_by_x2 r w key s)
@@ -227,7 +228,7 @@ module _ {K C L D : Type 0} {r : Reading K C} {q : Reading L D} {f : K → L} {g
   record_does_map (PreparedByX2 w) key s = prepared_by_x2_map w key s
   record_does_map (AckedByS1 ncc algs air) key s = rw (with_s1_ack_map ncc algs air s.context) refl
   record_does_map (AckedByX2 algs air) key s = rw (with_x2_ack_map algs air s.context) refl
-  record_does_map (PreparationCancelled from) key s = rw (← without_map f g from.source from.attempt s.preps) refl
+  record_does_map (PreparationCancelled from) key s = rw (← without-map f g from.source from.attempt s.preps) refl
   record_does_map SourceReleased key s = refl
   record_does_map (KeyRenewed conn number air count) key s = key_renewed_map conn number air count s.context key s
 
@@ -275,11 +276,11 @@ module _ {K C L D : Type 0} {r : Reading K C} {q : Reading L D} {f : K → L} {g
   air_does_map (SecurityStarted count) s = rw (with_security_map count s.context) refl
   air_does_map (RrcOpened srb count text) s = rw (with_rrc_taken_map srb count s.context) refl
   air_does_map (PacketOpened drb count text) s = rw (with_packet_taken_map drb count s.context) refl
-  air_does_map (CompletedByS1 air count) s = rw (at_air_map f g air s.preps) (completed_by_s1_map count (at_air air s.preps) s)
+  air_does_map (CompletedByS1 air count) s = rw (at_air-map f g air s.preps) (completed_by_s1_map count (at_air air s.preps) s)
   air_does_map (CompletedWithin air count origin) s =
-      rw (at_air_map f g air s.preps) (completed_within_map count origin (at_air air s.preps) s)
+      rw (at_air-map f g air s.preps) (completed_within_map count origin (at_air air s.preps) s)
   air_does_map (CompletedByX2 air count number) s =
-      rw (at_air_map f g air s.preps) (completed_by_x2_map count number (at_air air s.preps) s)
+      rw (at_air-map f g air s.preps) (completed_by_x2_map count number (at_air air s.preps) s)
 
   -- ACTS
 
@@ -316,7 +317,7 @@ module _ {K C L D : Type 0} {r : Reading K C} {q : Reading L D} {f : K → L} {g
       map_station_done f g (keys.started_within_with r number air cell x o s)
       ≡ keys.started_within_with q number air cell (map_context f g x) (map_opened f g o) (map_station f g s)
   started_within_with_map number air cell x o s =
-      rw (push_map f g s.preps (record_keys.own_prep r x.conn s.id number air cell x o.star), c.alg o.star.key 3 (identity_of x.algs.eea), c.alg o.star.key 4 eia2_identity, c.alg o.star.key 5 (identity_of x.algs.eea), c.ncc o.star.number) refl
+      rw (map-append (map_prep f g) s.preps (record_keys.own_prep r x.conn s.id number air cell x o.star ∷ []), c.alg o.star.key 3 (identity_of x.algs.eea), c.alg o.star.key 4 eia2_identity, c.alg o.star.key 5 (identity_of x.algs.eea), c.ncc o.star.number) refl
 
   started_within_map : (number air : ℕ) (cell : Place) (o : Option (Context K C)) (s : Station K C) →
       map_station_done f g (keys.started_within r number air cell o s)
@@ -414,7 +415,7 @@ module _ {K C L D : Type 0} {r : Reading K C} {q : Reading L D} {f : K → L} {g
   act_does_map (CancelledByX2 conn number target) s = rw (given_up_map s.context) refl
   act_does_map (CancelledByS1 conn number cell) s = rw (given_up_map s.context) refl
   act_does_map (CancelledWithin number) s =
-      rw (given_up_map s.context, ← without_map f g s.id number s.preps) refl
+      rw (given_up_map s.context, ← without-map f g s.id number s.preps) refl
   act_does_map (PathSwitchAsked number) s = asks_again_map number s.context s
   act_does_map (PacketSent drb count text) s = sends_packet_map drb count text s.context s
   act_does_map (RrcSent srb count text) s = sends_rrc_map srb count text s.context s

@@ -1,5 +1,5 @@
 -- A base station: what it keeps of the phone (TS 33.401 7.2.8, TS 36.331 5.3, TS 36.423), in keys K and chain numbers C.
-use Rattle.std.specs.Prelude.{ℕ, Bool, List, [], ◌∷◌, replicate, Option, None, option_map, Result, Ok, Err}
+use Rattle.std.specs.Prelude.{ℕ, Bool, List, [], map, replicate, Option, None, option_map, Result, Ok, Err}
 use Rattle.alg_choice.specs.declared.algs.Algs.{Algs}
 use Rattle.alg_choice.specs.declared.algs.Eea.{Eea}
 use Rattle.alg_choice.specs.declared.caps.Caps.{Caps}
@@ -144,10 +144,9 @@ map_context f g c = record {
   origin = c.origin;
 }
 
--- the preparations, one after the other
+-- the preparations
 abbrev pub map_preps : {K C L D : Type 0} → (K → L) → (C → D) → List (Prep K C) → List (Prep L D)
-map_preps f g [] = []
-map_preps f g (p ∷ ps) = map_prep f g p ∷ map_preps f g ps
+map_preps f g ps = map (map_prep f g) ps
 
 abbrev pub map_station : {K C L D : Type 0} → (K → L) → (C → D) → Station K C → Station L D
 map_station f g s = record {

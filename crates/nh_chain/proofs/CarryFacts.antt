@@ -52,7 +52,7 @@ module _ {K C L D : Type 0} (r : Reading K C) (q : Reading L D) (f : K → L) (g
       map-append (map_derivation f) (nhs_made r phone.root phone.sync steps) (star_made r (base_after r phone steps) cell.pci cell.earfcn ∷ [])
       ∙ (λ k. nhs_made-map phone.root phone.sync steps k ++ star k ∷ [])
 
-  reached_after-map : (chain : ChainState K C) (active : K) (steps : ℕ) (cell : Place) → map_reached f g (reached_after r chain active steps cell) ≡ reached_after q (map_chain f g chain) (f active) steps cell
+  pub reached_after-map : (chain : ChainState K C) (active : K) (steps : ℕ) (cell : Place) → map_reached f g (reached_after r chain active steps cell) ≡ reached_after q (map_chain f g chain) (f active) steps cell
   reached_after-map chain active steps cell = λ k. record {
     chain = climbed-map chain steps k;
     star = key_after-map r q f g c (phone_of chain active) steps cell.pci cell.earfcn k;
