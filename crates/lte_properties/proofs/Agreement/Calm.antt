@@ -41,8 +41,7 @@ use Rattle.rrc_rec.specs.declared.records.RrcRecord.{RrcRecord}
 use Rattle.rrc_rec.specs.declared.records.RrcRecord.TheVariants.{SecurityModeCommand, SecurityModeComplete, Reconfiguration, ReconfigurationComplete, RrcData, KeyChange}
 use Rattle.rrc_rec.specs.Reading.{read_rrc}
 use Rattle.pdcp_guard.specs.declared.pdus.PdcpFault.{PdcpFault}
-use Rattle.pdcp_guard.specs.Counts.{in_32_bits}
-use Rattle.pdcp_guard.specs.declared.counting.TheConstants.{LIMIT}
+use Rattle.pdcp_guard.specs.Counts.{in_32_bits, count_limit}
 use Rattle.pdcp_guard.specs.Srb.{srb_first, srb_sn, srb_count}
 use Rattle.pdcp_guard.specs.Drb.{drb_count}
 use Rattle.lte_machine.specs.Bearers.{srb_counts, drb_counts, OnDrb}
@@ -88,7 +87,7 @@ unfolding srb_count in_32_bits least
 count_low next pdu count e =
     by_test (λ r. r ≡ Ok count → next ≤ count) (nat_lt (length pdu) 5) _ _ (λ b f. absurd (no_fault _ PdcpFault.Short count refl f))
     (λ b. by_test (λ r. r ≡ Ok count → next ≤ count) (nat_lt (srb_first pdu) 32) _ _
-    (λ d f. low (ok_is (nat_lt (least next (srb_sn pdu) 32) LIMIT) (least next (srb_sn pdu) 32) count f))
+    (λ d f. low (ok_is (nat_lt (least next (srb_sn pdu) 32) count_limit) (least next (srb_sn pdu) 32) count f))
     (λ d f. absurd (no_fault _ (PdcpFault.BadHeader (srb_first pdu)) count refl f))) e
   where
     low : least next (srb_sn pdu) 32 ≡ count → next ≤ count

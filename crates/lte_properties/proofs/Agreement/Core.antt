@@ -17,7 +17,7 @@ use Rattle.key_model.specs.Term.{Term, Kenb, Nh}
 use Rattle.key_model.specs.Chain.{nh, ncc_of}
 use Rattle.key_model.specs.HandoverTable.{NumberedKey}
 use Rattle.key_model.specs.Reading.{term_reading_by}
-use Rattle.nas_count.specs.declared.sending.TheConstants.{LIMIT}
+use Rattle.nas_count.specs.Estimate.{count_limit}
 use Rattle.nas_guard.specs.Keys.{Keys}
 use Rattle.nh_chain.specs.Chain.{begun}
 use Rattle.s1x2_rec.specs.Fields.{Fields, InitialContext, ContextRelease, PathSwitchRequest, PathSwitchAnswer, HandoverRequired, HandoverRequest, HandoverRequestAck, HandoverCommand, HandoverNotify, HandoverCancel, X2Request, X2Ack, X2Cancel, X2Release, ContextModification}
@@ -387,7 +387,7 @@ module _ (same : Term → Term → Bool) (cells : List Site) (g : Ghost) (s : Co
 
   smc_walks : (partial : CorePartial (Unit {0})) (answer : Result Algs NoneChosen) → CoreActNeeds s (smc_row partial answer)
   smc_walks partial (Err none) = tt
-  smc_walks partial (Ok algs) = by_test (CoreActNeeds s) (nat_le LIMIT partial.send) _ _ (λ b. tt) (λ b. tt)
+  smc_walks partial (Ok algs) = by_test (CoreActNeeds s) (nat_le count_limit partial.send) _ _ (λ b. tt) (λ b. tt)
 
   start_walks : (priority : List Eea) (o : Option (CorePartial (Unit {0}))) (p : Option (Keys (Unit {0}))) → CoreActNeeds s (start_smc_row priority o p)
   start_walks priority None p = tt
@@ -406,7 +406,7 @@ module _ (same : Term → Term → Bool) (cells : List Site) (g : Ghost) (s : Co
 
   send_walks : (o : Option (CoreContext (Unit {0}))) (text : List ℕ) → CoreActNeeds s (send_nas_row o text)
   send_walks None text = tt
-  send_walks (Some c) text = by_test (CoreActNeeds s) (nat_le LIMIT c.nas.send) _ _ (λ b. tt) (λ b. tt)
+  send_walks (Some c) text = by_test (CoreActNeeds s) (nat_le count_limit c.nas.send) _ _ (λ b. tt) (λ b. tt)
 
   skip_walks : (o : Option (CoreContext (Unit {0}))) (n : ℕ) → CoreActNeeds s (skip_nas_row o n)
   skip_walks None n = tt

@@ -11,7 +11,7 @@ use Rattle.alg_choice.specs.Choice.{choice_of}
 use Rattle.annex_a_keys.specs.Cell.{Place}
 use Rattle.lte_events.specs.declared.acts.CoreAct.{CoreAct}
 use Rattle.lte_events.specs.declared.acts.CoreAct.TheVariants.{StartSmc, Connect, Release, SendNas, Skip}
-use Rattle.nas_count.specs.declared.sending.TheConstants.{LIMIT}
+use Rattle.nas_count.specs.Estimate.{count_limit}
 use Rattle.nas_guard.specs.Keys.{Keys}
 use Rattle.key_model.specs.Term.{Term}
 use Rattle.key_model.specs.HandoverTable.{NumberedKey}
@@ -94,7 +94,7 @@ module _ {K C : Type 0} (r : Reading K C) (s : Core K C) where
 -- a new connection has the next number
 smc_draws : (next : ℕ) (partial : CorePartial (Unit {0})) (chosen : Result Algs NoneChosen) → CoreDraws next (smc_row partial chosen)
 smc_draws next partial (Err none) = tt
-smc_draws next partial (Ok algs) = by_test (CoreDraws next) (nat_le LIMIT partial.send) _ _ (λ e. tt) (λ e. tt)
+smc_draws next partial (Ok algs) = by_test (CoreDraws next) (nat_le count_limit partial.send) _ _ (λ e. tt) (λ e. tt)
 
 start_smc_draws : (next : ℕ) (priority : List Eea) (o : Option (CorePartial (Unit {0}))) (p : Option (Keys (Unit {0}))) → CoreDraws next (start_smc_row priority o p)
 start_smc_draws next priority None p = tt
@@ -113,7 +113,7 @@ release_draws next (Some link) = tt
 
 send_nas_draws : (next : ℕ) (o : Option (CoreContext (Unit {0}))) (text : List ℕ) → CoreDraws next (send_nas_row o text)
 send_nas_draws next None text = tt
-send_nas_draws next (Some context) text = by_test (CoreDraws next) (nat_le LIMIT context.nas.send) _ _ (λ e. tt) (λ e. tt)
+send_nas_draws next (Some context) text = by_test (CoreDraws next) (nat_le count_limit context.nas.send) _ _ (λ e. tt) (λ e. tt)
 
 skip_nas_draws : (next : ℕ) (o : Option (CoreContext (Unit {0}))) (n : ℕ) → CoreDraws next (skip_nas_row o n)
 skip_nas_draws next None n = tt

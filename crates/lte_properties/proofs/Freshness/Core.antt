@@ -8,7 +8,7 @@ use Rattle.annex_a_keys.specs.Cell.{Place}
 use Rattle.rec_base.specs.declared.uses.Dir.TheVariants.{Down}
 use Rattle.key_model.specs.Term.{Term, Kenb, Alg}
 use Rattle.key_model.specs.Reading.{term_reading_by}
-use Rattle.nas_count.specs.declared.sending.TheConstants.{LIMIT}
+use Rattle.nas_count.specs.Estimate.{count_limit}
 use Rattle.nas_guard.specs.Keys.{Keys}
 use Rattle.nas_guard.specs.Seal.{nas_bearer}
 use Rattle.lte_machine.specs.Bearers.{skipped}
@@ -279,7 +279,7 @@ module _ (roots : ℕ) (given : Homes) where
   skipped_keeps : (n : ℕ) (s : Core Term ℕ) (o : Option (CoreContext Term)) → CoreStands roots given (record s { context = o }) →
       let d = nas_skipped n o (record s { context = o }) in CoreKeeps roots given (record s { context = o }) d.0 d.1.sent
   skipped_keeps n s None h = still (record s { context = None }) h
-  skipped_keeps n s (Some c) h = skipped_on s c (skipped n c.nas.send LIMIT) (omega arith) h
+  skipped_keeps n s (Some c) h = skipped_on s c (skipped n c.nas.send count_limit) (omega arith) h
 
   -- the KeNB of the trigger has no home yet, and gets the station of the cell
   set_up_keeps : (same : Term → Term → Bool) (conn : ℕ) (cell : Place) (target : ℕ) (caps : Caps) (count : ℕ) (s : Core Term ℕ) (o : Option (CoreContext Term)) (trigger : Option ℕ) →

@@ -12,9 +12,8 @@ use Rattle.lte_events.specs.declared.answers.Answer.{Answer}
 use Rattle.key_model.specs.Least.{least}
 use Rattle.key_model.specs.Reading.{Reading}
 use Rattle.key_model.specs.Term.{Term}
-use Rattle.nas_count.specs.Estimate.{estimate_of}
+use Rattle.nas_count.specs.Estimate.{estimate_of, count_limit}
 use Rattle.nas_count.specs.declared.sending.CountSpent.{CountSpent as NoneLeft}
-use Rattle.nas_count.specs.declared.sending.TheConstants.{LIMIT}
 use Rattle.nas_guard.specs.Keys.{Keys}
 use Rattle.nas_guard.specs.Open.{sn_in}
 use Rattle.nas_rec.specs.Reading.{read_nas}
@@ -43,7 +42,7 @@ least_above low x w = omega arith
 estimate_above : (next sn : ℕ) → OfCount (λ count. next ≤ count) (estimate_of next sn)
 unfolding estimate_of
 estimate_above next sn =
-    by_test (OfCount (λ count. next ≤ count)) (nat_lt (least next sn 256) LIMIT) _ _ (λ e. least_above next sn 256) (λ e. tt)
+    by_test (OfCount (λ count. next ≤ count)) (nat_lt (least next sn 256) count_limit) _ _ (λ e. least_above next sn 256) (λ e. tt)
 
 -- NAS MESSAGES
 
@@ -147,7 +146,7 @@ module _ (r : Reading Term ℕ) (s : Core Term ℕ) where
   smc_needs : (p : CorePartial Term) (chosen : Result Algs NoneChosen) → s.partial ≡ Some p → CoreActNeeds s (smc_row (map_core_partial unseen p) chosen)
   smc_needs p (Err none) e = tt
   smc_needs p (Ok algs) e =
-      by_test (CoreActNeeds s) (nat_le LIMIT p.send) _ _ (λ f. tt) (λ f. by_partial s.partial e)
+      by_test (CoreActNeeds s) (nat_le count_limit p.send) _ _ (λ f. tt) (λ f. by_partial s.partial e)
     where
       by_partial : (o : Option (CorePartial Term)) → o ≡ Some p → IfSome o (λ q. p.send ≡ q.send)
       by_partial None g = tt
@@ -177,7 +176,7 @@ module _ (r : Reading Term ℕ) (s : Core Term ℕ) where
   send_needs : (o : Option (CoreContext Term)) (text : List ℕ) → s.context ≡ o → CoreActNeeds s (send_nas_row (option_map (map_core_context unseen) o) text)
   send_needs None text e = tt
   send_needs (Some c) text e =
-      by_test (CoreActNeeds s) (nat_le LIMIT c.nas.send) _ _ (λ f. tt) (λ f. by_context s.context e)
+      by_test (CoreActNeeds s) (nat_le count_limit c.nas.send) _ _ (λ f. tt) (λ f. by_context s.context e)
     where
       by_context : (o : Option (CoreContext Term)) → o ≡ Some c → IfSome o (λ d. c.nas.send ≡ d.nas.send)
       by_context None g = tt

@@ -8,7 +8,7 @@ use Rattle.rec_base.specs.declared.uses.Dir.TheVariants.{Up}
 use Rattle.rec_base.specs.Bearer.{bearer5_of}
 use Rattle.key_model.specs.Term.{Term, Kenb, Star, Alg}
 use Rattle.key_model.specs.Reading.{term_reading, term_reading_by}
-use Rattle.nas_count.specs.declared.sending.TheConstants.{LIMIT as NAS_LIMIT}
+use Rattle.nas_count.specs.Estimate.{count_limit}
 use Rattle.rrc_rec.specs.declared.records.RrcRecord.{RrcRecord}
 use Rattle.nh_chain.specs.Chain.{begun}
 use Rattle.nh_chain.specs.Reach.{reached_after}
@@ -323,7 +323,7 @@ module _ (roots : ℕ) (taken : Homes) where
     nas_skipped_keeps : (n : ℕ) (o : Option (NasContext Term)) → PhoneStands roots taken (record s { context = o }) →
         let d = nas_skipped n (record s { context = o }) o in PhoneKeeps roots taken (record s { context = o }) d.0 d.1.sent d.1.took
     nas_skipped_keeps n None h = still roots taken (record s { context = None }) h
-    nas_skipped_keeps n (Some c) h = left_out roots taken s c (skipped n c.send NAS_LIMIT) (omega arith) h
+    nas_skipped_keeps n (Some c) h = left_out roots taken s c (skipped n c.send count_limit) (omega arith) h
 
     -- the phone goes idle
     idle_keeps : PhoneStands roots taken s → PhoneKeeps roots taken s (record s { radio = Idle }) None None

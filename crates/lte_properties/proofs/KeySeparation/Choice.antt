@@ -15,9 +15,8 @@ use Rattle.lte_events.specs.declared.acts.StationAct.{StationAct}
 use Rattle.lte_events.specs.declared.acts.HoKind.{HoKind}
 use Rattle.lte_events.specs.declared.answers.Answer.{Answer}
 use Rattle.key_model.specs.Least.{least}
-use Rattle.nas_count.specs.Estimate.{estimate_of}
+use Rattle.nas_count.specs.Estimate.{estimate_of, count_limit}
 use Rattle.nas_count.specs.declared.sending.CountSpent.{CountSpent as NoneLeft}
-use Rattle.nas_count.specs.declared.sending.TheConstants.{LIMIT}
 use Rattle.nas_guard.specs.Keys.{Keys}
 use Rattle.nas_guard.specs.Open.{sn_in}
 use Rattle.nas_rec.specs.Reading.{read_nas}
@@ -304,7 +303,7 @@ module _ (s : PlainStation) where
 -- the COUNT that a receiver takes
 estimate_at : (next sn count : ℕ) → estimate_of next sn ≡ Ok count → next ≤ count
 unfolding estimate_of least
-estimate_at next sn count e = by (nat_lt (least next sn 256) LIMIT) e where
+estimate_at next sn count e = by (nat_lt (least next sn 256) count_limit) e where
   value_or : Result ℕ NoneLeft → ℕ
   value_or (Ok n) = n
   value_or (Err spent) = count
@@ -406,7 +405,7 @@ ActTriggered trigger other = ⊤
 
 smc_triggered : (trigger : Option ℕ) (partial : CorePartial (Unit {0})) (chosen : Result Algs Unmatched) → ActTriggered trigger (smc_row partial chosen)
 smc_triggered trigger partial (Err none) = tt
-smc_triggered trigger partial (Ok algs) = by_test (ActTriggered trigger) (nat_le LIMIT partial.send) _ _ (λ e. tt) (λ e. tt)
+smc_triggered trigger partial (Ok algs) = by_test (ActTriggered trigger) (nat_le count_limit partial.send) _ _ (λ e. tt) (λ e. tt)
 
 start_smc_triggered : (trigger : Option ℕ) (priority : List Eea) (o : Option (CorePartial (Unit {0}))) (p : Option (Keys (Unit {0}))) → ActTriggered trigger (start_smc_row priority o p)
 start_smc_triggered trigger priority None p = tt
@@ -425,7 +424,7 @@ release_triggered trigger (Some link) = tt
 
 send_nas_triggered : (trigger : Option ℕ) (o : Option (CoreContext (Unit {0}))) (text : List ℕ) → ActTriggered trigger (send_nas_row o text)
 send_nas_triggered trigger None text = tt
-send_nas_triggered trigger (Some context) text = by_test (ActTriggered trigger) (nat_le LIMIT context.nas.send) _ _ (λ e. tt) (λ e. tt)
+send_nas_triggered trigger (Some context) text = by_test (ActTriggered trigger) (nat_le count_limit context.nas.send) _ _ (λ e. tt) (λ e. tt)
 
 skip_nas_triggered : (trigger : Option ℕ) (o : Option (CoreContext (Unit {0}))) (n : ℕ) → ActTriggered trigger (skip_nas_row o n)
 skip_nas_triggered trigger None n = tt

@@ -6,7 +6,7 @@ use Rattle.alg_choice.specs.declared.caps.Caps.{Caps}
 use Rattle.annex_a_keys.specs.Cell.{Place}
 use Rattle.lte_events.specs.Site.{Site}
 use Rattle.lte_events.specs.declared.addresses.Address.TheVariants.{StationS1}
-use Rattle.nas_count.specs.declared.sending.TheConstants.{LIMIT}
+use Rattle.nas_count.specs.Estimate.{count_limit}
 use Rattle.nas_guard.specs.Keys.{Keys}
 use Rattle.key_model.specs.Term.{Term, Kenb, Nh, IsRoot, IsDerivationKey, IsWellFormed}
 use Rattle.key_model.specs.Number.{chain_number}
@@ -363,7 +363,7 @@ module _ (roots : ℕ) (xs : List (Outgoing Term ℕ)) (sites : List Site) (trie
   nas_skipped_kept n (Some c) h =
       quiet (record s { context = Some c }) _ _ h refl h.partial h.context (triggered s.trigger h.trigger) (λ u k. k) (λ u id g. g) tt tt
     where
-      triggered : (tr : Option ℕ) → TriggerOk tr (Some c) → TriggerOk tr (Some (record c { nas = record c.nas { send = skipped n c.nas.send LIMIT } }))
+      triggered : (tr : Option ℕ) → TriggerOk tr (Some c) → TriggerOk tr (Some (record c { nas = record c.nas { send = skipped n c.nas.send count_limit } }))
       triggered None k = tt
       triggered (Some old) k = k
 

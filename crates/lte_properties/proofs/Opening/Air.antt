@@ -9,7 +9,7 @@ use Rattle.lte_events.specs.declared.answers.Answer.{Answer}
 use Rattle.key_model.specs.HandoverTable.{NumberedKey}
 use Rattle.key_model.specs.Term.{Term}
 use Rattle.key_model.specs.Reading.{Reading, term_reading_by}
-use Rattle.pdcp_guard.specs.declared.counting.TheConstants.{LIMIT}
+use Rattle.pdcp_guard.specs.Counts.{count_limit}
 use Rattle.pdcp_guard.specs.AsKeys.{AsKeys}
 use Rattle.rrc_rec.specs.declared.records.RrcRecord.{RrcRecord}
 use Rattle.rrc_rec.specs.declared.records.RrcRecord.TheVariants.{SecurityModeCommand, SecurityModeComplete, Reconfiguration, ReconfigurationComplete, RrcData, KeyChange}
@@ -55,11 +55,11 @@ keys_later g h l id air keys k = (k.0, k.1, l.made id air k.0 k.2, from_later g 
 abbrev pub RrcSealed : Ghost → Dir → ℕ → ℕ → Srb → KeyUse Term → Option (Ciphering Term) → List ℕ → Type 0
 RrcSealed g dir id air srb u e text =
     (sent : List ℕ) → text ≡ spelling_of (RrcData sent)
-    → (length sent ≤ 200) × (u.count < LIMIT) × (u.dir ≡ dir) × (keys : AsKeys Term) × KeysAre g id air keys × RrcUnder keys srb u e
+    → (length sent ≤ 200) × (u.count < count_limit) × (u.dir ≡ dir) × (keys : AsKeys Term) × KeysAre g id air keys × RrcUnder keys srb u e
 
 abbrev pub PacketSealed : Ghost → Dir → ℕ → ℕ → Drb → Ciphering Term → List ℕ → Type 0
 PacketSealed g dir id air drb e text =
-    (length text ≤ 1500) × (e.under.count < LIMIT) × (e.under.dir ≡ dir) × (keys : AsKeys Term) × KeysAre g id air keys × PacketUnder keys drb e
+    (length text ≤ 1500) × (e.under.count < count_limit) × (e.under.dir ≡ dir) × (keys : AsKeys Term) × KeysAre g id air keys × PacketUnder keys drb e
 
 abbrev pub AirOk : Ghost → Outgoing Term ℕ → Type 0
 AirOk g (SealedRrc dir id air srb u e text) = RrcSealed g dir id air srb u e text
@@ -126,8 +126,8 @@ FromStation g (Some x) = AirOk g x
 
 -- what a row needs: a COUNT that is left, and data in their range
 abbrev pub SendNeeds : station.ActRow → Type 0
-SendNeeds (station.PacketSent drb count text) = (count < LIMIT) × (length text ≤ 1500)
-SendNeeds (station.RrcSent srb count text) = (count < LIMIT) × (length text ≤ 200)
+SendNeeds (station.PacketSent drb count text) = (count < count_limit) × (length text ≤ 1500)
+SendNeeds (station.RrcSent srb count text) = (count < count_limit) × (length text ≤ 200)
 SendNeeds other = ⊤
 
 abbrev pub StationNeeds : StationRow → Type 0
@@ -224,12 +224,12 @@ module _ (same : Term → Term → Bool) (g : Ghost) where
   asks_sends number None s = tt
   asks_sends number (Some c) s = tt
 
-  packet_sends : (drb : Drb) (count : ℕ) (text : List ℕ) (o : Option (Context Term ℕ)) (s : Station Term ℕ) → ContextKeys g s.id o → (count < LIMIT) × (length text ≤ 1500)
+  packet_sends : (drb : Drb) (count : ℕ) (text : List ℕ) (o : Option (Context Term ℕ)) (s : Station Term ℕ) → ContextKeys g s.id o → (count < count_limit) × (length text ≤ 1500)
       → FromStation g (station_keys.sends_packet drb count text o s).1.sent
   packet_sends drb count text None s keys needs = tt
   packet_sends drb count text (Some c) s keys needs = (needs.1, needs.0, refl, c.keys, keys, refl)
 
-  rrc_sends : (srb : Srb) (count : ℕ) (text : List ℕ) (o : Option (Context Term ℕ)) (s : Station Term ℕ) → ContextKeys g s.id o → (count < LIMIT) × (length text ≤ 200)
+  rrc_sends : (srb : Srb) (count : ℕ) (text : List ℕ) (o : Option (Context Term ℕ)) (s : Station Term ℕ) → ContextKeys g s.id o → (count < count_limit) × (length text ≤ 200)
       → FromStation g (station_keys.sends_rrc srb count text o s).1.sent
   rrc_sends srb count text None s keys needs = tt
   rrc_sends srb count text (Some c) s keys needs = λ sent e.
@@ -266,12 +266,12 @@ module _ (same : Term → Term → Bool) (g : Ghost) where
   abbrev pub PacketNeeds : Drb → List ℕ → Radio Term ℕ → Type 0
   PacketNeeds drb text Idle = ⊤
   PacketNeeds drb text (Connecting w) = ⊤
-  PacketNeeds drb text (Connected l) = ((drb_counts drb l.bearers).send < LIMIT) × (length text ≤ 1500)
+  PacketNeeds drb text (Connected l) = ((drb_counts drb l.bearers).send < count_limit) × (length text ≤ 1500)
 
   abbrev pub RrcNeeds : Srb → List ℕ → Radio Term ℕ → Type 0
   RrcNeeds srb text Idle = ⊤
   RrcNeeds srb text (Connecting w) = ⊤
-  RrcNeeds srb text (Connected l) = ((srb_counts srb l.bearers).send < LIMIT) × (length text ≤ 200)
+  RrcNeeds srb text (Connected l) = ((srb_counts srb l.bearers).send < count_limit) × (length text ≤ 200)
 
   abbrev pub ActNeeds : Radio Term ℕ → phone.ActRow → Type 0
   ActNeeds radio (phone.PacketSent drb text) = PacketNeeds drb text radio

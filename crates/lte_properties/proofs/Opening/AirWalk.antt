@@ -9,9 +9,8 @@ use Rattle.lte_events.specs.declared.acts.StationAct.{StationAct}
 use Rattle.lte_events.specs.declared.acts.StationAct as station_acts
 use Rattle.key_model.specs.Term.{Term}
 use Rattle.key_model.specs.Reading.{Reading, term_reading_by}
-use Rattle.nas_count.specs.declared.sending.TheConstants.{LIMIT as NAS_LIMIT}
-use Rattle.pdcp_guard.specs.declared.counting.TheConstants.{LIMIT}
-use Rattle.pdcp_guard.specs.Counts.{Counts}
+use Rattle.nas_count.specs.Estimate.{count_limit as nas_limit}
+use Rattle.pdcp_guard.specs.Counts.{count_limit, Counts}
 use Rattle.x2_handover.specs.declared.orders.Order.{Order}
 use Rattle.lte_machine.specs.Bearers.{Which, OnSrb, OnDrb, which, is_spent, srb_counts, drb_counts}
 use Rattle.lte_machine.specs.Ranges.{IsPhoneAct, IsStationAct}
@@ -31,8 +30,8 @@ use Rattle.lte_events.specs.Site.{station_of}
 
 -- A STATION
 
-unless_needs : (counts : Counts) (row : station.ActRow) → (counts.send < LIMIT → SendNeeds row) → SendNeeds (choice.unless_spent counts row)
-unless_needs counts row f = by_test SendNeeds (is_spent counts) _ _ (λ e. tt) (λ e. f (above_of LIMIT counts.send e))
+unless_needs : (counts : Counts) (row : station.ActRow) → (counts.send < count_limit → SendNeeds row) → SendNeeds (choice.unless_spent counts row)
+unless_needs counts row f = by_test SendNeeds (is_spent counts) _ _ (λ e. tt) (λ e. f (above_of count_limit counts.send e))
 
 active_needs : (starting : Bool) (row : station.ActRow) → SendNeeds row → SendNeeds (choice.active_row starting row)
 active_needs true row h = tt
@@ -158,7 +157,7 @@ module _ (same : Term → Term → Bool) (g : Ghost) where
 
   under_needs : (radio : Radio Term ℕ) (o : Option (NasContext (Unit {0}))) (row : phone.ActRow) → Acts radio row → Acts radio (phone_choice.under_context o row)
   under_needs radio None row h = tt
-  under_needs radio (Some c) row h = left_unless radio (nat_le NAS_LIMIT c.send) row (λ e. h)
+  under_needs radio (Some c) row h = left_unless radio (nat_le nas_limit c.send) row (λ e. h)
 
   service_needs : (radio : Radio Term ℕ) (o : Option (NasContext (Unit {0}))) (plain : Radio (Unit {0}) ℕ) → Acts radio (phone_choice.service_row o plain)
   service_needs radio o Idle = under_needs radio o phone.ServiceRequested tt
@@ -182,7 +181,7 @@ module _ (same : Term → Term → Bool) (g : Ghost) where
   user_needs text short (OnDrb drb) (Connecting w) = tt
   user_needs text short (OnDrb drb) (Connected l) =
       let counts = drb_counts drb l.bearers in
-      left_unless (Connected l) (is_spent counts) (phone.PacketSent drb text) (λ e. (above_of LIMIT counts.send e, short))
+      left_unless (Connected l) (is_spent counts) (phone.PacketSent drb text) (λ e. (above_of count_limit counts.send e, short))
 
   signalling_needs : (text : List ℕ) → length text ≤ 200 → (on : Which) (radio : Radio Term ℕ) → Acts radio (phone_choice.rrc_sent_row text on (map_radio unseen r.ncc radio))
   signalling_needs text short (OnDrb drb) radio = tt
@@ -190,7 +189,7 @@ module _ (same : Term → Term → Bool) (g : Ghost) where
   signalling_needs text short (OnSrb srb) (Connecting w) = tt
   signalling_needs text short (OnSrb srb) (Connected l) =
       let counts = srb_counts srb l.bearers in
-      left_unless (Connected l) (is_spent counts) (phone.RrcSent srb text) (λ e. (above_of LIMIT counts.send e, short))
+      left_unless (Connected l) (is_spent counts) (phone.RrcSent srb text) (λ e. (above_of count_limit counts.send e, short))
 
   nas_left_needs : (radio : Radio Term ℕ) (n : ℕ) (o : Option (NasContext (Unit {0}))) → Acts radio (phone_choice.nas_skipped_row n o)
   nas_left_needs radio n None = tt

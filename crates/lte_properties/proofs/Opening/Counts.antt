@@ -7,12 +7,10 @@ use Rattle.std.proofs.Math.Nat.{mod-mod}
 use Rattle.key_model.specs.Least.{least}
 use Rattle.key_model.proofs.LeastFacts.{least_in_window}
 use Rattle.key_model.specs.Term.{Term}
-use Rattle.nas_count.specs.Estimate.{estimate_of}
-use Rattle.nas_count.specs.declared.sending.TheConstants.{LIMIT as NAS_LIMIT}
+use Rattle.nas_count.specs.Estimate.{estimate_of, count_limit as nas_limit}
 use Rattle.nas_guard.specs.Seal.{first_octet}
 use Rattle.nas_guard.specs.Open.{sn_in, sent_in, first_in}
-use Rattle.pdcp_guard.specs.declared.counting.TheConstants.{LIMIT}
-use Rattle.pdcp_guard.specs.Counts.{in_32_bits}
+use Rattle.pdcp_guard.specs.Counts.{count_limit, in_32_bits}
 use Rattle.pdcp_guard.specs.Srb.{srb_count}
 use Rattle.pdcp_guard.specs.Drb.{drb_count, drb_first_octet, drb_second_octet}
 use Rattle.lte_events.specs.declared.answers.Answer.{Answer}
@@ -27,20 +25,20 @@ use Rattle.lte_properties.specs.Packets.{InWindow}
 least_of : (next count w : ℕ) → 0 < w → InWindow next count w → least next (count % w) w ≡ count
 least_of next count w some h = (least_in_window next count w some h.0).1 (omega arith)
 
-fits_32 : (count : ℕ) → count < LIMIT → in_32_bits count ≡ Ok count
+fits_32 : (count : ℕ) → count < count_limit → in_32_bits count ≡ Ok count
 unfolding in_32_bits
 fits_32 count below =
-    let test : nat_lt count LIMIT ≡ true = grind (arith, nat_tests) in
+    let test : nat_lt count count_limit ≡ true = grind (arith, nat_tests) in
     rw test refl
 
 -- NAS MESSAGES: EIGHT BITS (TS 24.301 4.4.3.1)
 
 -- the COUNT that is estimated of the lowest octet of a COUNT in the window
-pub estimated : (next sn count : ℕ) → InWindow next count 256 → sn ≡ count % 256 → count < NAS_LIMIT → estimate_of next sn ≡ Ok count
+pub estimated : (next sn count : ℕ) → InWindow next count 256 → sn ≡ count % 256 → count < nas_limit → estimate_of next sn ≡ Ok count
 unfolding estimate_of
 estimated next sn count h is below =
     let one : least next sn 256 ≡ count = ap (λ n. least next n 256) is ∙ least_of next count 256 (omega arith) h in
-    let test : nat_lt (least next sn 256) NAS_LIMIT ≡ true = grind (arith, nat_tests) in
+    let test : nat_lt (least next sn 256) nas_limit ≡ true = grind (arith, nat_tests) in
     rw test (ap Ok one)
 
 -- the parts of a message as it is sent: first octet, sequence number, text, and at least six octets
@@ -81,7 +79,7 @@ header_up pdu first long is takes =
 -- PDUS OF AN SRB: FIVE BITS (TS 36.323 6.2.2)
 
 pub srb_counted : (c : Ciphers Term) → AreCiphers c → (next : ℕ) (u : KeyUse Term) (e : Option (Ciphering Term)) (text : List ℕ)
-    → InWindow next u.count 32 → u.count < LIMIT → srb_count next (srb_octets c u e text) ≡ Ok u.count
+    → InWindow next u.count 32 → u.count < count_limit → srb_count next (srb_octets c u e text) ≡ Ok u.count
 unfolding srb_count srb_octets
 srb_counted c good next u e text h below =
     let header = u.count % 32 in
@@ -108,7 +106,7 @@ number_of : (count : ℕ) → 256 * (drb_first_octet count % 16) + count % 256 �
 number_of count = omega arith
 
 pub drb_counted : (c : Ciphers Term) (next : ℕ) (e : Ciphering Term) (text : List ℕ)
-    → InWindow next e.under.count 4096 → e.under.count < LIMIT → drb_count next (drb_octets c e text) ≡ Ok e.under.count
+    → InWindow next e.under.count 4096 → e.under.count < count_limit → drb_count next (drb_octets c e text) ≡ Ok e.under.count
 unfolding drb_count drb_octets
 drb_counted c next e text h below =
     let count = e.under.count in

@@ -6,7 +6,7 @@ use Rattle.lte_events.specs.declared.addresses.Address.{Address}
 use Rattle.lte_events.specs.declared.answers.Answer.TheVariants.{Done}
 use Rattle.key_model.specs.HandoverTable.{NumberedKey}
 use Rattle.key_model.specs.Term.{Term}
-use Rattle.nas_count.specs.declared.sending.TheConstants.{LIMIT as NAS_LIMIT}
+use Rattle.nas_count.specs.Estimate.{count_limit as nas_limit}
 use Rattle.nas_rec.specs.declared.records.NasRecord.TheVariants.{NasData}
 use Rattle.nas_rec.specs.Spelling.{spelling_of as nas_spelling}
 use Rattle.nas_rec.specs.Reading.{read_nas}
@@ -15,7 +15,7 @@ use Rattle.rrc_rec.specs.declared.records.RrcRecord.TheVariants.{RrcData}
 use Rattle.rrc_rec.specs.Spelling.{spelling_of as rrc_spelling}
 use Rattle.rrc_rec.specs.Reading.{read_rrc}
 use Rattle.rrc_rec.proofs.Laws.{spelled_is_read as rrc_is_read}
-use Rattle.pdcp_guard.specs.declared.counting.TheConstants.{LIMIT}
+use Rattle.pdcp_guard.specs.Counts.{count_limit}
 use Rattle.pdcp_guard.specs.AsKeys.{AsKeys}
 use Rattle.s1x2_rec.specs.Fields.{Fields}
 use Rattle.lte_machine.specs.Bearers.{Srb, Drb, of_srb, of_drb}
@@ -66,17 +66,17 @@ AtCore o u P = (k : CoreContext Term) → o ≡ Some k → UsesRootOf k.nas u �
 
 abbrev pub Fits : W → Outgoing Term ℕ → List ℕ → Type 0
 Fits w (UserPacket Down station air drb e text) sent =
-    (length text ≤ 1500) × (e.under.count < LIMIT) × (e.under.dir ≡ Down) × AtPhone w.phone.radio station air (λ keys. PacketUnder keys drb e)
+    (length text ≤ 1500) × (e.under.count < count_limit) × (e.under.dir ≡ Down) × AtPhone w.phone.radio station air (λ keys. PacketUnder keys drb e)
 Fits w (UserPacket Up station air drb e text) sent =
-    (length text ≤ 1500) × (e.under.count < LIMIT) × (e.under.dir ≡ Up) × AtContext (station_of_id station w.stations) air (λ keys. PacketUnder keys drb e)
+    (length text ≤ 1500) × (e.under.count < count_limit) × (e.under.dir ≡ Up) × AtContext (station_of_id station w.stations) air (λ keys. PacketUnder keys drb e)
 Fits w (SealedRrc Down station air srb u e text) sent =
-    (length sent ≤ 200) × (u.count < LIMIT) × (u.dir ≡ Down) × AtPhone w.phone.radio station air (λ keys. RrcUnder keys srb u e)
+    (length sent ≤ 200) × (u.count < count_limit) × (u.dir ≡ Down) × AtPhone w.phone.radio station air (λ keys. RrcUnder keys srb u e)
 Fits w (SealedRrc Up station air srb u e text) sent =
-    (length sent ≤ 200) × (u.count < LIMIT) × (u.dir ≡ Up) × AtContext (station_of_id station w.stations) air (λ keys. RrcUnder keys srb u e)
+    (length sent ≤ 200) × (u.count < count_limit) × (u.dir ≡ Up) × AtContext (station_of_id station w.stations) air (λ keys. RrcUnder keys srb u e)
 Fits w (SealedNas Down header u e text) sent =
-    (length sent ≤ 200) × (u.count < NAS_LIMIT) × (u.dir ≡ Down) × (header ≡ 2) × AtNas w.phone.context u (λ keys. NasUnder keys u e)
+    (length sent ≤ 200) × (u.count < nas_limit) × (u.dir ≡ Down) × (header ≡ 2) × AtNas w.phone.context u (λ keys. NasUnder keys u e)
 Fits w (SealedNas Up header u e text) sent =
-    (length sent ≤ 200) × (u.count < NAS_LIMIT) × (u.dir ≡ Up) × (header ≡ 2) × AtCore w.core.context u (λ keys. NasUnder keys u e)
+    (length sent ≤ 200) × (u.count < nas_limit) × (u.dir ≡ Up) × (header ≡ 2) × AtCore w.core.context u (λ keys. NasUnder keys u e)
 Fits w other sent = ⊤
 
 -- a line that is done and opens these data

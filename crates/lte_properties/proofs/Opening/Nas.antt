@@ -9,7 +9,7 @@ use Rattle.alg_choice.specs.declared.algs.Eea.{Eea}
 use Rattle.alg_choice.specs.declared.choices.NoAlgorithm.{NoAlgorithm as NoneChosen}
 use Rattle.key_model.specs.Term.{Term, Root, Alg}
 use Rattle.key_model.specs.Reading.{term_reading}
-use Rattle.nas_count.specs.declared.sending.TheConstants.{LIMIT}
+use Rattle.nas_count.specs.Estimate.{count_limit}
 use Rattle.nas_guard.specs.Keys.{Keys}
 use Rattle.nas_rec.specs.declared.records.NasRecord.{NasRecord}
 use Rattle.nas_rec.specs.declared.records.NasRecord.TheVariants.{SecurityModeCommand, SecurityModeComplete, SecurityModeReject, ServiceRequest, NasData}
@@ -79,7 +79,7 @@ SealedSo dir header u e root algs (SecurityModeReject cause) = header ≡ 2
 SealedSo dir header u e root algs ServiceRequest = header ≡ 1
 SealedSo dir header u e root algs (NasData text) =
     (header ≡ 2) × (e ≡ Some (ciphering_by algs.eea (nas_use dir (nas_keys root algs).enc u.count)))
-    × (u.count < LIMIT) × (length text ≤ 200)
+    × (u.count < count_limit) × (length text ≤ 200)
 
 abbrev pub SealedOk : Choices → ℕ → Dir → ℕ → KeyUse Term → Option (Ciphering Term) → List ℕ → Type 0
 SealedOk g next dir header u e text =

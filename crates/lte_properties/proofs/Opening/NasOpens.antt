@@ -21,9 +21,8 @@ use Rattle.lte_events.specs.declared.answers.Answer.{Answer}
 use Rattle.lte_events.specs.declared.answers.Answer.TheVariants.{Done}
 use Rattle.key_model.specs.Term.{Term, Alg}
 use Rattle.key_model.specs.Reading.{Reading, term_reading_by}
-use Rattle.nas_count.specs.declared.sending.TheConstants.{LIMIT}
+use Rattle.nas_count.specs.Estimate.{count_limit, estimate_of}
 use Rattle.nas_count.specs.declared.sending.CountSpent.{CountSpent}
-use Rattle.nas_count.specs.Estimate.{estimate_of}
 use Rattle.nas_guard.specs.Keys.{Keys}
 use Rattle.nas_guard.specs.Seal.{first_octet}
 use Rattle.nas_guard.specs.Open.{sn_in, sent_in, first_in}
@@ -63,7 +62,7 @@ use Rattle.lte_properties.proofs.Opening.NasRows.{CoreActNeeds, TakenNeeds, NasN
 smc_needs : (priority : List Eea) (p : CorePartial Term) (chosen : Result Algs NoneChosen) → choice_of priority p.caps ≡ chosen
     → CoreActNeeds priority (Some p) (core_choice.smc_row (map_core_partial unseen p) chosen)
 smc_needs priority p (Err none) e = tt
-smc_needs priority p (Ok algs) e = by_test (CoreActNeeds priority (Some p)) (nat_le LIMIT p.send) _ _ (λ f. tt) (λ f. (refl, e))
+smc_needs priority p (Ok algs) e = by_test (CoreActNeeds priority (Some p)) (nat_le count_limit p.send) _ _ (λ f. tt) (λ f. (refl, e))
 
 start_needs : (priority : List Eea) (o : Option (CorePartial Term)) (procedure : Option (Keys (Unit {0})))
     → CoreActNeeds priority o (core_choice.start_smc_row priority (option_map (map_core_partial unseen) o) procedure)
@@ -87,7 +86,7 @@ send_needs : (priority : List Eea) (o : Option (CorePartial Term)) (context : Op
     → CoreActNeeds priority o (core_choice.send_nas_row context text)
 send_needs priority o None text short = tt
 send_needs priority o (Some context) text short =
-    by_test (CoreActNeeds priority o) (nat_le LIMIT context.nas.send) _ _ (λ f. tt) (λ f. (above_of LIMIT context.nas.send f, short))
+    by_test (CoreActNeeds priority o) (nat_le count_limit context.nas.send) _ _ (λ f. tt) (λ f. (above_of count_limit context.nas.send f, short))
 
 skip_needs : (priority : List Eea) (o : Option (CorePartial Term)) (context : Option (CoreContext (Unit {0}))) (n : ℕ)
     → CoreActNeeds priority o (core_choice.skip_nas_row context n)
@@ -122,7 +121,7 @@ module _ (same : Term → Term → Bool) (g : Choices) (next : ℕ) where
   under_needs : (context : Option (NasContext Term)) (row : phone.ActRow) → (SendNeeds same g next context → Acts context row)
       → Acts context (choice.under_context (option_map (map_context unseen) context) row)
   under_needs None row f = tt
-  under_needs (Some c) row f = unless_needs (Some c) (nat_le LIMIT c.send) row (λ e. f (above_of LIMIT c.send e))
+  under_needs (Some c) row f = unless_needs (Some c) (nat_le count_limit c.send) row (λ e. f (above_of count_limit c.send e))
 
   service_needs : (context : Option (NasContext Term)) (radio : Radio (Unit {0}) ℕ) → Acts context (choice.service_row (option_map (map_context unseen) context) radio)
   service_needs context Idle = under_needs context phone.ServiceRequested (λ e. tt)
@@ -254,7 +253,7 @@ module _ (same : Term → Term → Bool) (g : Choices) (next : ℕ) (c : Ciphers
 
     rejected_needs : (answer : Answer) (cause : ℕ) (o : Option (NasContext (Unit {0}))) → Needs (choice.rejected answer cause o)
     rejected_needs answer cause None = tt
-    rejected_needs answer cause (Some k) = by_test Needs (nat_le LIMIT k.send) _ _ (λ e. tt) (λ e. tt)
+    rejected_needs answer cause (Some k) = by_test Needs (nat_le count_limit k.send) _ _ (λ e. tt) (λ e. tt)
 
     -- the sender's KASME is the partial context's, and so are its algorithms
     taken_of : (p : Partial Term) (ksi : ℕ) (algs : Algs) (caps : Caps) (o : Option (Outgoing Term ℕ)) → CameDown pdu o → SealedUnder (Alg p.root 2 eia2_identity) (sender_of o)

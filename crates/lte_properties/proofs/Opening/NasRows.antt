@@ -11,7 +11,7 @@ use Rattle.annex_a_keys.specs.Cell.{Place}
 use Rattle.lte_events.specs.declared.answers.Answer.{Answer}
 use Rattle.key_model.specs.Term.{Term}
 use Rattle.key_model.specs.Reading.{Reading, term_reading_by}
-use Rattle.nas_count.specs.declared.sending.TheConstants.{LIMIT}
+use Rattle.nas_count.specs.Estimate.{count_limit}
 use Rattle.nas_guard.specs.Keys.{Keys}
 use Rattle.nas_rec.specs.declared.records.NasRecord.{NasRecord}
 use Rattle.nas_rec.specs.declared.records.NasRecord.TheVariants.{SecurityModeCommand, SecurityModeComplete, SecurityModeReject, ServiceRequest, NasData}
@@ -40,7 +40,7 @@ StartNeeds priority ksi algs (Some p) = (ksi ≡ p.ksi) × (choice_of priority p
 
 abbrev pub CoreActNeeds : List Eea → Option (CorePartial Term) → CoreActRow → Type 0
 CoreActNeeds priority partial (core.SmcStarted ksi algs caps count) = StartNeeds priority ksi algs partial
-CoreActNeeds priority partial (core.NasSent count text) = (count < LIMIT) × (length text ≤ 200)
+CoreActNeeds priority partial (core.NasSent count text) = (count < count_limit) × (length text ≤ 200)
 CoreActNeeds priority partial other = ⊤
 
 abbrev pub CoreRowNeeds : Core Term ℕ → CoreRow → Type 0
@@ -108,7 +108,7 @@ module _ (same : Term → Term → Bool) (g : Choices) (next : ℕ) where
   sealed_reject_goes count (Some c) s h k = ((h.0, no_procedure s.partial, k), tt)
 
   core_sent_goes : (count : ℕ) (text : List ℕ) (o : Option (CoreContext Term)) (s : Core Term ℕ) → CoreOk g next s → CoreContextOk g next o
-      → (count < LIMIT) × (length text ≤ 200) → CoreGoes (core_keys.nas_sent count text o s)
+      → (count < count_limit) × (length text ≤ 200) → CoreGoes (core_keys.nas_sent count text o s)
   core_sent_goes count text None s h k needs = (h, tt)
   core_sent_goes count text (Some c) s h k needs =
       ((h.0, h.1, k), sealed_by c.nas k Down 2 count _ (NasData text) (refl, ciphered_by_own c.nas k Down count, needs.0, needs.1))
@@ -199,7 +199,7 @@ module _ (same : Term → Term → Bool) (g : Choices) (next : ℕ) where
 
   abbrev pub SendNeeds : Option (NasContext Term) → Type 0
   SendNeeds None = ⊤
-  SendNeeds (Some c) = c.send < LIMIT
+  SendNeeds (Some c) = c.send < count_limit
 
   abbrev pub ActNeeds : Option (NasContext Term) → phone.ActRow → Type 0
   ActNeeds context (phone.NasSent text) = SendNeeds context × (length text ≤ 200)
