@@ -49,6 +49,13 @@ pub record Made (K C : Type 0) : Type 0 where
   -- how it came to it
   pub from : From K
 
+-- the kind of a handover: who makes its KeNB*
+pub data Handover (K C : Type 0) : Type 0 where
+  -- over X2 or within the station: the source, which made this one (TS 33.401 7.2.8.4.1 and 7.2.8.4.2)
+  BySource : NumberedKey K C → Handover K C
+  -- over S1: the target, of the NH that the core gives it (7.2.8.4.3)
+  ByTarget : Handover K C
+
 -- an attempt of a handover, as its source opened it
 pub record Tried (K C : Type 0) : Type 0 where
   -- the source
@@ -65,8 +72,8 @@ pub record Tried (K C : Type 0) : Type 0 where
   pub key : K
   -- its chain number
   pub number : C
-  -- KeNB* with its number, if the source made it
-  pub given : Option (NumberedKey K C)
+  -- its kind, with KeNB* where the source made it
+  pub kind : Handover K C
 
 -- a connection of the phone as it was before an order
 pub record Before (K C : Type 0) : Type 0 where
@@ -158,6 +165,10 @@ map_made f g m = record {
   from = map_from f m.from;
 }
 
+abbrev pub map_handover : {K C L D : Type 0} → (K → L) → (C → D) → Handover K C → Handover L D
+map_handover f g (BySource star) = BySource (map_numbered f g star)
+map_handover f g ByTarget = ByTarget
+
 abbrev pub map_tried : {K C L D : Type 0} → (K → L) → (C → D) → Tried K C → Tried L D
 map_tried f g t = record {
   station = t.station;
@@ -167,7 +178,7 @@ map_tried f g t = record {
   cell = t.cell;
   key = f t.key;
   number = g t.number;
-  given = option_map (map_numbered f g) t.given;
+  kind = map_handover f g t.kind;
 }
 
 abbrev pub map_before : {K C L D : Type 0} → (K → L) → (C → D) → Before K C → Before L D

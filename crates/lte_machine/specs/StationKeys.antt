@@ -19,7 +19,7 @@ use Rattle.x2_handover.specs.Attempt.{X2Start}
 use Rattle.lte_machine.specs.Bearers.{Srb, Signalling1, Drb, Which, new_bearers, srb_sent, drb_sent, srb_taken, drb_taken, skipped_on}
 use Rattle.lte_machine.specs.Wire.{Outgoing, Between, srb_use, srb_ciphering, drb_ciphering}
 use Rattle.lte_machine.specs.Opening.{Opening, OpensNothing, OpensSrb, OpensDrb}
-use Rattle.lte_machine.specs.Reply.{Origin, ByAttempt, Reply, only}
+use Rattle.lte_machine.specs.Reply.{Origin, ByAttempt, Reply, only, BySource, ByTarget}
 use Rattle.lte_machine.specs.StationState.{Station, Context, Attempt, OverX2, OverS1, Within, Renewal, Renewing, X2State, X2Open, X2Ready, X2Commanded, S1State, S1Open, S1Ready, S1Commanded}
 use Rattle.lte_machine.specs.StationRows.{AirRow, AirRefused, SecurityStarted, RrcOpened, PacketOpened, CompletedByS1, CompletedWithin, CompletedByX2, ActRow, ActRefused, StartedByX2, StartedByS1, StartedWithin, HandoverCommanded, ChangeCommanded, CancelledByX2, CancelledByS1, CancelledWithin, PathSwitchAsked, PacketSent, RrcSent, BearerSkipped, StationRow, OfRecord, OfAir, OfAct}
 use Rattle.lte_machine.specs.StationChoice.{AirFront, AirSettled, OnStarting, OnSignalling, OnUser, OnPrepared, StationFront, Settled, FromAir}
@@ -165,7 +165,7 @@ started_by_x2_with r number target cell c o s = (
       cell = cell;
       key = c.key.kenb;
       number = c.key.number;
-      given = Some o.star;
+      kind = BySource o.star;
     });
   },
 )
@@ -196,7 +196,7 @@ started_by_s1 number target cell (Some c) s = (
       cell = cell;
       key = c.key.kenb;
       number = c.key.number;
-      given = None;
+      kind = ByTarget;
     });
   },
 )
@@ -235,7 +235,7 @@ started_within_with r number air cell c o s = (
       cell = cell;
       key = c.key.kenb;
       number = c.key.number;
-      given = Some o.star;
+      kind = BySource o.star;
     });
   },
 )

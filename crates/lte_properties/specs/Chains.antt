@@ -7,7 +7,7 @@ use Rattle.s1x2_rec.specs.Fields.{InitialContext, PathSwitchAnswer, HandoverRequ
 use Rattle.ho_prep.specs.Prep.{Prep}
 use Rattle.lte_events.specs.declared.events.Event.{Event}
 use Rattle.lte_events.specs.declared.setups.Setup.{Setup}
-use Rattle.lte_machine.specs.Reply.{From, BySetup, ByAttempt, ByChange, Made, Tried, Came, Changed, Took}
+use Rattle.lte_machine.specs.Reply.{From, BySetup, ByAttempt, ByChange, Made, Tried, Came, Changed, Took, Handover, BySource, ByTarget}
 use Rattle.lte_machine.specs.StationState.{Context, Attempt, OverX2, OverS1, Within, Renewing, X2State, X2Open, X2Ready, X2Commanded, S1State, S1Open, S1Ready, S1Commanded}
 use Rattle.lte_machine.specs.CoreState.{CoreLink}
 use Rattle.lte_machine.specs.Wire.{Outgoing, Between}
@@ -48,13 +48,13 @@ abbrev pub ArePairsOf : Chains → ℕ → Option (NumberedKey Term ℕ) → Typ
 ArePairsOf c conn None = ⊤
 ArePairsOf c conn (Some pair) = IsPairOf c conn pair
 
-abbrev pub GivenOn : Chains → ℕ → Option (NumberedKey Term ℕ) → Type 0
-GivenOn c conn None = ⊤
-GivenOn c conn (Some star) = IsKeyOf c conn star.key star.number
+abbrev pub GivenOn : Chains → ℕ → Handover Term ℕ → Type 0
+GivenOn c conn ByTarget = ⊤
+GivenOn c conn (BySource star) = IsKeyOf c conn star.key star.number
 
 -- an attempt: the key of the context under which it was opened, and the KeNB* that its source made
 abbrev pub TriedOn : Chains → Tried Term ℕ → Type 0
-TriedOn c e = IsKeyOf c e.conn e.key e.number × GivenOn c e.conn e.given
+TriedOn c e = IsKeyOf c e.conn e.key e.number × GivenOn c e.conn e.kind
 
 abbrev pub ContextOn : Chains → Option (Context Term ℕ) → Type 0
 ContextOn c None = ⊤

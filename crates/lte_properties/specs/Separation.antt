@@ -1,5 +1,5 @@
 -- Who can derive which key (TS 33.401 7.2.8): no station but two can derive the key of a handover, and no station has a KASME.
-use Rattle.std.specs.Prelude.{◌≡◌, ℕ, Bool, IsTrue, ◌⊎◌, ◌↔◌, List, [], ◌∷◌, Option, Some, None, ⊤}
+use Rattle.std.specs.Prelude.{◌≡◌, ℕ, Bool, IsTrue, ◌⊎◌, ◌↔◌, List, [], ◌∷◌, Some, ⊤}
 use Rattle.annex_a_keys.specs.Cell.{Place}
 use Rattle.lte_events.specs.declared.addresses.Address.TheVariants.{StationS1}
 use Rattle.lte_events.specs.declared.events.Event.{Event}
@@ -8,9 +8,8 @@ use Rattle.lte_events.specs.Site.{Site, station_of}
 use Rattle.key_model.specs.Term.{Term, Root, Star, IsWellFormed}
 use Rattle.key_model.specs.Chain.{nh}
 use Rattle.key_model.specs.Derivable.{Derivable, HasNoRoot, ComesFrom}
-use Rattle.key_model.specs.HandoverTable.{NumberedKey}
 use Rattle.lte_machine.specs.Wire.{Outgoing, Between}
-use Rattle.lte_machine.specs.Reply.{From, BySetup, ByAttempt, ByChange, Made, Tried}
+use Rattle.lte_machine.specs.Reply.{From, BySetup, ByAttempt, ByChange, Made, Tried, Handover, BySource, ByTarget}
 use Rattle.lte_machine.specs.Distinct.{keys_of, Member}
 use Rattle.lte_machine.specs.Known.{StationKnown}
 use Rattle.lte_machine.specs.World.{Machine, World, Holder, AtPhone, AtCore, AtStation, Holding}
@@ -116,9 +115,9 @@ pub record Separates (sites : List Site) (w : World Term ℕ (Outgoing Term ℕ)
 -- TO WHOM THE KEY OF A HANDOVER WAS GIVEN
 
 -- a handover over X2 or within a station, whose source made KeNB*, or one over S1
-abbrev pub GivenAt : List (Outgoing Term ℕ) → Term → ℕ → ℕ → Option (NumberedKey Term ℕ) → Type 0
-GivenAt sent key source target (Some star) = GivenTo sent key source
-GivenAt sent key source target None = GivenTo sent key target
+abbrev pub GivenAt : List (Outgoing Term ℕ) → Term → ℕ → ℕ → Handover Term ℕ → Type 0
+GivenAt sent key source target (BySource star) = GivenTo sent key source
+GivenAt sent key source target ByTarget = GivenTo sent key target
 
 -- what a station made for an air address: by an attempt of a handover, where its key is KeNB* of a key of a chain, the core
 -- gave that key to the source where the attempt made KeNB*, over X2 or within the station, and to the target where it was one
@@ -131,7 +130,7 @@ MadeAsGiven w m (ByChange before) =
 MadeAsGiven w m (ByAttempt o) =
     (r : ℕ) (octets : List ℕ) (n i pci earfcn : ℕ) → m.key ≡ Star (nh (Root r octets) n i) pci earfcn
     → AnyOf (λ e. (e.station ≡ o.source) × (e.attempt ≡ o.attempt)
-    × GivenAt w.sent (nh (Root r octets) n i) o.source m.station e.given) w.tried
+    × GivenAt w.sent (nh (Root r octets) n i) o.source m.station e.kind) w.tried
 
 -- an attempt number of a station is of one attempt
 abbrev pub AttemptsDiffer : List (Tried Term ℕ) → Type 0

@@ -12,7 +12,7 @@ use Rattle.key_model.proofs.TermFacts.{chain_number_nh}
 use Rattle.s1x2_rec.specs.Fields.{InitialContext, PathSwitchAnswer, HandoverRequest, X2Request, ContextModification}
 use Rattle.ho_prep.specs.Prep.{Prep}
 use Rattle.lte_machine.specs.CoreState.{CoreLink}
-use Rattle.lte_machine.specs.Reply.{From, BySetup, ByAttempt, ByChange, Made, Tried, Came, Secured, Commanded, Changed, Took}
+use Rattle.lte_machine.specs.Reply.{From, BySetup, ByAttempt, ByChange, Made, Tried, Came, Secured, Commanded, Changed, Took, Handover, BySource, ByTarget}
 use Rattle.lte_machine.specs.StationState.{Context, Attempt, OverX2, OverS1, Within, Renewing, X2State, X2Open, X2Ready, X2Commanded, S1State, S1Open, S1Ready, S1Commanded}
 use Rattle.lte_machine.specs.Wire.{Outgoing, Between}
 use Rattle.lte_properties.specs.Agreement.{IsIn, TookMade, ObeysMade, Grows}
@@ -64,11 +64,11 @@ module _ (cells : List Site) (c : Conns) (w : TheWorld) (h : WorldOk cells c w) 
   first_of conn key is none = (is ∙ ap (nh (c.root conn) (c.count conn)) (sym none), omega arith)
 
   tried_on : (e : Tried Term ℕ) → TriedOk cells (ghost c w) e → TriedOn chains e
-  tried_on e k = (key_of e.conn e.key e.number k.0, given_on e.given k.2)
+  tried_on e k = (key_of e.conn e.key e.number k.0, given_on e.kind k.2)
     where
-      given_on : (o : Option (NumberedKey Term ℕ)) → GivenOk (ghost c w) e o → GivenOn chains e.conn o
-      given_on None g = tt
-      given_on (Some star) g = key_of e.conn star.key star.number g.0
+      given_on : (o : Handover Term ℕ) → GivenOk (ghost c w) e o → GivenOn chains e.conn o
+      given_on ByTarget g = tt
+      given_on (BySource star) g = key_of e.conn star.key star.number g.0
 
   context_on : (id : ℕ) (o : Option (Context Term ℕ)) → CtxOk (ghost c w) id o → ContextOn chains o
   context_on id None k = tt

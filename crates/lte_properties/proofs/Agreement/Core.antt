@@ -21,7 +21,7 @@ use Rattle.nas_count.specs.Estimate.{count_limit}
 use Rattle.nas_guard.specs.Keys.{Keys}
 use Rattle.nh_chain.specs.Chain.{begun}
 use Rattle.s1x2_rec.specs.Fields.{Fields, InitialContext, ContextRelease, PathSwitchRequest, PathSwitchAnswer, HandoverRequired, HandoverRequest, HandoverRequestAck, HandoverCommand, HandoverNotify, HandoverCancel, X2Request, X2Ack, X2Cancel, X2Release, ContextModification}
-use Rattle.lte_machine.specs.Reply.{unseen}
+use Rattle.lte_machine.specs.Reply.{unseen, ByTarget}
 use Rattle.lte_machine.specs.CoreState.{Core, CorePartial, CoreContext, CoreLink, map_core_link}
 use Rattle.lte_machine.specs.CoreRows.{CoreNasRow, NasRefused, PlainReject, SmcComplete, SmcChange, ServiceAsked, NasOpened, SealedReject, CoreRecordRow, RecordRefused, PathSwitched, HandoverAsked, HandoverOrdered, HandoverNotified, HandoverCancelled, CoreActRow, ActRefused, SmcStarted, ContextSetUp, ContextReleased, NasSent, NasSkipped, CoreRow, OfNas, OfRecord, OfAct, OfAuth}
 use Rattle.lte_machine.specs.CoreKeys.{CoreDone, authenticated, smc_started, smc_complete, key_changed, service_asked, nas_opened, sealed_reject, nas_sent, nas_skipped, context_set_up, path_switched, handover_asked, handover_notified, core_does_nas, core_does_record, core_does_act, core_does}
@@ -64,7 +64,7 @@ LinkConn (Some link) conn = link.conn ≡ conn
 abbrev pub CoreRecordNeeds : List Site → Ghost → Core Term ℕ → CoreRecordRow → Type 0
 CoreRecordNeeds cells g s (PathSwitched conn station number alarm) = LinkConn s.link conn
 CoreRecordNeeds cells g s (HandoverAsked conn source attempt cell target caps) =
-    LinkConn s.link conn × AskedIs g conn source attempt cell None IsOther × (station_of cell cells ≡ Some target)
+    LinkConn s.link conn × AskedIs g conn source attempt cell ByTarget IsOther × (station_of cell cells ≡ Some target)
 CoreRecordNeeds cells g s (HandoverOrdered conn source attempt cell ncc algs air) = AckIs g source attempt algs air (HasNcc ncc)
 CoreRecordNeeds cells g s other = ⊤
 
@@ -224,7 +224,7 @@ module _ (same : Term → Term → Bool) (cells : List Site) (g : Ghost) (tried_
   )
 
   asked_goes : (conn source attempt : ℕ) (cell : Place) (target : ℕ) (caps : Caps) (o : Option (CoreLink Term ℕ)) (s : Core Term ℕ) → CoreOk cells g s → CoreLinkOk g o
-      → LinkConn o conn → AskedIs g conn source attempt cell None IsOther → station_of cell cells ≡ Some target
+      → LinkConn o conn → AskedIs g conn source attempt cell ByTarget IsOther → station_of cell cells ≡ Some target
       → CoreGoes cells g (handover_asked (term_reading_by same) conn source attempt cell target caps o s)
   asked_goes conn source attempt cell target caps None s h k is asked there = (g.root, g.count, g.top, g.next, later_itself g, h, tt, as_before _ g.top)
   asked_goes conn source attempt cell target caps (Some link) s h k is asked there =
@@ -354,7 +354,7 @@ module _ (same : Term → Term → Bool) (cells : List Site) (g : Ghost) (s : Co
       by_test Needs (link.conn == conn) _ _ (λ b. f (subst (λ o. LinkConn o conn) (sym is) (eqb-true link.conn conn b))) (λ b. tt)
 
   asked_walks : (conn source attempt : ℕ) (cell : Place) (caps : Caps) (t : Option ℕ) → station_of cell s.cells ≡ t
-      → LinkConn s.link conn → AskedIs g conn source attempt cell None IsOther → Needs (asked_at conn source attempt cell caps t)
+      → LinkConn s.link conn → AskedIs g conn source attempt cell ByTarget IsOther → Needs (asked_at conn source attempt cell caps t)
   asked_walks conn source attempt cell caps None e is asked = tt
   asked_walks conn source attempt cell caps (Some target) e is asked = (is, asked, subst (λ x. station_of cell x ≡ Some target) h.2 e)
 

@@ -25,7 +25,7 @@ use Rattle.x2_handover.specs.Attempt.{x2_order}
 use Rattle.s1_handover.specs.Attempt.{s1_order}
 use Rattle.lte_machine.specs.Bearers.{Srb, Signalling1, Bearers}
 use Rattle.lte_machine.specs.Wire.{KeyUse, Ciphering, Outgoing, SealedNas, SealedRrc, Between, srb_use, srb_ciphering}
-use Rattle.lte_machine.specs.Reply.{Origin, From, BySetup, ByAttempt, ByChange, Made, Tried, Took}
+use Rattle.lte_machine.specs.Reply.{Origin, From, BySetup, ByAttempt, ByChange, Made, Tried, Took, Handover, BySource, ByTarget}
 use Rattle.lte_machine.specs.PhoneState.{Link, Radio, Idle, Connecting, Connected}
 use Rattle.lte_machine.specs.StationState.{Station, Context, Attempt, OverX2, OverS1, Within, Renewing, X2State, X2Open, X2Ready, X2Commanded, S1State, S1Open, S1Ready, S1Commanded}
 use Rattle.lte_machine.specs.CoreState.{Core, CoreLink}
@@ -100,16 +100,16 @@ HereIs g station air t = (m : Made Term ℕ) × (made_at g.made station air ≡ 
 abbrev pub Leads : Tried Term ℕ → Term → ℕ → Type 0
 Leads e key number = (e.number ≤ number) × (key ≡ lands e.key (number - e.number) e.cell)
 
-abbrev pub GivenFits : Option (NumberedKey Term ℕ) → ℕ → Type 0
-GivenFits None number = ⊤
-GivenFits (Some star) number = star.number ≡ number
+abbrev pub GivenFits : Handover Term ℕ → ℕ → Type 0
+GivenFits ByTarget number = ⊤
+GivenFits (BySource star) number = star.number ≡ number
 
 -- what was made; it is all that was made for its air address
 abbrev pub FromOk : Ghost → Made Term ℕ → From Term → Type 0
 FromOk g m BySetup = (m.number ≡ 0) × (m.conn < g.next) × (m.key ≡ chain_at g m.conn 0)
 FromOk g m (ByAttempt o) =
     (e : Tried Term ℕ) × (tried_at g.tried o.source o.attempt ≡ Some e) × (chain_number e.key ≡ e.number)
-    × (e.target ≡ m.station) × Leads e m.key m.number × GivenFits e.given m.number × (e.conn ≡ m.conn)
+    × (e.target ≡ m.station) × Leads e m.key m.number × GivenFits e.kind m.number × (e.conn ≡ m.conn)
     × (e.cell ≡ m.cell)
 FromOk g m (ByChange k) =
     (m.number ≡ 0) × IsCell m.cell × (r : Term) × (m.key ≡ Star (Kenb r 0) m.cell.pci m.cell.earfcn)
@@ -121,13 +121,13 @@ MadeOk g m =
     × (made_at g.made m.station m.air ≡ Some m) × TermOk g m.conn m.key m.number
 
 -- what was tried
-abbrev pub GivenOk : Ghost → Tried Term ℕ → Option (NumberedKey Term ℕ) → Type 0
-GivenOk g e None = ⊤
-GivenOk g e (Some star) = TermOk g e.conn star.key star.number × Leads e star.key star.number
+abbrev pub GivenOk : Ghost → Tried Term ℕ → Handover Term ℕ → Type 0
+GivenOk g e ByTarget = ⊤
+GivenOk g e (BySource star) = TermOk g e.conn star.key star.number × Leads e star.key star.number
 
 abbrev pub TriedOk : List Site → Ghost → Tried Term ℕ → Type 0
 TriedOk cells g e =
-    TermOk g e.conn e.key e.number × (station_of e.cell cells ≡ Some e.target) × GivenOk g e e.given
+    TermOk g e.conn e.key e.number × (station_of e.cell cells ≡ Some e.target) × GivenOk g e e.kind
     × (e.station ≤ 7)
 
 -- what was taken
@@ -163,10 +163,10 @@ abbrev pub IsOrder : Ghost → ℕ → Term → Order → Type 0
 IsOrder g source t o = OrderIs g source t o.cell o.ncc o.algs o.station o.air
 
 -- an attempt of a context: it was opened under the context's key
-abbrev pub StartIs : Ghost → ℕ → ℕ → Term → ℕ → ℕ → Place → Option (NumberedKey Term ℕ) → Type 0
-StartIs g id conn t number target cell given =
+abbrev pub StartIs : Ghost → ℕ → ℕ → Term → ℕ → ℕ → Place → Handover Term ℕ → Type 0
+StartIs g id conn t number target cell kind =
     (e : Tried Term ℕ) × (tried_at g.tried id number ≡ Some e)
-    × (e.key ≡ t) × (e.cell ≡ cell) × (e.target ≡ target) × (e.conn ≡ conn) × (e.given ≡ given)
+    × (e.key ≡ t) × (e.cell ≡ cell) × (e.target ≡ target) × (e.conn ≡ conn) × (e.kind ≡ kind)
 
 -- and so was the one of this number, whatever has come of it
 abbrev pub UnderKey : Ghost → ℕ → ℕ → Term → ℕ → Type 0
@@ -175,13 +175,13 @@ UnderKey g id conn t number =
 
 abbrev pub X2Ok : Ghost → ℕ → ℕ → Term → X2State Term ℕ → Type 0
 X2Ok g id conn t (X2Open start) =
-    StartIs g id conn t start.number start.station start.cell (Some start.star) × PairsOk g conn start.spent
+    StartIs g id conn t start.number start.station start.cell (BySource start.star) × PairsOk g conn start.spent
 X2Ok g id conn t (X2Ready acked) =
     IsOrder g id t (x2_order ncc_of acked) × PairsOk g conn acked.start.spent × UnderKey g id conn t acked.start.number
 X2Ok g id conn t (X2Commanded sent) = IsOrder g id t sent.order × UnderKey g id conn t sent.number
 
 abbrev pub S1Ok : Ghost → ℕ → ℕ → Term → S1State → Type 0
-S1Ok g id conn t (S1Open start) = StartIs g id conn t start.number start.station start.cell None
+S1Ok g id conn t (S1Open start) = StartIs g id conn t start.number start.station start.cell ByTarget
 S1Ok g id conn t (S1Ready acked) = IsOrder g id t (s1_order acked) × UnderKey g id conn t acked.start.number
 S1Ok g id conn t (S1Commanded sent) = IsOrder g id t sent.order × UnderKey g id conn t sent.number
 
@@ -281,10 +281,10 @@ UpOk g station air i =
     (t : Term) × (i.key ≡ Alg t 4 eia2_identity) × HereIs g station air t × HadTaken g.took station air t
 
 -- records on S1 and X2
-abbrev pub AskedIs : Ghost → ℕ → ℕ → ℕ → Place → Option (NumberedKey Term ℕ) → (Tried Term ℕ → Type 0) → Type 0
-AskedIs g conn source attempt cell given P =
+abbrev pub AskedIs : Ghost → ℕ → ℕ → ℕ → Place → Handover Term ℕ → (Tried Term ℕ → Type 0) → Type 0
+AskedIs g conn source attempt cell kind P =
     (e : Tried Term ℕ) × (tried_at g.tried source attempt ≡ Some e)
-    × (e.conn ≡ conn) × (e.cell ≡ cell) × (e.given ≡ given) × P e
+    × (e.conn ≡ conn) × (e.cell ≡ cell) × (e.kind ≡ kind) × P e
 
 abbrev pub ToStationS1 : Address → ℕ → Type 0
 ToStationS1 (StationS1 station) target = station ≡ target
@@ -328,15 +328,15 @@ abbrev pub BetweenOk : Ghost → Address → Fields → Option (NumberedKey Term
 BetweenOk g to (InitialContext conn cell caps) (Some key) =
     (conn < g.next) × (key.key ≡ chain_at g conn 0) × (key.number ≡ 0)
 BetweenOk g to (PathSwitchAnswer conn number) (Some pair) = PairOk g conn pair
-BetweenOk g to (HandoverRequired conn source attempt cell) key = AskedIs g conn source attempt cell None IsOther
+BetweenOk g to (HandoverRequired conn source attempt cell) key = AskedIs g conn source attempt cell ByTarget IsOther
 BetweenOk g to (HandoverRequest conn source attempt cell caps) (Some pair) =
-    PairOk g conn pair × AskedIs g conn source attempt cell None (Surpasses to pair.number)
+    PairOk g conn pair × AskedIs g conn source attempt cell ByTarget (Surpasses to pair.number)
 BetweenOk g to (HandoverRequestAck conn source attempt cell ncc algs air) key =
     AckIs g source attempt algs air (HasNcc ncc)
 BetweenOk g to (HandoverCommand conn attempt cell ncc algs air) key = CommandTo g to attempt ncc algs air
 BetweenOk g to (X2Request conn source attempt cell caps) (Some star) =
     TermOk g conn star.key star.number
-    × AskedIs g conn source attempt cell (Some star) (IsFor to)
+    × AskedIs g conn source attempt cell (BySource star) (IsFor to)
 BetweenOk g to (X2Ack conn attempt cell algs air) key = X2AckTo g to attempt algs air
 BetweenOk g to (ContextModification conn next) (Some key) =
     (next < g.next) × (key.key ≡ chain_at g next 0) × (r : Term) × (key.key ≡ Kenb r 0) × (key.number ≡ 0)

@@ -17,7 +17,7 @@ use Rattle.x2_handover.specs.Attempt.{x2_order}
 use Rattle.s1_handover.specs.Attempt.{s1_order}
 use Rattle.lte_machine.specs.Bearers.{Srb}
 use Rattle.lte_machine.specs.Wire.{KeyUse, Ciphering, Outgoing, SealedNas, SealedRrc, Between}
-use Rattle.lte_machine.specs.Reply.{From, BySetup, ByAttempt, ByChange, Made, Tried, Took}
+use Rattle.lte_machine.specs.Reply.{From, BySetup, ByAttempt, ByChange, Made, Tried, Took, Handover, BySource, ByTarget}
 use Rattle.lte_machine.specs.PhoneState.{Radio, Idle, Connecting, Connected}
 use Rattle.lte_machine.specs.StationState.{Context, Attempt, OverX2, OverS1, Within, Renewing, X2State, X2Open, X2Ready, X2Commanded, S1State, S1Open, S1Ready, S1Commanded}
 use Rattle.lte_properties.specs.ChainBelow.{AllOf}
@@ -119,12 +119,12 @@ module _ (g h : Ghost) (l : Later g h) where
   pub made_later : (m : Made Term ℕ) → MadeOk g m → MadeOk h m
   made_later m x = (x.0, x.1, x.2, from_ok_later m m.from x.3, l.made m.station m.air m x.4, term_later m.conn m.number m.key x.5)
 
-  given_later : (e : Tried Term ℕ) (o : Option (NumberedKey Term ℕ)) → GivenOk g e o → GivenOk h e o
-  given_later e None x = tt
-  given_later e (Some star) x = (term_later e.conn star.number star.key x.0, x.1)
+  given_later : (e : Tried Term ℕ) (o : Handover Term ℕ) → GivenOk g e o → GivenOk h e o
+  given_later e ByTarget x = tt
+  given_later e (BySource star) x = (term_later e.conn star.number star.key x.0, x.1)
 
   pub tried_later : (cells : List Site) (e : Tried Term ℕ) → TriedOk cells g e → TriedOk cells h e
-  tried_later cells e x = (term_later e.conn e.number e.key x.0, x.1, given_later e e.given x.2, x.3)
+  tried_later cells e x = (term_later e.conn e.number e.key x.0, x.1, given_later e e.kind x.2, x.3)
 
   obeys_later : (x : Took Term ℕ) → Obeys g.made x → Obeys h.made x
   obeys_later x y = (y.0, l.made x.station x.air y.0 y.1, y.2)
@@ -145,9 +145,9 @@ module _ (g h : Ghost) (l : Later g h) where
   order_later source t cell ncc algs station air x =
       (x.0, x.1, x.2, l.made station air x.0 x.3, x.4, l.tried x.1.source x.1.attempt x.2 x.5, x.6, x.7, x.8, x.9, x.10)
 
-  start_later : (id conn : ℕ) (t : Term) (number target : ℕ) (cell : Place) (given : Option (NumberedKey Term ℕ))
-      → StartIs g id conn t number target cell given → StartIs h id conn t number target cell given
-  start_later id conn t number target cell given x = (x.0, l.tried id number x.0 x.1, x.2, x.3, x.4, x.5, x.6)
+  start_later : (id conn : ℕ) (t : Term) (number target : ℕ) (cell : Place) (kind : Handover Term ℕ)
+      → StartIs g id conn t number target cell kind → StartIs h id conn t number target cell kind
+  start_later id conn t number target cell kind x = (x.0, l.tried id number x.0 x.1, x.2, x.3, x.4, x.5, x.6)
 
   pub change_later : (t : Term) (cell : Place) (algs : Algs) (station air : ℕ) → ChangeIs g t cell algs station air → ChangeIs h t cell algs station air
   change_later t cell algs station air x = (x.0, l.made station air x.0 x.1, x.2, x.3, x.4)
@@ -160,13 +160,13 @@ module _ (g h : Ghost) (l : Later g h) where
 
   x2_later : (id conn : ℕ) (t : Term) (state : X2State Term ℕ) → X2Ok g id conn t state → X2Ok h id conn t state
   x2_later id conn t (X2Open start) x =
-      (start_later id conn t start.number start.station start.cell (Some start.star) x.0, pairs_later conn start.spent x.1)
+      (start_later id conn t start.number start.station start.cell (BySource start.star) x.0, pairs_later conn start.spent x.1)
   x2_later id conn t (X2Ready acked) x =
       (is_order_later id t (x2_order ncc_of acked) x.0, pairs_later conn acked.start.spent x.1, under_later id conn t acked.start.number x.2)
   x2_later id conn t (X2Commanded sent) x = (is_order_later id t sent.order x.0, under_later id conn t sent.number x.1)
 
   s1_later : (id conn : ℕ) (t : Term) (state : S1State) → S1Ok g id conn t state → S1Ok h id conn t state
-  s1_later id conn t (S1Open start) x = start_later id conn t start.number start.station start.cell None x
+  s1_later id conn t (S1Open start) x = start_later id conn t start.number start.station start.cell ByTarget x
   s1_later id conn t (S1Ready acked) x = (is_order_later id t (s1_order acked) x.0, under_later id conn t acked.start.number x.1)
   s1_later id conn t (S1Commanded sent) x = (is_order_later id t sent.order x.0, under_later id conn t sent.number x.1)
 
@@ -223,9 +223,9 @@ module _ (g h : Ghost) (l : Later g h) where
   up_later : (station air : ℕ) (i : KeyUse Term) → UpOk g station air i → UpOk h station air i
   up_later station air i x = (x.0, x.1, here_later station air x.0 x.2, had_later station air x.0 x.3)
 
-  asked_later : (conn source attempt : ℕ) (cell : Place) (given : Option (NumberedKey Term ℕ)) (P : Tried Term ℕ → Type 0)
-      → AskedIs g conn source attempt cell given P → AskedIs h conn source attempt cell given P
-  asked_later conn source attempt cell given P x = (x.0, l.tried source attempt x.0 x.1, x.2, x.3, x.4, x.5)
+  asked_later : (conn source attempt : ℕ) (cell : Place) (kind : Handover Term ℕ) (P : Tried Term ℕ → Type 0)
+      → AskedIs g conn source attempt cell kind P → AskedIs h conn source attempt cell kind P
+  asked_later conn source attempt cell kind P x = (x.0, l.tried source attempt x.0 x.1, x.2, x.3, x.4, x.5)
 
   ack_later : (source attempt : ℕ) (algs : Algs) (air : ℕ) (P : Made Term ℕ → Type 0)
       → AckIs g source attempt algs air P → AckIs h source attempt algs air P
@@ -243,13 +243,13 @@ module _ (g h : Ghost) (l : Later g h) where
   between_later to (InitialContext conn cell caps) (Some key) x =
       let n = l.next in (omega arith, x.1 ∙ sym (chain_later conn 0 x.0), x.2)
   between_later to (PathSwitchAnswer conn number) (Some pair) x = pair_later conn pair x
-  between_later to (HandoverRequired conn source attempt cell) key x = asked_later conn source attempt cell None IsOther x
+  between_later to (HandoverRequired conn source attempt cell) key x = asked_later conn source attempt cell ByTarget IsOther x
   between_later to (HandoverRequest conn source attempt cell caps) (Some pair) x =
-      (pair_later conn pair x.0, asked_later conn source attempt cell None (Surpasses to pair.number) x.1)
+      (pair_later conn pair x.0, asked_later conn source attempt cell ByTarget (Surpasses to pair.number) x.1)
   between_later to (HandoverRequestAck conn source attempt cell ncc algs air) key x = ack_later source attempt algs air (HasNcc ncc) x
   between_later to (HandoverCommand conn attempt cell ncc algs air) key x = command_later to attempt ncc algs air x
   between_later to (X2Request conn source attempt cell caps) (Some star) x =
-      (term_later conn star.number star.key x.0, asked_later conn source attempt cell (Some star) (IsFor to) x.1)
+      (term_later conn star.number star.key x.0, asked_later conn source attempt cell (BySource star) (IsFor to) x.1)
   between_later to (X2Ack conn attempt cell algs air) key x = x2_ack_later to attempt algs air x
   between_later to (ContextModification conn next) (Some key) x =
       let n = l.next in (omega arith, x.1 ∙ sym (chain_later next 0 x.0), x.2, x.3, x.4)

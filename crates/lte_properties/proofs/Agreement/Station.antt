@@ -14,7 +14,7 @@ use Rattle.rrc_rec.specs.declared.records.RrcRecord.TheVariants.{SecurityModeCom
 use Rattle.ho_prep.specs.declared.origins.By.{By}
 use Rattle.ho_prep.specs.Prep.{Prep, is_at, at_air}
 use Rattle.lte_machine.specs.Bearers.{Signalling1}
-use Rattle.lte_machine.specs.Reply.{Origin, BySetup, ByAttempt, ByChange, Made, Tried, Reply}
+use Rattle.lte_machine.specs.Reply.{Origin, BySetup, ByAttempt, ByChange, Made, Tried, Reply, BySource, ByTarget}
 use Rattle.lte_machine.specs.StationState.{Station, Context, Attempt, OverX2, OverS1, Within, Renewal, Renewing, X2Open, X2Ready, X2Commanded, S1Open, S1Ready, S1Commanded}
 use Rattle.lte_machine.specs.StationRows.{Wanted, RecordRow, RecordRefused, ContextGiven, ContextReleased, PairTaken, PreparedByS1, PreparedByX2, AckedByS1, AckedByX2, PreparationCancelled, SourceReleased, KeyRenewed, AirRow, AirRefused, SecurityStarted, RrcOpened, PacketOpened, CompletedByS1, CompletedWithin, CompletedByX2}
 use Rattle.lte_machine.specs.StationKeys.{with_security, with_rrc_taken, with_packet_taken, completed_by_s1, completed_within, completed_by_x2, air_does}
@@ -79,13 +79,13 @@ abbrev pub S1Needs : Ghost → ℕ → ℕ → Wanted → Option (NumberedKey Te
 S1Needs g id next w None = ⊤
 S1Needs g id next w (Some pair) =
     DrawsAir next w.air × PairOk g w.conn pair
-    × AskedIs g w.conn w.from.source w.from.attempt w.cell None (IsTargetAbove id pair.number)
+    × AskedIs g w.conn w.from.source w.from.attempt w.cell ByTarget (IsTargetAbove id pair.number)
 
 abbrev pub X2Needs : Ghost → ℕ → ℕ → Wanted → Option (NumberedKey Term ℕ) → Type 0
 X2Needs g id next w None = ⊤
 X2Needs g id next w (Some star) =
     DrawsAir next w.air × TermOk g w.conn star.key star.number
-    × AskedIs g w.conn w.from.source w.from.attempt w.cell (Some star) (IsTarget id)
+    × AskedIs g w.conn w.from.source w.from.attempt w.cell (BySource star) (IsTarget id)
 
 abbrev pub S1AckNeeds : Ghost → ℕ → ℕ → Algs → ℕ → Option (Attempt Term ℕ) → Type 0
 S1AckNeeds g id ncc algs air (Some (OverS1 (S1Open start))) = AckIs g id start.number algs air (HasNcc ncc)
@@ -219,7 +219,7 @@ module _ (same : Term → Term → Bool) (cells : List Site) (g : Ghost) (made_o
   -- a preparation of what was made by an attempt
   prepared_goes : (w : Wanted) (star : NumberedKey Term ℕ) (s : Station Term ℕ) → StationOk cells g s → DrawsAir s.next w.air
       → (e : Tried Term ℕ) → tried_at g.tried w.from.source w.from.attempt ≡ Some e → e.target ≡ s.id → e.conn ≡ w.conn → e.cell ≡ w.cell
-      → TermOk g w.conn star.key star.number → Leads e star.key star.number → GivenFits e.given star.number
+      → TermOk g w.conn star.key star.number → Leads e star.key star.number → GivenFits e.kind star.number
       → (p : Prep Term ℕ) → p.conn ≡ w.conn → p.key.kenb ≡ star.key → p.key.number ≡ star.number → p.key.pair ≡ None
       → p.air ≡ w.air → p.algs ≡ w.algs → p.keys ≡ keys_of star.key w.algs
       → (m : Made Term ℕ) → m ≡ record { station = s.id; air = w.air; conn = w.conn; cell = w.cell; key = star.key; number = star.number; algs = w.algs; from = ByAttempt w.from }
@@ -277,7 +277,7 @@ module _ (same : Term → Term → Bool) (cells : List Site) (g : Ghost) (made_o
       let up = leads_up g e.conn e.key e.number pair e.cell own pair_ok asked.5.0 in
       let same_star : Star pair.key w.cell.pci w.cell.earfcn ≡ Star pair.key e.cell.pci e.cell.earfcn = ap (λ c. Star pair.key c.pci c.earfcn) (sym asked.3) in
       let leads : Leads e star.key star.number = (omega arith, same_star ∙ up) in
-      let given : GivenFits e.given star.number = subst (λ o. GivenFits o star.number) (sym asked.4) tt in
+      let given : GivenFits e.kind star.number = subst (λ o. GivenFits o star.number) (sym asked.4) tt in
       let goes = prepared_goes w star s h needs.0 e asked.1 asked.5.1.0 asked.2 asked.3 (star_term g w.conn pair w.cell.pci w.cell.earfcn needs.1) leads given
       (wanted_prep (term_reading_by same) w By.S1 star) refl refl refl refl refl refl refl m refl in
       let asked_once = taken_once w s m refl h news e asked.1 asked.5.1 in
@@ -308,8 +308,8 @@ module _ (same : Term → Term → Bool) (cells : List Site) (g : Ghost) (made_o
       let e = asked.0 in
       let own = all_found (TriedOk cells g) _ g.tried e tried_ok asked.1 in
       let m : Made Term ℕ = record { station = s.id; air = w.air; conn = w.conn; cell = w.cell; key = star.key; number = star.number; algs = w.algs; from = ByAttempt w.from } in
-      let of_given : GivenOk g e (Some star) = subst (GivenOk g e) asked.4 own.2 in
-      let given : GivenFits e.given star.number = subst (λ o. GivenFits o star.number) (sym asked.4) refl in
+      let of_given : GivenOk g e (BySource star) = subst (GivenOk g e) asked.4 own.2 in
+      let given : GivenFits e.kind star.number = subst (λ o. GivenFits o star.number) (sym asked.4) refl in
       let goes = prepared_goes w star s h needs.0 e asked.1 asked.5.0 asked.2 asked.3 needs.1 of_given.1 given
       (wanted_prep (term_reading_by same) w By.X2 star) refl refl refl refl refl refl refl m refl in
       let asked_once = taken_once w s m refl h news e asked.1 asked.5 in
@@ -364,7 +364,7 @@ module _ (same : Term → Term → Bool) (cells : List Site) (g : Ghost) (made_o
       let ok : FromOk g m (ByAttempt (record { source = id; attempt = start.number })) = subst (FromOk g m) needs.2 (all_found (MadeOk g) _ g.made m made_ok needs.1).3 in
       let one : ok.0 ≡ e = same_found _ ok.0 e ok.1 h.0.1 in
       let there : m.station ≡ start.station = sym ok.3 ∙ ap (λ x. x.target) one ∙ h.0.4 in
-      let number : start.star.number ≡ m.number = subst (λ o. GivenFits o m.number) (ap (λ x. x.given) one ∙ h.0.6) ok.5 in
+      let number : start.star.number ≡ m.number = subst (λ o. GivenFits o m.number) (ap (λ x. x.kind) one ∙ h.0.6) ok.5 in
       ((m, record { source = id; attempt = start.number }, e, ap (λ n. made_at g.made n air) (sym there) ∙ needs.1, needs.2, h.0.1, h.0.2, h.0.3, ap ncc_of (sym number), needs.3, refl), h.1, (e, h.0.1, h.0.2, h.0.5))
   x2_attempt_acked id conn t algs air (Some (OverX2 (X2Ready acked))) h needs = h
   x2_attempt_acked id conn t algs air (Some (OverX2 (X2Commanded sent))) h needs = h

@@ -9,7 +9,7 @@ use Rattle.key_model.specs.Reading.{term_reading_by}
 use Rattle.key_model.specs.HandoverTable.{NumberedKey}
 use Rattle.x2_handover.specs.declared.orders.Order.{Order}
 use Rattle.lte_machine.specs.Bearers.{Srb, Drb}
-use Rattle.lte_machine.specs.Reply.{ByAttempt, Made, Tried}
+use Rattle.lte_machine.specs.Reply.{ByAttempt, Made, Tried, BySource, ByTarget}
 use Rattle.lte_machine.specs.StationState.{Station, Context, Attempt, OverX2, OverS1, Within, Renewal, Renewing, X2State, X2Open, X2Ready, X2Commanded, S1State, S1Open, S1Ready, S1Commanded}
 use Rattle.lte_machine.specs.StationRows.{ActRow, ActRefused, StartedByX2, StartedByS1, StartedWithin, HandoverCommanded, ChangeCommanded, CancelledByX2, CancelledByS1, CancelledWithin, PathSwitchAsked, PacketSent, RrcSent, BearerSkipped}
 use Rattle.lte_properties.specs.ChainBelow.{AllOf}
@@ -87,7 +87,7 @@ module _ (same : Term → Term → Bool) (cells : List Site) (cells_ok : AllOf S
         cell = cell;
         key = c.key.kenb;
         number = c.key.number;
-        given = Some o.star;
+        kind = BySource o.star;
       } in
       let x = told g None (Some e) in
       let l = told_more g None (Some e) in
@@ -142,7 +142,7 @@ module _ (same : Term → Term → Bool) (cells : List Site) (cells_ok : AllOf S
         cell = cell;
         key = c.key.kenb;
         number = c.key.number;
-        given = None;
+        kind = ByTarget;
       } in
       let x = told g None (Some e) in
       let l = told_more g None (Some e) in
@@ -189,7 +189,7 @@ module _ (same : Term → Term → Bool) (cells : List Site) (cells_ok : AllOf S
         cell = cell;
         key = c.key.kenb;
         number = c.key.number;
-        given = Some o.star;
+        kind = BySource o.star;
       } in
       let m : Made Term ℕ = record {
         station = s.id;

@@ -15,7 +15,7 @@ use Rattle.s1x2_rec.specs.Fields.{Fields, InitialContext, ContextRelease, PathSw
 use Rattle.nh_chain.specs.Chain.{ChainState, stepped, present_pair}
 use Rattle.lte_machine.specs.Bearers.{skipped}
 use Rattle.lte_machine.specs.Wire.{Outgoing, Between}
-use Rattle.lte_machine.specs.Reply.{Reply, Tried}
+use Rattle.lte_machine.specs.Reply.{Reply, Tried, ByTarget}
 use Rattle.lte_machine.specs.CoreState.{Core, CorePartial, CoreContext, CoreLink}
 use Rattle.lte_machine.specs.CoreRows.{CoreNasRow, NasRefused, PlainReject, SmcComplete, ServiceAsked, NasOpened, SealedReject, CoreRecordRow, RecordRefused, PathSwitched, HandoverAsked, HandoverOrdered, HandoverNotified, HandoverCancelled, CoreActRow, ActRefused, SmcStarted, ContextSetUp, ContextReleased, NasSent, NasSkipped, SmcChange}
 use Rattle.lte_machine.specs.CoreKeys.{CoreDone, authenticated, smc_started, smc_complete, service_asked, nas_opened, sealed_reject, nas_sent, nas_skipped, context_set_up, path_switched, handover_asked, handover_notified, core_does_nas, core_does_record, core_does_act, key_changed, new_context}
@@ -29,7 +29,7 @@ use Rattle.lte_properties.proofs.KeySeparation.CoreKeeps.{root_number, count_of,
 
 -- what a row needs of the record: a request for a handover is of an attempt
 abbrev pub RecordNeeds : List (Tried Term ℕ) → CoreRecordRow → Type 0
-RecordNeeds tried (HandoverAsked conn source attempt cell target caps) = HasTried tried source attempt None
+RecordNeeds tried (HandoverAsked conn source attempt cell target caps) = HasTried tried source attempt ByTarget
 RecordNeeds tried other = ⊤
 
 -- a chain goes on to a key that was not given
@@ -261,7 +261,7 @@ module _ (roots : ℕ) (xs : List (Outgoing Term ℕ)) (sites : List Site) (trie
     fresh = step_fresh link station (PathSwitchAnswer conn number) h;
   }
 
-  asked_over_kept : (conn source attempt : ℕ) (cell : Place) (target : ℕ) (caps : Caps) (o : Option (CoreLink Term ℕ)) → HasTried tried source attempt None → Before (record s { link = o }) →
+  asked_over_kept : (conn source attempt : ℕ) (cell : Place) (target : ℕ) (caps : Caps) (o : Option (CoreLink Term ℕ)) → HasTried tried source attempt ByTarget → Before (record s { link = o }) →
       After (handover_asked (term_reading_by same) conn source attempt cell target caps o (record s { link = o }))
   asked_over_kept conn source attempt cell target caps None n h = calm _ _ h (λ u id g. g) tt tt
   asked_over_kept conn source attempt cell target caps (Some link) n h = record {

@@ -11,7 +11,7 @@ use Rattle.key_model.specs.HandoverTable.{NumberedKey}
 use Rattle.s1x2_rec.specs.Fields.{Fields, InitialContext, ContextRelease, PathSwitchRequest, PathSwitchAnswer, HandoverRequired, HandoverRequest, HandoverRequestAck, HandoverCommand, HandoverNotify, HandoverCancel, X2Request, X2Ack, X2Cancel, X2Release, ContextModification}
 use Rattle.ho_prep.specs.Prep.{Prep}
 use Rattle.lte_machine.specs.Wire.{Outgoing, SealedNas, PlainNas, SealedRrc, UserPacket, Between}
-use Rattle.lte_machine.specs.Reply.{Made, Tried, From, BySetup, ByAttempt, ByChange}
+use Rattle.lte_machine.specs.Reply.{Made, Tried, From, BySetup, ByAttempt, ByChange, Handover, BySource, ByTarget}
 use Rattle.lte_machine.specs.StationState.{Station, Context}
 use Rattle.lte_machine.specs.StationKeys.{spent_in}
 use Rattle.lte_machine.specs.World.{Holder, AtPhone, AtCore, AtStation, Holding, with_one, holds}
@@ -243,12 +243,21 @@ BaseGiven G id (Star (Kenb r n) pci earfcn) = G (Kenb r n) id
 BaseGiven G id (Star (Nh r t) pci earfcn) = G (Nh r t) id
 BaseGiven G id other = ⊤
 
+-- of the KeNB* that the source of a handover made
+abbrev pub OfStar : (Term → Type 0) → Handover Term ℕ → Type 0
+OfStar P (BySource star) = P star.key
+OfStar P ByTarget = ⊤
+
+star_has_map : (P Q : Term → Type 0) → ((t : Term) → P t → Q t) → (kind : Handover Term ℕ) → OfStar P kind → OfStar Q kind
+star_has_map P Q f (BySource star) h = f star.key h
+star_has_map P Q f ByTarget h = tt
+
 abbrev pub TriedOk : Gifts → Tried Term ℕ → Type 0
-TriedOk G e = OfPairKey (BaseGiven G e.station) e.given
+TriedOk G e = OfStar (BaseGiven G e.station) e.kind
 
 -- an attempt of this source and number, with this KeNB* if the source made it
-abbrev pub HasTried : List (Tried Term ℕ) → ℕ → ℕ → Option (NumberedKey Term ℕ) → Type 0
-HasTried tried source attempt given = AnyOf (λ e. (e.station ≡ source) × (e.attempt ≡ attempt) × (e.given ≡ given)) tried
+abbrev pub HasTried : List (Tried Term ℕ) → ℕ → ℕ → Handover Term ℕ → Type 0
+HasTried tried source attempt kind = AnyOf (λ e. (e.station ≡ source) × (e.attempt ≡ attempt) × (e.kind ≡ kind)) tried
 
 abbrev pub IsKenb : Term → Type 0
 IsKenb (Kenb r n) = ⊤
@@ -268,9 +277,9 @@ KeyGoes G sites other t = ⊥
 -- a first context is under a KeNB, and a request of a handover is of an attempt
 abbrev pub FieldsOk : List (Tried Term ℕ) → Fields → Option (NumberedKey Term ℕ) → Type 0
 FieldsOk tried (InitialContext conn cell caps) (Some key) = IsKenb key.key
-FieldsOk tried (HandoverRequired conn station attempt cell) key = HasTried tried station attempt None
-FieldsOk tried (HandoverRequest conn source attempt cell caps) key = HasTried tried source attempt None
-FieldsOk tried (X2Request conn source attempt cell caps) (Some key) = HasTried tried source attempt (Some key)
+FieldsOk tried (HandoverRequired conn station attempt cell) key = HasTried tried station attempt ByTarget
+FieldsOk tried (HandoverRequest conn source attempt cell caps) key = HasTried tried source attempt ByTarget
+FieldsOk tried (X2Request conn source attempt cell caps) (Some key) = HasTried tried source attempt (BySource key)
 FieldsOk tried other key = ⊤
 
 abbrev pub FlyOk : Gifts → List Site → List (Tried Term ℕ) → Outgoing Term ℕ → Type 0
@@ -278,14 +287,14 @@ FlyOk G sites tried (Between to fields key) = OfPairKey (KeyGoes G sites to) key
 FlyOk G sites tried other = ⊤
 
 -- KeNB* that the source made, or one that the target made of a key given to it
-abbrev pub MadeBy : Gifts → Made Term ℕ → Option (NumberedKey Term ℕ) → Type 0
-MadeBy G m (Some star) = star.key ≡ m.key
-MadeBy G m None = BaseGiven G m.station m.key
+abbrev pub MadeBy : Gifts → Made Term ℕ → Handover Term ℕ → Type 0
+MadeBy G m (BySource star) = star.key ≡ m.key
+MadeBy G m ByTarget = BaseGiven G m.station m.key
 
 abbrev pub MadeFrom : Gifts → List (Tried Term ℕ) → Made Term ℕ → From Term → Type 0
 MadeFrom G tried m BySetup = IsKenb m.key
 MadeFrom G tried m (ByChange before) = BaseGiven G m.station m.key
-MadeFrom G tried m (ByAttempt o) = AnyOf (λ e. (e.station ≡ o.source) × (e.attempt ≡ o.attempt) × MadeBy G m e.given) tried
+MadeFrom G tried m (ByAttempt o) = AnyOf (λ e. (e.station ≡ o.source) × (e.attempt ≡ o.attempt) × MadeBy G m e.kind) tried
 
 abbrev pub MadeOk : Gifts → List Site → List (Tried Term ℕ) → Made Term ℕ → Type 0
 MadeOk G sites tried m = MadeFrom G tried m m.from × OwnCell sites m.station m.key
@@ -337,7 +346,7 @@ module _ (G H : Gifts) (le : (t : Term) (a : ℕ) → G t a → H t a) (sites : 
   base_grows id (Star (Alg t type i) pci earfcn) h = h
 
   pub tried_ok_grows : (e : Tried Term ℕ) → TriedOk G e → TriedOk H e
-  tried_ok_grows e h = pair_has_map (BaseGiven G e.station) (BaseGiven H e.station) (base_grows e.station) e.given h
+  tried_ok_grows e h = star_has_map (BaseGiven G e.station) (BaseGiven H e.station) (base_grows e.station) e.kind h
 
   key_goes_grows : (to : Address) (t : Term) → KeyGoes G sites to t → KeyGoes H sites to t
   key_goes_grows (StationS1 id) t h = (may_grows G sites id H le t h.0, h.1)
@@ -348,9 +357,9 @@ module _ (G H : Gifts) (le : (t : Term) (a : ℕ) → G t a → H t a) (sites : 
   key_goes_grows CoreS1 t h = h
   key_goes_grows (StationAir station air bearer) t h = h
 
-  made_by_grows : (m : Made Term ℕ) (o : Option (NumberedKey Term ℕ)) → MadeBy G m o → MadeBy H m o
-  made_by_grows m None h = base_grows m.station m.key h
-  made_by_grows m (Some star) h = h
+  made_by_grows : (m : Made Term ℕ) (o : Handover Term ℕ) → MadeBy G m o → MadeBy H m o
+  made_by_grows m ByTarget h = base_grows m.station m.key h
+  made_by_grows m (BySource star) h = h
 
   module _ (tried : List (Tried Term ℕ)) (one : Option (Tried Term ℕ)) where
     fields_grow : (fields : Fields) (key : Option (NumberedKey Term ℕ)) → FieldsOk tried fields key → FieldsOk (with_one one tried) fields key
@@ -359,15 +368,15 @@ module _ (G H : Gifts) (le : (t : Term) (a : ℕ) → G t a → H t a) (sites : 
     fields_grow (ContextRelease conn) key h = h
     fields_grow (PathSwitchRequest conn station number cell caps) key h = h
     fields_grow (PathSwitchAnswer conn number) key h = h
-    fields_grow (HandoverRequired conn station attempt cell) key h = any_old (λ e. (e.station ≡ station) × (e.attempt ≡ attempt) × (e.given ≡ None)) one tried h
-    fields_grow (HandoverRequest conn source attempt cell caps) key h = any_old (λ e. (e.station ≡ source) × (e.attempt ≡ attempt) × (e.given ≡ None)) one tried h
+    fields_grow (HandoverRequired conn station attempt cell) key h = any_old (λ e. (e.station ≡ station) × (e.attempt ≡ attempt) × (e.kind ≡ ByTarget)) one tried h
+    fields_grow (HandoverRequest conn source attempt cell caps) key h = any_old (λ e. (e.station ≡ source) × (e.attempt ≡ attempt) × (e.kind ≡ ByTarget)) one tried h
     fields_grow (HandoverRequestAck conn source attempt cell ncc algs air) key h = h
     fields_grow (HandoverCommand conn attempt cell ncc algs air) key h = h
     fields_grow (HandoverNotify conn station cell) key h = h
     fields_grow (HandoverCancel conn source attempt cell) key h = h
     fields_grow (ContextModification conn next) key h = h
     fields_grow (X2Request conn source attempt cell caps) None h = h
-    fields_grow (X2Request conn source attempt cell caps) (Some key) h = any_old (λ e. (e.station ≡ source) × (e.attempt ≡ attempt) × (e.given ≡ Some key)) one tried h
+    fields_grow (X2Request conn source attempt cell caps) (Some key) h = any_old (λ e. (e.station ≡ source) × (e.attempt ≡ attempt) × (e.kind ≡ BySource key)) one tried h
     fields_grow (X2Ack conn attempt cell algs air) key h = h
     fields_grow (X2Cancel conn source attempt) key h = h
     fields_grow (X2Release conn attempt) key h = h
@@ -383,8 +392,8 @@ module _ (G H : Gifts) (le : (t : Term) (a : ℕ) → G t a → H t a) (sites : 
     made_from_grows m BySetup h = h
     made_from_grows m (ByChange before) h = base_grows m.station m.key h
     made_from_grows m (ByAttempt o) h =
-        let Q = λ (e : Tried Term ℕ). (e.station ≡ o.source) × (e.attempt ≡ o.attempt) × MadeBy H m e.given in
-        any_old Q one tried (any_map (λ e. (e.station ≡ o.source) × (e.attempt ≡ o.attempt) × MadeBy G m e.given) Q (λ e k. (k.0, k.1, made_by_grows m e.given k.2)) tried h)
+        let Q = λ (e : Tried Term ℕ). (e.station ≡ o.source) × (e.attempt ≡ o.attempt) × MadeBy H m e.kind in
+        any_old Q one tried (any_map (λ e. (e.station ≡ o.source) × (e.attempt ≡ o.attempt) × MadeBy G m e.kind) Q (λ e k. (k.0, k.1, made_by_grows m e.kind k.2)) tried h)
 
     pub made_ok_grows : (m : Made Term ℕ) → MadeOk G sites tried m → MadeOk H sites (with_one one tried) m
     made_ok_grows m h = (made_from_grows m m.from h.0, h.1)

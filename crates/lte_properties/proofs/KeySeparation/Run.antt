@@ -1,15 +1,14 @@
 -- Separation and holding, in every world of every run.
-use Rattle.std.proofs.Common.{◌≡◌, refl, ◌∙◌, subst, ℕ, zero, suc, ◌⊎◌, inl, inr, List, Option, Some, None}
+use Rattle.std.proofs.Common.{◌≡◌, refl, ◌∙◌, subst, ℕ, zero, suc, ◌⊎◌, inl, inr, List, Some}
 use Rattle.std.specs.Prelude.{⊤}
 use Rattle.annex_a_keys.specs.Cell.{Place}
 use Rattle.lte_events.specs.Site.{Site, station_of}
 use Rattle.key_model.specs.Term.{Term, Root, Star, IsWellFormed}
 use Rattle.key_model.specs.Chain.{nh}
 use Rattle.key_model.specs.Derivable.{Derivable, HasNoRoot}
-use Rattle.key_model.specs.HandoverTable.{NumberedKey}
 use Rattle.key_model.proofs.DerivableFacts.{star_held, derivable_is}
 use Rattle.lte_machine.specs.Wire.{Outgoing}
-use Rattle.lte_machine.specs.Reply.{Made, Tried, From, BySetup, ByAttempt, ByChange}
+use Rattle.lte_machine.specs.Reply.{Made, Tried, From, BySetup, ByAttempt, ByChange, Handover, BySource, ByTarget}
 use Rattle.lte_machine.specs.World.{World, Holder, AtPhone, AtCore, AtStation}
 use Rattle.lte_properties.specs.ChainBelow.{AllOf}
 use Rattle.lte_properties.specs.Separation.{IsStationOf, HeldBy, GivenTo, HasNeither, Those, AllBut, AllWellFormed, Separates, GivenAt, MadeAsGiven}
@@ -86,25 +85,25 @@ module _ (sites : List Site) (w : World Term ℕ (Outgoing Term ℕ)) (h : Holde
   -- WHO GAVE
 
   -- KeNB* that the source made, or one that the target made
-  given_at : (m : Made Term ℕ) (e : Tried Term ℕ) (source : ℕ) → e.station ≡ source → (given : Option (NumberedKey Term ℕ)) → e.given ≡ given → TriedOk G e → MadeBy G m given →
-      (r : ℕ) (octets : List ℕ) (n i pci earfcn : ℕ) → m.key ≡ Star (nh (Root r octets) n i) pci earfcn → GivenAt w.sent (nh (Root r octets) n i) source m.station given
-  given_at m e source s None g k b r octets n i pci earfcn is =
+  given_at : (m : Made Term ℕ) (e : Tried Term ℕ) (source : ℕ) → e.station ≡ source → (kind : Handover Term ℕ) → e.kind ≡ kind → TriedOk G e → MadeBy G m kind →
+      (r : ℕ) (octets : List ℕ) (n i pci earfcn : ℕ) → m.key ≡ Star (nh (Root r octets) n i) pci earfcn → GivenAt w.sent (nh (Root r octets) n i) source m.station kind
+  given_at m e source s ByTarget g k b r octets n i pci earfcn is =
       base_given_is G m.station r octets n i pci earfcn (subst (BaseGiven G m.station) is b)
-  given_at m e source s (Some star) g k b r octets n i pci earfcn is =
+  given_at m e source s (BySource star) g k b r octets n i pci earfcn is =
       base_given_is G source r octets n i pci earfcn (subst (λ u. BaseGiven G source u) (b ∙ is)
       (subst (λ a. BaseGiven G a star.key) s (subst (OfGiven e.station) g k)))
     where
-      OfGiven : ℕ → Option (NumberedKey Term ℕ) → Type 0
-      OfGiven a None = ⊤
-      OfGiven a (Some x) = BaseGiven G a x.key
+      OfGiven : ℕ → Handover Term ℕ → Type 0
+      OfGiven a ByTarget = ⊤
+      OfGiven a (BySource x) = BaseGiven G a x.key
 
   pub as_given : (m : Made Term ℕ) (o : From Term) → MadeFrom G w.tried m o → MadeAsGiven w m o
   as_given m BySetup k = tt
   as_given m (ByChange before) k = λ r octets n i pci earfcn is. base_given_is G m.station r octets n i pci earfcn (subst (BaseGiven G m.station) is k)
   as_given m (ByAttempt o) k = λ r octets n i pci earfcn is.
-      any_with (TriedOk G) (λ e. (e.station ≡ o.source) × (e.attempt ≡ o.attempt) × MadeBy G m e.given)
-      (λ e. (e.station ≡ o.source) × (e.attempt ≡ o.attempt) × GivenAt w.sent (nh (Root r octets) n i) o.source m.station e.given)
-      (λ e t q. (q.0, q.1, given_at m e o.source q.0 e.given refl t q.2 r octets n i pci earfcn is)) w.tried h.tried k
+      any_with (TriedOk G) (λ e. (e.station ≡ o.source) × (e.attempt ≡ o.attempt) × MadeBy G m e.kind)
+      (λ e. (e.station ≡ o.source) × (e.attempt ≡ o.attempt) × GivenAt w.sent (nh (Root r octets) n i) o.source m.station e.kind)
+      (λ e t q. (q.0, q.1, given_at m e o.source q.0 e.kind refl t q.2 r octets n i pci earfcn is)) w.tried h.tried k
 
   pub made_from : AllOf (λ m. MadeAsGiven w m m.from) w.made
   made_from = all_map (MadeOk G sites w.tried) (λ m. MadeAsGiven w m m.from) (λ m k. as_given m m.from k.0) w.made h.made

@@ -1,14 +1,13 @@
 -- To whom the core gave the key from which a shared key comes, where phone and station agree.
-use Rattle.std.proofs.Common.{◌≡◌, sym, ◌∙◌, subst, ℕ, ◌<◌, ◌==◌, ◌&&◌, true, List, Option, Some, None, arith}
+use Rattle.std.proofs.Common.{◌≡◌, sym, ◌∙◌, subst, ℕ, ◌<◌, ◌==◌, ◌&&◌, true, List, Some, arith}
 use Rattle.std.proofs.lemmas.Bool.Decides.{nat_tests}
 use Rattle.annex_a_keys.specs.Cell.{Place}
 use Rattle.lte_events.specs.Site.{Site, station_of}
 use Rattle.key_model.specs.Derivable.{Derivable}
 use Rattle.key_model.specs.Term.{Term, Root, Star}
 use Rattle.key_model.specs.Chain.{nh}
-use Rattle.key_model.specs.HandoverTable.{NumberedKey}
 use Rattle.lte_machine.specs.Wire.{Outgoing}
-use Rattle.lte_machine.specs.Reply.{Origin, ByAttempt, ByChange, Made, Came, Secured, Commanded, Changed, Took}
+use Rattle.lte_machine.specs.Reply.{Origin, ByAttempt, ByChange, Made, Came, Secured, Commanded, Changed, Took, Handover, BySource, ByTarget}
 use Rattle.lte_machine.specs.World.{World}
 use Rattle.lte_properties.specs.Agreement.{is_made_at, ahead, Obeys, ObeysMade, ObeysAgreement}
 use Rattle.lte_properties.specs.Separation.{HeldBy, Those, GivenTo, GivenAt}
@@ -25,14 +24,14 @@ at_station a b c d e = grind (arith, nat_tests)
 
 module _ (sites : List Site) (w : World Term ℕ (Outgoing Term ℕ)) (h : Holders sites w) where
   -- a station that has neither the key of the chain nor the cell is outside
-  outside_cannot : (r : ℕ) (octets : List ℕ) (n i : ℕ) (cell : Place) (key : Term) (source target : ℕ) (given : Option (NumberedKey Term ℕ)) →
-      key ≡ Star (nh (Root r octets) n i) cell.pci cell.earfcn → station_of cell sites ≡ Some target → GivenAt w.sent (nh (Root r octets) n i) source target given →
-      OutsideCannot w key source target given
-  outside_cannot r octets n i cell key source target (Some star) e c g = λ test o d.
+  outside_cannot : (r : ℕ) (octets : List ℕ) (n i : ℕ) (cell : Place) (key : Term) (source target : ℕ) (kind : Handover Term ℕ) →
+      key ≡ Star (nh (Root r octets) n i) cell.pci cell.earfcn → station_of cell sites ≡ Some target → GivenAt w.sent (nh (Root r octets) n i) source target kind →
+      OutsideCannot w key source target kind
+  outside_cannot r octets n i cell key source target (BySource star) e c g = λ test o d.
       neither_derives sites w h (Those test) r octets n i cell
       ((λ id k a. o.0 (subst (Those test) (h.once (nh (Root r octets) n i) id source k g) a)), (λ id k a. o.1 (subst (Those test) (by_some (sym k ∙ c)) a)))
       (subst (λ t. Derivable (HeldBy (Those test) w.held) t) e d)
-  outside_cannot r octets n i cell key source target None e c g = λ test o d.
+  outside_cannot r octets n i cell key source target ByTarget e c g = λ test o d.
       neither_derives sites w h (Those test) r octets n i cell
       ((λ id k a. o (subst (Those test) (h.once (nh (Root r octets) n i) id target k g) a)), (λ id k a. o (subst (Those test) (by_some (sym k ∙ c)) a)))
       (subst (λ t. Derivable (HeldBy (Those test) w.held) t) e d)
@@ -43,10 +42,10 @@ module _ (sites : List Site) (w : World Term ℕ (Outgoing Term ℕ)) (h : Holde
       station_of cell sites ≡ Some x.station → SharedBy w (nh (Root r octets) n i) x.key source x.station (ByAttempt o)
   shared_by source x m o from k s r octets n i cell e is c = (
     from,
-    any_map (λ t. (t.station ≡ o.source) × (t.attempt ≡ o.attempt) × GivenAt w.sent (nh (Root r octets) n i) o.source m.station t.given)
-        (λ t. (t.station ≡ o.source) × (t.attempt ≡ o.attempt) × GivenAt w.sent (nh (Root r octets) n i) o.source x.station t.given × OutsideCannot w x.key o.source x.station t.given)
-        (λ t q. let g = subst (λ a. GivenAt w.sent (nh (Root r octets) n i) o.source a t.given) s q.2 in
-        (q.0, q.1, g, outside_cannot r octets n i cell x.key o.source x.station t.given is c g)) w.tried
+    any_map (λ t. (t.station ≡ o.source) × (t.attempt ≡ o.attempt) × GivenAt w.sent (nh (Root r octets) n i) o.source m.station t.kind)
+        (λ t. (t.station ≡ o.source) × (t.attempt ≡ o.attempt) × GivenAt w.sent (nh (Root r octets) n i) o.source x.station t.kind × OutsideCannot w x.key o.source x.station t.kind)
+        (λ t q. let g = subst (λ a. GivenAt w.sent (nh (Root r octets) n i) o.source a t.kind) s q.2 in
+        (q.0, q.1, g, outside_cannot r octets n i cell x.key o.source x.station t.kind is c g)) w.tried
         (as_given sites w h m (ByAttempt o) k r octets n i cell.pci cell.earfcn e),
   )
 
@@ -56,7 +55,7 @@ module _ (sites : List Site) (w : World Term ℕ (Outgoing Term ℕ)) (h : Holde
       station_of cell sites ≡ Some x.station → RenewedBy w (nh (Root r octets) n i) x.key x.station
   renewed_by x m before k s r octets n i cell e is c =
       let g = subst (GivenTo w.sent (nh (Root r octets) n i)) s (as_given sites w h m (ByChange before) k r octets n i cell.pci cell.earfcn e) in
-      (g, outside_cannot r octets n i cell x.key x.station x.station None is c g)
+      (g, outside_cannot r octets n i cell x.key x.station x.station ByTarget is c g)
 
   -- what the phone took is what was made, of a key of a chain, for a cell of its station
   module _ (x : Took Term ℕ) (m : Made Term ℕ) (own : MadeOk (GivenTo w.sent) sites w.tried m) (s : m.station ≡ x.station) (r : ℕ) (octets : List ℕ) (n i : ℕ) (cell : Place) (is : x.key ≡ Star (nh (Root r octets) n i) cell.pci cell.earfcn) where

@@ -14,7 +14,7 @@ use Rattle.ho_prep.specs.Prep.{Prep, at_air, drop_below, without, is_of, is_at}
 use Rattle.x2_handover.specs.declared.orders.Order.{Order}
 use Rattle.lte_machine.specs.Bearers.{Srb, Drb}
 use Rattle.lte_machine.specs.Wire.{Outgoing}
-use Rattle.lte_machine.specs.Reply.{Origin, Made, Tried, Reply, ByAttempt}
+use Rattle.lte_machine.specs.Reply.{Origin, Made, Tried, Reply, ByAttempt, Handover, BySource, ByTarget}
 use Rattle.lte_machine.specs.StationState.{Station, Context, Attempt, OverX2, OverS1, Within, X2Open, X2Ready, X2Commanded, S1Open, S1Ready, S1Commanded, Renewal, Renewing}
 use Rattle.lte_machine.specs.StationRows.{Wanted, RecordRow, RecordRefused, ContextGiven, ContextReleased, PairTaken, PreparedByS1, PreparedByX2, AckedByS1, AckedByX2, PreparationCancelled, SourceReleased, AirRow, AirRefused, SecurityStarted, RrcOpened, PacketOpened, CompletedByS1, CompletedWithin, CompletedByX2, ActRow, ActRefused, StartedByX2, StartedByS1, StartedWithin, HandoverCommanded, CancelledByX2, CancelledByS1, CancelledWithin, PathSwitchAsked, PacketSent, RrcSent, BearerSkipped, StationRow, OfRecord, OfAir, OfAct, KeyRenewed, ChangeCommanded}
 use Rattle.lte_machine.specs.StationKeys.{spent_in, commanded, given_up, with_security, with_rrc_taken, with_packet_taken, with_skipped, completed_by_s1, completed_within, completed_by_x2, started_by_x2, started_by_s1, started_within, commands, asks_again, sends_packet, sends_rrc, air_does, act_does, station_does, commands_change}
@@ -97,9 +97,9 @@ RecordNeeds G sites tried id (ContextGiven conn cell caps algs air) key =
     May G sites id key.key × IsKenb key.key × OwnPlace sites id cell
 RecordNeeds G sites tried id (PairTaken conn origin) key = May G sites id key.key
 RecordNeeds G sites tried id (PreparedByS1 w) key =
-    May G sites id key.key × HasTried tried w.from.source w.from.attempt None × OwnPlace sites id w.cell
+    May G sites id key.key × HasTried tried w.from.source w.from.attempt ByTarget × OwnPlace sites id w.cell
 RecordNeeds G sites tried id (PreparedByX2 w) key =
-    May G sites id key.key × HasTried tried w.from.source w.from.attempt (Some key) × OwnCell sites id key.key × OwnPlace sites id w.cell
+    May G sites id key.key × HasTried tried w.from.source w.from.attempt (BySource key) × OwnCell sites id key.key × OwnPlace sites id w.cell
 RecordNeeds G sites tried id (KeyRenewed conn number air count) key = May G sites id key.key
 RecordNeeds G sites tried id other key = ⊤
 
@@ -194,7 +194,7 @@ module _ (G : Gifts) (sites : List Site) (tried : List (Tried Term ℕ)) (same :
       (record { context = context_map_has P C (with_pair pair) (λ c k. (k.0, n, k.2, k.3)) s.context h.context; preps = h.preps })
 
   -- what a preparation was made of
-  abbrev WantedBy : Wanted → NumberedKey Term ℕ → Option (NumberedKey Term ℕ) → Type 0
+  abbrev WantedBy : Wanted → NumberedKey Term ℕ → Handover Term ℕ → Type 0
   WantedBy w key o = MadeBy G (wanted_made s.id w key) o
 
   prepared_s1_kept : (w : Wanted) (key : Option (NumberedKey Term ℕ)) →
@@ -213,7 +213,7 @@ module _ (G : Gifts) (sites : List Site) (tried : List (Tried Term ℕ)) (same :
         gives = λ u a g. g;
         tries = tt;
         makes = (
-          any_map (λ e. (e.station ≡ w.from.source) × (e.attempt ≡ w.from.attempt) × (e.given ≡ None)) _
+          any_map (λ e. (e.station ≡ w.from.source) × (e.attempt ≡ w.from.attempt) × (e.kind ≡ ByTarget)) _
               (λ e q. (q.0, q.1, subst (WantedBy w (record { key = Star key.key w.cell.pci w.cell.earfcn; number = key.number })) (sym q.2) (base_given G sites s.id key.key w.cell.pci w.cell.earfcn n.0))) tried n.1,
           n.2,
         );
@@ -234,7 +234,7 @@ module _ (G : Gifts) (sites : List Site) (tried : List (Tried Term ℕ)) (same :
     gives = λ u a g. g;
     tries = tt;
     makes = (
-      any_map (λ e. (e.station ≡ w.from.source) × (e.attempt ≡ w.from.attempt) × (e.given ≡ Some key)) _
+      any_map (λ e. (e.station ≡ w.from.source) × (e.attempt ≡ w.from.attempt) × (e.kind ≡ BySource key)) _
           (λ e q. (q.0, q.1, subst (WantedBy w key) (sym q.2) refl)) tried n.1,
       n.2,
     );
@@ -319,7 +319,7 @@ module _ (G : Gifts) (sites : List Site) (tried : List (Tried Term ℕ)) (same :
         outs = (may_star G sites s.id base.key cell.pci cell.earfcn b, tt);
         sends = (
           (may_go G sites s.id base.key cell target e b, e),
-          any_new (λ t. (t.station ≡ s.id) × (t.attempt ≡ number) × (t.given ≡ Some (opened (term_reading_by same) context.key cell).star)) _ tried (refl, refl, refl),
+          any_new (λ t. (t.station ≡ s.id) × (t.attempt ≡ number) × (t.kind ≡ BySource (opened (term_reading_by same) context.key cell).star)) _ tried (refl, refl, refl),
         );
         gives = λ u a g. g;
         tries = base_given G sites s.id base.key cell.pci cell.earfcn b;
@@ -333,7 +333,7 @@ module _ (G : Gifts) (sites : List Site) (tried : List (Tried Term ℕ)) (same :
     cells = cells;
     keys = record { context = (c.0, c.1, tt, c.3); preps = h.preps };
     outs = tt;
-    sends = (tt, any_new (λ t. (t.station ≡ s.id) × (t.attempt ≡ number) × (t.given ≡ None)) _ tried (refl, refl, refl));
+    sends = (tt, any_new (λ t. (t.station ≡ s.id) × (t.attempt ≡ number) × (t.kind ≡ ByTarget)) _ tried (refl, refl, refl));
     gives = λ u a g. g;
     tries = tt;
     makes = tt;
@@ -353,7 +353,7 @@ module _ (G : Gifts) (sites : List Site) (tried : List (Tried Term ℕ)) (same :
         sends = tt;
         gives = λ u a g. g;
         tries = base_given G sites s.id base.key cell.pci cell.earfcn b;
-        makes = (any_new (λ e. (e.station ≡ s.id) × (e.attempt ≡ number) × MadeBy G made e.given) _ tried (refl, refl, refl), e);
+        makes = (any_new (λ e. (e.station ≡ s.id) × (e.attempt ≡ number) × MadeBy G made e.kind) _ tried (refl, refl, refl), e);
       }
 
   commands_kept : (order : Order) (count : ℕ) (o : Option (Context Term ℕ)) → Has o → StationHas P C s → After (commands order count o s)
