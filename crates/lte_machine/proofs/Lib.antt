@@ -20,6 +20,7 @@ pub mod Ordinary
 pub mod LateAnswers
 mod Turns
 pub mod KeyChanges
+mod AfterChanges
 mod WideCell
 mod Edges
 pub mod Rows
