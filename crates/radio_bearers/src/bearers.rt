@@ -1,4 +1,4 @@
-ghost use Rattle.std.specs.Prelude.{◌≡◌, ◌≤◌, true, false, length, IfOk, OnOk, OnErr};
+ghost use Rattle.std.specs.Prelude.{◌≡◌, ◌≤◌, true, false, length, IfErr, IfOk, OnOk, OnErr};
 ghost use Rattle.std.specs.Bool.{OnTrue, OnFalse};
 ghost use Rattle.pdcp_guard.specs.Srb.{IsSrb, srb_opened};
 ghost use Rattle.pdcp_guard.specs.Drb.{IsDrb, drb_opened};
@@ -81,6 +81,7 @@ impl Bearers {
         requires srb { IsSrb bearer }
         requires text { length text.now ≤ 201 }
         ensures spent { OnErr result (is_spent (srb_counts (srb_of bearer) self.old) ≡ true) }
+        ensures cause { IfErr result (λ fault. fault ≡ PdcpFault.CountSpent) }
         ensures err { OnErr result (self.new ≡ self.old) }
         ensures left { OnOk result (is_spent (srb_counts (srb_of bearer) self.old) ≡ false) }
         ensures new { OnOk result (self.new ≡ srb_sent (srb_of bearer) self.old) }
@@ -107,6 +108,7 @@ impl Bearers {
     ) -> Result<PdcpSent, PdcpFault>
         requires { IsDrb bearer }
         ensures spent { OnErr result (is_spent (drb_counts (drb_of bearer) self.old) ≡ true) }
+        ensures cause { IfErr result (λ fault. fault ≡ PdcpFault.CountSpent) }
         ensures err { OnErr result (self.new ≡ self.old) }
         ensures left { OnOk result (is_spent (drb_counts (drb_of bearer) self.old) ≡ false) }
         ensures new { OnOk result (self.new ≡ drb_sent (drb_of bearer) self.old) }
