@@ -28,7 +28,7 @@ use Rattle.lte_properties.proofs.EveryLine.{each_of_first}
 use Rattle.lte_properties.proofs.EveryRun.{agrees, none_ever, shared}
 use Rattle.lte_properties.proofs.KeySeparation.Ever.{separation_holds}
 use Rattle.lte_properties.proofs.OctetLaws.{uses_octets, joined_octets, no_kasme_octets, packet_told}
-use Rattle.lte_properties.proofs.StepByStep.{follows, step_completed}
+use Rattle.lte_properties.proofs.StepByStep.{follows, step_tells, step_completed}
 
 abbrev TheWorld : Type 0
 TheWorld = World Term ℕ (Outgoing Term ℕ)
@@ -85,6 +85,7 @@ module _ (setup : Setup) (events : List Event) (set : IsSetup setup) (are : AllO
     report = tale_is_value annex_b annex_b_ciphers setup set events are;
     values = value;
     ends = λ chance over. ends_at (open_octets annex_b) (machine_in_octets annex_b) (first_world setup) events chance over;
+    lines = λ k w e u line is. step_tells setup events k w e u line is;
     agreement = λ k x before line h. of_target setup events k x (Commanded before) line h.1 (follows setup events set are k x line h.0);
     renewal = λ k x before root line h is. of_target setup events k x (Changed before root) line is (follows setup events set are k x line h);
     last = λ n w runs. (agree n w runs).last;

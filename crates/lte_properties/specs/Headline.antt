@@ -16,7 +16,7 @@ use Rattle.lte_machine.specs.Tuples.{Chance}
 use Rattle.lte_machine.specs.Wire.{Outgoing}
 use Rattle.lte_machine.specs.World.{World, Line}
 use Rattle.lte_properties.specs.Accounts.{UsesAreThoseSent}
-use Rattle.lte_properties.specs.Agreement.{ahead, TookMade, TookLast, NoneThere, JoinedAgree, TellsNote, CompletedTaken}
+use Rattle.lte_properties.specs.Agreement.{ahead, MadeIsTold, TookIsTold, TookMade, TookLast, NoneThere, JoinedAgree, TellsNote, CompletedTaken}
 use Rattle.lte_properties.specs.BySteps.{MakesAt, TakesAt, TellOneKey, Obeyed}
 use Rattle.lte_properties.specs.Freshness.{NoUseTwice}
 use Rattle.lte_properties.specs.InOctets.{EachWorld, NoKasmeHeld, BringsPacket, TellsText}
@@ -57,6 +57,10 @@ pub record Headline (setup : Setup) (events : List Event) : Type 0 where
   -- a run that is over has a longest prefix by which it went on, and the coincidence is the next event
   pub ends : (chance : Chance (List ℕ)) → octet_run setup events ≡ Stopped chance →
       EndsAt (open_octets annex_b) (machine_in_octets annex_b) (first_world setup) events chance
+  -- each key that a station makes for an air address, and each that the phone takes, is told in the line of its step, and the
+  -- phone's lines tell no other
+  pub lines : (k : ℕ) (w : World Term ℕ (Outgoing Term ℕ)) (e : Event) (u : World Term ℕ (Outgoing Term ℕ)) (line : Line Term) →
+      IsStep setup events k w e u line → MadeIsTold w u line × TookIsTold w u line
   -- a phone that obeys a handover command fewer than eight chain steps ahead shares the target's key, from that step on
   pub agreement : (k : ℕ) (x : Took Term ℕ) (before : Before Term ℕ) (line : Line Term) →
       Obeyed setup events k x before line → AtCommand setup events k x before line
