@@ -34,7 +34,7 @@ key_value (Of d) = refl
 
 -- A KEY THAT STANDS HAS A ROW
 
-abbrev Stands : List ℕ → List (List ℕ) → Type 0
+abbrev pub Stands : List ℕ → List (List ℕ) → Type 0
 Stands key [] = ⊥
 Stands key (k ∷ ks) = (key ≡ k) ⊎ Stands key ks
 
@@ -48,7 +48,7 @@ row_at [] j key e = absurd (none-some key e)
 row_at (r ∷ rows) zero key e = (r, refl, cc)
 row_at (r ∷ rows) (suc j) key e = row_at rows j key e
 
-row_stands : (rows : List LadderRow) (key : List ℕ) → Stands key (map (λ r. r.octets) rows) → HasRow rows key
+pub row_stands : (rows : List LadderRow) (key : List ℕ) → Stands key (map (λ r. r.octets) rows) → HasRow rows key
 row_stands rows key h = by (row_of rows key) refl
   where
     by : (o : Option ℕ) → row_of rows key ≡ o → IsSome (row_of rows key)
