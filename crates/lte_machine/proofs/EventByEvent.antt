@@ -1,24 +1,26 @@
 -- A run and what it tells, event by event.
-use Rattle.std.proofs.Common.{◌≡◌, refl, sym, ap, ◌∙◌, ℕ, zero, suc, List, [], ◌∷◌, ◌++◌, take, length, Option, Some, None}
+use Rattle.std.proofs.Common.{◌≡◌, refl, sym, ap, ◌∙◌, ℕ, zero, suc, List, [], ◌∷◌, ◌++◌, take, length, Option, Some, None, subst, map}
 use Rattle.std.specs.Prelude.{slice_get}
 use Rattle.lte_events.specs.declared.events.Event.{Event}
 use Rattle.lte_events.specs.declared.setups.Setup.{Setup}
 use Rattle.key_model.specs.Term.{Term}
-use Rattle.lte_machine.specs.BothRuns.{annex_b_terms, written_run, written_report, octet_run}
-use Rattle.lte_machine.specs.ByEvent.{EndsAt, in_octets, IsValueOfRun, IsStep, Told}
-use Rattle.lte_machine.specs.Carried.{run_value}
+use Rattle.lte_machine.specs.BothRuns.{annex_b_terms, written_run, written_report, octet_run, octet_report}
+use Rattle.lte_machine.specs.ByEvent.{EndsAt, in_octets, IsValueOfRun, IsStep, Told, IsOctetStep, IsValueOfStep}
+use Rattle.lte_machine.specs.Carried.{run_value, map_line, report_value}
 use Rattle.lte_machine.specs.Ciphers.{annex_b}
 use Rattle.lte_machine.specs.Ladder.{Clash, ladder_of}
-use Rattle.lte_machine.specs.Machines.{Kept, written_machine}
+use Rattle.lte_machine.specs.Machines.{Kept, written_machine, machine_in_octets}
 use Rattle.lte_machine.specs.Opening.{Opening, Outcome, open_octets}
 use Rattle.lte_machine.specs.Ranges.{AllOf, IsEvent, IsSetup}
-use Rattle.lte_machine.specs.Run.{RunState, Running, Stopped, after, turn, replay, Reported, reported, event_report, report, first_world}
+use Rattle.lte_machine.specs.Run.{RunState, Running, Stopped, after, turn, replay, EventReport, Reported, Coincided, reported, event_report, report, first_world}
 use Rattle.lte_machine.specs.Step.{StepResult, Continues, Stops, by_ladder, by_chance, opening_chance, attempted, next}
 use Rattle.lte_machine.specs.Tuples.{Chance}
 use Rattle.lte_machine.specs.Wire.{Outgoing}
 use Rattle.lte_machine.specs.World.{Machine, World, Line, happens}
 use Rattle.lte_machine.proofs.AnnexB.{annex_b_ciphers}
-use Rattle.lte_machine.proofs.WholeRun.{run_is_value}
+use Rattle.lte_machine.proofs.WholeRun.{run_is_value, tale_is_value}
+use Rattle.key_model.specs.Value.{value_of}
+use Rattle.lte_machine.proofs.StillRun.{still_one}
 
 module _ {K C S : Type 0} (by_octets : Opening K → List ℕ → Outcome) (m : Machine K C S) where
   pub replay_snoc : (r : RunState K C S) (es : List Event) (e : Event) → replay by_octets m r (es ++ e ∷ []) ≡ turn by_octets m (replay by_octets m r es) e
@@ -168,3 +170,77 @@ pub step_happens : (setup : Setup) (events : List Event) (k : ℕ) (w : World Te
     → IsStep setup events k w e u line → (u, line) ≡ happens (written_machine annex_b) w e
 step_happens setup events k w e u line h =
     let same = step_is (open_octets annex_b_terms) (written_machine annex_b) w e u line h.goes_on in λ j. (same.0 j, same.1 j)
+
+-- IN OCTETS
+
+-- the first events are events
+pub each_of_first : (n : ℕ) (es : List Event) → AllOf IsEvent es → AllOf IsEvent (take n es)
+each_of_first zero es h = tt
+each_of_first (suc n) [] h = tt
+each_of_first (suc n) (e ∷ es) h = (h.0, each_of_first n es h.1)
+
+-- what stands at a place of a list that was mapped
+got_of_map : {A B : Type 0} (f : A → B) (xs : List A) (k : ℕ) (y : B) → slice_get (map f xs) k ≡ Some y → (x : A) × (slice_get xs k ≡ Some x) × (y ≡ f x)
+got_of_map f [] k y e = absurd cc
+got_of_map f (x ∷ xs) zero y e = (x, refl, cc)
+got_of_map f (x ∷ xs) (suc k) y e = got_of_map f xs k y e
+
+-- a line in octets is the value of a line
+line_of_value : (s : EventReport Term) (line : Line (List ℕ)) → Reported line ≡ report_value s → (told : Line Term) × (s ≡ Reported told) × (line ≡ map_line value_of told)
+line_of_value (Reported told) line e = (told, refl, cc)
+line_of_value (Coincided chance) line e = absurd cc
+
+module _ (setup : Setup) (events : List Event) (set : IsSetup setup) (are : AllOf IsEvent events) where
+  pub step_of_value : (k : ℕ) (v : World (List ℕ) ℕ Kept) (e : Event) (u : World (List ℕ) ℕ Kept) (line : Line (List ℕ)) → IsOctetStep setup events k v e u line → IsValueOfStep setup events k v e u line
+  step_of_value k v e u line h = record {
+    world = was.world;
+    later = step.after;
+    told = told.0;
+    step = here;
+    before = was.value;
+    afterwards = still_one (sym runs ∙ value_after);
+    line_is = told.2;
+  }
+    where
+      was : IsValueOfRun setup (take k events) v
+      was = written_still setup (take k events) set (each_of_first k events are) v h.before
+
+      -- what the run in octets tells at this place
+      octets_tell : slice_get (octet_report setup events) k ≡ Some (Reported line)
+      octets_tell =
+          told_at (open_octets annex_b) (machine_in_octets annex_b) (Running (first_world setup)) events k e h.event
+          ∙ ap (λ r. Some (event_report (open_octets annex_b) (machine_in_octets annex_b) r e)) h.before ∙ ap (λ s. Some (reported s)) h.goes_on
+
+      tell : (s : EventReport Term) × (slice_get (written_report setup events) k ≡ Some s) × (Reported line ≡ report_value s)
+      tell = got_of_map report_value (written_report setup events) k (Reported line)
+          (ap (λ xs. slice_get xs k) (sym (tale_is_value annex_b annex_b_ciphers setup set events are)) ∙ octets_tell)
+
+      told : (l : Line Term) × (tell.0 ≡ Reported l) × (line ≡ map_line value_of l)
+      told = line_of_value tell.0 line tell.2
+
+      step : Told setup events k told.0
+      step = told_step setup events k told.0 (tell.1 ∙ ap (λ s. Some s) told.1)
+
+      same_event : step.event ≡ e
+      same_event = by (sym step.step.event ∙ h.event)
+        where
+          by : Some step.event ≡ Some e → step.event ≡ e
+          by f = cc
+
+      same_world : step.world ≡ was.world
+      same_world = still_one (sym step.step.before ∙ was.runs)
+
+      here : IsStep setup events k was.world e step.after told.0
+      here = subst (λ w. IsStep setup events k w e step.after told.0) same_world (subst (λ d. IsStep setup events k step.world d step.after told.0) same_event step.step)
+
+      -- and the world after it
+      runs : octet_run setup (take (suc k) events) ≡ Running u
+      runs =
+          ap (octet_run setup) (take_more events k e h.event)
+          ∙ replay_snoc (open_octets annex_b) (machine_in_octets annex_b) (Running (first_world setup)) (take k events) e
+          ∙ ap (λ r. turn (open_octets annex_b) (machine_in_octets annex_b) r e) h.before ∙ ap after h.goes_on
+
+      value_after : octet_run setup (take (suc k) events) ≡ Running (in_octets step.after)
+      value_after =
+          run_is_value annex_b annex_b_ciphers setup set (take (suc k) events) (each_of_first (suc k) events are)
+          ∙ ap (run_value annex_b) (step_takes setup events k was.world e step.after told.0 here)

@@ -5,10 +5,10 @@ use Rattle.lte_events.specs.declared.setups.Setup.{Setup}
 use Rattle.key_model.specs.Chain.{ncc_of}
 use Rattle.key_model.specs.Term.{Term}
 use Rattle.key_model.specs.Value.{value_of}
-use Rattle.lte_machine.specs.BothRuns.{annex_b_terms, written_run}
-use Rattle.lte_machine.specs.Carried.{map_world}
+use Rattle.lte_machine.specs.BothRuns.{annex_b_terms, written_run, octet_run}
+use Rattle.lte_machine.specs.Carried.{map_world, map_line}
 use Rattle.lte_machine.specs.Ciphers.{annex_b}
-use Rattle.lte_machine.specs.Machines.{Kept, kept_in_values, written_machine}
+use Rattle.lte_machine.specs.Machines.{Kept, machine_in_octets, kept_in_values, written_machine}
 use Rattle.lte_machine.specs.Opening.{Opening, Outcome, open_octets}
 use Rattle.lte_machine.specs.Run.{Running, replay}
 use Rattle.lte_machine.specs.Step.{Continues, Stops, next}
@@ -48,3 +48,19 @@ pub record Told (setup : Setup) (events : List Event) (k : ℕ) (line : Line Ter
   pub event : Event
   pub after : World Term ℕ (Outgoing Term ℕ)
   pub step : IsStep setup events k world event after line
+
+-- step k of the run in octets
+pub record IsOctetStep (setup : Setup) (events : List Event) (k : ℕ) (v : World (List ℕ) ℕ Kept) (e : Event) (after : World (List ℕ) ℕ Kept) (line : Line (List ℕ)) : Type 0 where
+  pub event : slice_get events k ≡ Some e
+  pub before : octet_run setup (take k events) ≡ Running v
+  pub goes_on : next (open_octets annex_b) (machine_in_octets annex_b) v e ≡ Continues after line
+
+-- it is the value of step k over terms: both worlds and the line
+pub record IsValueOfStep (setup : Setup) (events : List Event) (k : ℕ) (v : World (List ℕ) ℕ Kept) (e : Event) (after : World (List ℕ) ℕ Kept) (line : Line (List ℕ)) : Type 0 where
+  pub world : World Term ℕ (Outgoing Term ℕ)
+  pub later : World Term ℕ (Outgoing Term ℕ)
+  pub told : Line Term
+  pub step : IsStep setup events k world e later told
+  pub before : v ≡ in_octets world
+  pub afterwards : after ≡ in_octets later
+  pub line_is : line ≡ map_line value_of told

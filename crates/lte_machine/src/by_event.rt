@@ -4,7 +4,7 @@ ghost use Rattle.lte_events.specs.declared.events.Event.{Event};
 ghost use Rattle.lte_events.specs.declared.setups.Setup.{Setup};
 ghost use Rattle.key_model.specs.Term.{Term};
 ghost use Rattle.lte_machine.specs.BothRuns.{written_run, written_report, octet_run};
-ghost use Rattle.lte_machine.specs.ByEvent.{EndsAt, IsValueOfRun, IsStep, Told};
+ghost use Rattle.lte_machine.specs.ByEvent.{EndsAt, IsValueOfRun, IsStep, Told, IsOctetStep, IsValueOfStep};
 ghost use Rattle.lte_machine.specs.Ciphers.{annex_b};
 ghost use Rattle.lte_machine.specs.Machines.{Kept, written_machine};
 ghost use Rattle.lte_machine.specs.Opening.{Opening, Outcome};
@@ -40,10 +40,14 @@ pub fn a_run_goes_event_by_event<K, C, S>()
 {}
 
 /// Where the run in octets goes on, so does the run over terms, and the world in octets is its value: keys
-/// by their 32 octets, chain numbers by their NCCs, records by their octets.
+/// by their 32 octets, chain numbers by their NCCs, records by their octets (`written_still`). And each step
+/// of it is the value of that step over terms: the worlds before and after it, and its line (`step`).
 pub fn the_run_in_octets_goes_on_in_a_value()
     ensures written_still { (setup : Setup) (events : List Event) → IsSetup setup → AllOf IsEvent events →
         (u : World (List ℕ) ℕ Kept) → octet_run setup events ≡ Running u → IsValueOfRun setup events u }
+    ensures step { (setup : Setup) (events : List Event) → IsSetup setup → AllOf IsEvent events →
+        (k : ℕ) (v : World (List ℕ) ℕ Kept) (e : Event) (u : World (List ℕ) ℕ Kept) (line : Line (List ℕ)) →
+        IsOctetStep setup events k v e u line → IsValueOfStep setup events k v e u line }
 {}
 
 /// Step k of the written machine's run, from the world after k events: the world after it is that after k + 1

@@ -1,5 +1,5 @@
 -- What the lines of every run of the written machine tell of keys.
-use Rattle.std.proofs.Common.{ℕ, zero, suc, List, [], ◌∷◌, take, refl, sym, subst}
+use Rattle.std.proofs.Common.{ℕ, List, take, refl, sym, subst}
 use Rattle.lte_events.specs.declared.events.Event.{Event}
 use Rattle.lte_events.specs.declared.setups.Setup.{Setup}
 use Rattle.key_model.specs.Term.{Term, Root}
@@ -21,12 +21,7 @@ use Rattle.lte_properties.proofs.Agreement.Noted.{keys_told}
 use Rattle.lte_properties.proofs.EveryRun.{way_is}
 use Rattle.lte_properties.proofs.SameKeys.{reflexive}
 use Rattle.lte_properties.proofs.Agreement.World.{Conns, WorldOk}
-
--- the first events are events
-pub each_of_first : (n : ℕ) (es : List Event) → AllOf IsEvent es → AllOf IsEvent (take n es)
-each_of_first zero es h = tt
-each_of_first (suc n) [] h = tt
-each_of_first (suc n) (e ∷ es) h = (h.0, each_of_first n es h.1)
+use Rattle.lte_machine.proofs.EventByEvent.{each_of_first}
 
 -- what is made and taken is told, in every run
 pub keys_are_told : (c : Ciphers (List ℕ)) (setup : Setup) (events : List Event) → KeysTold (written_machine c) (first_world setup) events

@@ -15,7 +15,7 @@ use Rattle.lte_machine.specs.Run.{Running, run, first_world}
 use Rattle.lte_machine.specs.Wire.{Outgoing}
 use Rattle.lte_machine.specs.World.{World, Line}
 use Rattle.lte_machine.proofs.AnnexB.{annex_b_ciphers}
-use Rattle.lte_machine.proofs.EventByEvent.{written_still, ends_at}
+use Rattle.lte_machine.proofs.EventByEvent.{written_still, ends_at, each_of_first, step_of_value}
 use Rattle.lte_machine.proofs.StillRun.{still_is_run}
 use Rattle.lte_machine.proofs.WholeRun.{tale_is_value}
 use Rattle.lte_properties.specs.Accounts.{UsesAreThoseSent}
@@ -24,7 +24,6 @@ use Rattle.lte_properties.specs.BySteps.{Follows}
 use Rattle.lte_properties.specs.Headline.{OfTarget, Headline}
 use Rattle.lte_properties.specs.Separation.{Separates}
 use Rattle.lte_properties.proofs.AccountsHold.{uses_are_sent}
-use Rattle.lte_properties.proofs.EveryLine.{each_of_first}
 use Rattle.lte_properties.proofs.EveryRun.{agrees, none_ever, shared}
 use Rattle.lte_properties.proofs.KeySeparation.Ever.{separation_holds}
 use Rattle.lte_properties.proofs.OctetLaws.{uses_octets, joined_octets, no_kasme_octets, packet_told}
@@ -84,6 +83,7 @@ module _ (setup : Setup) (events : List Event) (set : IsSetup setup) (are : AllO
   headline = record {
     report = tale_is_value annex_b annex_b_ciphers setup set events are;
     values = value;
+    steps = λ k v e u line h. step_of_value setup events set are k v e u line h;
     ends = λ chance over. ends_at (open_octets annex_b) (machine_in_octets annex_b) (first_world setup) events chance over;
     lines = λ k w e u line is. step_tells setup events k w e u line is;
     agreement = λ k x before line h. of_target setup events k x (Commanded before) line h.1 (follows setup events set are k x line h.0);

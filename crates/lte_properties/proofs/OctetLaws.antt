@@ -25,7 +25,7 @@ use Rattle.lte_machine.specs.StationState as station
 use Rattle.lte_machine.specs.Wire.{Outgoing}
 use Rattle.lte_machine.specs.World.{World, Line, AtStation, Holding, happens}
 use Rattle.lte_machine.proofs.AnnexB.{annex_b_ciphers}
-use Rattle.lte_machine.proofs.EventByEvent.{step_told, step_happens}
+use Rattle.lte_machine.proofs.EventByEvent.{step_told, step_happens, each_of_first}
 use Rattle.lte_machine.proofs.LadderRun.{ladder_always, all_reported}
 use Rattle.lte_machine.proofs.StillRun.{still_is_run}
 use Rattle.lte_machine.proofs.WholeRun.{tale_is_value}
@@ -36,7 +36,6 @@ use Rattle.lte_properties.specs.InOctets.{NoKasmeHeld, BringsPacket, TellsText}
 use Rattle.lte_properties.specs.Packets.{OpensTo}
 use Rattle.lte_properties.specs.Separation.{IsStationOf, HeldBy, NoRootHeld}
 use Rattle.lte_properties.proofs.AccountsHold.{rows_are}
-use Rattle.lte_properties.proofs.EveryLine.{each_of_first}
 use Rattle.lte_properties.proofs.EveryRun.{agrees, values_differ, packets}
 use Rattle.lte_properties.proofs.KeySeparation.Ever.{separation_holds}
 

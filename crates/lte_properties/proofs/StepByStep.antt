@@ -21,13 +21,13 @@ use Rattle.lte_machine.specs.Step.{StepResult, Continues, Stops, next}
 use Rattle.lte_machine.specs.Wire.{Outgoing}
 use Rattle.lte_machine.specs.World.{World, Line, happens}
 use Rattle.lte_machine.proofs.AnnexB.{annex_b_ciphers}
-use Rattle.lte_machine.proofs.EventByEvent.{step_takes, step_happens, prefix_goes_on, replay_snoc, take_more}
+use Rattle.lte_machine.proofs.EventByEvent.{step_takes, step_happens, prefix_goes_on, replay_snoc, take_more, each_of_first}
 use Rattle.lte_machine.proofs.StillRun.{still_is_run, still_one}
 use Rattle.lte_properties.specs.Agreement.{is_made_at, made_at, ahead, ObeysMade, Obeys, Reported, MadeIsTold, TookIsTold, TellsNote, CompletedLines}
 use Rattle.lte_properties.specs.BySteps.{MakesAt, TakesAt, TellOneKey, Follows}
 use Rattle.lte_properties.proofs.Agreement.Noted.{keys_told}
 use Rattle.lte_properties.proofs.Agreement.Told.{made_there}
-use Rattle.lte_properties.proofs.EveryLine.{each_of_first, lines_completed}
+use Rattle.lte_properties.proofs.EveryLine.{lines_completed}
 use Rattle.lte_properties.proofs.EveryRun.{agrees}
 
 abbrev TheWorld : Type 0

@@ -5,7 +5,7 @@ use Rattle.lte_events.specs.declared.events.Event.{Event}
 use Rattle.lte_events.specs.declared.setups.Setup.{Setup}
 use Rattle.key_model.specs.Term.{Term}
 use Rattle.lte_machine.specs.BothRuns.{written_run, written_report, octet_run, octet_report}
-use Rattle.lte_machine.specs.ByEvent.{EndsAt, IsStep, IsValueOfRun}
+use Rattle.lte_machine.specs.ByEvent.{EndsAt, IsStep, IsValueOfRun, IsOctetStep, IsValueOfStep}
 use Rattle.lte_machine.specs.Carried.{report_value}
 use Rattle.lte_machine.specs.Ciphers.{annex_b}
 use Rattle.lte_machine.specs.Machines.{Kept, machine_in_octets}
@@ -54,6 +54,9 @@ pub record Headline (setup : Setup) (events : List Event) : Type 0 where
   pub report : octet_report setup events ≡ map report_value (written_report setup events)
   -- and each world in octets by which it goes on is the value of one over terms
   pub values : (n : ℕ) (u : World (List ℕ) ℕ Kept) → octet_run setup (take n events) ≡ Running u → IsValueOfRun setup (take n events) u
+  -- and so is each step of it, with its line: what is said of steps below is said of them
+  pub steps : (k : ℕ) (v : World (List ℕ) ℕ Kept) (e : Event) (u : World (List ℕ) ℕ Kept) (line : Line (List ℕ)) →
+      IsOctetStep setup events k v e u line → IsValueOfStep setup events k v e u line
   -- a run that is over has a longest prefix by which it went on, and the coincidence is the next event
   pub ends : (chance : Chance (List ℕ)) → octet_run setup events ≡ Stopped chance →
       EndsAt (open_octets annex_b) (machine_in_octets annex_b) (first_world setup) events chance
