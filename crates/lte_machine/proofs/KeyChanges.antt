@@ -2,11 +2,11 @@
 use Rattle.std.specs.Prelude.{◌≡◌, ℕ, ◌+◌, List, [], ◌∷◌, ◌++◌, drop, take, map, replicate, Option, Some, None}
 use Rattle.std.proofs.Common.{refl}
 use Rattle.alg_choice.specs.declared.algs.Eea.TheVariants.{Eea2}
-use Rattle.rec_base.specs.declared.bearers.Bearer.TheVariants.{Srb1}
+use Rattle.rec_base.specs.declared.bearers.Bearer.TheVariants.{Srb1, Srb2}
 use Rattle.rec_base.specs.declared.ways.Way.TheVariants.{Initial, Given, Completed}
 use Rattle.lte_events.specs.declared.acts.PhoneAct.{PhoneAct}
 use Rattle.lte_events.specs.declared.answers.Answer.{Answer}
-use Rattle.lte_events.specs.declared.answers.Answer.TheVariants.{Done, MacFails, OldConnection, NoTrigger}
+use Rattle.lte_events.specs.declared.answers.Answer.TheVariants.{Done, MacFails, WrongKind, OldConnection, NoTrigger}
 use Rattle.lte_events.specs.declared.classes.Class.{Class}
 use Rattle.lte_events.specs.declared.events.Event.{Event}
 use Rattle.key_model.specs.Term.{Term, Root, Kenb, Star}
@@ -95,3 +95,13 @@ too_early (Stopped chance) = Done
 nothing_new : too_early (at_end opening) ≡ NoTrigger
 unfolding computing
 nothing_new = refl
+
+-- on SRB2 such an order is of the wrong kind, also where there is another KASME to derive from
+abbrev on_srb2 : RunState Term ℕ (Outgoing Term ℕ) → Answer
+on_srb2 (Running w) =
+    (phone_step machine.reading w.phone (PhoneAirPdu 0 1 Srb2 (0 ∷ 0 ∷ 0 ∷ 0 ∷ 0 ∷ [])) (Opened order)).1.answer
+on_srb2 (Stopped chance) = Done
+
+other_bearer : on_srb2 (at_end (opening ++ renewed)) ≡ WrongKind 6
+unfolding computing
+other_bearer = refl

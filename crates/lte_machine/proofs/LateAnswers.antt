@@ -1,16 +1,18 @@
 -- Late and lost answers to path switches, and eight chain steps (TS 33.401 7.2.8.4.2 and 7.2.8.4.4).
-use Rattle.std.specs.Prelude.{◌≡◌, ℕ, ◌-◌, ◌==◌, ◌&&◌, Bool, true, false, List, [], ◌∷◌, ◌++◌, take, reverse, find, Option, Some, None}
+use Rattle.std.specs.Prelude.{◌≡◌, ℕ, ◌-◌, ◌==◌, ◌&&◌, Bool, true, false, List, [], ◌∷◌, ◌++◌, take, reverse, find, Option, Some, None, replicate}
 use Rattle.std.proofs.Common.{refl}
 use Rattle.rec_base.specs.declared.ways.Way.TheVariants.{Horizontal, Vertical, Given, Completed, Chained}
 use Rattle.lte_events.specs.declared.answers.Answer.TheVariants.{MacFails, NoUe, Stale}
 use Rattle.lte_events.specs.declared.events.Event.{Event}
-use Rattle.key_model.specs.Term.{Term, same_term}
+use Rattle.key_model.specs.Term.{Term, same_term, Root, Kenb, Nh}
 use Rattle.lte_machine.specs.Opening.{open_octets}
 use Rattle.lte_machine.specs.Reply.{Made, Took, Came, Commanded}
 use Rattle.lte_machine.specs.Run.{RunState, Running, Stopped, replay}
 use Rattle.lte_machine.specs.Wire.{Outgoing}
 use Rattle.lte_machine.proofs.Scenario.{ask, computing, done, from_step, machine, newest, notes, number, refuses, start, toy, x2_to}
 use Rattle.lte_machine.proofs.Ordinary.{ordinary}
+use Rattle.std.specs.List.{list_any}
+use Rattle.lte_machine.specs.World.{Holder, AtStation}
 
 -- the answer to the path switch is late: the next handover is horizontal, and the late answer finds no context
 late_answer : from_step 17 (take 17 ordinary ++ x2_to 1 0 ++ newest ∷ newest ∷ newest ∷ number 11 ∷ []) ≡ (
@@ -25,6 +27,32 @@ asked_twice : from_step 16 (take 16 ordinary ++ ask 1 ∷ number 10 ∷ number 1
     ∷ notes 2 Vertical ∷ notes 2 Given ∷ done ∷ done ∷ notes 2 Vertical ∷ notes 2 Completed ∷ [])
 unfolding computing
 asked_twice = refl
+
+-- the station that refuses the stale answer holds its NH all the same
+abbrev kasme : Term
+kasme = Root 0 (replicate 32 1)
+
+abbrev first_nh : Term
+first_nh = Nh kasme (Kenb kasme 0)
+
+abbrev at_station : ℕ → Holder → Bool
+at_station id (AtStation station) = station == id
+at_station id other = false
+
+abbrev holds_key : ℕ → Term → RunState Term ℕ (Outgoing Term ℕ) → Bool
+holds_key id t (Running w) = list_any (λ h. at_station id h.holder && same_term h.key t) w.held
+holds_key id t (Stopped chance) = false
+
+abbrev to_stale : List Event
+to_stale = take 16 ordinary ++ ask 1 ∷ number 10 ∷ number 11 ∷ []
+
+not_held : holds_key 1 first_nh (replay (open_octets toy) machine start to_stale) ≡ false
+unfolding computing
+not_held = refl
+
+stale_held : holds_key 1 first_nh (replay (open_octets toy) machine start (to_stale ++ number 12 ∷ [])) ≡ true
+unfolding computing
+stale_held = refl
 
 -- the phone leaves before the answer and comes back: the answer of its first visit is stale
 returned : from_step 29 (take 17 ordinary ++ x2_to 1 0 ++ x2_to 0 1 ++ number 11 ∷ []) ≡ (refuses (Stale 5 2) ∷ [])
