@@ -9,10 +9,10 @@ use Rattle.lte_machine.specs.Ladder.{RowOrigin, row_key}
 abbrev pub keys_of : List (RowOrigin Term) → List Term
 keys_of history = map row_key history
 
--- a term that stands in a list
-abbrev pub Member : Term → List Term → Type 0
-Member t [] = ⊥
-Member t (u ∷ us) = (t ≡ u) ⊎ Member t us
+-- an item that stands in a list
+abbrev pub Member : {A : Type 0} → A → List A → Type 0
+Member x [] = ⊥
+Member x (y ∷ ys) = (x ≡ y) ⊎ Member x ys
 
 abbrev pub is_member : Term → List Term → Bool
 is_member t us = list_any (same_term t) us

@@ -30,7 +30,7 @@ use Rattle.lte_machine.proofs.LadderRun.{ladder_always, all_reported}
 use Rattle.lte_machine.proofs.StillRun.{still_is_run}
 use Rattle.lte_machine.proofs.WholeRun.{tale_is_value}
 use Rattle.lte_properties.specs.Accounts.{IsRowOf}
-use Rattle.lte_properties.specs.Agreement.{IsIn, ContextAt, Agree, JoinedBy, JoinedAgree}
+use Rattle.lte_properties.specs.Agreement.{ContextAt, Agree, JoinedBy, JoinedAgree}
 use Rattle.lte_properties.specs.Freshness.{NoUseTwice}
 use Rattle.lte_properties.specs.InOctets.{NoKasmeHeld, BringsPacket, TellsText}
 use Rattle.lte_properties.specs.Packets.{OpensTo}
@@ -62,22 +62,22 @@ joined_value w (Connected l) h = stations_value l w.stations h
 -- WHO HELD WHAT
 
 -- an item of a list that was mapped comes from one of the list
-in_map : {A B : Type 0} (f : A → B) (xs : List A) (y : B) → IsIn y (map f xs) → (x : A) × IsIn x xs × (y ≡ f x)
+in_map : {A B : Type 0} (f : A → B) (xs : List A) (y : B) → Member y (map f xs) → (x : A) × Member x xs × (y ≡ f x)
 in_map f [] y h = absurd h
 in_map f (x ∷ xs) y (inl e) = (x, inl refl, e)
 in_map f (x ∷ xs) y (inr k) = let r = in_map f xs y k in (r.0, inr r.1, r.2)
 
-all_in : {A : Type 0} (P : A → Type 0) (xs : List A) (x : A) → AllOf P xs → IsIn x xs → P x
+all_in : {A : Type 0} (P : A → Type 0) (xs : List A) (x : A) → AllOf P xs → Member x xs → P x
 all_in P [] x h k = absurd k
 all_in P (y ∷ ys) x h (inl e) = subst P (sym e) h.0
 all_in P (y ∷ ys) x h (inr k) = all_in P ys x h.1 k
 
-row_member : (rows : List (RowOrigin Term)) (r : Term) → IsIn (OfRoot r) rows → Member r (keys_of rows)
+row_member : (rows : List (RowOrigin Term)) (r : Term) → Member (OfRoot r) rows → Member r (keys_of rows)
 row_member [] r h = absurd h
 row_member (x ∷ xs) r (inl e) = inl (ap row_key e)
 row_member (x ∷ xs) r (inr k) = inr (row_member xs r k)
 
-held_any : (held : List (Holding Term)) (id : ℕ) (t : Term) → IsIn (record { holder = AtStation id; key = t }) held → HeldBy (λ i. ⊤) held t
+held_any : (held : List (Holding Term)) (id : ℕ) (t : Term) → Member (record { holder = AtStation id; key = t }) held → HeldBy (λ i. ⊤) held t
 held_any [] id t h = absurd h
 held_any (x ∷ xs) id t (inl e) = inl (subst (λ h. IsStationOf (λ i. ⊤) h.holder × (h.key ≡ t)) e (tt, refl))
 held_any (x ∷ xs) id t (inr k) = inr (held_any xs id t k)
@@ -116,10 +116,10 @@ module _ (setup : Setup) (events : List Event) (w : TheWorld) (runs : written_ru
       let is = root_row r.0 key r.2 in
       let known = all_in (λ x. IsReported w x.key) w.held h.0 reported.held h.1 in
       let same : h.0.key ≡ is.0 = stand.one h.0.key is.0 known
-      (row_member w.history is.0 (subst (λ x. IsIn x w.history) is.1 r.1)) (sym at.1 ∙ is.2) in
-      let kasme = all_in (IsRowOf (written_machine annex_b)) w.history (OfRoot is.0) rows (subst (λ x. IsIn x w.history) is.1 r.1) in
+      (row_member w.history is.0 (subst (λ x. Member x w.history) is.1 r.1)) (sym at.1 ∙ is.2) in
+      let kasme = all_in (IsRowOf (written_machine annex_b)) w.history (OfRoot is.0) rows (subst (λ x. Member x w.history) is.1 r.1) in
       no_root kasme.0 kasme.1
-      (subst (HeldBy (λ i. ⊤) w.held) (same ∙ kasme.2) (held_any w.held id h.0.key (subst (λ x. IsIn x w.held) at.0 h.1)))
+      (subst (HeldBy (λ i. ⊤) w.held) (same ∙ kasme.2) (held_any w.held id h.0.key (subst (λ x. Member x w.held) at.0 h.1)))
 
   module _ (set : IsSetup setup) (are : AllOf IsEvent events) where
     joined_terms : JoinedAgree (in_octets w)

@@ -17,11 +17,7 @@ use Rattle.lte_events.specs.declared.events.Event.{Event}
 use Rattle.lte_properties.specs.ChainBelow.{AllOf}
 use Rattle.lte_properties.specs.ChainHolds.{run}
 use Rattle.lte_properties.specs.Origins.{root_of, nas_count_of}
-
--- an item of a list
-abbrev pub IsIn : {A : Type 0} → A → List A → Type 0
-IsIn x [] = ⊥
-IsIn x (y ∷ ys) = (x ≡ y) ⊎ IsIn x ys
+use Rattle.lte_machine.specs.Distinct.{Member}
 
 -- what a station made for an air address that it drew: a context or a preparation
 abbrev pub is_made_at : ℕ → ℕ → Made Term ℕ → Bool
@@ -171,7 +167,7 @@ NoneEver m w es = (n : ℕ) → NoneThere (run m w (take n es)) (run m w es)
 -- the phone had taken this key at the air address
 abbrev pub HadTaken : List (Took Term ℕ) → ℕ → ℕ → Term → Type 0
 HadTaken took station air key =
-    (x : Took Term ℕ) × IsIn x took × (x.station ≡ station) × (x.air ≡ air) × (x.key ≡ key)
+    (x : Took Term ℕ) × Member x took × (x.station ≡ station) × (x.air ≡ air) × (x.key ≡ key)
 
 -- where what was made came of a handover attempt or a key change, the phone had taken its key there
 abbrev pub TakenIfTried : List (Took Term ℕ) → ℕ → ℕ → Term → From Term → Type 0
@@ -200,7 +196,7 @@ PrepsMade w = AllOf (λ s. AllOf (PrepMade w s.id) s.preps) w.stations
 
 -- there is a station of this number, and of each of this number this holds
 abbrev pub OfStation : {S : Type 0} → World Term ℕ S → ℕ → (Station Term ℕ → Type 0) → Type 0
-OfStation w id P = (s : Station Term ℕ) × IsIn s w.stations × (s.id ≡ id) × AtStation w id P
+OfStation w id P = (s : Station Term ℕ) × Member s w.stations × (s.id ≡ id) × AtStation w id P
 
 -- the context of a station
 abbrev pub HasContext : Option (Context Term ℕ) → (Context Term ℕ → Type 0) → Type 0

@@ -13,10 +13,11 @@ use Rattle.lte_machine.specs.CoreState.{CoreLink}
 use Rattle.lte_machine.specs.Wire.{Outgoing, Between}
 use Rattle.lte_machine.specs.World.{Machine, World}
 use Rattle.lte_machine.specs.Run.{first_world}
-use Rattle.lte_properties.specs.Agreement.{IsIn, made_at, ahead, HadTaken}
+use Rattle.lte_properties.specs.Agreement.{made_at, ahead, HadTaken}
 use Rattle.lte_properties.specs.Origins.{root_of, nas_count_of}
 use Rattle.lte_properties.specs.ChainBelow.{AllOf}
 use Rattle.lte_properties.specs.ChainHolds.{core_numbers, run}
+use Rattle.lte_machine.specs.Distinct.{Member}
 
 -- the key of a chain, an NH or the KeNB that it begins with, from which a KeNB comes by KeNB* steps
 abbrev pub chain_key : Term → Term
@@ -63,7 +64,7 @@ ContextOn c (Some x) = IsKeyOf c x.conn x.key.kenb x.key.number × ArePairsOf c 
 -- the attempt of this number of a station: it was opened under the key that its context still has
 abbrev pub OpenedUnder : List (Tried Term ℕ) → ℕ → Context Term ℕ → ℕ → Type 0
 OpenedUnder tried id x number =
-    (e : Tried Term ℕ) × IsIn e tried × (e.station ≡ id) × (e.attempt ≡ number) × (e.conn ≡ x.conn)
+    (e : Tried Term ℕ) × Member e tried × (e.station ≡ id) × (e.attempt ≡ number) × (e.conn ≡ x.conn)
     × (e.key ≡ x.key.kenb) × (e.number ≡ x.key.number)
 
 abbrev pub x2_attempt : X2State Term ℕ → ℕ
@@ -120,7 +121,7 @@ StarOf c e m =
 abbrev pub MadeHow : Chains → List (Tried Term ℕ) → List (Took Term ℕ) → Made Term ℕ → From Term → Type 0
 MadeHow c tried took m BySetup = (m.number ≡ 0) × (m.key ≡ Kenb (c.root m.conn) (c.count m.conn))
 MadeHow c tried took m (ByAttempt o) =
-    (e : Tried Term ℕ) × IsIn e tried × (e.station ≡ o.source) × (e.attempt ≡ o.attempt)
+    (e : Tried Term ℕ) × Member e tried × (e.station ≡ o.source) × (e.attempt ≡ o.attempt)
     × (e.target ≡ m.station) × (e.conn ≡ m.conn) × (e.cell ≡ m.cell) × StarOf c e m
 MadeHow c tried took m (ByChange old) =
     (m.number ≡ 0) × (m.key ≡ Star (Kenb (c.root m.conn) 0) m.cell.pci m.cell.earfcn)

@@ -11,8 +11,8 @@ use Rattle.lte_machine.specs.Machines.{Kept}
 use Rattle.lte_machine.specs.Run.{Running, Reported}
 use Rattle.lte_machine.specs.Wire.{Outgoing}
 use Rattle.lte_machine.specs.World.{World, Line, AtStation, chosen}
-use Rattle.lte_properties.specs.Agreement.{IsIn}
 use Rattle.lte_properties.specs.Packets.{IsPacket, IsReady, InWindow, next_for, count_of, window_of}
+use Rattle.lte_machine.specs.Distinct.{Member}
 
 -- in each world by which the run in octets goes on
 abbrev pub EachWorld : Setup → List Event → (World (List ℕ) ℕ Kept → Type 0) → Type 0
@@ -21,7 +21,7 @@ EachWorld setup events P = (n : ℕ) (u : World (List ℕ) ℕ Kept) → octet_r
 -- no station ever held the octets of a KASME (TS 33.401 6.2)
 abbrev pub NoKasmeHeld : World (List ℕ) ℕ Kept → Type 0
 NoKasmeHeld u =
-    (id : ℕ) (key : List ℕ) → IsIn (record { holder = AtStation id; key = key }) u.held → IsIn (OfRoot key) u.history → ⊥
+    (id : ℕ) (key : List ℕ) → Member (record { holder = AtStation id; key = key }) u.held → Member (OfRoot key) u.history → ⊥
 
 -- step k delivers a packet, as it was sent, to a receiver that is ready for it, and in whose window its COUNT is
 pub record BringsPacket (setup : Setup) (events : List Event) (k : ℕ) (sent : List ℕ) : Type 0 where

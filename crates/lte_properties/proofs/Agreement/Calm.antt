@@ -58,17 +58,17 @@ use Rattle.lte_machine.specs.CoreKeys.{core_expects, core_nas_expects, opens_by_
 use Rattle.lte_machine.specs.CoreState.{CoreContext}
 use Rattle.nas_guard.specs.Keys.{Keys}
 use Rattle.ho_prep.specs.Prep.{Prep}
-use Rattle.lte_properties.specs.Agreement.{IsIn}
 use Rattle.lte_properties.proofs.Agreement.Openings.{WasSealed, CipheredAs}
 use Rattle.lte_properties.proofs.Agreement.Ghost.{keys_of, LinkIs}
 use Rattle.lte_properties.proofs.Agreement.PhoneWalk.{by_test, one_key, both_named}
 use Rattle.lte_properties.proofs.Agreement.Later.{same_found}
 use Rattle.lte_properties.proofs.Agreement.Events.{which_srb}
 use Rattle.lte_properties.proofs.Agreement.World.{TheWorld, Conns, ghost, WorldOk, OctetsTell}
+use Rattle.lte_machine.specs.Distinct.{Member}
 
 -- a phone that waits for the security of its connection took its KeNB nowhere yet
 abbrev pub NewKenb : List (Took Term ℕ) → Radio Term ℕ → Type 0
-NewKenb took (Connecting w) = (x : Took Term ℕ) → IsIn x took → x.key ≡ w.kenb → ⊥
+NewKenb took (Connecting w) = (x : Took Term ℕ) → Member x took → x.key ≡ w.kenb → ⊥
 NewKenb took other = ⊤
 
 -- the COUNT of a PDU is not below the next one

@@ -15,7 +15,7 @@ use Rattle.lte_machine.specs.CoreState.{CoreLink}
 use Rattle.lte_machine.specs.Reply.{From, BySetup, ByAttempt, ByChange, Made, Tried, Came, Secured, Commanded, Changed, Took, Handover, BySource, ByTarget}
 use Rattle.lte_machine.specs.StationState.{Context, Attempt, OverX2, OverS1, Within, Renewing, X2State, X2Open, X2Ready, X2Commanded, S1State, S1Open, S1Ready, S1Commanded}
 use Rattle.lte_machine.specs.Wire.{Outgoing, Between}
-use Rattle.lte_properties.specs.Agreement.{IsIn, TookMade, ObeysMade, Grows}
+use Rattle.lte_properties.specs.Agreement.{TookMade, ObeysMade, Grows}
 use Rattle.lte_properties.specs.Origins.{root_of, nas_count_of}
 use Rattle.lte_properties.specs.Chains.{chain_key, OnChain, Chains, IsKeyOf, IsPairOf, ArePairsOf, GivenOn, TriedOn, ContextOn, OpenedUnder, x2_attempt, s1_attempt, AttemptOn, AttemptsOn, PrepOn, LinkOn, RecordOn, StarOf, MadeHow, BelongsTo, TookOn, AreChains}
 use Rattle.lte_properties.specs.ChainBelow.{AllOf, LinkTop}
@@ -28,6 +28,7 @@ use Rattle.lte_properties.proofs.Agreement.Phone.{all_found}
 use Rattle.lte_properties.proofs.Agreement.PhoneWalk.{both_named}
 use Rattle.lte_properties.proofs.Agreement.Told.{found_holds, term_number}
 use Rattle.lte_properties.proofs.Agreement.World.{TheWorld, Conns, ghost, WorldOk}
+use Rattle.lte_machine.specs.Distinct.{Member}
 
 -- a key on two chains has one number
 one_number : (r s : Term) (m n i j : ℕ) (t : Term) → OnChain r m t i → OnChain s n t j → i ≡ j
@@ -37,11 +38,11 @@ same_root : (r s : Term) (m n : ℕ) → Kenb r m ≡ Kenb s n → r ≡ s
 same_root r s m n e = cc
 
 -- what was found is an item
-in_step : {A : Type 0} (b : Bool) (z x : A) (o : Option A) (xs : List A) → cond b (Some z) o ≡ Some x → (o ≡ Some x → IsIn x xs) → IsIn x (z ∷ xs)
+in_step : {A : Type 0} (b : Bool) (z x : A) (o : Option A) (xs : List A) → cond b (Some z) o ≡ Some x → (o ≡ Some x → Member x xs) → Member x (z ∷ xs)
 in_step true z x o xs e f = inl (sym (same_found (Some z) z x refl e))
 in_step false z x o xs e f = inr (f e)
 
-found_in : {A : Type 0} (p : A → Bool) (xs : List A) (x : A) → find p xs ≡ Some x → IsIn x xs
+found_in : {A : Type 0} (p : A → Bool) (xs : List A) (x : A) → find p xs ≡ Some x → Member x xs
 found_in p [] x e = absurd cc
 found_in p (z ∷ zs) x e = in_step (p z) z x (find p zs) zs e (found_in p zs x)
 

@@ -14,13 +14,14 @@ use Rattle.lte_machine.specs.PhoneState.{Radio, Idle, Connecting, Connected, Lin
 use Rattle.lte_machine.specs.StationState.{Station, Context}
 use Rattle.lte_machine.specs.Run.{stations_of, first_world}
 use Rattle.lte_properties.specs.ChainBelow.{AllOf}
-use Rattle.lte_properties.specs.Agreement.{IsIn, made_at, ahead, ObeysMade, Obeys, Grows, OneTerm, ContextAt, AtStation, Agree, JoinedBy, IsFar, NoneThere, ComesMade, PrepMade, Agrees}
+use Rattle.lte_properties.specs.Agreement.{made_at, ahead, ObeysMade, Obeys, Grows, OneTerm, ContextAt, AtStation, Agree, JoinedBy, IsFar, NoneThere, ComesMade, PrepMade, Agrees}
 use Rattle.lte_properties.proofs.ChainNumbers.Lists.{all_map}
 use Rattle.lte_properties.proofs.Agreement.Ghost.{MadeOk, SeenBy, Ghost, tried_at, keys_of, taken, FromIs, HereIs, CtxOk, PrepOk, StationOk, LinkIs, RadioOk, TookOk}
 use Rattle.lte_properties.proofs.Agreement.Follows.{InTurn}
 use Rattle.lte_properties.proofs.Agreement.Later.{Later, same_found, here_later}
 use Rattle.lte_properties.proofs.Agreement.Told.{SiteOk, term_number}
 use Rattle.lte_properties.proofs.Agreement.World.{TheWorld, Conns, ghost, WorldOk}
+use Rattle.lte_machine.specs.Distinct.{Member}
 
 -- THE FIRST WORLD
 
@@ -79,11 +80,11 @@ one_here g station air t u h k =
         let b = subst (FromIs g h.0 u) e f in
         a.2 ∙ ap (λ x. taken x h.0) (same_found _ a.0 b.0 a.1 b.1) ∙ sym b.2
 
-all_in : {A : Type 0} (P : A → Type 0) (xs : List A) → ((x : A) → IsIn x xs → P x) → AllOf P xs
+all_in : {A : Type 0} (P : A → Type 0) (xs : List A) → ((x : A) → Member x xs → P x) → AllOf P xs
 all_in P [] f = tt
 all_in P (x ∷ xs) f = (f x (inl refl), all_in P xs (λ y i. f y (inr i)))
 
-pub of_each : {A : Type 0} (P : A → Type 0) (xs : List A) (x : A) → AllOf P xs → IsIn x xs → P x
+pub of_each : {A : Type 0} (P : A → Type 0) (xs : List A) (x : A) → AllOf P xs → Member x xs → P x
 of_each P [] x h i = absurd i
 of_each P (y ∷ ys) x h (inl e) = subst P (sym e) h.0
 of_each P (y ∷ ys) x h (inr i) = of_each P ys x h.1 i

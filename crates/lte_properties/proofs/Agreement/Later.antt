@@ -25,8 +25,9 @@ use Rattle.std.proofs.Common.{◌≡◌, ℕ, ◌<◌, ◌≤◌, refl, sym, ◌
 use Rattle.std.specs.Prelude.{find}
 use Rattle.std.specs.Option.{option_or}
 use Rattle.std.proofs.lemmas.List.Folds.{find-append}
-use Rattle.lte_properties.specs.Agreement.{IsIn, made_at, Obeys, HadTaken, TakenIfTried}
+use Rattle.lte_properties.specs.Agreement.{made_at, Obeys, HadTaken, TakenIfTried}
 use Rattle.lte_properties.proofs.Agreement.Ghost.{Ghost, tried_at, took_at, chain_at, TermOk, PairOk, PairsOk, FromIs, HereIs, FromOk, MadeOk, GivenOk, TriedOk, TookOk, EntryIs, OrderIs, IsOrder, StartIs, UnderKey, X2Ok, S1Ok, ChangeIs, AttemptOk, StartedOk, CtxOk, PrepOk, RadioOk, SaysOk, CipheredSo, DownOk, UpOk, AskedIs, AckIs, CommandTo, X2AckTo, HasNcc, AnyMade, IsOther, Surpasses, IsFor, BetweenOk, SentOk}
+use Rattle.lte_machine.specs.Distinct.{Member}
 
 -- more is told, connections go on, and none begins anew
 pub record Later (g h : Ghost) : Type 0 where
@@ -36,7 +37,7 @@ pub record Later (g h : Ghost) : Type 0 where
   pub top : (conn : ℕ) → conn < g.next → g.top conn ≤ h.top conn
   pub made : (station air : ℕ) (m : Made Term ℕ) → made_at g.made station air ≡ Some m → made_at h.made station air ≡ Some m
   pub tried : (station number : ℕ) (e : Tried Term ℕ) → tried_at g.tried station number ≡ Some e → tried_at h.tried station number ≡ Some e
-  pub took : (x : Took Term ℕ) → IsIn x g.took → IsIn x h.took
+  pub took : (x : Took Term ℕ) → Member x g.took → Member x h.took
   pub first : (station air : ℕ) (x : Took Term ℕ) → took_at g.took station air ≡ Some x → took_at h.took station air ≡ Some x
 
 pub later_itself : (g : Ghost) → Later g g
@@ -67,12 +68,12 @@ later_after g h k a b = record {
 pub found_later : {A : Type 0} (p : A → Bool) (xs ys : List A) (x : A) → find p xs ≡ Some x → find p (xs ++ ys) ≡ Some x
 found_later p xs ys x e = find-append p xs ys ∙ ap (λ o. option_or o (find p ys)) e
 
-pub in_front : {A : Type 0} (x : A) (xs ys : List A) → IsIn x xs → IsIn x (xs ++ ys)
+pub in_front : {A : Type 0} (x : A) (xs ys : List A) → Member x xs → Member x (xs ++ ys)
 in_front x [] ys i = absurd i
 in_front x (z ∷ zs) ys (inl e) = inl e
 in_front x (z ∷ zs) ys (inr i) = inr (in_front x zs ys i)
 
-pub in_last : {A : Type 0} (x : A) (xs : List A) → IsIn x (xs ++ x ∷ [])
+pub in_last : {A : Type 0} (x : A) (xs : List A) → Member x (xs ++ x ∷ [])
 in_last x [] = inl refl
 in_last x (z ∷ zs) = inr (in_last x zs)
 

@@ -28,11 +28,12 @@ use Rattle.lte_machine.specs.StationStep.{station_opens, station_pdu_in, station
 use Rattle.lte_machine.specs.World.{Machine, put_if, put_station, station_after, station_of_id, turn_of, auth_unless, known_root, next_root, content_in, arrives, chosen, delivered, class_of, is_sent, injected, happens}
 use Rattle.lte_properties.specs.ChainBelow.{AllOf}
 use Rattle.lte_properties.specs.ChainHolds.{machine_by, run}
-use Rattle.lte_properties.specs.Agreement.{IsIn, HadTaken, OfStation, HasContext, TellsWay, TellsNote, CompletedLines}
+use Rattle.lte_properties.specs.Agreement.{HadTaken, OfStation, HasContext, TellsWay, TellsNote, CompletedLines}
 use Rattle.lte_properties.proofs.ChainNumbers.Lists.{all_both, all_put}
 use Rattle.lte_properties.proofs.Agreement.Ghost.{Ghost, CtxOk, StartedOk, StationOk}
 use Rattle.lte_properties.proofs.Agreement.Told.{found_holds}
 use Rattle.lte_properties.proofs.Agreement.World.{TheWorld, Conns, ghost, WorldOk}
+use Rattle.lte_machine.specs.Distinct.{Member}
 
 -- the context is active, and has this key
 abbrev IsNew : Option (Context Term ℕ) → Term → Type 0
@@ -189,11 +190,11 @@ module _ (same : Term → Term → Bool) (root : ℕ → List ℕ → Term) (oct
       each (s ∷ ss) = (tt, each ss)
 
   -- it is one of the stations then
-  is_put : (id : ℕ) (new : Station Term ℕ) (ss : List (Station Term ℕ)) (s : Station Term ℕ) → station_of_id id ss ≡ Some s → IsIn new (put_station id new ss)
+  is_put : (id : ℕ) (new : Station Term ℕ) (ss : List (Station Term ℕ)) (s : Station Term ℕ) → station_of_id id ss ≡ Some s → Member new (put_station id new ss)
   is_put id new [] s e = absurd cc
   is_put id new (z ∷ zs) s e = step (z.id == id) e (is_put id new zs s)
     where
-      step : (b : Bool) → cond b (Some z) (station_of_id id zs) ≡ Some s → (station_of_id id zs ≡ Some s → IsIn new (put_station id new zs)) → IsIn new (put_if b new z ∷ put_station id new zs)
+      step : (b : Bool) → cond b (Some z) (station_of_id id zs) ≡ Some s → (station_of_id id zs ≡ Some s → Member new (put_station id new zs)) → Member new (put_if b new z ∷ put_station id new zs)
       step true f rest = inl refl
       step false f rest = inr (rest f)
 
