@@ -81,7 +81,7 @@ module _ (setup : Setup) (events : List Event) where
   by_last i w e u line is m station air found before = by (step_tells i w e u line is).0
     where
       by : MadeIsTold w u line → WasMade (suc i) m
-      by (inl same) = was_later i m (before (ap (λ ms. made_at ms station air) (sym same) ∙ found))
+      by (inl same) = was_later i m (before (ap (λ ms. made_at ms station air) (sym same.0) ∙ found))
       by (inr (n, grows, told)) = one (found_one w.made n m station air (ap (λ ms. made_at ms station air) (sym grows) ∙ found))
         where
           one : (made_at w.made station air ≡ Some m) ⊎ (n ≡ m) → WasMade (suc i) m
@@ -152,7 +152,7 @@ module _ (setup : Setup) (events : List Event) where
   none_made k x line h = by (step_tells k h.world h.event h.after line h.step).0
     where
       by : MadeIsTold h.world h.after line → h.after.made ≡ h.world.made
-      by (inl same) = same
+      by (inl same) = same.0
       by (inr (m, grows, told)) =
           let bad : Who.Station m.station ≡ Who.Phone = sym told.1 ∙ (takes_tell k x line h).1 in absurd cc
 
@@ -169,7 +169,7 @@ module _ (setup : Setup) (events : List Event) where
       last (z ∷ zs) x y e = let rest : zs ++ x ∷ [] ≡ zs ++ y ∷ [] = cc in last zs x y rest
 
       by : MadeIsTold h.world h.after line → Reported line (Who.Station m.station) m.key m.number
-      by (inl same) = absurd (longer h.world.made m (sym h.makes ∙ same))
+      by (inl same) = absurd (longer h.world.made m (sym h.makes ∙ same.0))
       by (inr (n, grows, told)) =
           let one : n ≡ m = last h.world.made n m (sym grows ∙ h.makes) in subst (λ z. Reported line (Who.Station z.station) z.key z.number) one told
 

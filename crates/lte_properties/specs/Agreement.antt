@@ -225,13 +225,18 @@ abbrev pub Reported : Line Term → Who → Term → ℕ → Type 0
 Reported l who key number =
     (note : Note Term) × (l.who ≡ who) × (l.note ≡ Some note) × (note.key ≡ key) × (note.ncc ≡ ncc_of number)
 
--- what a station makes, and what the phone takes, is told in the line of its event
+-- a line of a station does not tell a key as given
+abbrev pub TellsNoneGiven : Who → Option (Note Term) → Type 0
+TellsNoneGiven (Who.Station id) (Some note) = note.way ≢ Way.Given
+TellsNoneGiven who told = ⊤
+
+-- what a station makes is told in the line of its event, and it tells a key as given only where it makes one
 abbrev pub MadeIsTold : {S : Type 0} → World Term ℕ S → World Term ℕ S → Line Term → Type 0
 MadeIsTold w u l =
-    (u.made ≡ w.made)
+    ((u.made ≡ w.made) × TellsNoneGiven l.who l.note)
     ⊎ ((m : Made Term ℕ) × (u.made ≡ w.made ++ m ∷ []) × Reported l (Who.Station m.station) m.key m.number)
 
--- a line of the phone has a note exactly where the phone takes a key
+-- what the phone takes is told in the line of its event, and it tells a key only where it takes one
 abbrev pub TookIsTold : {S : Type 0} → World Term ℕ S → World Term ℕ S → Line Term → Type 0
 TookIsTold w u l =
     ((u.took ≡ w.took) × (l.who ≡ Who.Phone → l.note ≡ None))

@@ -15,8 +15,8 @@ ghost use Rattle.lte_properties.specs.BySteps.{MakesAt, TakesAt, Follows};
 /// At each step of a run of the written machine with the algorithms of TS 33.401 Annex B:
 ///
 /// - what a station makes for an air address, and what the phone takes, is told in the line of that step,
-///   and a line of the phone that tells a key is that of a step at which it took it (`told`, `makes`,
-///   `takes`);
+///   a line of the phone that tells a key is that of a step at which it took it, and one of a station
+///   that tells a key as given is that of a step at which it made it (`told`, `makes`, `takes`);
 /// - what the phone takes was made for that air address at an earlier step. Fewer than eight steps ahead
 ///   the lines of both steps tell one key with one NCC (`follows`);
 /// - where the line of a step tells that a handover or a change of the key completed, there is a station

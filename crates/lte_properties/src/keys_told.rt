@@ -15,8 +15,9 @@ ghost use Rattle.lte_properties.specs.Agreement.{CompletedLines, KeysTold};
 /// In every run of the written machine with the algorithms of TS 33.401 Annex B:
 ///
 /// - each key that a station makes for an air address, and each key that the phone takes, is told in
-///   the line of its event, with its NCC; and a line of the phone that tells a key is that of an event
-///   at which it took that key (`told`);
+///   the line of its event, with its NCC; a line of the phone that tells a key is that of an event at
+///   which it took that key, and one of a station that tells a key as given is that of an event at which
+///   it made that key (`told`);
 /// - where the run has met no coincidence, and a line tells that a handover or a change of the key
 ///   completed, there is a station of its number, which has a context with the key that it tells, and
 ///   the phone had taken that key at the context's air address (`completed`).

@@ -1,5 +1,5 @@
 -- What a station makes and what the phone takes is told in the line of its event: its key, and the NCC of its number.
-use Rattle.std.proofs.Common.{◌≡◌, refl, sym, ap, ◌∙◌, subst, ℕ, ◌==◌, Bool, List, [], ◌∷◌, ◌++◌, Option, Some, None}
+use Rattle.std.proofs.Common.{◌≡◌, refl, sym, ap, ◌∙◌, subst, ℕ, ◌==◌, Bool, List, [], ◌∷◌, ◌++◌, Option, Some, None, ◌≢◌}
 use Rattle.std.specs.Prelude.{⊤}
 use Rattle.std.specs.List.{position_from}
 use Rattle.alg_choice.specs.declared.caps.Caps.{Caps}
@@ -34,12 +34,23 @@ use Rattle.lte_properties.proofs.Agreement.Told.{found_holds}
 use Rattle.lte_machine.specs.Reply.{Made, Took}
 use Rattle.lte_machine.specs.World.{Line}
 use Rattle.lte_properties.specs.ChainHolds.{machine_by}
-use Rattle.lte_properties.specs.Agreement.{Reported, MadeIsTold, TookIsTold, KeysTold}
+use Rattle.lte_properties.specs.Agreement.{Reported, MadeIsTold, TookIsTold, KeysTold, TellsNoneGiven}
 use Rattle.lte_properties.proofs.Agreement.NotedPhone.{NotedAs, TookNoted, phone_notes}
 use Rattle.lte_properties.proofs.Agreement.World.{TheWorld}
+use Rattle.rec_base.specs.declared.ways.Way.{Way}
+use Rattle.nh_chain.specs.Station.{way_of}
+
+-- a completed handover, and KeNB* that a source makes, are not told as given
+completed_differs : Way.Completed ≡ Way.Given → ⊥
+completed_differs e = cc
+
+way_differs : (o : Option (NumberedKey Term ℕ)) → way_of o ≡ Way.Given → ⊥
+way_differs None e = cc
+way_differs (Some pair) e = cc
 
 abbrev MadeNoted : ℕ → Option (Note Term) → Option (Made Term ℕ) → Type 0
-MadeNoted id told None = ⊤
+MadeNoted id None None = ⊤
+MadeNoted id (Some note) None = note.way ≢ Way.Given
 MadeNoted id told (Some m) = (m.station ≡ id) × NotedAs told m.key m.number
 
 -- A STATION'S ROWS
@@ -84,15 +95,15 @@ module _ (same : Term → Term → Bool) where
 
   done_by_s1 : (count : ℕ) (o : Option (Prep Term ℕ)) (s : Station Term ℕ) → Notes s.id (completed_by_s1 (term_reading_by same) count o s)
   done_by_s1 count None s = tt
-  done_by_s1 count (Some p) s = tt
+  done_by_s1 count (Some p) s = completed_differs
 
   done_within : (count : ℕ) (origin : Option Origin) (o : Option (Prep Term ℕ)) (s : Station Term ℕ) → Notes s.id (completed_within (term_reading_by same) count origin o s)
   done_within count origin None s = tt
-  done_within count origin (Some p) s = tt
+  done_within count origin (Some p) s = completed_differs
 
   done_by_x2 : (count number : ℕ) (o : Option (Prep Term ℕ)) (s : Station Term ℕ) → Notes s.id (completed_by_x2 (term_reading_by same) count number o s)
   done_by_x2 count number None s = tt
-  done_by_x2 count number (Some p) s = tt
+  done_by_x2 count number (Some p) s = completed_differs
 
   air_notes : (row : AirRow) (s : Station Term ℕ) → Notes s.id (air_does (term_reading_by same) row s)
   air_notes (AirRefused answer) s = tt
@@ -105,7 +116,7 @@ module _ (same : Term → Term → Bool) where
 
   x2_start : (number target : ℕ) (cell : Place) (o : Option (Context Term ℕ)) (s : Station Term ℕ) → Notes s.id (started_by_x2 (term_reading_by same) number target cell o s)
   x2_start number target cell None s = tt
-  x2_start number target cell (Some c) s = tt
+  x2_start number target cell (Some c) s = way_differs c.key.pair
 
   s1_start : (number target : ℕ) (cell : Place) (o : Option (Context Term ℕ)) (s : Station Term ℕ) → Notes s.id (started_by_s1 number target cell o s)
   s1_start number target cell None s = tt
@@ -162,9 +173,13 @@ noted_tells : (l : Line Term) (who : Who) (key : Term) (number : ℕ) → l.who 
 noted_tells l who key number is None e h = absurd h
 noted_tells l who key number is (Some note) e h = (note, is, e, h.0, h.1)
 
+none_given : (id : ℕ) (o : Option (Note Term)) → MadeNoted id o None → TellsNoneGiven (Who.Station id) o
+none_given id None h = tt
+none_given id (Some note) h = h
+
 made_told : (made : List (Made Term ℕ)) (o : Option (Made Term ℕ)) (id : ℕ) (l : Line Term) → l.who ≡ Who.Station id → MadeNoted id l.note o
-    → (with_one o made ≡ made) ⊎ ((m : Made Term ℕ) × (with_one o made ≡ made ++ m ∷ []) × Reported l (Who.Station m.station) m.key m.number)
-made_told made None id l is h = inl refl
+    → ((with_one o made ≡ made) × TellsNoneGiven l.who l.note) ⊎ ((m : Made Term ℕ) × (with_one o made ≡ made ++ m ∷ []) × Reported l (Who.Station m.station) m.key m.number)
+made_told made None id l is h = inl (refl, subst (λ who. TellsNoneGiven who l.note) (sym is) (none_given id l.note h))
 made_told made (Some m) id l is h =
     inr (m, refl, noted_tells l (Who.Station m.station) m.key m.number (is ∙ ap Who.Station (sym h.0)) l.note refl h.1)
 
@@ -202,13 +217,13 @@ module _ (same : Term → Term → Bool) (root : ℕ → List ℕ → Term) (oct
         let h = phone_turn m w input came in
         let outcome = opener (phone_opens (term_reading_by same) w.phone input) (phone_pdu_in input) came in
         let row = phone_row (plain_phone (term_reading_by same) w.phone) (front_of (term_reading_by same) w.phone input) outcome in
-        (inl refl, took_told w.took (phone_does (term_reading_by same) row (phone_root input) w.phone).1.took h.1 refl (phone_notes same row (phone_root input) w.phone))
+        (inl (refl, tt), took_told w.took (phone_does (term_reading_by same) row (phone_root input) w.phone).1.took h.1 refl (phone_notes same row (phone_root input) w.phone))
 
     core_told : (input : CoreInput Term ℕ) (came : Option (Outgoing Term ℕ)) → BothTold w (core_turn m w input came)
-    core_told input came = (inl refl, inl (refl, λ e. absurd (core_is_none e)))
+    core_told input came = (inl (refl, tt), inl (refl, λ e. absurd (core_is_none e)))
 
     turn_told : (id : ℕ) (input : StationInput Term ℕ) (came : Option (Outgoing Term ℕ)) (o : Option (Station Term ℕ)) → station_of_id id w.stations ≡ o → BothTold w (turn_of m w id input came o)
-    turn_told id input came None e = (inl refl, inl (refl, λ f. absurd (world_is_none f)))
+    turn_told id input came None e = (inl (refl, tt), inl (refl, λ f. absurd (world_is_none f)))
     turn_told id input came (Some s) e =
         let h = turn_of m w id input came (Some s) in
         let outcome = opener (station_opens (term_reading_by same) s input) (station_pdu_in input) came in
@@ -230,16 +245,16 @@ module _ (same : Term → Term → Bool) (root : ℕ → List ℕ → Term) (oct
     arrives_told (Address.StationX2 station) pdu came = turn_told station (StationRecord OnX2 (content_in m came)) came (station_of_id station w.stations) refl
 
     delivered_told : (o : Option (Outgoing Term ℕ)) → BothTold w (delivered m w o)
-    delivered_told None = (inl refl, inl (refl, λ f. absurd (world_is_none f)))
+    delivered_told None = (inl (refl, tt), inl (refl, λ f. absurd (world_is_none f)))
     delivered_told (Some x) = arrives_told (address_of x) (octets x) (Some x)
 
     injected_told : (to : Address) (pdu : List ℕ) (o : Option ℕ) → BothTold w (injected m w to pdu o)
     injected_told to pdu None = arrives_told to pdu None
-    injected_told to pdu (Some number) = (inl refl, inl (refl, λ f. absurd (world_is_none f)))
+    injected_told to pdu (Some number) = (inl (refl, tt), inl (refl, λ f. absurd (world_is_none f)))
 
     auth_told : (ksi : ℕ) (key : Term) (caps : Caps) (o : Option ℕ) → BothTold w (auth_unless m w ksi key caps o)
-    auth_told ksi key caps None = (inl refl, inl (refl, λ f. absurd (both_is_none f)))
-    auth_told ksi key caps (Some row) = (inl refl, inl (refl, λ f. absurd (world_is_none f)))
+    auth_told ksi key caps None = (inl (refl, tt), inl (refl, λ f. absurd (both_is_none f)))
+    auth_told ksi key caps (Some row) = (inl (refl, tt), inl (refl, λ f. absurd (world_is_none f)))
 
     happens_told : (e : Event) → BothTold w (happens m w e)
     happens_told (Event.Auth ksi key caps) = let k = root (next_root w) key in auth_told ksi k caps (known_root m w k)
