@@ -9,5 +9,7 @@ mod mme;
 mod nas;
 mod records;
 mod sends;
+#[cfg(test)]
+mod tests;
 
 pub use mme::Core;
