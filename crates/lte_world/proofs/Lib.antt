@@ -1,0 +1,11 @@
+pub mod Deriving
+pub mod Holders
+pub mod Settled
+pub mod StationIds
+pub mod Turning
+pub mod Applying
+pub mod Standing
+pub mod Routing
+pub mod Refusing
+pub mod Enrolling
+pub mod Authenticating

@@ -1,0 +1,6 @@
+pub mod Shelved
+pub mod Networks
+pub mod Settling
+pub mod Enrolling
+pub mod Systems
+pub mod Whole
