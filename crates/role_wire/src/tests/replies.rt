@@ -1,4 +1,7 @@
 // The frames of replies.
+ghost use Rattle.std.specs.Prelude.{◌<◌};
+ghost use Rattle.lte_events.specs.Answer.{number_of};
+
 use super::octets_of;
 use crate::{reply_frame, setup_reply};
 use alg_choice::{Algs, Caps, Eea};
@@ -20,6 +23,7 @@ fn derived(out: &str) -> Result<Derived, Fail> {
 }
 
 fn expect_reply<R: Abort + AllocGlobal>(rt: &R, reply: &ActorOut, text: &str) -> Result<(), Fail>
+    requires { number_of reply.now.answer < 50 }
 {
     let octets = hex::decode(rt.alloc(), text)?;
     assert_eq!(rt; reply_frame(reply).as_slice(), octets.as_slice(), "{text}");

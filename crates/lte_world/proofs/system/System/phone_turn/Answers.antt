@@ -1,8 +1,0 @@
-use Rattle.lte_world.proofs.Turning.{phone_settles_from, phone_turns_from}
-use Rattle.lte_world.proofs.system.System.phone_turn.Goals as goal
-
-pub settle-requires-clause-awaits : goal.settle-requires-clause-awaits
-settle-requires-clause-awaits c = phone_settles_from _ c.args.self.now c.self.view_is c.args.input.now c.step-out.new.self c.step-out.result c.step-out.ensures.step c.requires.can
-
-pub returns : goal.returns
-returns c = phone_turns_from _ c.args.self.now c.self.view_is c.args.input.now c.step-out.new.self c.step-out.result c.step-out.ensures.step c.args.sender c.args.step c.settle.result _ c.settle.ensures

@@ -1,6 +1,0 @@
-pub mod Shelved
-pub mod Networks
-pub mod Settling
-pub mod Enrolling
-pub mod Systems
-pub mod Whole
