@@ -1,38 +1,13 @@
 // Octets that nobody sent, and a COUNT near its end.
 ghost use Rattle.std.specs.Prelude.{◌≤◌, length};
 
-use crate::system::{Round, Row, Step, System};
+use crate::runs::ORDINARY;
+use crate::system::System;
 use lte_events::{Answer, CoreIn, PhoneAct, PhoneIn, StationIn};
 use mme_context::Core;
-use rec_base::{Bearer, Octets, ShortText, Way};
+use rec_base::{Bearer, Octets, ShortText};
 use std::process::Abort;
 use ue_context::Phone;
-
-static CONNECTED: [Row; 8] = [
-    (Step::Auth(Round::First), Answer::Done, None, None),
-    (Step::Smc, Answer::Done, Some(0), None),
-    (Step::Deliver(0), Answer::Done, Some(1), None),
-    (Step::Deliver(1), Answer::Done, None, None),
-    (
-        Step::Connect,
-        Answer::Done,
-        Some(2),
-        Some((0, Way::Initial, 0xe6267359)),
-    ),
-    (
-        Step::Deliver(2),
-        Answer::Done,
-        Some(3),
-        Some((0, Way::Given, 0xe6267359)),
-    ),
-    (
-        Step::Deliver(3),
-        Answer::Done,
-        Some(4),
-        Some((0, Way::Initial, 0xe6267359)),
-    ),
-    (Step::Deliver(4), Answer::Done, None, None),
-];
 
 fn octets(of: &[u8]) -> Octets
     requires { length of.now ≤ 1536 }
@@ -82,7 +57,7 @@ fn octets_that_nobody_sent_are_refused(rt: HostRuntime) {
     core_hears(&rt, &mut system.core, &reject, Answer::NoSmc);
     let command = [0x37, 0, 0, 0, 0, 0];
     core_hears(&rt, &mut system.core, &command, Answer::BadHeader(0x37));
-    system.follow(&rt, &CONNECTED);
+    system.follow(&rt, &ORDINARY[..8]);
     let phone = &mut system.phone;
     let reserved = [0x20, 0, 0, 0, 0];
     phone_gets(
@@ -111,7 +86,7 @@ fn octets_that_nobody_sent_are_refused(rt: HostRuntime) {
 #[test]
 fn the_last_nas_counts_are_taken_and_no_more(rt: HostRuntime) {
     let mut system = System::new(&rt, rt.alloc());
-    system.follow(&rt, &CONNECTED[..4]);
+    system.follow(&rt, &ORDINARY[..4]);
     let skip = PhoneAct::Skip(None, 16_777_214);
     let out = system.phone.step(&PhoneIn::Act(skip));
     assert_eq!(rt; out.answer, Answer::Done);

@@ -4,7 +4,7 @@ use lte_events::{Answer, HoKind};
 use rec_base::Way;
 
 // A connection, a handover over X2 to the next station, and one back.
-static ORDINARY: [Row; 27] = [
+pub(crate) static ORDINARY: [Row; 27] = [
     (Step::Auth(Round::First), Answer::Done, None, None),
     (Step::Smc, Answer::Done, Some(0), None),
     (Step::Deliver(0), Answer::Done, Some(1), None),
