@@ -1,7 +1,9 @@
 pub mod Told
 pub mod Cause
 pub mod Octets
+pub mod PortLine
 pub mod Peers
+pub mod RoleWords
 pub mod Script
 pub mod Tries
 pub mod Used

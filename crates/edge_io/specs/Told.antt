@@ -50,3 +50,16 @@ port_told source sink is_open =
       open_faults = 0;
       ready = is_open;
     }
+
+-- what a port tells that is one connection of the network
+abbrev pub connection_told : Bool → ℕ → ℕ → ℕ → ℕ → Told
+connection_told is_open most read_faults write_faults open_faults =
+    record {
+      left = None;
+      most = most;
+      read_faults = read_faults;
+      written = None;
+      write_faults = write_faults;
+      open_faults = open_faults;
+      ready = is_open;
+    }

@@ -4,12 +4,14 @@
 //! it has left to read, and what it was given to write, is told by the forms over memory.
 #![tactic(auto)]
 
+mod child_peers;
 mod copying;
 mod drop_sink;
 mod edge;
 mod failed;
 mod faults;
 mod interrupted;
+mod loopback_port;
 mod mem_peer;
 mod mem_peers;
 mod mem_port;
@@ -21,6 +23,7 @@ mod reader;
 mod reader_source;
 mod reading;
 mod scripted;
+mod served_child;
 mod sink;
 mod slice_source;
 mod source;
@@ -28,9 +31,11 @@ mod writer;
 mod writer_sink;
 mod writing;
 
+pub use child_peers::ChildPeers;
 pub use drop_sink::DropSink;
 pub use edge::Edge;
 pub use failed::Failed;
+pub use loopback_port::LoopbackPort;
 pub use mem_peers::MemPeers;
 pub use mem_port::MemPort;
 pub use mem_sink::MemSink;

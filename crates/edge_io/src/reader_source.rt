@@ -13,7 +13,7 @@ use crate::reader::Reader;
 use crate::source::Source;
 
 /// The greatest number of octets that a reader's source gives.
-const MOST: usize = 1 << 62;
+pub(crate) const MOST: usize = 1 << 62;
 
 /// A source over a reader, such as standard input. It counts each error of the reader, and tells
 /// nothing of the octets. It gives at most 2^62 octets: a read past them fails.
@@ -93,7 +93,7 @@ impl<R: Reader + Drop> Source for ReaderSource<R> {
 }
 
 // An interrupted read gave nothing: it is made again, as by the loops of std, and is no fault.
-fn read_once<R: Reader>(reader: &mut R, buf: &mut [u8]) -> Result<usize, Failed>
+pub(crate) fn read_once<R: Reader>(reader: &mut R, buf: &mut [u8]) -> Result<usize, Failed>
     ensures bound { ReadsAtMost result buf.new }
     ensures bytes { ReadConsumes (R.remaining reader.old) (R.remaining reader.new) result buf.new }
     ensures answered { IfOk result (λ n. LastAnswers (R.answers (length buf.old)) (Ok n) reader.old reader.new) }

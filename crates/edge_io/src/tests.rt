@@ -1,5 +1,7 @@
 ghost use Rattle.std.specs.Prelude.{◌≡◌, length, IfOk, IfSome};
 
+mod loopback;
+
 use super::*;
 use std::io::{self, ErrorKind, Read};
 use std::test::Fail;

@@ -75,7 +75,7 @@ impl<W: Writer + Drop> Sink for WriterSink<W> {
 }
 
 // An interrupted write took nothing: it is made again, as by the loops of std, and is no fault.
-fn write_once<W: Writer>(writer: &mut W, piece: &[u8]) -> Result<usize, Failed>
+pub(crate) fn write_once<W: Writer>(writer: &mut W, piece: &[u8]) -> Result<usize, Failed>
     ensures bound { WritesAtMost result piece.now }
     ensures bytes { WriteAppends (W.contents writer.old) (W.contents writer.new) result piece.now }
     ensures answered { IfOk result (λ n. LastAnswers (W.answers piece.now) (Ok n) writer.old writer.new) }
