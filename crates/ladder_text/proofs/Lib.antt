@@ -1,6 +1,7 @@
 pub mod Numerals
 pub mod Lines
 pub mod Reading
+pub mod Same
 pub mod Rows
 pub mod Placing
 pub mod Printing

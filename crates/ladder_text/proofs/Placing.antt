@@ -28,7 +28,8 @@ use Rattle.ladder_text.specs.declared.line.LadderLine.TheVariants.{Root, Kenb, N
 use Rattle.ladder_text.specs.Text.{same, meets}
 use Rattle.ladder_text.specs.Report.{KeyRow, key_at, octets_in, Place, Again, Anew, Taken, place_by_octets, place_in, rows_after}
 use Rattle.ladder_text.specs.Rows.{origin_in, Refers, StandsFor, answer_at}
-use Rattle.ladder_text.proofs.Rows.{found_or_not, row_in, row_at, same_line, one_origin, octets_place}
+use Rattle.ladder_text.proofs.Rows.{found_or_not, row_in, row_at, one_origin, octets_place}
+use Rattle.ladder_text.proofs.Same.{same_line}
 
 -- the test of a row for a line
 abbrev is_same : LadderLine → KeyRow → Bool

@@ -1,5 +1,5 @@
 -- The output, line after line.
-use Rattle.std.proofs.Common.{◌≡◌, ◌≢◌, ℕ, suc, ◌+◌, ◌<◌, ◌≤◌, ◌⊎◌, ◌||◌, Bool, true, false, not, cond, Some, None, Ok, Err, List, [], ◌∷◌, ◌++◌, map, length, get_or, drop, sym, refl, ap, subst, ◌∙◌, arith, inl, inr, append_assoc, append-nil, drop_of_length-le}
+use Rattle.std.proofs.Common.{length-append, ◌≡◌, ◌≢◌, ℕ, suc, ◌+◌, ◌<◌, ◌≤◌, ◌⊎◌, ◌||◌, Bool, true, false, not, cond, Some, None, Ok, Err, List, [], ◌∷◌, ◌++◌, map, length, get_or, drop, sym, refl, ap, subst, ◌∙◌, arith, inl, inr, append_assoc, append-nil, drop_of_length-le}
 use Rattle.std.proofs.lemmas.List.{length-map, get_or-map, map-append}
 use Rattle.std.proofs.lemmas.List.Folds.{list_any_at}
 use Rattle.std.proofs.lemmas.List.Quantifiers.{position-Some}
@@ -8,7 +8,7 @@ use Rattle.std.specs.List.{position, position_or_len, list_any}
 use Rattle.std.specs.Option.{option_map_or}
 use Rattle.std.specs.Str.{bytes_eq}
 use Rattle.std.proofs.Math.Seq.{drop-cons}
-use Rattle.edge_io.proofs.Known.{nothing_out, none_of, all_out, grows_twice, prefix_on}
+use Rattle.edge_io.proofs.Known.{nothing_out, all_out, grows_twice, prefix_on}
 use Rattle.edge_io.specs.Told.{Told}
 use Rattle.edge_io.specs.Cause.{NoCountFell}
 use Rattle.edge_io.specs.Octets.{Grows, GrowsByPrefix}
@@ -24,6 +24,7 @@ use Rattle.ladder_text.specs.declared.ending.Ending.TheVariants.{Done, Memory, R
 use Rattle.ladder_text.specs.Text.{same, meets, with_row, AreGood}
 use Rattle.ladder_text.specs.Report.{KeyRow, key_at, derived_in, octets_in, kind_of, row_text, coincidence_text, Place, Again, Anew, Taken, place_by_octets, place_in, rows_after, ends_at, text_at, Output, then_rest, output_from, IsReported, TextAt, Writes}
 use Rattle.ladder_text.specs.Rows.{StandsFor, answer_at}
+use Rattle.ladder_text.proofs.Rows.{row_in}
 use Rattle.ladder_text.proofs.Placing.{again_key, number_or_none}
 
 -- the rows where one is the same derivation
@@ -203,9 +204,23 @@ all_printed lines i first now ladder p past =
     let text = ap (λ o. o.text) output ∙ append-nil p.text in
     (ap (λ o. o.ends) output, subst (λ t. Grows first.written now.written t) (sym text) p.grown)
 
--- want of memory before the first line
-pub memory_first : (output : Output) (told : Told) → Writes output Memory told told
-memory_first output told = none_of told.written output.text
+-- want of memory before a line
+pub memory_before : (lines : List LadderLine) (i : ℕ) (first now : Told) (ladder : List LadderRow) → Printed lines i first now ladder → Writes (output_from [] 1 lines) Memory first now
+memory_before lines i first now ladder p =
+    subst (λ t. GrowsByPrefix first.written now.written t) (sym (ap (λ o. o.text) p.whole)) (all_out first.written now.written p.text (output_from p.rows (i + 1) (drop i lines)).text p.grown)
+
+-- a line makes at most one row
+one_row : (p : Place) (rows : List KeyRow) (line : LadderLine) → length (rows_after p rows line) ≤ length rows + 1
+one_row (Again k) rows line = omega arith
+one_row Anew rows line = omega (arith, length-append rows (record { line = line; octets = octets_in rows line } ∷ []))
+one_row (Taken k) rows line = omega arith
+
+pub one_row_more : (rows : List KeyRow) (ladder after : List LadderRow) (line : LadderLine) (i : ℕ) → StandsFor rows ladder → StandsFor (rows_after (place_in rows line) rows line) after → length ladder ≤ i → length after ≤ i + 1
+one_row_more rows ladder after line i stand next few =
+    let before = ap length stand.is ∙ length-map rows (row_in rows) in
+    let now = rows_after (place_in rows line) rows line in
+    let then = ap length next.is ∙ length-map now (row_in now) in
+    omega (arith, before, then, one_row (place_in rows line) rows line, few)
 
 end_is : (p : Place) → (ends_at p ≡ Done) ⊎ (ends_at p ≡ Coincidence)
 end_is (Again k) = inl refl

@@ -11,8 +11,6 @@ use Rattle.std.specs.Str.{bytes_eq}
 use Rattle.hmac_kdf.specs.declared.input.KdfInput.TheVariants as input
 use Rattle.hmac_kdf.specs.Kdf.{kdf}
 use Rattle.annex_a_keys.specs.AlgType.{distinguisher}
-use Rattle.annex_a_keys.specs.declared.alg_type.AlgType.{AlgType}
-use Rattle.annex_a_keys.specs.declared.alg_type.AlgType.TheVariants.{NasEnc, NasInt, RrcEnc, RrcInt, UpEnc}
 use Rattle.annex_a_keys.specs.Derived.{derivation}
 use Rattle.annex_a_keys.specs.declared.derived.Derived.{Derived}
 use Rattle.key_terms.specs.declared.row.LadderRow.{LadderRow}
@@ -99,45 +97,6 @@ place_mapped f p xs = rw (prefix_mapped f (λ y. not (p y)) xs, length-map xs f)
 
 pub octets_place : (rows : List KeyRow) (ladder : List LadderRow) (octets : List ℕ) → ladder ≡ ladder_of rows → row_with ladder octets ≡ position (λ r. bytes_eq r.octets octets) rows
 octets_place rows ladder octets is = ap (λ l. row_with l octets) is ∙ place_mapped (row_in rows) (λ r. bytes_eq r.octets octets) rows
-
--- two types with one distinguisher are one
-one_type : (a b : AlgType) → distinguisher a ≡ distinguisher b → a ≡ b
-one_type NasEnc NasEnc e = refl
-one_type NasInt NasInt e = refl
-one_type RrcEnc RrcEnc e = refl
-one_type RrcInt RrcInt e = refl
-one_type UpEnc UpEnc e = refl
-one_type a b e = absurd (omega (arith, e))
-
--- two lines that test as the same are one
-pub same_line : (a b : LadderLine) → same a b ≡ true → a ≡ b
-same_line (Root key) (Root key') h = ap Root ((bytes_eq-Decides key key').0 h)
-same_line (Kenb root count) (Kenb root' count') h =
-    let parts = and_parts (root.0 == root'.0) (count == count') h in
-    let one_root : root ≡ root' = ap row ((Decides-eqb root.0 root'.0).0 parts.0) in
-    let one_count : count ≡ count' = (Decides-eqb count count').0 parts.1 in
-    cc
-same_line (Nh root sync) (Nh root' sync') h =
-    let parts = and_parts (root.0 == root'.0) (sync.0 == sync'.0) h in
-    let one_root : root ≡ root' = ap row ((Decides-eqb root.0 root'.0).0 parts.0) in
-    let one_sync : sync ≡ sync' = ap row ((Decides-eqb sync.0 sync'.0).0 parts.1) in
-    cc
-same_line (Star key cell) (Star key' cell') h =
-    let parts = and_parts (key.0 == key'.0) (cell.pci == cell'.pci && cell.earfcn == cell'.earfcn) h in
-    let places = and_parts (cell.pci == cell'.pci) (cell.earfcn == cell'.earfcn) parts.1 in
-    let one_key : key ≡ key' = ap row ((Decides-eqb key.0 key'.0).0 parts.0) in
-    let one_cell : cell ≡ cell' =
-    ap (λ (p : ℕ). record { pci = p; earfcn = cell.earfcn }) ((Decides-eqb cell.pci cell'.pci).0 places.0)
-    ∙ ap (λ (e : ℕ). record { pci = cell'.pci; earfcn = e }) ((Decides-eqb cell.earfcn cell'.earfcn).0 places.1) in
-    cc
-same_line (Alg key type id) (Alg key' type' id') h =
-    let parts = and_parts (key.0 == key'.0) (distinguisher type == distinguisher type' && id == id') h in
-    let rest = and_parts (distinguisher type == distinguisher type') (id == id') parts.1 in
-    let one_key : key ≡ key' = ap row ((Decides-eqb key.0 key'.0).0 parts.0) in
-    let one_kind : type ≡ type' = one_type type type' ((Decides-eqb (distinguisher type) (distinguisher type')).0 rest.0) in
-    let one_id : id ≡ id' = (Decides-eqb id id').0 rest.1 in
-    cc
-same_line a b h = absurd (false≢true h)
 
 -- two tests that hold
 both : (a b : Bool) → a ≡ true → b ≡ true → (a && b) ≡ true

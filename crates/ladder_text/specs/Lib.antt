@@ -1,3 +1,4 @@
 pub mod Text
+pub mod Key
 pub mod Report
 pub mod Rows

@@ -11,8 +11,11 @@ use Rattle.key_terms.specs.declared.row.Row.{Row}
 use Rattle.key_terms.specs.Ladder.{row, unheld}
 use Rattle.ladder_text.specs.declared.line.LadderLine.{LadderLine}
 use Rattle.ladder_text.specs.declared.line.LadderLine.TheVariants.{Root, Kenb, Nh, Star, Alg}
+use Rattle.hmac_kdf.specs.Kdf.{IsKdfInput}
+use Rattle.ladder_text.specs.declared.asked.Asked.{Asked}
+use Rattle.ladder_text.specs.declared.asked.Asked.TheVariants as asked
 use Rattle.ladder_text.specs.Text.{meets}
-use Rattle.ladder_text.specs.Report.{KeyRow, key_at, octets_in, Place, Again, Anew, Taken}
+use Rattle.ladder_text.specs.Report.{KeyRow, key_at, derived_in, octets_in, Place, Again, Anew, Taken}
 
 -- the origin of a line's row in the ladder
 abbrev pub origin_in : List KeyRow → LadderLine → Origin
@@ -45,6 +48,23 @@ pub record Awaits (ladder : List LadderRow) (line : LadderLine) : Type 0 where
   pub rows : List KeyRow
   pub stand : StandsFor rows ladder
   pub met : meets (map (λ r. r.line) rows) line ≡ true
+
+-- what a line asks for: a root its octets, any other line its derivation, whose input is in range
+abbrev pub Asks : List KeyRow → LadderLine → Asked → Type 0
+Asks rows line (asked.Root octets) = line ≡ Root octets
+Asks rows line (asked.Derivation made) = (derived_in rows line ≡ Some made) × IsKdfInput made.input
+
+abbrev pub IsInput : Asked → Type 0
+IsInput (asked.Root octets) = Unit {0}
+IsInput (asked.Derivation made) = IsKdfInput made.input
+
+-- the rows of a ladder, and a line whose need is met and that asks for this
+pub record IsAsked (ladder : List LadderRow) (what : Asked) : Type 0 where
+  pub rows : List KeyRow
+  pub line : LadderLine
+  pub stand : StandsFor rows ladder
+  pub met : meets (map (λ r. r.line) rows) line ≡ true
+  pub asks : Asks rows line what
 
 -- the ladder's answer to a line that finds this place
 abbrev pub answer_at : Place → List KeyRow → LadderLine → Result Row LadderFault

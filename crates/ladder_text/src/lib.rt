@@ -2,11 +2,14 @@
 #![tactic(auto)]
 
 mod answer;
+mod asked;
+mod derivations;
 mod ending;
+mod key;
 mod line;
 mod report;
 mod text;
 
 pub use answer::write_answer;
 pub use ending::Ending;
-pub use line::LadderLine;
+pub use line::{LadderLine, number};

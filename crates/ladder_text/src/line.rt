@@ -3,6 +3,7 @@ ghost use Rattle.std.specs.Char.{is_ascii_digit};
 ghost use Rattle.std.specs.List.{list_all};
 ghost use Rattle.ladder_text.specs.Text.{words_of, starts_well, is_numeral, number_of, row_of, count_of, cell_of, type_of, takes, identity_of, key_of, line_of_two, line_of_three, line_of_four, line_of};
 
+use crate::key::LineKey;
 use annex_a_keys::{AlgType, Cell};
 use hex::FromHex;
 use key_terms::Row;
@@ -25,6 +26,20 @@ pub enum LadderLine {
 
 impl LadderLine {
     ghost use Rattle.ladder_text.specs.Report.{kind_of};
+    ghost use Rattle.ladder_text.specs.Key.{line_key};
+
+    // The key by which the line is found.
+    pub(crate) fn key(&self) -> LineKey
+        ensures { result ≡ line_key self.now }
+    {
+        match *self {
+            LadderLine::Root(octets) => LineKey::Root(octets),
+            LadderLine::Kenb { root, count } => LineKey::Kenb(root.0, count),
+            LadderLine::Nh { root, sync } => LineKey::Nh(root.0, sync.0),
+            LadderLine::Star { key, cell } => LineKey::Star(key.0, cell.pci(), cell.earfcn()),
+            LadderLine::Alg { key, kind, id } => LineKey::Alg(key.0, kind.distinguisher(), id),
+        }
+    }
 
     // The word for the kind of the line's row.
     pub(crate) fn kind(&self) -> &'static str
@@ -183,8 +198,8 @@ fn takes(kind: AlgType, id: u32) -> bool
     }
 }
 
-// The number that a word is.
-fn number(word: &[u8]) -> Option<u32>
+/// The number that a word is, below 2^32: decimal digits with no sign and no leading zero, except `0` itself.
+pub fn number(word: &[u8]) -> Option<u32>
     ensures { result ≡ number_of word.now }
 {
     if !is_numeral(word) {

@@ -1,19 +1,18 @@
-ghost use Rattle.std.specs.Prelude.{◌≡◌, ◌≢◌, ℕ, ◌+◌, ◌<◌, ◌≤◌, true, false, List, [], Some, length, map, IfOk, IsTrue};
+ghost use Rattle.std.specs.Prelude.{◌≡◌, ◌≢◌, ℕ, ◌<◌, ◌≤◌, true, List, [], length, map, IfOk, IsTrue};
 ghost use Rattle.std.specs.String.{string_bytes};
 ghost use Rattle.edge_io.specs.Cause.{NoFault};
 ghost use Rattle.hmac_kdf.specs.Kdf.{IsKdfInput};
-ghost use Rattle.hmac_kdf.specs.declared.input.KdfInput.{KdfInput};
-ghost use Rattle.annex_a_keys.specs.AlgType.{distinguisher};
-ghost use Rattle.annex_a_keys.specs.Derived.{derivation};
 ghost use Rattle.key_terms.specs.Ladder.{IsLadder};
-ghost use Rattle.ladder_text.specs.Text.{is_root, meets, AreGood};
+ghost use Rattle.ladder_text.specs.Text.{meets, AreGood};
 ghost use Rattle.ladder_text.specs.Report.{KeyRow, key_at, derived_in, kind_of, row_text, root_coincidence_text, rows_coincidence_text, coincidence_text, refusal_text, place_in, rows_after, text_at, output_from, ends_at, IsReported, TextAt, Writes};
 ghost use Rattle.edge_io.specs.Used.{UsedAsSink};
-ghost use Rattle.ladder_text.specs.Rows.{StandsFor, Awaits, answer_at};
+ghost use Rattle.ladder_text.specs.Rows.{StandsFor, Awaits, Asks, IsInput, IsAsked, answer_at};
+ghost use Rattle.ladder_text.specs.declared.line.LadderLine.{LadderLine};
 
+use crate::asked::{Asked, asked_by, octets};
 use crate::ending::Ending;
 use crate::line::LadderLine;
-use annex_a_keys::{AlgType, Derived, Kasme, Kenb, Nh};
+use annex_a_keys::Derived;
 use edge_io::{Sink, write_all};
 use key_terms::{Ladder, LadderFault, Row};
 use std::alloc::{AllocError, Global};
@@ -28,11 +27,13 @@ pub fn write_report<W: Sink>(alloc: Global, lines: &[LadderLine], out: &mut W) -
     ensures out { UsedAsSink (W.told out.old) (W.told out.new) }
 {
     let mut ladder = Ladder::new(alloc);
-    match ladder.reserve(lines.len()) {
-        Ok(()) => {}
-        Err(_) => return Ending::Memory,
-    }
     for (index, line) in lines.iter().enumerate() {
+        // For each line and not once for all of them: this also indexes the rows that stand, so that the
+        // line finds its row in constant time.
+        match ladder.reserve(1) {
+            Ok(()) => {}
+            Err(_) => return Ending::Memory,
+        }
         match write_line(alloc, &mut ladder, line, index as u32 + 1, out) {
             Ending::Done => {}
             ended => return ended,
@@ -66,22 +67,39 @@ fn write_line<W: Sink>(
     ensures line { (rows : List KeyRow) → StandsFor rows ladder.old.rows → meets (map (λ r. r.line) rows) line.now ≡ true
         → TextAt result (ends_at (place_in rows line.now)) (text_at (place_in rows line.now) rows number line.now) (W.told out.old) (W.told out.new) }
     ensures rows { (rows : List KeyRow) → StandsFor rows ladder.old.rows → meets (map (λ r. r.line) rows) line.now ≡ true → StandsFor (rows_after (place_in rows line.now) rows line.now) ladder.new.rows }
-    ensures spare { ladder.old.spare ≤ ladder.new.spare + 1 }
     ensures ladder { IsLadder ladder.new.rows }
     ensures no_fault { result ≢ Ending.WriteFault → NoFault (W.told out.old) (W.told out.new) }
     ensures out { UsedAsSink (W.told out.old) (W.told out.new) }
 {
-    match place(ladder, line) {
-        Ok(row) => {
-            let text = row_line(alloc, row, line, &octets(ladder, row));
-            write_text(text, Ending::Done, out)
-        }
+    let asked = asked_by(ladder, line);
+    match place(ladder, &asked) {
+        Ok(row) => write_row(alloc, ladder, row, line, out),
+        // A root that stands is its row again, as a derivation is.
+        Err(LadderFault::RepeatedRoot(row)) => write_row(alloc, ladder, row, line, out),
         Err(LadderFault::Coincidence(row, _)) => {
-            let text = coincidence_line(alloc, ladder, line, number, row);
+            let text = coincidence_line(alloc, number, row, &asked);
             write_text(text, Ending::Coincidence, out)
         }
-        Err(_) => unreachable!(),
+        Err(LadderFault::Memory) => Ending::Memory,
     }
+}
+
+// Writes the output line of a row.
+fn write_row<W: Sink>(
+    alloc: Global,
+    ladder: &Ladder,
+    row: Row,
+    line: &LadderLine,
+    out: &mut W,
+) -> Ending
+    requires ready { IsTrue (W.told out.old).ready }
+    requires stands { row.0 < length ladder.now.rows }
+    ensures text { (rows : List KeyRow) → StandsFor rows ladder.now.rows → TextAt result Ending.Done (row_text row.0 (kind_of line.now) (key_at rows row)) (W.told out.old) (W.told out.new) }
+    ensures no_fault { result ≢ Ending.WriteFault → NoFault (W.told out.old) (W.told out.new) }
+    ensures out { UsedAsSink (W.told out.old) (W.told out.new) }
+{
+    let text = row_line(alloc, row, line, &octets(ladder, row));
+    write_text(text, Ending::Done, out)
 }
 
 // Writes a text for which there was memory, and answers how the output ends then.
@@ -101,62 +119,19 @@ fn write_text<W: Sink>(text: Result<String, AllocError>, ends: Ending, out: &mut
     }
 }
 
-// The row of a line, a new one where no row is the same derivation yet.
-fn place(ladder: &mut Ladder, line: &LadderLine) -> Result<Row, LadderFault>
+// The row of what a line asks for, a new one where no row is the same derivation yet.
+fn place(ladder: &mut Ladder, asked: &Asked) -> Result<Row, LadderFault>
     requires room { 0 < ladder.old.spare }
     requires ladder { IsLadder ladder.old.rows }
-    requires awaits { Awaits ladder.old.rows line.now }
-    ensures answer { (rows : List KeyRow) → StandsFor rows ladder.old.rows → meets (map (λ r. r.line) rows) line.now ≡ true → result ≡ answer_at (place_in rows line.now) rows line.now }
-    ensures rows { (rows : List KeyRow) → StandsFor rows ladder.old.rows → meets (map (λ r. r.line) rows) line.now ≡ true → StandsFor (rows_after (place_in rows line.now) rows line.now) ladder.new.rows }
-    ensures spare { ladder.old.spare ≤ ladder.new.spare + 1 }
+    requires asked { IsAsked ladder.old.rows asked.now }
+    ensures answer { (rows : List KeyRow) (line : LadderLine) → StandsFor rows ladder.old.rows → meets (map (λ r. r.line) rows) line ≡ true → Asks rows line asked.now → result ≡ answer_at (place_in rows line) rows line }
+    ensures rows { (rows : List KeyRow) (line : LadderLine) → StandsFor rows ladder.old.rows → meets (map (λ r. r.line) rows) line ≡ true → Asks rows line asked.now → StandsFor (rows_after (place_in rows line) rows line) ladder.new.rows }
     ensures ladder { IsLadder ladder.new.rows }
 {
-    if let LadderLine::Root(octets) = *line {
-        return ladder.root(octets);
+    match asked {
+        Asked::Root(octets) => ladder.root(*octets),
+        Asked::Derivation(made) => ladder.add(made),
     }
-    let made = derived(ladder, line);
-    ladder.add(&made)
-}
-
-// The derivation that a line asks for, which is no root.
-fn derived(ladder: &Ladder, line: &LadderLine) -> Derived
-    requires awaits { Awaits ladder.now.rows line.now }
-    requires no_root { is_root line.now ≡ false }
-    ensures value { (rows : List KeyRow) → StandsFor rows ladder.now.rows → derived_in rows line.now ≡ Some result }
-    ensures input { IsKdfInput result.input }
-{
-    match *line {
-        LadderLine::Root(_) => unreachable!(),
-        LadderLine::Kenb { root, count } => {
-            let kasme = Kasme::of_octets(octets(ladder, root));
-            kasme.kenb(count).1
-        }
-        LadderLine::Nh { root, sync } => {
-            let kasme = Kasme::of_octets(octets(ladder, root));
-            kasme.nh_next(&Nh::of_octets(octets(ladder, sync))).1
-        }
-        LadderLine::Star { key, cell } => Kenb::of_octets(octets(ladder, key)).star(&cell).1,
-        LadderLine::Alg { key, kind, id } => alg_derived(octets(ladder, key), kind, id),
-    }
-}
-
-// The derivation of an algorithm key, from KASME for the types of NAS and from KeNB for the others.
-fn alg_derived(key: [u8; 32], kind: AlgType, id: u8) -> Derived
-    ensures value { result ≡ derivation key (KdfInput.Alg (distinguisher kind) id) }
-    ensures input { IsKdfInput result.input }
-{
-    match kind {
-        AlgType::NasEnc | AlgType::NasInt => Kasme::of_octets(key).nas_alg(kind, id).1,
-        AlgType::RrcEnc | AlgType::RrcInt | AlgType::UpEnc => Kenb::of_octets(key).alg(kind, id).1,
-    }
-}
-
-// The octets of a row.
-fn octets(ladder: &Ladder, row: Row) -> [u8; 32]
-    requires { row.0 < length ladder.now.rows }
-    ensures { (rows : List KeyRow) → StandsFor rows ladder.now.rows → result ≡ key_at rows row }
-{
-    ladder.row(row).octets
 }
 
 // The output line of a row.
@@ -178,18 +153,17 @@ fn row_line(
 // The output line of a coincidence with a row.
 fn coincidence_line(
     alloc: Global,
-    ladder: &Ladder,
-    line: &LadderLine,
     number: u32,
     row: Row,
+    asked: &Asked,
 ) -> Result<String, AllocError>
-    requires { Awaits ladder.now.rows line.now }
-    ensures { (rows : List KeyRow) → StandsFor rows ladder.now.rows → IfOk result (λ text. string_bytes text ≡ coincidence_text number row.0 (derived_in rows line.now)) }
+    requires { IsInput asked.now }
+    ensures { (rows : List KeyRow) (line : LadderLine) → Asks rows line asked.now → IfOk result (λ text. string_bytes text ≡ coincidence_text number row.0 (derived_in rows line)) }
 {
-    if let LadderLine::Root(_) = line {
-        return root_coincidence(alloc, number, row);
+    match asked {
+        Asked::Root(_) => root_coincidence(alloc, number, row),
+        Asked::Derivation(made) => rows_coincidence(alloc, number, row, made),
     }
-    rows_coincidence(alloc, number, row, &derived(ladder, line))
 }
 
 // The output line of a root that has a row's octets.

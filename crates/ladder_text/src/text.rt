@@ -1,7 +1,7 @@
-ghost use Rattle.std.specs.Prelude.{◌≡◌, ℕ, ◌<◌, ◌≤◌, ◌∷◌, [], length, OnOk, IfOk, IfSome, Ok, Err, position};
-ghost use Rattle.std.specs.List.{list_any};
-ghost use Rattle.ladder_text.specs.Text.{is_feed, lines_of, words_of, same, is_root, is_hop_of, has_star, is_kenb, has_alg, stands_as, meets, with_row, rows_of, next_line, reading_of, AreGood};
+ghost use Rattle.std.specs.Prelude.{◌≡◌, ℕ, ◌<◌, ◌≤◌, ◌∷◌, [], length, IfOk, IfSome, Ok, Err, position};
+ghost use Rattle.ladder_text.specs.Text.{is_feed, lines_of, words_of, is_root, is_hop_of, has_star, is_kenb, has_alg, stands_as, meets, rows_of, next_line, reading_of, AreGood};
 
+use crate::derivations::Derivations;
 use crate::line::LadderLine;
 use annex_a_keys::AlgType;
 use key_terms::Row;
@@ -46,35 +46,25 @@ pub fn read_lines(alloc: Global, text: &[u8]) -> Result<Vec<LadderLine>, TextFau
     ensures bad { (k : ℕ) → result ≡ Err (TextFault.BadLine k) → reading_of text.now ≡ Err k }
 {
     let mut lines = Vec::new(alloc);
-    let mut rows = Vec::new(alloc);
+    let mut rows = Derivations::new(alloc);
     let mut rest = text;
     while !rest.is_empty() {
         let (line, behind) = first_line(rest);
         let Some(line) = read_next(alloc, &lines, &rows, line)? else {
             return Err(TextFault::BadLine(lines.len() as u32 + 1));
         };
-        add_row(&mut rows, &line)?;
+        rows.add(&line)?;
         lines.push(line)?;
         rest = behind;
     }
     Ok(lines)
 }
 
-// Adds the row that a line makes, if it makes a new one.
-fn add_row(rows: &mut Vec<LadderLine>, line: &LadderLine) -> Result<(), AllocError>
-    ensures { OnOk result (rows.new.items ≡ with_row rows.old.items line.now) }
-{
-    if !stands(rows, line) {
-        rows.push(*line)?;
-    }
-    Ok(())
-}
-
 // The next line, if the text spells one and its need is met.
 fn read_next(
     alloc: Global,
     lines: &[LadderLine],
-    rows: &[LadderLine],
+    rows: &Derivations,
     text: &[u8],
 ) -> Result<Option<LadderLine>, AllocError>
     requires { rows.now ≡ rows_of lines.now }
@@ -110,11 +100,11 @@ fn first_feed(text: &[u8]) -> Option<usize>
 }
 
 // Whether a line's need is met.
-fn meets(rows: &[LadderLine], line: &LadderLine) -> bool
+fn meets(rows: &Derivations, line: &LadderLine) -> bool
     ensures { result ≡ meets rows.now line.now }
 {
     match line {
-        LadderLine::Root(_) => !stands(rows, line),
+        LadderLine::Root(_) => !rows.has(line),
         LadderLine::Kenb { root, .. } => has_root(rows, *root),
         LadderLine::Nh { root, sync } => has_root(rows, *root) && has_hop(rows, *root, *sync),
         LadderLine::Star { key, .. } => has_as_key(rows, *key),
@@ -122,42 +112,35 @@ fn meets(rows: &[LadderLine], line: &LadderLine) -> bool
     }
 }
 
-// Whether a row is the same derivation from the same rows.
-fn stands(rows: &[LadderLine], line: &LadderLine) -> bool
-    ensures { result ≡ list_any (λ earlier. same earlier line.now) rows.now }
-{
-    rows.contains(line)
-}
-
 // Whether a row is a root.
-fn has_root(rows: &[LadderLine], row: Row) -> bool
+fn has_root(rows: &Derivations, row: Row) -> bool
     ensures { result ≡ stands_as is_root rows.now row }
 {
-    matches!(rows.get(row.0 as usize), Some(LadderLine::Root(_)))
+    matches!(rows.get(row), Some(LadderLine::Root(_)))
 }
 
 // Whether a row is a KeNB or an NH of a root.
-fn has_hop(rows: &[LadderLine], root: Row, row: Row) -> bool
+fn has_hop(rows: &Derivations, root: Row, row: Row) -> bool
     ensures { result ≡ stands_as (is_hop_of root) rows.now row }
 {
-    match rows.get(row.0 as usize) {
+    match rows.get(row) {
         Some(LadderLine::Kenb { root: of, .. } | LadderLine::Nh { root: of, .. }) => root.0 == of.0,
         _ => false,
     }
 }
 
 // Whether a row is a key from which KeNB* is derived.
-fn has_as_key(rows: &[LadderLine], row: Row) -> bool
+fn has_as_key(rows: &Derivations, row: Row) -> bool
     ensures { result ≡ stands_as has_star rows.now row }
 {
-    match rows.get(row.0 as usize) {
+    match rows.get(row) {
         Some(LadderLine::Root(_) | LadderLine::Alg { .. }) | None => false,
         Some(_) => true,
     }
 }
 
 // Whether a row is a key from which a key of an algorithm type is derived.
-fn has_for(rows: &[LadderLine], kind: AlgType, row: Row) -> bool
+fn has_for(rows: &Derivations, kind: AlgType, row: Row) -> bool
     ensures { result ≡ stands_as (has_alg kind) rows.now row }
 {
     match kind {
@@ -167,11 +150,11 @@ fn has_for(rows: &[LadderLine], kind: AlgType, row: Row) -> bool
 }
 
 // Whether a row is a KeNB, or a KeNB* that becomes one.
-fn has_kenb(rows: &[LadderLine], row: Row) -> bool
+fn has_kenb(rows: &Derivations, row: Row) -> bool
     ensures { result ≡ stands_as is_kenb rows.now row }
 {
     matches!(
-        rows.get(row.0 as usize),
+        rows.get(row),
         Some(LadderLine::Kenb { .. } | LadderLine::Star { .. })
     )
 }

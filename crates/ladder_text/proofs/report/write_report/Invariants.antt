@@ -1,4 +1,4 @@
-use Rattle.std.proofs.Common.{◌+◌, ◌≤◌, length}
+use Rattle.std.proofs.Common.{◌≤◌, length}
 use Rattle.edge_io.specs.Cause.{NoFault}
 use Rattle.key_terms.specs.Ladder.{IsLadder}
 use Rattle.edge_io.specs.Used.{UsedAsSink}
@@ -9,7 +9,7 @@ abbrev pub invariant-loop-index : goal.invariant-loop-index
 invariant-loop-index g l = record {
   printed : Printed l.lines l.index (g.W.Edge.told l.initial.out) (g.W.Edge.told l.out) l.ladder.rows;
   ladder : IsLadder l.ladder.rows;
-  room : length l.lines ≤ l.index + l.ladder.spare;
+  rows : length l.ladder.rows ≤ l.index;
   no_fault : NoFault (g.W.Edge.told l.initial.out) (g.W.Edge.told l.out);
   out : UsedAsSink (g.W.Edge.told l.initial.out) (g.W.Edge.told l.out);
 }

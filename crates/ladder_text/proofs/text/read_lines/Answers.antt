@@ -8,7 +8,7 @@ loop-rest-init c =
     let none = c.new-lines.ensures.items in
     record {
       reading = reading_begins c.args.text.now c.new-lines.result.items none;
-      rows = c.new-rows.ensures.items ∙ ap rows_of (sym none);
+      rows = c.new-rows.ensures ∙ ap rows_of (sym none);
       good = subst (AreGood []) (sym none) tt;
       few = omega (arith, ap length none);
     }
@@ -21,7 +21,7 @@ loop-rest-preserved c =
     let words = words_of c.first_line.result.0.now in
     let next : next_line lines words ≡ Some line = sym (ap (λ ls. next_line ls words) c.deref.ensures.value) ∙ sym c.in_ok-line.ensures ∙ c.in-Some.is in
     let put : c.push.new.self.items ≡ lines ++ line ∷ [] = search rules in
-    let row : c.add_row.new.rows.items ≡ with_row c.loop-rest.rows.items line = search rules in
+    let row : c.add.new.self ≡ with_row c.loop-rest.rows line = search rules in
     let met = next_meets lines words line next in
     record {
       reading = reading_next c.args.text.now c.loop-rest.rest.now c.first_line.result.0.now c.first_line.result.1.now lines c.push.new.self.items line so_far.reading c.first_line.ensures.lines next put;

@@ -5,7 +5,7 @@ use Rattle.ladder_text.proofs.text.read_lines.Given as goal
 abbrev pub invariant-loop-rest : goal.invariant-loop-rest
 invariant-loop-rest l = record {
   reading : reading_of l.text ≡ reading_from l.lines.items (lines_of l.rest);
-  rows : l.rows.items ≡ rows_of l.lines.items;
+  rows : l.rows ≡ rows_of l.lines.items;
   good : AreGood [] l.lines.items;
   few : length l.lines.items ≤ 4096;
 }
