@@ -2,3 +2,5 @@ pub mod Kept
 pub mod Line
 pub mod Ladder
 pub mod Chance
+pub mod Summary
+pub mod End

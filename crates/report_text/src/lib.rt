@@ -3,14 +3,18 @@
 #![tactic(auto)]
 
 mod chances;
+mod ends;
 mod kept;
 mod ladders;
 mod lines;
 mod memory;
+mod summaries;
 #[cfg(test)]
 mod tests;
 
 pub use chances::chance;
+pub use ends::end;
 pub use ladders::ladder_text;
 pub use lines::line;
 pub use memory::TextMemory;
+pub use summaries::{Figure, Tally, summary_line};

@@ -1,7 +1,7 @@
-ghost use Rattle.std.specs.Prelude.{◌≤◌};
+ghost use Rattle.std.specs.Prelude.{◌≤◌, length};
 
 use crate::ladders::{each_holder, without_comma};
-use crate::{chance, ladder_text, line};
+use crate::{Figure, Tally, chance, ladder_text, line, summary_line};
 use alg_choice::{Algs, Caps, Eea};
 use annex_a_keys::{AlgType, Cell, Kasme, Kenb};
 use key_terms::{Ladder, LadderRow, Origin, Proof, Row};
@@ -277,5 +277,60 @@ fn coincidences_print_what_shows_them(rt: HostRuntime) -> Result<(), Fail> {
     let wanted =
         "10 coincidence tuples 000102030405060708090a0b0c0d0e0f101112131415161718191a1b1c1d1e1f/4294967295/5/up e0e1e2e3e4e5e6e7e8e9eaebecedeeeff0f1f2f3f4f5f6f7f8f9fafbfcfdfeff/1/0/down\n";
     assert_eq!(rt; text.as_slice(), wanted.as_bytes());
+    Ok(())
+}
+
+// A line of an event in which one acted and came by a key.
+fn noted(who: Who, way: Way) -> Line {
+    let mut line = line_of(0, who, Answer::Done);
+    line.note = Some(KeyNote {
+        ncc: 1,
+        way,
+        key: key(),
+    });
+    line
+}
+
+// The tally of some lines.
+fn tally_of(lines: &[Line]) -> Tally
+    requires { length lines.now ≤ 100 }
+{
+    let mut tally = Tally::new();
+    for line in lines {
+        tally.count(line);
+    }
+    tally
+}
+
+#[test]
+fn a_summary_counts_what_its_lines_tell(rt: HostRuntime) -> Result<(), Fail> {
+    let mut rejected = line_of(1, Who::Phone, Answer::WrongKsi(1, 0));
+    rejected.sent = Some((3, Class::Nas));
+    let mut sent = line_of(2, Who::Core, Answer::Done);
+    sent.sent = Some((4, Class::Nas));
+    let lines = [
+        rejected,
+        sent,
+        line_of(3, Who::World, Answer::NoRecord),
+        line_of(4, Who::Station(1), Answer::NoUe),
+        noted(Who::Station(1), Way::Vertical),
+        noted(Who::Station(1), Way::Completed),
+        noted(Who::Phone, Way::Vertical),
+        noted(Who::Phone, Way::Horizontal),
+        noted(Who::Core, Way::Chained),
+    ];
+    let tally = tally_of(&lines);
+    let wanted = [
+        "steps 9\n",
+        "records 2\n",
+        "refused 3\n",
+        "handovers 1\n",
+        "vertical 1\n",
+        "rows 12\n",
+    ];
+    for (figure, wanted) in Figure::all().iter().zip(wanted) {
+        let text = summary_line(rt.alloc(), &tally, 12, *figure)?;
+        assert_eq!(rt; text.as_slice(), wanted.as_bytes());
+    }
     Ok(())
 }

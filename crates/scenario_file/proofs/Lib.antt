@@ -4,3 +4,6 @@ pub mod Documents
 pub mod FirstFault
 pub mod SetupLaws
 pub mod Ranges
+pub mod TakenSteps
+pub mod Generated
+pub mod GeneratedFits

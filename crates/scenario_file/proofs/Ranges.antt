@@ -28,7 +28,7 @@ decoded : {A : Type 0} (r : Result A FromHexError) (a : A) → result_ok r ≡ S
 decoded (Ok x) a e = cc
 decoded (Err fault) a e = absurd cc
 
-bytes_are_octets : (octets : List ℕ) → IsBytes octets → AreOctets octets
+pub bytes_are_octets : (octets : List ℕ) → IsBytes octets → AreOctets octets
 bytes_are_octets octets bytes k d below = rw (← get_or_default octets k 0 d below) (bytes k)
 
 sized_are_octets : (word : List ℕ) (n : ℕ) (octets : List ℕ) → decode_sized word n ≡ Ok octets → AreOctets octets × (length octets ≡ n)

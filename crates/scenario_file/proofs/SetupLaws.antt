@@ -1,10 +1,11 @@
 -- A setup that was read is one that a system can start with.
-use Rattle.std.proofs.Common.{◌≡◌, ℕ, ◌==◌, ◌<◌, ◌≤◌, ◌^◌, ◌-◌, true, false, ◌&&◌, List, [], ◌∷◌, ◌++◌, refl, sym, ◌∙◌, subst, Some, None, Result, Ok, Err, All, arith, ⊎_elim}
+use Rattle.std.proofs.Common.{◌≡◌, ℕ, ◌==◌, ◌<◌, ◌≤◌, ◌^◌, ◌-◌, true, false, ◌&&◌, List, [], ◌∷◌, ◌++◌, length, refl, sym, ◌∙◌, subst, Some, None, Result, Ok, Err, All, arith, ⊎_elim, ◌⊎◌, inl, inr}
 use Rattle.std.specs.Prelude.{IsTrue, IfOk, nat_le, nat_lt, if◌then◌else◌}
 use Rattle.std.specs.Option.{ok_or}
 use Rattle.std.specs.List.{list_any, IsDistinct}
 use Rattle.std.specs.Cmp.{IsEquivalence}
-use Rattle.std.proofs.lemmas.Bool.{cases_Bool}
+use Rattle.std.proofs.lemmas.Bool.{cases_Bool, and_parts, leb-true}
+use Rattle.std.proofs.lemmas.List.{length-append}
 use Rattle.std.proofs.lemmas.Bool.Decides.{nat_tests}
 use Rattle.std.proofs.lemmas.List.Elements.{All-push, All-nil}
 use Rattle.std.proofs.lemmas.List.Folds.{list_any-append}
@@ -167,22 +168,84 @@ no_station : GoodNetwork (record { stations = []; cells = [] })
 unfolding IsDistinct
 no_station = record { stations = All-nil _; ids_differ = tt; cells_have_stations = All-nil _; firsts_fit = All-nil _; cells_fit = All-nil _ }
 
+-- AT LEAST ONE CELL
+
+one_cell_more : (sites : List Site) (id : ℕ) (cell : Place) (more : List Site) → with_site sites id cell ≡ Some more → 1 ≤ length more
+one_cell_more sites id cell more = ⊎_elim
+    (λ (yes : list_any (is_site cell) sites ≡ true). λ (found : with_site sites id cell ≡ Some more). let lost : None ≡ Some more = rw yes at found in absurd cc)
+    (λ (no : list_any (is_site cell) sites ≡ false). λ (found : with_site sites id cell ≡ Some more).
+    let kept : Some (sites ++ record { station = id; cell = cell } ∷ []) ≡ Some more = rw no at found in
+    let same : sites ++ record { station = id; cell = cell } ∷ [] ≡ more = cc in
+    let long = length-append sites (record { station = id; cell = cell } ∷ []) in
+    subst (λ (m : List Site). 1 ≤ length m) same (omega (arith, long)))
+    (cases_Bool (list_any (is_site cell) sites))
+
+cells_stay : (sites : List Site) (id : ℕ) (values : Items) (more : List Site) → (1 ≤ length sites) ⊎ (1 ≤ count_of values) → sites_from sites id values ≡ Some more → 1 ≤ length more
+cells_stay sites id no_items more (inl some) found = let same : sites ≡ more = cc in subst (λ (m : List Site). 1 ≤ length m) same some
+cells_stay sites id no_items more (inr none) found = absurd (omega (arith, none))
+cells_stay sites id (item value values) more some found =
+    then_some (1 ≤ length more) (cell_of value) _ more (λ cell e rest.
+    then_some (1 ≤ length more) (with_site sites id cell) _ more (λ next one last.
+    cells_stay next id values more (inl (one_cell_more sites id cell next one)) last) rest) found
+
+if_few_cells : (sites : List Site) (id : ℕ) (values : Items) (more : List Site)
+    → (if nat_le 1 (count_of values) && nat_le (count_of values) 4 then sites_from sites id values else None) ≡ Some more → 1 ≤ length more
+if_few_cells sites id values more = ⊎_elim
+    (λ (yes : (nat_le 1 (count_of values) && nat_le (count_of values) 4) ≡ true). λ (found : (if nat_le 1 (count_of values) && nat_le (count_of values) 4 then sites_from sites id values else None) ≡ Some more).
+    cells_stay sites id values more (inr (leb-true 1 (count_of values) (and_parts _ _ yes).0)) (rw yes at found))
+    (λ (no : (nat_le 1 (count_of values) && nat_le (count_of values) 4) ≡ false). λ (found : (if nat_le 1 (count_of values) && nat_le (count_of values) 4 then sites_from sites id values else None) ≡ Some more). let lost : None ≡ Some more = rw no at found in absurd cc)
+    (cases_Bool (nat_le 1 (count_of values) && nat_le (count_of values) 4))
+
+some_cells : (sites : List Site) (id : ℕ) (table : Members) (more : List Site) → cells_in sites id table ≡ Ok more → 1 ≤ length more
+unfolding cells_in
+some_cells sites id table more =
+    then_ok (1 ≤ length more) (array_in Cells table) _ more (λ values e read. if_few_cells sites id values more (ok_or_ok _ _ more read))
+
+station_has_cells : (network : Network) (table : Members) (next : Network) → with_station network table ≡ Ok next → 1 ≤ length next.cells
+unfolding with_station
+station_has_cells network table next =
+    then_ok (1 ≤ length next.cells) (only_in (Id ∷ Priority ∷ First ∷ Cells ∷ []) table) _ next (λ known e1.
+    then_ok (1 ≤ length next.cells) (id_in network.stations table) _ next (λ id read_id.
+    then_ok (1 ≤ length next.cells) (numbers_in table) _ next (λ numbers read_numbers.
+    then_ok (1 ≤ length next.cells) (cells_in network.cells id table) _ next (λ cells read_cells whole.
+    subst (λ (n : Network). 1 ≤ length n.cells) (ok_same _ _ next refl whole)
+    (some_cells network.cells id table cells read_cells)))))
+
+stations_have_cells : (network : Network) (values : Items) (next : Network) → (1 ≤ length network.cells) ⊎ (1 ≤ count_of values) → stations_from network values ≡ Ok next → 1 ≤ length next.cells
+stations_have_cells network no_items next (inl some) read = subst (λ (n : Network). 1 ≤ length n.cells) (ok_same _ network next refl read) some
+stations_have_cells network no_items next (inr none) read = absurd (omega (arith, none))
+stations_have_cells network (item value values) next some read =
+    then_ok (1 ≤ length next.cells) (station_from network value) _ next (λ one first rest.
+    stations_have_cells one values next
+    (inl (then_ok (1 ≤ length one.cells) (ok_or (as_table value) (Wrong Station)) _ one (λ table e more. station_has_cells network table one more) first))
+    rest) read
+
+-- what holds of all stations and of their cells
+record WholeNetwork (network : Network) : Type 0 where
+  good : GoodNetwork network
+  some : 1 ≤ length network.cells
+
+not_none : (n : ℕ) → (n == 0) ≡ false → 1 ≤ n
+not_none n some = grind (arith, nat_tests, some)
+
 abbrev from_tables : Items → Result Network Refusal
 from_tables values = if count_of values == 0 then Err (Missing Station) else (if nat_lt 8 (count_of values) then Err (Wrong Station) else stations_from (record { stations = []; cells = [] }) values)
 
 some_good : (values : Items) (network : Network) → from_tables values ≡ Ok network
-    → GoodNetwork network
+    → WholeNetwork network
 some_good values network = ⊎_elim
     (λ (none : (count_of values == 0) ≡ true). λ (read : from_tables values ≡ Ok network). not_read _ (Missing Station) network refl (rw none at read))
     (λ (some : (count_of values == 0) ≡ false). λ (read : from_tables values ≡ Ok network). ⊎_elim
     (λ (many : nat_lt 8 (count_of values) ≡ true). not_read _ (Wrong Station) network refl (rw many at (rw some at read)))
-    (λ (few : nat_lt 8 (count_of values) ≡ false). stations_good _ values network no_station (rw few at (rw some at read)))
+    (λ (few : nat_lt 8 (count_of values) ≡ false).
+    let all : stations_from (record { stations = []; cells = [] }) values ≡ Ok network = rw few at (rw some at read) in
+    record { good = stations_good _ values network no_station all; some = stations_have_cells _ values network (inr (not_none _ some)) all })
     (cases_Bool (nat_lt 8 (count_of values))))
     (cases_Bool (count_of values == 0))
 
-network_good : (document : Members) (network : Network) → network_of document ≡ Ok network → GoodNetwork network
+network_good : (document : Members) (network : Network) → network_of document ≡ Ok network → WholeNetwork network
 unfolding network_of
-network_good document network = then_ok (GoodNetwork network) (tables_in Station document) _ network (λ values e read. some_good values network read)
+network_good document network = then_ok (WholeNetwork network) (tables_in Station document) _ network (λ values e read. some_good values network read)
 
 phone_good : (document : Members) (caps : Caps) → phone_of document ≡ Ok caps → AreCaps caps
 unfolding phone_of
@@ -195,10 +258,11 @@ phone_good document caps =
 record GoodSetup (setup : Setup) : Type 0 where
   can : CanStart setup
   fits : SetupFits setup
+  cells : 1 ≤ length setup.cells
 
-of_parts : (caps : Caps) (core : Numbers) (network : Network) → AreCaps caps → IsFirst core.first → GoodNetwork network
+of_parts : (caps : Caps) (core : Numbers) (network : Network) → AreCaps caps → IsFirst core.first → WholeNetwork network
     → GoodSetup (record { caps = caps; core_priority = core.priority; core_first = core.first; stations = network.stations; cells = network.cells })
-of_parts caps core network caps_good core_good good = record {
+of_parts caps core network caps_good core_good whole = let good = whole.good in record {
   can = record {
     core_first = core_good.0;
     stations = good.stations;
@@ -211,6 +275,7 @@ of_parts caps core network caps_good core_good good = record {
     stations = good.firsts_fit;
     cells = good.cells_fit;
   };
+  cells = whole.some;
 }
 
 setup_good_of : (document : Members) (setup : Setup) → setup_of document ≡ Ok setup → GoodSetup setup
@@ -232,3 +297,8 @@ setup_can document (Err refusal) read = tt
 pub setup_fits : (document : Members) (r : Result Setup Refusal) → r ≡ setup_of document → IfOk r SetupFits
 setup_fits document (Ok setup) read = (setup_good_of document setup (sym read)).fits
 setup_fits document (Err refusal) read = tt
+
+-- and there is a cell at least
+pub setup_cells : (document : Members) (r : Result Setup Refusal) → r ≡ setup_of document → IfOk r (λ s. 1 ≤ length s.cells)
+setup_cells document (Ok setup) read = (setup_good_of document setup (sym read)).cells
+setup_cells document (Err refusal) read = tt

@@ -5,3 +5,6 @@ pub mod Keys
 pub mod Setup
 pub mod Steps
 pub mod Reading
+pub mod Draws
+pub mod FirstSteps
+pub mod Refused

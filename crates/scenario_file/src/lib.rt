@@ -4,15 +4,21 @@
 
 mod faults;
 mod fields;
+mod first_steps;
+mod generator;
+mod journey;
 mod keys;
 mod reading;
+mod refused;
 mod setup;
 mod steps;
 #[cfg(test)]
 mod tests;
+mod turns;
 mod values;
 mod words;
 
 pub use faults::ScenarioFault;
 pub use fields::Field;
+pub use generator::generate;
 pub use reading::{Scenario, read};

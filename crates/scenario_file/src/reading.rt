@@ -28,6 +28,7 @@ pub fn read(alloc: Global, octets: &[u8]) -> Result<Scenario, ScenarioFault>
     ensures can_start { IfOk result (λ s. CanStart s.setup) }
     ensures can_happen { IfOk result (λ s. All (CanHappen s.setup) s.events.items) }
     ensures setup_fits { IfOk result (λ s. SetupFits s.setup) }
+    ensures cells { IfOk result (λ s. 1 ≤ length s.setup.cells) }
     ensures events_fit { IfOk result (λ s. All EventFits s.events.items) }
     ensures few { IfOk result (λ s. length s.events.items ≤ 200000) }
 {
@@ -60,6 +61,7 @@ fn scenario_in(alloc: Global, document: &Table) -> Result<Scenario, ScenarioFaul
     ensures can_start { IfOk result (λ s. CanStart s.setup) }
     ensures can_happen { IfOk result (λ s. All (CanHappen s.setup) s.events.items) }
     ensures setup_fits { IfOk result (λ s. SetupFits s.setup) }
+    ensures cells { IfOk result (λ s. 1 ≤ length s.setup.cells) }
     ensures events_fit { IfOk result (λ s. All EventFits s.events.items) }
     ensures few { IfOk result (λ s. length s.events.items ≤ 200000) }
 {
@@ -74,6 +76,7 @@ fn setup_in(document: &Table) -> Result<Setup, ScenarioFault>
     ensures value { result ≡ at_place None (setup_of (table_view document.now)) }
     ensures can { IfOk result CanStart }
     ensures fits { IfOk result SetupFits }
+    ensures cells { IfOk result (λ s. 1 ≤ length s.cells) }
 {
     match setup::setup(document) {
         Ok(setup) => Ok(setup),

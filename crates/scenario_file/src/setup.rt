@@ -110,7 +110,7 @@ fn first_in(table: &Table) -> Result<u32, Refusal>
 }
 
 // 128-EEA2 before EEA0.
-fn usual_priority() -> Priority
+pub(crate) fn usual_priority() -> Priority
     ensures { result ≡ usual_priority }
 {
     Priority::new(Eea::Eea2, Some(Eea::Eea0))

@@ -1,3 +1,5 @@
+mod generated;
+
 use crate::Field::{
     Air, Bearer as BearerField, Caps as CapsField, Cell as CellField, Cells, Core, Do, First, From,
     Id, Kasme, Ksi, N, Octets as OctetsField, Phone, Priority as PriorityField, Record, Station,

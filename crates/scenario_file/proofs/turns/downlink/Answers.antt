@@ -1,0 +1,5 @@
+use Rattle.scenario_file.proofs.TakenSteps.{then}
+use Rattle.scenario_file.proofs.turns.downlink.Goals as goal
+
+pub returns-clause-steps : goal.returns-clause-steps
+returns-clause-steps c = rw (← c.packet.ensures) (then _ _ _ _ _ c.in_ok-put.ensures.step c.in_ok-arrivals.ensures.steps)
