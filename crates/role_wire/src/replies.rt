@@ -1,8 +1,7 @@
 // Writing the reply of an actor.
-ghost use Rattle.std.specs.Prelude.{◌≡◌, ◌+◌, ◌≤◌, ◌<◌, [], ◌∷◌, ◌++◌, length};
+ghost use Rattle.std.specs.Prelude.{◌≡◌, ◌+◌, ◌≤◌, [], ◌∷◌, ◌++◌, length};
 ghost use Rattle.rec_base.specs.BigEndian.{octets_of};
 ghost use Rattle.rec_base.specs.Bearer.{octet_of};
-ghost use Rattle.lte_events.specs.Answer.{number_of};
 ghost use Rattle.lte_events.specs.Reply.{reply_of};
 ghost use Rattle.lte_events.specs.declared.answers.Answer.TheVariants.{Done};
 ghost use Rattle.role_wire.specs.Reply.{fault_octets, kept_octets, answer_octets, address_octets, sent_octets, opened_octets, derived_octets, way_octet, note_octets, reply_spelling};
@@ -17,9 +16,8 @@ use rec_fields::{algs_octet, list_of, put_u16, put_u32};
 /// The frame of a reply of an actor: kind 80; the number of the answer; the values that it keeps,
 /// behind their length; the record sent, with its address; the text opened; the outputs of the
 /// derivations, behind their count; what is told of a key; the alarm. The three answers of the network
-/// alone, 50 to 52, stand in no frame.
+/// alone, 50 to 52, which no actor gives, keep no values here.
 pub fn reply_frame(reply: &ActorOut) -> Frame
-    requires { number_of reply.now.answer < 50 }
     ensures { result ≡ reply_spelling reply.now }
 {
     let mut out = answer_body(&reply.answer);
@@ -41,7 +39,6 @@ pub fn setup_reply() -> Frame
 
 // The kind of a reply, the answer, and the values that it keeps behind their length.
 fn answer_body(answer: &Answer) -> Body
-    requires { number_of answer.now < 50 }
     ensures octets { result ≡ 0x80 ∷ answer_octets answer.now }
     ensures count { length result ≤ 15 }
 {
@@ -53,7 +50,6 @@ fn answer_body(answer: &Answer) -> Body
 
 // The values that an answer keeps.
 fn kept_of(answer: &Answer) -> Bounded<12>
-    requires { number_of answer.now < 50 }
     ensures { result ≡ kept_octets answer.now }
 {
     match answer {

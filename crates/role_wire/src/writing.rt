@@ -7,7 +7,7 @@ ghost use Rattle.alg_choice.specs.Algs.{identity_of};
 ghost use Rattle.edge_io.specs.declared.peers.Role.{Role};
 ghost use Rattle.role_wire.specs.Codes.{skip_octet, ho_octet};
 ghost use Rattle.role_wire.specs.Spelling.{setup_octets, phone_octets, phone_act_octets, station_octets, station_act_octets, core_octets, core_act_octets, first_octets, site_octets};
-ghost use Rattle.role_wire.specs.Ranges.{IsFrame, IsFrameIn, IsSetup, IsInput, IsPhoneIn, IsPhoneAct, IsStationIn, IsStationAct, IsCoreIn};
+ghost use Rattle.role_wire.specs.Ranges.{IsFrame, IsFrameIn, IsSetup};
 ghost use Rattle.role_wire.specs.Frame.{framed, frame_spelling, frame_at};
 
 use crate::{Frame, FrameIn, RoleSetup};
@@ -59,10 +59,9 @@ fn written(frame: &FrameIn) -> Frame
     }
 }
 
-/// The frame of an input, as `input_frame` writes it.
+/// The frame of an input, as `input_frame` writes it, also of one that is out of its ranges.
 #[tactic(auto, unfolding(crate::specs::Spelling::body_spelling))]
 pub fn actor_frame(input: &ActorIn) -> Frame
-    requires { IsInput input.now }
     ensures spelled { result ≡ frame_spelling (FrameIn.Input input.now) }
     ensures within { length result ≤ 4098 }
 {
@@ -86,7 +85,6 @@ pub fn setup_frame(setup: &RoleSetup) -> Frame
 
 // An input of the phone.
 fn phone_body(input: &PhoneIn) -> Body
-    requires { IsPhoneIn input.now }
     ensures { result ≡ phone_octets input.now }
 {
     match input {
@@ -109,7 +107,6 @@ fn phone_body(input: &PhoneIn) -> Body
 
 // An act of the phone.
 fn phone_act_body(act: &PhoneAct) -> Body
-    requires { IsPhoneAct act.now }
     ensures { result ≡ phone_act_octets act.now }
 {
     match act {
@@ -125,7 +122,6 @@ fn phone_act_body(act: &PhoneAct) -> Body
 
 // An input of a station.
 fn station_body(input: &StationIn) -> Body
-    requires { IsStationIn input.now }
     ensures { result ≡ station_octets input.now }
 {
     match input {
@@ -144,7 +140,6 @@ fn station_body(input: &StationIn) -> Body
 
 // An act of a station.
 fn station_act_body(act: &StationAct) -> Body
-    requires { IsStationAct act.now }
     ensures { result ≡ station_act_octets act.now }
 {
     match act {
@@ -164,7 +159,6 @@ fn station_act_body(act: &StationAct) -> Body
 
 // An input of the core.
 fn core_body(input: &CoreIn) -> Body
-    requires { IsCoreIn input.now }
     ensures { result ≡ core_octets input.now }
 {
     match input {

@@ -1,7 +1,4 @@
 // The frames of replies.
-ghost use Rattle.std.specs.Prelude.{◌<◌};
-ghost use Rattle.lte_events.specs.Answer.{number_of};
-
 use super::octets_of;
 use crate::{reply_frame, setup_reply};
 use alg_choice::{Algs, Caps, Eea};
@@ -22,9 +19,7 @@ fn derived(out: &str) -> Result<Derived, Fail> {
     })
 }
 
-fn expect_reply<R: Abort + AllocGlobal>(rt: &R, reply: &ActorOut, text: &str) -> Result<(), Fail>
-    requires { number_of reply.now.answer < 50 }
-{
+fn expect_reply<R: Abort + AllocGlobal>(rt: &R, reply: &ActorOut, text: &str) -> Result<(), Fail> {
     let octets = hex::decode(rt.alloc(), text)?;
     assert_eq!(rt; reply_frame(reply).as_slice(), octets.as_slice(), "{text}");
     Ok(())
