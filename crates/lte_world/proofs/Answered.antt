@@ -1,0 +1,123 @@
+-- What a world answers is what its run tells.
+use Rattle.std.proofs.Common.{◌≡◌, refl, sym, ap, ◌∙◌, ℕ, zero, suc, List, [], ◌∷◌, ◌++◌, length, map, Option, Some, Result, Ok, option_map}
+use Rattle.std.specs.Prelude.{slice_get}
+use Rattle.lte_events.specs.declared.events.Event.{Event}
+use Rattle.lte_events.specs.declared.lines.Line.{Line}
+use Rattle.lte_events.specs.declared.setups.Setup.{Setup}
+use Rattle.key_terms.proofs.Places.{slice_get_at_end}
+use Rattle.key_model.specs.Term.{Term}
+use Rattle.key_model.specs.Value.{value_of}
+use Rattle.lte_machine.specs.BothRuns.{written_report, octet_run, octet_report}
+use Rattle.lte_machine.specs.ByEvent.{IsStep}
+use Rattle.lte_machine.specs.Calls.{line_out, note_out}
+use Rattle.lte_machine.specs.Carried.{map_line, report_value}
+use Rattle.lte_machine.specs.Ciphers.{annex_b}
+use Rattle.lte_machine.specs.Opening.{open_octets}
+use Rattle.lte_machine.specs.Ranges.{AllOf, IsEvent, IsSetup}
+use Rattle.lte_machine.specs.Reply.{Note, map_note}
+use Rattle.lte_machine.specs.Run.{Running, first_world, Reported, event_report}
+use Rattle.lte_machine.specs.Wire.{Outgoing}
+use Rattle.lte_machine.specs.World as world
+use Rattle.lte_machine.specs.World.{World}
+use Rattle.lte_machine.proofs.AnnexB.{annex_b_ciphers}
+use Rattle.lte_machine.proofs.EventByEvent.{tale_snoc, told_each, step_told}
+use Rattle.lte_machine.proofs.WholeRun.{tale_is_value}
+use Rattle.lte_properties.specs.Headline.{Headline}
+use Rattle.lte_properties.specs.InOctets.{TellsText}
+use Rattle.lte_properties.proofs.HeadlineHolds.{headline}
+use Rattle.lte_properties.proofs.StepByStep.{takes_tell, makes_tell}
+use Rattle.lte_world.specs.declared.faults.WorldFault.{WorldFault}
+use Rattle.lte_world.specs.InOctets.{answers_of, key_told, CommandsShare, PacketsOpen}
+use Rattle.lte_world.specs.Systems.{octets}
+use Rattle.lte_world.proofs.OneTerm.{one_term}
+use Rattle.lte_world.specs.Whole.{Whole, answer_of}
+
+-- LISTS
+
+got_map : {A B : Type 0} (f : A → B) (xs : List A) (k : ℕ) (x : A) → slice_get xs k ≡ Some x → slice_get (map f xs) k ≡ Some (f x)
+got_map f [] k x e = absurd cc
+got_map f (y ∷ ys) zero x e = let one : y ≡ x = cc in ap (λ z. Some (f z)) one
+got_map f (y ∷ ys) (suc k) x e = got_map f ys k x e
+
+map_more : {A B : Type 0} (f : A → B) (xs : List A) (x : A) → map f (xs ++ x ∷ []) ≡ map f xs ++ f x ∷ []
+map_more f [] x = refl
+map_more f (y ∷ ys) x = ap (λ zs. f y ∷ zs) (map_more f ys x)
+
+map_length : {A B : Type 0} (f : A → B) (xs : List A) → length (map f xs) ≡ length xs
+map_length f [] = refl
+map_length f (x ∷ xs) = ap suc (map_length f xs)
+
+same_some : {A : Type 0} {a b : A} → ◌≡◌ {A = Option A} (Some a) (Some b) → a ≡ b
+same_some e = cc
+
+same_ok : {a b : Line} → ◌≡◌ {A = Result Line WorldFault} (Ok a) (Ok b) → a ≡ b
+same_ok e = cc
+
+-- ONE ANSWER MORE
+
+module _ (setup : Setup) (journal : List Event) (e : Event) where
+  abbrev answers : List Event → List (Result Line WorldFault)
+  answers events = map answer_of (octet_report setup events)
+
+  abbrev event_told : Result Line WorldFault
+  event_told = answer_of (event_report (open_octets annex_b) octets (octet_run setup journal) e)
+
+  pub answers_more : answers (journal ++ e ∷ []) ≡ answers journal ++ event_told ∷ []
+  answers_more = ap (map answer_of) (tale_snoc (open_octets annex_b) octets (Running (first_world setup)) journal e)
+      ∙ map_more answer_of (octet_report setup journal) (event_report (open_octets annex_b) octets (octet_run setup journal) e)
+
+  answers_length : length (answers journal) ≡ length journal
+  answers_length = map_length answer_of (octet_report setup journal) ∙ told_each (open_octets annex_b) octets (Running (first_world setup)) journal
+
+  pub last_answer : slice_get (answers (journal ++ e ∷ [])) (length journal) ≡ Some event_told
+  last_answer = ap (λ xs. slice_get xs (length journal)) answers_more ∙ ap (λ k. slice_get (answers journal ++ event_told ∷ []) k) (sym answers_length)
+      ∙ slice_get_at_end (answers journal) event_told
+
+-- WHAT STANDS AT A PLACE
+
+abbrev answered : world.Line Term → Line
+answered told = line_out (map_line value_of told)
+
+-- the key of a line
+key_answered : (told : world.Line Term) (note : Note Term) → told.note ≡ Some note → key_told (answered told) ≡ Some (value_of note.key)
+key_answered told note is = ap (λ o. option_map (λ n. n.key) (option_map note_out (option_map (map_note value_of) o))) is
+
+module _ (v : Whole) (set : IsSetup v.setup) (are : AllOf IsEvent v.journal) where
+  -- the line of a step
+  line_at : (k : ℕ) (w : World Term ℕ (Outgoing Term ℕ)) (e : Event) (u : World Term ℕ (Outgoing Term ℕ)) (told : world.Line Term) → IsStep v.setup v.journal k w e u told
+      → slice_get (answers_of v) k ≡ Some (Ok (answered told))
+  line_at k w e u told step =
+      got_map answer_of (octet_report v.setup v.journal) k (Reported (map_line value_of told))
+      (ap (λ xs. slice_get xs k) (tale_is_value annex_b annex_b_ciphers v.setup set v.journal are)
+      ∙ got_map report_value (written_report v.setup v.journal) k (Reported told) (step_told v.setup v.journal k w e u told step))
+
+  heads : Headline v.setup v.journal
+  heads = headline v.setup v.journal set are
+
+  module _ (k : ℕ) (line : Line) (there : slice_get (answers_of v) k ≡ Some (Ok line)) where
+    -- PACKETS
+
+    pub packets_open : PacketsOpen v k line
+    packets_open sent brings =
+        let told : TellsText v.setup v.journal k sent = heads.opening k sent brings in
+        let is : line ≡ line_out told.line = same_ok (same_some (sym there ∙ got_map answer_of (octet_report v.setup v.journal) k (Reported told.line) told.told)) in
+        (ap (λ (l : Line). l.answer) is ∙ told.done, ap (λ (l : Line). l.opened) is ∙ told.opened)
+
+    -- COMMANDS
+
+    pub commands_share : CommandsShare v k line
+    commands_share x before told obeyed =
+        let target = heads.agreement k x before told obeyed in
+        let is : line ≡ answered told = same_ok (same_some (sym there ∙ line_at k obeyed.0.world obeyed.0.event obeyed.0.after told obeyed.0.step)) in
+        let taken = takes_tell v.setup v.journal k x told obeyed.0 in
+        let made = makes_tell v.setup v.journal target.when target.made target.told target.makes in
+        let took_is : key_told line ≡ Some (value_of x.key) = ap key_told is ∙ key_answered told taken.0 taken.2 ∙ ap (λ key. Some (value_of key)) taken.3 in
+        let made_is : key_told (answered target.told) ≡ Some (value_of target.made.key) = key_answered target.told made.0 made.2 ∙ ap (λ key. Some (value_of key)) made.3 in record {
+          target = target;
+          earlier = answered target.told;
+          answered = line_at target.when target.makes.world target.makes.event target.makes.after target.told target.makes.step;
+          made = made_is;
+          took = took_is;
+          near = λ low. took_is ∙ ap (λ key. Some (value_of key)) (target.near low).0.0 ∙ sym made_is;
+          far = λ high same. target.far high (one_term v.setup v.journal k x told obeyed.0 target.when target.made target.told target.makes target.earlier (same_some (sym took_is ∙ same ∙ made_is)));
+        }

@@ -1,0 +1,273 @@
+-- One event of the world is one event of the run.
+use Rattle.std.proofs.Common.{◌≡◌, refl, sym, ap, subst, ◌∙◌, ℕ, suc, ◌+◌, List, [], ◌∷◌, ◌++◌, Option, Some, None, Result, Ok, Err, arith}
+use Rattle.std.specs.List.{position_from}
+use Rattle.alg_choice.specs.declared.caps.Caps.{Caps}
+use Rattle.lte_events.specs.Conditions as conditions
+use Rattle.lte_events.specs.Conditions.{CanHappen, EventFits}
+use Rattle.lte_events.specs.declared.addresses.Address.{Address}
+use Rattle.lte_events.specs.declared.acts.PhoneAct.{PhoneAct}
+use Rattle.lte_events.specs.declared.acts.StationAct.{StationAct}
+use Rattle.lte_events.specs.declared.acts.CoreAct.{CoreAct}
+use Rattle.lte_events.specs.declared.events.Event.{Event}
+use Rattle.lte_events.specs.declared.lines.Line.{Line}
+use Rattle.lte_events.specs.declared.setups.Setup.{Setup}
+use Rattle.key_terms.specs.declared.proof.Proof.{Proof}
+use Rattle.lte_machine.specs.BothRuns.{octet_run, written_run}
+use Rattle.lte_machine.specs.Carried.{run_value}
+use Rattle.lte_machine.specs.Ciphers.{annex_b}
+use Rattle.lte_machine.specs.Machines.{Kept}
+use Rattle.lte_machine.specs.Ladder.{Clash, ladder_of}
+use Rattle.lte_machine.specs.Opening.{Opening, Outcome, open_octets}
+use Rattle.lte_machine.specs.StationState.{Station, StationInput, StationActs, AirPdu, StationRecord, OnS1, OnX2}
+use Rattle.lte_machine.specs.Ranges.{AllOf, AreOctets, IsText, IsPhoneAct, IsStationAct, IsCoreAct, TakesInjected, IsEvent, IsSetup}
+use Rattle.lte_machine.specs.Run.{RunState, Running, Stopped, after, turn, replay, reported, event_report, first_world}
+use Rattle.lte_machine.specs.Step.{StepResult, Continues, Stops, by_ladder, by_chance, opening_chance, attempted, next}
+use Rattle.lte_machine.specs.Tuples.{Chance}
+use Rattle.lte_machine.specs.World as world
+use Rattle.lte_machine.specs.World.{Machine, World, auth_unless, known_root, next_root, station_of_id, turn_of, content_in, arrives, delivered, chosen, injected, is_sent, class_of, happens}
+use Rattle.lte_machine.proofs.AnnexB.{annex_b_ciphers}
+use Rattle.lte_machine.proofs.KnownLists.{all_append}
+use Rattle.lte_machine.proofs.WholeRun.{run_is_value}
+use Rattle.run_stores.specs.Additions.{CanKeep}
+use Rattle.run_stores.specs.Proofs.{chance_of}
+use Rattle.run_stores.proofs.EveryRun.{event_keeps}
+use Rattle.run_stores.proofs.Shown.{chance_back}
+use Rattle.lte_world.specs.declared.faults.WorldFault.{WorldFault}
+use Rattle.rec_base.specs.declared.bearers.Bearer.{Bearer}
+use Rattle.pdcp_guard.specs.Drb.{IsDrb}
+use Rattle.pdcp_guard.specs.Srb.{IsSrb}
+use Rattle.ue_context.specs.Acts as ue
+use Rattle.enb_context.specs.Acts as enb
+use Rattle.lte_world.specs.Systems.{octets, Actors, CameOut, Happens, EventCan, MayHappen}
+use Rattle.lte_world.specs.Whole.{answer_of, Goes}
+
+abbrev in_octets : Opening (List ℕ) → List ℕ → Outcome
+in_octets = open_octets annex_b
+
+-- RUNS
+
+replay_more : (r : RunState (List ℕ) ℕ Kept) (es : List Event) (e : Event) → replay in_octets octets r (es ++ e ∷ []) ≡ turn in_octets octets (replay in_octets octets r es) e
+replay_more r [] e = refl
+replay_more r (x ∷ es) e = replay_more (turn in_octets octets r x) es e
+
+pub run_more : (setup : Setup) (events : List Event) (e : Event) → octet_run setup (events ++ e ∷ []) ≡ turn in_octets octets (octet_run setup events) e
+run_more setup events e = replay_more (Running (first_world setup)) events e
+
+pub run_written : (setup : Setup) (events : List Event) → IsSetup setup → AllOf IsEvent events → octet_run setup events ≡ run_value annex_b (written_run setup events)
+run_written setup events is are = run_is_value annex_b annex_b_ciphers setup is events are
+
+pub events_more : (events : List Event) (e : Event) → AllOf IsEvent events → IsEvent e → AllOf IsEvent (events ++ e ∷ [])
+events_more events e are is = all_append IsEvent events (e ∷ []) are (is, tt)
+
+-- THE NUMBER OF EVENTS
+
+module _ (w : World (List ℕ) ℕ Kept) where
+  abbrev One : World (List ℕ) ℕ Kept → Type 0
+  One u = u.events ≡ w.events + 1
+
+  auth_one : (ksi : ℕ) (key : List ℕ) (caps : Caps) (o : Option ℕ) → One (auth_unless octets w ksi key caps o).0
+  auth_one ksi key caps None = refl
+  auth_one ksi key caps (Some row) = refl
+
+  turn_one : (id : ℕ) (i : StationInput (List ℕ) ℕ) (came : Option Kept) (o : Option (Station (List ℕ) ℕ)) → One (turn_of octets w id i came o).0
+  turn_one id i came None = refl
+  turn_one id i came (Some s) = refl
+
+  arrives_one : (to : Address) (pdu : List ℕ) (came : Option Kept) → One (arrives octets w to pdu came).0
+  arrives_one Address.PhoneNas pdu came = refl
+  arrives_one (Address.Phone station air bearer) pdu came = refl
+  arrives_one Address.CoreNas pdu came = refl
+  arrives_one Address.CoreS1 pdu came = refl
+  arrives_one (Address.StationAir station air bearer) pdu came = turn_one station (AirPdu air bearer pdu) came (station_of_id station w.stations)
+  arrives_one (Address.StationS1 station) pdu came = turn_one station (StationRecord OnS1 (content_in octets came)) came (station_of_id station w.stations)
+  arrives_one (Address.StationX2 station) pdu came = turn_one station (StationRecord OnX2 (content_in octets came)) came (station_of_id station w.stations)
+
+  delivered_one : (o : Option Kept) → One (delivered octets w o).0
+  delivered_one None = refl
+  delivered_one (Some x) = arrives_one x.to x.octets (Some x)
+
+  injected_one : (to : Address) (pdu : List ℕ) (o : Option ℕ) → One (injected octets w to pdu o).0
+  injected_one to pdu None = arrives_one to pdu None
+  injected_one to pdu (Some number) = refl
+
+  happens_one : (e : Event) → One (happens octets w e).0
+  happens_one (Event.Auth ksi key caps) = auth_one ksi key caps (known_root octets w key)
+  happens_one (Event.Phone act) = refl
+  happens_one (Event.Station id act) = turn_one id (StationActs act) None (station_of_id id w.stations)
+  happens_one (Event.Core act) = refl
+  happens_one (Event.Deliver i) = delivered_one (chosen i w.sent)
+  happens_one (Event.Inject to pdu) = injected_one to pdu (position_from (is_sent octets (class_of to) pdu) 0 w.sent)
+
+  ladder_goes : (c : Option (Clash (List ℕ))) (h : World (List ℕ) ℕ Kept × world.Line (List ℕ)) (u : World (List ℕ) ℕ Kept) (l : world.Line (List ℕ)) → by_ladder c h ≡ Continues u l → h.0 ≡ u
+  ladder_goes None h u l e = cc
+  ladder_goes (Some c) h u l e = absurd (stops_not e)
+    where
+      stops_not : {chance : Chance (List ℕ)} → ◌≡◌ {A = StepResult (List ℕ) ℕ Kept} (Stops chance) (Continues u l) → ⊥
+      stops_not bad = cc
+
+  chance_goes : (c : Option (Chance (List ℕ))) (h : World (List ℕ) ℕ Kept × world.Line (List ℕ)) (u : World (List ℕ) ℕ Kept) (l : world.Line (List ℕ)) →
+      by_chance octets.reading.same c h ≡ Continues u l → h.0 ≡ u
+  chance_goes None h u l e = ladder_goes (ladder_of octets.reading.same h.0.history).clash h u l e
+  chance_goes (Some c) h u l e = absurd (stops_not e)
+    where
+      stops_not : {chance : Chance (List ℕ)} → ◌≡◌ {A = StepResult (List ℕ) ℕ Kept} (Stops chance) (Continues u l) → ⊥
+      stops_not bad = cc
+
+  next_one : (e : Event) (u : World (List ℕ) ℕ Kept) (l : world.Line (List ℕ)) → next in_octets octets w e ≡ Continues u l → One u
+  next_one e u l is = subst One (chance_goes (opening_chance in_octets octets (attempted octets w e)) (happens octets w e) u l is) (happens_one e)
+
+-- ONE EVENT
+
+ok_err : {line : Line} {p : Proof} → ◌≡◌ {A = Result Line Proof} (Ok line) (Err p) → ⊥
+ok_err e = cc
+
+ok_ok : {line told : Line} → ◌≡◌ {A = Result Line Proof} (Ok line) (Ok told) → line ≡ told
+ok_ok e = cc
+
+err_err : {p q : Proof} → ◌≡◌ {A = Result Line Proof} (Err p) (Err q) → p ≡ q
+err_err e = cc
+
+module _ (a b : Actors) (e : Event) (n : ℕ) where
+  -- the run goes on
+  module _ (line : Line) (h : Happens a b e n (Ok line)) where
+    pub went_says : (r : RunState (List ℕ) ℕ Kept) → Goes r a n → ((w : World (List ℕ) ℕ Kept) → r ≡ Running w → CanKeep (happens octets w e).0) → ◌≡◌ {A = Result Line WorldFault} (Ok line) (answer_of (event_report in_octets octets r e))
+    unfolding Happens
+    went_says (Stopped chance) g k = absurd g
+    went_says (Running w) g k = by (next in_octets octets w e) (h w g.0 g.1 (k w refl))
+      where
+        by : (x : StepResult (List ℕ) ℕ Kept) → CameOut x b (Ok line) → ◌≡◌ {A = Result Line WorldFault} (Ok line) (answer_of (reported x))
+        by (Continues u l) o = ap Ok (ok_ok o.0)
+        by (Stops chance) o = absurd (ok_err o)
+
+    pub went_goes : (r : RunState (List ℕ) ℕ Kept) → Goes r a n → ((w : World (List ℕ) ℕ Kept) → r ≡ Running w → CanKeep (happens octets w e).0) → Goes (turn in_octets octets r e) b (n + 1)
+    unfolding Happens
+    went_goes (Stopped chance) g k = absurd g
+    went_goes (Running w) g k = by (next in_octets octets w e) refl (h w g.0 g.1 (k w refl))
+      where
+        by : (x : StepResult (List ℕ) ℕ Kept) → next in_octets octets w e ≡ x → CameOut x b (Ok line) → Goes (after x) b (n + 1)
+        by (Continues u l) is o = (o.1, next_one w e u l is ∙ ap (λ k. k + 1) g.1)
+        by (Stops chance) is o = absurd (ok_err o)
+
+  -- or ends
+  module _ (p : Proof) (h : Happens a b e n (Err p)) where
+    pub ended_says : (r : RunState (List ℕ) ℕ Kept) → Goes r a n → ((w : World (List ℕ) ℕ Kept) → r ≡ Running w → CanKeep (happens octets w e).0) → ◌≡◌ {A = Result Line WorldFault} (Err (WorldFault.Chance p)) (answer_of (event_report in_octets octets r e))
+    unfolding Happens
+    ended_says (Stopped chance) g k = absurd g
+    ended_says (Running w) g k = by (next in_octets octets w e) (h w g.0 g.1 (k w refl))
+      where
+        by : (x : StepResult (List ℕ) ℕ Kept) → CameOut x b (Err p) → ◌≡◌ {A = Result Line WorldFault} (Err (WorldFault.Chance p)) (answer_of (reported x))
+        by (Continues u l) o = absurd (ok_err (sym o.0))
+        by (Stops chance) o = ap (λ q. Err (WorldFault.Chance q)) (err_err o)
+
+    pub ended_run : (r : RunState (List ℕ) ℕ Kept) → Goes r a n → ((w : World (List ℕ) ℕ Kept) → r ≡ Running w → CanKeep (happens octets w e).0) → Stopped (chance_of p) ≡ turn in_octets octets r e
+    unfolding Happens
+    ended_run (Stopped chance) g k = absurd g
+    ended_run (Running w) g k = by (next in_octets octets w e) (h w g.0 g.1 (k w refl))
+      where
+        by : (x : StepResult (List ℕ) ℕ Kept) → CameOut x b (Err p) → Stopped (chance_of p) ≡ after x
+        by (Continues u l) o = absurd (ok_err (sym o.0))
+        by (Stops chance) o = ap Stopped (ap chance_of (err_err o) ∙ chance_back chance)
+
+-- what an event can be
+pub event_good : (setup : Setup) (events : List Event) (e : Event) → IsSetup setup → AllOf IsEvent events → IsEvent e → (w : World (List ℕ) ℕ Kept) → octet_run setup events ≡ Running w → CanKeep (happens octets w e).0
+event_good setup events e is are good w run = event_keeps setup events w is are run e good
+
+pub event_can : (setup : Setup) (events : List Event) (e : Event) (a : Actors) (n : ℕ) → IsSetup setup → AllOf IsEvent events → IsEvent e → Goes (octet_run setup events) a n → EventCan a e
+event_can setup events e a n is are good g = by (octet_run setup events) refl g
+  where
+    by : (r : RunState (List ℕ) ℕ Kept) → octet_run setup events ≡ r → Goes r a n → EventCan a e
+    by (Running w) run h = record { before = w; are = h.0; can = event_good setup events e is are good w run }
+    by (Stopped chance) run h = absurd h
+
+-- CONDITIONS
+
+octets_are : (xs : List ℕ) → conditions.AreOctets xs → AreOctets xs
+octets_are [] h = tt
+octets_are (x ∷ xs) h = (h 0 0 (omega arith), octets_are xs (λ k d lt. h (suc k) d (omega (arith, lt))))
+
+text_is : (most : ℕ) (xs : List ℕ) → conditions.IsText most xs → IsText most xs
+text_is most xs h = (octets_are xs h.0, h.1)
+
+phone_act_is : (act : PhoneAct) → conditions.PhoneActFits act → IsPhoneAct act
+phone_act_is PhoneAct.ServiceRequest h = tt
+phone_act_is PhoneAct.ResendComplete h = tt
+phone_act_is PhoneAct.GoIdle h = tt
+phone_act_is (PhoneAct.SendUser bearer text) h = text_is 1500 text h
+phone_act_is (PhoneAct.SendRrc bearer text) h = text_is 200 text h
+phone_act_is (PhoneAct.SendNas text) h = text_is 200 text h
+phone_act_is (PhoneAct.Skip bearer n) h = tt
+
+station_act_is : (act : StationAct) → conditions.StationActFits act → IsStationAct act
+station_act_is (StationAct.Start kind cell) h = h
+station_act_is StationAct.Command h = tt
+station_act_is StationAct.Cancel h = tt
+station_act_is StationAct.Ask h = tt
+station_act_is (StationAct.SendUser bearer text) h = text_is 1500 text h
+station_act_is (StationAct.SendRrc bearer text) h = text_is 200 text h
+station_act_is (StationAct.Skip bearer n) h = tt
+
+core_act_is : (act : CoreAct) → conditions.CoreActFits act → IsCoreAct act
+core_act_is CoreAct.StartSmc h = tt
+core_act_is (CoreAct.Connect cell) h = h
+core_act_is CoreAct.Release h = tt
+core_act_is (CoreAct.SendNas text) h = text_is 200 text h
+core_act_is (CoreAct.Skip n) h = tt
+
+takes_injected : (setup : Setup) (to : Address) → conditions.TakesInjected setup to → TakesInjected to
+takes_injected setup Address.PhoneNas h = tt
+takes_injected setup (Address.Phone station air bearer) h = tt
+takes_injected setup Address.CoreNas h = tt
+takes_injected setup Address.CoreS1 h = h
+takes_injected setup (Address.StationAir station air bearer) h = tt
+takes_injected setup (Address.StationS1 station) h = h
+takes_injected setup (Address.StationX2 station) h = h
+
+pub is_event : (setup : Setup) (e : Event) → CanHappen setup e → EventFits e → IsEvent e
+is_event setup (Event.Auth ksi key caps) c f = (c, f.0.1, octets_are key f.0.0, f.1)
+is_event setup (Event.Phone act) c f = phone_act_is act f
+is_event setup (Event.Station id act) c f = station_act_is act f
+is_event setup (Event.Core act) c f = core_act_is act f
+is_event setup (Event.Deliver i) c f = tt
+is_event setup (Event.Inject to text) c f = (takes_injected setup to c, text_is 1536 text f)
+
+drb_is : (bearer : Bearer) → conditions.IsDrb bearer → IsDrb bearer
+drb_is Bearer.Srb1 h = absurd h
+drb_is Bearer.Srb2 h = absurd h
+drb_is Bearer.Drb1 h = tt
+drb_is Bearer.Drb2 h = tt
+drb_is Bearer.Drb3 h = tt
+drb_is Bearer.Drb4 h = tt
+
+srb_is : (bearer : Bearer) → conditions.IsSrb bearer → IsSrb bearer
+srb_is Bearer.Srb1 h = tt
+srb_is Bearer.Srb2 h = tt
+srb_is Bearer.Drb1 h = absurd h
+srb_is Bearer.Drb2 h = absurd h
+srb_is Bearer.Drb3 h = absurd h
+srb_is Bearer.Drb4 h = absurd h
+
+phone_may : (act : PhoneAct) → conditions.PhoneCan act → ue.IsAct act
+phone_may PhoneAct.ServiceRequest h = tt
+phone_may PhoneAct.ResendComplete h = tt
+phone_may PhoneAct.GoIdle h = tt
+phone_may (PhoneAct.SendUser bearer text) h = drb_is bearer h
+phone_may (PhoneAct.SendRrc bearer text) h = srb_is bearer h
+phone_may (PhoneAct.SendNas text) h = tt
+phone_may (PhoneAct.Skip bearer n) h = tt
+
+station_may : (act : StationAct) → conditions.StationCan act → enb.IsAct act
+station_may (StationAct.Start kind cell) h = tt
+station_may StationAct.Command h = tt
+station_may StationAct.Cancel h = tt
+station_may StationAct.Ask h = tt
+station_may (StationAct.SendUser bearer text) h = drb_is bearer h
+station_may (StationAct.SendRrc bearer text) h = srb_is bearer h
+station_may (StationAct.Skip bearer n) h = tt
+
+pub may_happen : (setup : Setup) (e : Event) → CanHappen setup e → MayHappen e
+may_happen setup (Event.Auth ksi key caps) c = c
+may_happen setup (Event.Phone act) c = phone_may act c
+may_happen setup (Event.Station id act) c = station_may act c.1
+may_happen setup (Event.Core act) c = tt
+may_happen setup (Event.Deliver i) c = tt
+may_happen setup (Event.Inject to text) c = takes_injected setup to c

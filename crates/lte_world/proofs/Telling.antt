@@ -1,0 +1,141 @@
+-- A line that a world answers: its step, its place among the answers, and what the headline says of it.
+use Rattle.std.proofs.Common.{◌≡◌, refl, sym, ap, subst, ◌∙◌, ℕ, Bool, List, [], ◌∷◌, ◌++◌, length, map, Option, Some, None, Result, Ok}
+use Rattle.std.specs.Prelude.{slice_get}
+use Rattle.std.specs.List.{position_from}
+use Rattle.alg_choice.specs.declared.caps.Caps.{Caps}
+use Rattle.lte_events.specs.declared.addresses.Address.{Address}
+use Rattle.lte_events.specs.declared.events.Event.{Event}
+use Rattle.lte_events.specs.declared.lines.Line.{Line}
+use Rattle.lte_events.specs.declared.setups.Setup.{Setup}
+use Rattle.lte_machine.specs.BothRuns.{octet_run, octet_report}
+use Rattle.lte_machine.specs.Calls.{line_out}
+use Rattle.lte_machine.specs.Ciphers.{annex_b}
+use Rattle.lte_machine.specs.Machines.{Kept}
+use Rattle.lte_machine.specs.Opening.{open_octets}
+use Rattle.lte_machine.specs.Ranges.{AllOf, IsEvent, IsSetup}
+use Rattle.lte_machine.specs.Run.{RunState, Running, Stopped, event_report, reported}
+use Rattle.lte_machine.specs.StationState.{Station, StationInput, StationActs, AirPdu, StationRecord, OnS1, OnX2}
+use Rattle.lte_machine.specs.Step.{StepResult, Continues, Stops, next}
+use Rattle.lte_machine.specs.World as world
+use Rattle.lte_machine.specs.World.{World, auth_unless, known_root, station_of_id, turn_of, content_in, arrives, delivered, chosen, injected, is_sent, class_of, happens}
+use Rattle.lte_machine.proofs.EventByEvent.{step_is}
+use Rattle.lte_world.specs.declared.faults.WorldFault.{WorldFault}
+use Rattle.lte_world.specs.InOctets.{answers_of, CommandsShare, PacketsOpen}
+use Rattle.lte_world.specs.Systems.{octets, Actors}
+use Rattle.key_terms.specs.declared.proof.Proof.{Proof}
+use Rattle.lte_world.specs.Whole.{Whole, unless_over, answer_of, told_of, CanApply, Goes, Stands}
+use Rattle.lte_world.proofs.Answered.{answers_more, last_answer, commands_share, packets_open}
+use Rattle.lte_world.proofs.Applying.{events_more, is_event}
+
+-- the step of a line is the number of events before it
+module _ (w : World (List ℕ) ℕ Kept) where
+  abbrev AtStep : World (List ℕ) ℕ Kept × world.Line (List ℕ) → Type 0
+  AtStep h = h.1.step ≡ w.events
+
+  auth_at : (ksi : ℕ) (key : List ℕ) (caps : Caps) (o : Option ℕ) → AtStep (auth_unless octets w ksi key caps o)
+  auth_at ksi key caps None = refl
+  auth_at ksi key caps (Some row) = refl
+
+  turn_at : (id : ℕ) (i : StationInput (List ℕ) ℕ) (came : Option Kept) (o : Option (Station (List ℕ) ℕ)) → AtStep (turn_of octets w id i came o)
+  turn_at id i came None = refl
+  turn_at id i came (Some s) = refl
+
+  arrives_at : (to : Address) (pdu : List ℕ) (came : Option Kept) → AtStep (arrives octets w to pdu came)
+  arrives_at Address.PhoneNas pdu came = refl
+  arrives_at (Address.Phone station air bearer) pdu came = refl
+  arrives_at Address.CoreNas pdu came = refl
+  arrives_at Address.CoreS1 pdu came = refl
+  arrives_at (Address.StationAir station air bearer) pdu came = turn_at station (AirPdu air bearer pdu) came (station_of_id station w.stations)
+  arrives_at (Address.StationS1 station) pdu came = turn_at station (StationRecord OnS1 (content_in octets came)) came (station_of_id station w.stations)
+  arrives_at (Address.StationX2 station) pdu came = turn_at station (StationRecord OnX2 (content_in octets came)) came (station_of_id station w.stations)
+
+  delivered_at : (o : Option Kept) → AtStep (delivered octets w o)
+  delivered_at None = refl
+  delivered_at (Some x) = arrives_at x.to x.octets (Some x)
+
+  injected_at : (to : Address) (pdu : List ℕ) (o : Option ℕ) → AtStep (injected octets w to pdu o)
+  injected_at to pdu None = arrives_at to pdu None
+  injected_at to pdu (Some number) = refl
+
+  happens_at : (e : Event) → AtStep (happens octets w e)
+  happens_at (Event.Auth ksi key caps) = auth_at ksi key caps (known_root octets w key)
+  happens_at (Event.Phone act) = refl
+  happens_at (Event.Station id act) = turn_at id (StationActs act) None (station_of_id id w.stations)
+  happens_at (Event.Core act) = refl
+  happens_at (Event.Deliver i) = delivered_at (chosen i w.sent)
+  happens_at (Event.Inject to pdu) = injected_at to pdu (position_from (is_sent octets (class_of to) pdu) 0 w.sent)
+
+  next_at : (e : Event) (u : World (List ℕ) ℕ Kept) (l : world.Line (List ℕ)) → next (open_octets annex_b) octets w e ≡ Continues u l → l.step ≡ w.events
+  next_at e u l is = ap (λ (x : world.Line (List ℕ)). x.step) (step_is (open_octets annex_b) octets w e u l is).1 ∙ happens_at e
+
+step_of : (r : RunState (List ℕ) ℕ Kept) (a : Actors) (n : ℕ) (e : Event) (line : Line) → Goes r a n → ◌≡◌ {A = Result Line WorldFault} (Ok line) (answer_of (event_report (open_octets annex_b) octets r e)) → line.step ≡ n
+step_of (Stopped chance) a n e line g says = absurd g
+step_of (Running w) a n e line g says = by (next (open_octets annex_b) octets w e) refl says
+  where
+    by : (x : StepResult (List ℕ) ℕ Kept) → next (open_octets annex_b) octets w e ≡ x → ◌≡◌ {A = Result Line WorldFault} (Ok line) (answer_of (reported x)) → line.step ≡ n
+    by (Continues u l) is told =
+        let same : line ≡ line_out l = cc in ap (λ (x : Line). x.step) same ∙ next_at w e u l is ∙ g.1
+    by (Stops chance) is told = absurd cc
+
+module _ (setup : Setup) (journal : List Event) (a : Actors) (set : IsSetup setup) (are : AllOf IsEvent journal) (goes : Goes (octet_run setup journal) a (length journal)) (e : Event) (good : IsEvent e)
+    (line : Line) (says : ◌≡◌ {A = Result Line WorldFault} (Ok line) (answer_of (event_report (open_octets annex_b) octets (octet_run setup journal) e))) where
+  pub step_line : line.step ≡ length journal
+  step_line = step_of (octet_run setup journal) a (length journal) e line goes says
+
+  abbrev answers : Setup → List Event → List (Result Line WorldFault)
+  answers s es = map answer_of (octet_report s es)
+
+  -- the world before the event and after it
+  module _ (before after : Whole) (was : before.setup ≡ setup) (had : before.journal ≡ journal) (is : after.setup ≡ setup) (has : after.journal ≡ journal ++ e ∷ []) where
+    pub answers_line : answers_of after ≡ answers_of before ++ Ok line ∷ []
+    answers_line =
+        (λ j. answers (is j) (has j)) ∙ answers_more setup journal e
+        ∙ (λ j. answers (sym was j) (sym had j) ++ sym says j ∷ [])
+
+    there : slice_get (answers_of after) (length before.journal) ≡ Some (Ok line)
+    there = (λ j. slice_get (answers (is j) (has j)) (length (had j))) ∙ last_answer setup journal e ∙ ap (λ r. Some r) (sym says)
+
+    in_range : IsSetup after.setup × AllOf IsEvent after.journal
+    in_range = (subst IsSetup (sym is) set, subst (AllOf IsEvent) (sym has) (events_more journal e are good))
+
+    pub commands_line : CommandsShare after (length before.journal) line
+    commands_line = commands_share after in_range.0 in_range.1 (length before.journal) line there
+
+    pub packets_line : PacketsOpen after (length before.journal) line
+    packets_line = packets_open after in_range.0 in_range.1 (length before.journal) line there
+
+-- ONE EVENT OF A WORLD
+
+module _ (setup : Setup) (journal : List Event) (over : Option Proof) (ready : Bool) (a : Actors) (none : over ≡ None) (set : IsSetup setup) (are : AllOf IsEvent journal)
+    (st : Stands over (octet_run setup journal) a (length journal)) (v : Whole) (view : record { setup = setup; journal = journal; over = over; ready = ready } ≡ v) (e : Event) (can : CanApply v e)
+    (line : Line) (says : ◌≡◌ {A = Result Line WorldFault} (Ok line) (told_of v e)) where
+  goes : Goes (octet_run v.setup v.journal) a (length v.journal)
+  goes = subst (λ (x : Whole). Goes (octet_run x.setup x.journal) a (length x.journal)) view (subst (λ o. Stands o (octet_run setup journal) a (length journal)) none st)
+
+  says_so : ◌≡◌ {A = Result Line WorldFault} (Ok line) (answer_of (event_report (open_octets annex_b) octets (octet_run v.setup v.journal) e))
+  says_so = says ∙ ap (λ o. answer_of (event_report (open_octets annex_b) octets (unless_over o (octet_run v.setup v.journal)) e)) (sym (ap (λ x. x.over) view) ∙ none)
+
+  set_so : IsSetup v.setup
+  set_so = subst (λ (x : Whole). IsSetup x.setup) view set
+
+  are_so : AllOf IsEvent v.journal
+  are_so = subst (λ (x : Whole). AllOf IsEvent x.journal) view are
+
+  pub line_step : line.step ≡ length v.journal
+  line_step = step_line v.setup v.journal a set_so are_so goes e (is_event v.setup e can.can can.fits) line says_so
+
+  module _ (put : Event) (copied : put ≡ e) (items : List Event) (items_are : items ≡ journal ++ put ∷ []) (later : Bool) where
+    abbrev after : Whole
+    after = record { setup = setup; journal = items; over = over; ready = later }
+
+    grown : items ≡ v.journal ++ e ∷ []
+    grown = items_are ∙ (λ j. (view j).journal ++ copied j ∷ [])
+
+    pub line_answers : answers_of after ≡ answers_of v ++ Ok line ∷ []
+    line_answers = answers_line v.setup v.journal a set_so are_so goes e (is_event v.setup e can.can can.fits) line says_so v after refl refl (ap (λ x. x.setup) view) grown
+
+    pub line_commands : CommandsShare after (length v.journal) line
+    line_commands = commands_line v.setup v.journal a set_so are_so goes e (is_event v.setup e can.can can.fits) line says_so v after refl refl (ap (λ x. x.setup) view) grown
+
+    pub line_packets : PacketsOpen after (length v.journal) line
+    line_packets = packets_line v.setup v.journal a set_so are_so goes e (is_event v.setup e can.can can.fits) line says_so v after refl refl (ap (λ x. x.setup) view) grown

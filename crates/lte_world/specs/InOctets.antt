@@ -1,0 +1,71 @@
+-- What the headline says of a world, in octets: of its uses, of phone and station at one air address, and of each line that it
+-- answers.
+use Rattle.std.specs.Prelude.{◌≡◌, ◌≢◌, ℕ, ◌≤◌, ◌<◌, List, map, slice_get, Option, Some, Result, Ok}
+use Rattle.std.specs.Option.{option_map}
+use Rattle.rec_base.specs.declared.uses.Use.{Use}
+use Rattle.lte_events.specs.declared.answers.Answer.TheVariants.{Done}
+use Rattle.lte_events.specs.declared.lines.Line.{Line}
+use Rattle.key_model.specs.Term.{Term}
+use Rattle.key_model.specs.Value.{value_of}
+use Rattle.lte_machine.specs.BothRuns.{octet_report}
+use Rattle.lte_machine.specs.Machines.{Kept}
+use Rattle.lte_machine.specs.PhoneState.{Link, Connected}
+use Rattle.lte_machine.specs.Reply.{Before, Commanded, Took}
+use Rattle.lte_machine.specs.StationState.{Station, Context}
+use Rattle.lte_machine.specs.World as world
+use Rattle.lte_machine.specs.World.{World, station_of_id}
+use Rattle.lte_properties.specs.Agreement.{ahead}
+use Rattle.lte_properties.specs.BySteps.{Obeyed}
+use Rattle.lte_properties.specs.Headline.{AtCommand}
+use Rattle.lte_properties.specs.InOctets.{BringsPacket}
+use Rattle.lte_world.specs.declared.faults.WorldFault.{WorldFault}
+use Rattle.lte_world.specs.Whole.{Whole, answer_of}
+
+-- what a world answered to the events of its journal, in order
+abbrev pub answers_of : Whole → List (Result Line WorldFault)
+answers_of v = map answer_of (octet_report v.setup v.journal)
+
+-- no two entries of a list are equal
+abbrev pub NoTwoEqual : List Use → Type 0
+NoTwoEqual uses = (i j : ℕ) (u : Use) → slice_get uses i ≡ Some u → slice_get uses j ≡ Some u → i ≡ j
+
+-- the phone is connected at this station, whose context has the phone's air address
+pub record IsJoined (id : ℕ) (w : World (List ℕ) ℕ Kept) : Type 0 where
+  pub link : Link (List ℕ) ℕ
+  pub station : Station (List ℕ) ℕ
+  pub context : Context (List ℕ) ℕ
+  pub connected : w.phone.radio ≡ Connected link
+  pub there : link.station ≡ id
+  pub stands : station_of_id id w.stations ≡ Some station
+  pub serves : station.context ≡ Some context
+  pub air : context.air ≡ link.air
+
+-- the key that a line tells
+abbrev pub key_told : Line → Option (List ℕ)
+key_told line = option_map (λ n. n.key) line.note
+
+-- a handover command that was obeyed at step k, beside what its target made for it at an earlier step: the line that the world
+-- answered then, and the one that it answers now
+pub record SharesKey (v : Whole) (k : ℕ) (x : Took Term ℕ) (before : Before Term ℕ) (told : world.Line Term) (line : Line) : Type 0 where
+  pub target : AtCommand v.setup v.journal k x before told
+  pub earlier : Line
+  pub answered : slice_get (answers_of v) target.when ≡ Some (Ok earlier)
+  -- the one tells the key that the target made, the other the key that the phone took
+  pub made : key_told earlier ≡ Some (value_of target.made.key)
+  pub took : key_told line ≡ Some (value_of x.key)
+  -- fewer than eight chain steps ahead that is one key
+  pub near : ahead target.made (Commanded before) < 8 → key_told line ≡ key_told earlier
+  -- and at eight or more another
+  pub far : 8 ≤ ahead target.made (Commanded before) → key_told line ≢ key_told earlier
+
+-- so it is wherever the phone obeys a command at step k
+abbrev pub CommandsShare : Whole → ℕ → Line → Type 0
+CommandsShare v k line =
+    (x : Took Term ℕ) (before : Before Term ℕ) (told : world.Line Term) → Obeyed v.setup v.journal k x before told →
+    SharesKey v k x before told line
+
+-- the line of step k, where that brings an intact packet to a ready receiver in its window: it is done, and tells the text that
+-- was sent
+abbrev pub PacketsOpen : Whole → ℕ → Line → Type 0
+PacketsOpen v k line =
+    (sent : List ℕ) → BringsPacket v.setup v.journal k sent → (line.answer ≡ Done) × (line.opened ≡ Some sent)

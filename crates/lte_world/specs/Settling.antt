@@ -1,0 +1,71 @@
+-- What is kept of a step, and what is told of it.
+use Rattle.std.specs.Prelude.{◌≡◌, ℕ, List, [], ◌∷◌, Option, Some, None, option_map, slice_get, Result, Ok, Err}
+use Rattle.std.specs.Str.{bytes_eq}
+use Rattle.rec_base.specs.declared.uses.Use.{Use}
+use Rattle.lte_events.specs.declared.lines.Line.{Line}
+use Rattle.lte_events.specs.declared.lines.Who.{Who}
+use Rattle.lte_events.specs.declared.replies.ActorOut.{ActorOut}
+use Rattle.lte_events.specs.declared.replies.Record.{Record}
+use Rattle.lte_events.specs.declared.classes.Class.{Class}
+use Rattle.net_bag.specs.declared.view.BagView.{BagView}
+use Rattle.key_terms.specs.declared.proof.Proof.{Proof}
+use Rattle.key_terms.specs.declared.row.Holder.{Holder}
+use Rattle.lte_machine.specs.Calls.{use_in, line_out, actor_out}
+use Rattle.lte_machine.specs.Ciphers.{annex_b}
+use Rattle.lte_machine.specs.Ladder.{Clash, ladder_of}
+use Rattle.lte_machine.specs.Machines.{Kept, machine_in_octets}
+use Rattle.lte_machine.specs.Reply.{Reply}
+use Rattle.lte_machine.specs.Tuples.{Chance, Rows, tuple_chance}
+use Rattle.lte_machine.specs.World as world
+use Rattle.lte_machine.specs.World.{World, kept, line_of}
+use Rattle.run_stores.specs.Additions.{CanKeep}
+use Rattle.run_stores.specs.Proofs.{proof_of}
+use Rattle.run_stores.specs.Rows.{holder_of}
+use Rattle.lte_world.specs.Networks.{Stores, Fits}
+
+-- a coincidence as an error
+abbrev pub chance_told : Option (Chance (List ℕ)) → Result (Unit {0}) Proof
+chance_told None = Ok tt
+chance_told (Some chance) = Err (proof_of chance)
+
+-- the record that was sent, if one was, as it is kept
+abbrev pub sent_in : Option Use → Option Record → List BagView
+sent_in tuple None = []
+sent_in tuple (Some x) = record { to = x.to; octets = x.octets; tuple = tuple } ∷ []
+
+-- its number, and its interface
+abbrev pub number_of : ℕ → Option Record → Option (ℕ × Class)
+number_of before None = None
+number_of before (Some x) = Some (before, world.class_of x.to)
+
+-- a world after a reply of one of its actors, whose holder is this
+abbrev pub after : World (List ℕ) ℕ Kept → world.Holder → Reply (List ℕ) ℕ → World (List ℕ) ℕ Kept
+after w holder r = kept (machine_in_octets annex_b) w holder r
+
+-- these stores are those of a world, and can take what this reply gives out
+pub record Settles (stores : Stores) (out : ActorOut) : Type 0 where
+  pub before : World (List ℕ) ℕ Kept
+  pub by : world.Holder
+  pub reply : Reply (List ℕ) ℕ
+  pub fits : Fits before stores
+  pub is : out ≡ actor_out reply
+  pub can : CanKeep (after before by reply)
+
+-- by the coincidence of the record that was accepted, and by that of a derivation
+abbrev pub SettledBy : Option (Chance (List ℕ)) → Option (Clash (List ℕ)) → World (List ℕ) ℕ Kept → world.Holder → Reply (List ℕ) ℕ → Who → Stores → Result Line Proof → Type 0
+SettledBy (Some chance) clash w holder r who stores result = result ≡ Err (proof_of chance)
+SettledBy None (Some clash) w holder r who stores result = result ≡ Err (proof_of (Rows clash))
+SettledBy None None w holder r who stores result =
+    (result ≡ Ok (line_out (line_of (machine_in_octets annex_b) w who r))) × Fits (after w holder r) stores
+
+-- for every world that has these stores, and every reply that says this
+abbrev pub SettledAs : Stores → Stores → ActorOut → Option Use → Holder → Who → ℕ → Result Line Proof → Type 0
+SettledAs before stores out sender holder who step result =
+    (w : World (List ℕ) ℕ Kept) (by : world.Holder) (r : Reply (List ℕ) ℕ)
+    → Fits w before → out ≡ actor_out r → holder ≡ holder_of by → w.events ≡ step → CanKeep (after w by r)
+    → SettledBy (tuple_chance bytes_eq (option_map use_in sender) r.accepted) (ladder_of bytes_eq (after w by r).history).clash w by r who stores result
+
+-- the record at a place, if it is one
+abbrev pub at_place : List BagView → Option ℕ → Option BagView
+at_place records None = None
+at_place records (Some k) = slice_get records k

@@ -1,0 +1,106 @@
+-- The whole world as a caller sees it: what it started with, the events that it took, the coincidence that ended it, and whether
+-- there is room for one event more. The run in octets says all else.
+use Rattle.std.specs.Prelude.{◌≡◌, ℕ, ◌<◌, Bool, false, IsTrue, List, [], ◌∷◌, ◌++◌, length, Option, Some, None, Result, Ok, Err}
+use Rattle.std.specs.Option.{option_map}
+use Rattle.lte_events.specs.Conditions.{CanStart, SetupFits, CanHappen, EventFits}
+use Rattle.lte_events.specs.declared.events.Event.{Event}
+use Rattle.lte_events.specs.declared.lines.Line.{Line}
+use Rattle.lte_events.specs.declared.setups.Setup.{Setup}
+use Rattle.key_terms.specs.declared.proof.Proof.{Proof}
+use Rattle.lte_machine.specs.BothRuns.{octet_run}
+use Rattle.lte_machine.specs.Calls.{line_out}
+use Rattle.lte_machine.specs.Ciphers.{annex_b}
+use Rattle.lte_machine.specs.Machines.{Kept}
+use Rattle.lte_machine.specs.Opening.{open_octets}
+use Rattle.lte_machine.specs.Run.{RunState, Running, Stopped, turn, EventReport, Reported, Coincided, event_report}
+use Rattle.lte_machine.specs.StationState.{Station}
+use Rattle.lte_machine.specs.World.{World, station_of_id}
+use Rattle.ue_context.specs.Step.{kenb_of}
+use Rattle.run_stores.specs.Proofs.{proof_of, chance_of}
+use Rattle.lte_world.specs.declared.faults.WorldFault.{WorldFault}
+use Rattle.lte_world.specs.Systems.{octets, Actors, Are}
+
+pub record Whole : Type 0 where
+  pub setup : Setup
+  pub journal : List Event
+  -- the coincidence that ended it, if one did; its event is not in the journal
+  pub over : Option Proof
+  pub ready : Bool
+
+-- how many events there can be
+abbrev pub most_events : ℕ
+most_events = 200000
+
+-- THE RUN
+
+abbrev pub unless_over : Option Proof → RunState (List ℕ) ℕ Kept → RunState (List ℕ) ℕ Kept
+unless_over None run = run
+unless_over (Some proof) run = Stopped (chance_of proof)
+
+-- the run in octets of the setup and the journal, or the coincidence that ended it
+abbrev pub run_of : Whole → RunState (List ℕ) ℕ Kept
+run_of v = unless_over v.over (octet_run v.setup v.journal)
+
+-- what is told of one event more, a line or the coincidence
+abbrev pub answer_of : EventReport (List ℕ) → Result Line WorldFault
+answer_of (Reported line) = Ok (line_out line)
+answer_of (Coincided chance) = Err (WorldFault.Chance (proof_of chance))
+
+abbrev pub told_of : Whole → Event → Result Line WorldFault
+told_of v e = answer_of (event_report (open_octets annex_b) octets (run_of v) e)
+
+-- the run with one event more
+abbrev pub turned : Whole → Event → RunState (List ℕ) ℕ Kept
+turned v e = turn (open_octets annex_b) octets (run_of v) e
+
+-- an event that was told with a line is in the journal
+abbrev pub journal_after : Result Line WorldFault → List Event → Event → List Event
+journal_after (Ok line) journal e = journal ++ e ∷ []
+journal_after (Err fault) journal e = journal
+
+-- WHAT A CALLER GIVES
+
+-- a setup that a system can start with
+pub record CanBegin (setup : Setup) : Type 0 where
+  pub can : CanStart setup
+  pub fits : SetupFits setup
+
+-- what a caller sees of it then
+abbrev pub begun : Setup → Whole
+begun setup = record { setup = setup; journal = []; over = None; ready = false }
+
+-- an event that can happen to it
+pub record CanApply (v : Whole) (e : Event) : Type 0 where
+  pub can : CanHappen v.setup e
+  pub fits : EventFits e
+  pub few : length v.journal < most_events
+  pub ready : IsTrue v.ready
+
+-- WHAT HOLDS
+
+-- of a world that the run goes on in
+abbrev pub InRun : (World (List ℕ) ℕ Kept → Type 0) → RunState (List ℕ) ℕ Kept → Type 0
+InRun P (Running w) = P w
+InRun P (Stopped chance) = Unit {0}
+
+-- the actors are those of the run, and the number of events is that of the journal, where no coincidence ended it
+abbrev pub Goes : RunState (List ℕ) ℕ Kept → Actors → ℕ → Type 0
+Goes (Running w) actors steps = Are w actors × (w.events ≡ steps)
+Goes (Stopped chance) actors steps = ⊥
+
+abbrev pub Stands : Option Proof → RunState (List ℕ) ℕ Kept → Actors → ℕ → Type 0
+Stands None run actors steps = Goes run actors steps
+Stands (Some proof) run actors steps = Unit {0}
+
+-- GETTERS
+
+abbrev pub context_kenb : Option (Station (List ℕ) ℕ) → Option (List ℕ)
+context_kenb None = None
+context_kenb (Some s) = option_map (λ c. c.key.kenb) s.context
+
+-- the KeNB of the phone's connection, and that of a station's context
+abbrev pub phone_kenb_in : World (List ℕ) ℕ Kept → Option (List ℕ)
+phone_kenb_in w = kenb_of w.phone.radio
+
+abbrev pub station_kenb_in : ℕ → World (List ℕ) ℕ Kept → Option (List ℕ)
+station_kenb_in id w = context_kenb (station_of_id id w.stations)

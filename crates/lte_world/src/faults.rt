@@ -1,0 +1,10 @@
+use key_terms::Proof;
+
+/// Why a world does not answer with a line.
+#[derive(Clone, Copy, Debug, Drop, PartialEq, Eq)]
+pub enum WorldFault {
+    /// Memory ran out.
+    Memory,
+    /// A coincidence: two keys, or two uses of keys, are the same by chance alone. It ends the world.
+    Chance(Proof),
+}

@@ -1,0 +1,17 @@
+//! The whole system of one phone, its stations and one core, with every record that was ever sent: one
+//! event after the other (TS 33.401 6 to 8).
+#![tactic(auto)]
+
+mod faults;
+mod network;
+mod noting;
+mod shelf;
+mod show;
+mod start;
+mod system;
+#[cfg(test)]
+mod tests;
+mod world;
+
+pub use faults::WorldFault;
+pub use world::World;

@@ -1,0 +1,257 @@
+// What is kept beside the actors: the records sent, the ladder and the uses.
+ghost use Rattle.std.specs.Prelude.{◌≡◌, ◌+◌, ◌<◌, ◌≤◌, ◌^◌, [], ◌++◌, length, option_map, IsOkUnless, OnOk};
+ghost use Rattle.key_terms.specs.Ladder.{IsHolder};
+ghost use Rattle.lte_machine.specs.Calls.{use_in, line_of_reply};
+ghost use Rattle.lte_machine.specs.Tuples.{tuple_chance};
+ghost use Rattle.std.specs.Str.{bytes_eq};
+ghost use Rattle.lte_machine.specs.Tuples as tuples;
+ghost use Rattle.lte_machine.specs.World.{class_of as class_at};
+ghost use Rattle.lte_world.specs.Systems.{HasRoom};
+ghost use Rattle.net_bag.specs.Bag.{first_sent};
+ghost use Rattle.lte_machine.specs.World.{chosen};
+ghost use Rattle.lte_world.specs.Enrolling.{EnrolledAs};
+ghost use Rattle.lte_world.specs.Settling.{Settles, SettledAs, chance_told, sent_in, number_of, at_place};
+ghost use Rattle.std.specs.Prelude.{List};
+ghost use Rattle.net_bag.specs.declared.view.BagView.{BagView};
+
+use crate::WorldFault;
+use crate::noting::{add_all, hold_all, hold_one, hold_received};
+use crate::shelf::Shelf;
+use key_terms::{Holder, Ladder, LadderFault, Proof, Row};
+use lte_events::{ActorOut, Address, Class, Line, Who};
+use net_bag::{Bag, BagView};
+use rec_base::{Use, UserText};
+use std::alloc::Global;
+use std::marker::Model;
+
+// Of 2^32 rows 12 are left.
+const MOST_ROWS: usize = 4_294_967_283;
+
+// The records that were sent, the ladder, and the uses of keys.
+#[derive(Drop)]
+pub(crate) struct Network {
+    pub bag: Bag,
+    pub(crate) ladder: Ladder,
+    pub(crate) uses: Shelf<Use>,
+}
+
+// What comes of a KASME.
+pub(crate) enum Enrolled {
+    // It has a row now.
+    New,
+    // It has one already, as a root.
+    Repeated(Row),
+    // A derived key has its octets.
+    Chance(Proof),
+}
+
+impl Model for Network {
+    ghost use Rattle.lte_world.specs.Networks.{Stores};
+
+    ghost Value = { Stores };
+
+    ghost view = { λ n. record {
+      records = n.bag.records;
+      rows = n.ladder.rows;
+      uses = n.uses.items;
+      record_room = n.bag.spare;
+      row_room = n.ladder.spare;
+      use_room = n.uses.spare;
+    } };
+}
+
+impl Network {
+    // Nothing was sent, derived or used. It takes no memory.
+    pub fn new(alloc: Global) -> Network
+        ensures records { result.records ≡ [] }
+        ensures rows { result.rows ≡ [] }
+        ensures uses { result.uses ≡ [] }
+    {
+        Network {
+            bag: Bag::new(alloc),
+            ladder: Ladder::new(alloc),
+            uses: Shelf::new(alloc),
+        }
+    }
+
+    // Makes room for what one event gives out: a record, 12 derivations or a root, and 2 uses. Where memory runs out, or
+    // the last number, nothing changes but the room.
+    pub fn reserve(&mut self) -> Result<(), WorldFault>
+        ensures memory { IsOkUnless result WorldFault.Memory }
+        ensures room { OnOk result (HasRoom self.new) }
+        ensures keeps { HasRoom self.old → HasRoom self.new }
+        ensures records { self.new.records ≡ self.old.records }
+        ensures rows { self.new.rows ≡ self.old.rows }
+        ensures uses { self.new.uses ≡ self.old.uses }
+    {
+        if self.bag.len() == u32::MAX || self.ladder.len() > MOST_ROWS {
+            return Err(WorldFault::Memory);
+        }
+        self.bag.reserve().map_err(|_| WorldFault::Memory)?;
+        self.ladder.reserve(12).map_err(|_| WorldFault::Memory)?;
+        self.uses.reserve(2).map_err(|_| WorldFault::Memory)
+    }
+
+    // Takes the KASME of an authentication, which phone and core then hold.
+    pub fn enroll(&mut self, root: [u8; 32]) -> Enrolled
+        requires { 0 < self.old.row_room }
+        ensures { EnrolledAs self.old self.new root result }
+    {
+        match self.ladder.root(root) {
+            Ok(_) => {}
+            Err(LadderFault::RepeatedRoot(row)) => return Enrolled::Repeated(row),
+            Err(LadderFault::Coincidence(row, _)) => return Enrolled::Chance(Proof::RootIsRow(
+                row, root,
+            )),
+            Err(LadderFault::Memory) => return Enrolled::New,
+        }
+        hold_one(&mut self.ladder, Holder::Phone, &root);
+        hold_one(&mut self.ladder, Holder::Core, &root);
+        Enrolled::New
+    }
+
+    // A record that was sent, by its number, or from the newest back where that is negative.
+    pub fn chosen(&self, i: &i64) -> Option<BagView>
+        ensures { result ≡ chosen i.now self.now.records }
+    {
+        let place = place_of(i, self.bag.len())?;
+        self.bag.get(place)
+    }
+
+    // The number of the first record that has these octets.
+    pub fn found(&self, class: Class, octets: &[u8]) -> Option<u32>
+        ensures { result ≡ first_sent self.now.records class octets.now }
+    {
+        self.bag.find(class, octets)
+    }
+
+    // Keeps what an actor gave out: the record that it sent, its uses, its derivations and who holds them.
+    // Ends with a coincidence, of the record that it accepted before one of a derivation.
+    pub fn settle(
+        &mut self,
+        out: &ActorOut,
+        sender: Option<Use>,
+        holder: Holder,
+        who: Who,
+        step: u32,
+    ) -> Result<Line, Proof>
+        requires records { 0 < self.old.record_room }
+        requires rows { 12 ≤ self.old.row_room }
+        requires uses { 2 ≤ self.old.use_room }
+        requires holder { IsHolder holder }
+        requires awaits { Settles self.old out.now }
+        ensures { SettledAs self.old self.new out.now sender holder who step result }
+    {
+        match accepted_so(out.accepted, sender) {
+            Ok(()) => {}
+            Err(proof) => return Err(proof),
+        }
+        match add_all(&mut self.ladder, out.derived.as_slice()) {
+            Ok(()) => {}
+            Err(proof) => return Err(proof),
+        }
+        hold_received(&mut self.ladder, holder, &out.received);
+        hold_all(&mut self.ladder, holder, out.derived.as_slice());
+        let sent = keep(&mut self.bag, out);
+        take_uses(&mut self.uses, out.used.as_slice());
+        Ok(line(out, sent, who, step))
+    }
+}
+
+// Keeps the record that was sent, if one was: its number and its interface.
+fn keep(bag: &mut Bag, out: &ActorOut) -> Option<(u32, Class)>
+    requires room { 0 < bag.old.spare }
+    ensures records { bag.new.records ≡ bag.old.records ++ sent_in out.now.tuple out.now.sent }
+    ensures number { result ≡ number_of (length bag.old.records) out.now.sent }
+{
+    let Some(rec) = &out.sent else {
+        return None;
+    };
+    let number = bag.put(rec, out.tuple.as_ref());
+    Some((number, class_of(&rec.to)))
+}
+
+// The number of a record among so many, from the newest back where it is negative.
+fn place_of(i: &i64, len: u32) -> Option<u32>
+    ensures { (records : List BagView) → length records ≡ len → at_place records result ≡ chosen i.now records }
+{
+    if *i >= 0 {
+        return u32::try_from(*i).ok();
+    }
+    let back = i64::from(len) + *i;
+    if back < 0 {
+        return None;
+    }
+    Some(back as u32)
+}
+
+// Keeps uses of keys.
+fn take_uses(uses: &mut Shelf<Use>, used: &[Use])
+    requires room { length used.now ≤ uses.old.spare }
+    ensures { uses.new.items ≡ uses.old.items ++ used.now }
+{
+    for taken in used {
+        uses.put(*taken);
+    }
+}
+
+// The coincidence of a record that was accepted under another use than its sender's, if it is one.
+fn accepted_so(accepted: Option<Use>, sender: Option<Use>) -> Result<(), Proof>
+    ensures { result ≡ chance_told (tuple_chance bytes_eq (option_map use_in sender) (option_map use_in accepted)) }
+{
+    let Some(receiver) = accepted else {
+        return Ok(());
+    };
+    if same_sender(&sender, &receiver) {
+        Ok(())
+    } else {
+        Err(Proof::Tuples(sender, receiver))
+    }
+}
+
+// Whether the sender's use is the receiver's.
+fn same_sender(sender: &Option<Use>, receiver: &Use) -> bool
+    ensures { result ≡ tuples.same_sender bytes_eq (option_map use_in sender.now) (use_in receiver.now) }
+{
+    match sender {
+        None => false,
+        Some(sender) => *receiver == *sender,
+    }
+}
+
+// The interface of an address.
+pub(crate) fn class_of(to: &Address) -> Class
+    ensures { result ≡ class_at to.now }
+{
+    match to {
+        Address::PhoneNas | Address::CoreNas => Class::Nas,
+        Address::Phone(..) | Address::StationAir(..) => Class::Air,
+        Address::CoreS1 | Address::StationS1(_) => Class::S1,
+        Address::StationX2(_) => Class::X2,
+    }
+}
+
+// What a report says of a reply.
+pub(crate) fn line(out: &ActorOut, sent: Option<(u32, Class)>, who: Who, step: u32) -> Line
+    ensures { result ≡ line_of_reply step who sent out.now }
+{
+    Line {
+        step,
+        who,
+        answer: out.answer,
+        sent,
+        opened: text_of(&out.opened),
+        note: out.note,
+        alarm: out.alarm,
+    }
+}
+
+// The same text.
+fn text_of(text: &Option<UserText>) -> Option<UserText>
+    ensures { result ≡ text.now }
+{
+    match text.clone() {
+        Ok(text) => text,
+        Err(_) => None,
+    }
+}

@@ -1,0 +1,386 @@
+// The actors, and what is kept beside them.
+ghost use Rattle.std.specs.Prelude.{◌≡◌, ◌≤◌, ◌<◌, ◌==◌, [], length, position, None, IsOkUnless, OnOk, IfSome};
+ghost use Rattle.lte_events.specs.Reply.{reply_of};
+ghost use Rattle.lte_events.specs.declared.events.Event.TheVariants.{Auth, Deliver, Inject};
+ghost use Rattle.lte_events.specs.declared.lines.Who.TheVariants.{World};
+ghost use Rattle.ue_context.specs.Acts.{IsInput as IsPhoneInput, IsAct as IsPhoneAct};
+ghost use Rattle.enb_context.specs.Acts.{IsInput as IsStationInput, IsAct as IsStationAct};
+ghost use Rattle.mme_context.specs.Step.{IsInput as IsCoreInput};
+ghost use Rattle.lte_machine.specs.Calls.{line_of_reply};
+ghost use Rattle.lte_machine.specs.Ranges.{TakesInjected};
+ghost use Rattle.lte_world.specs.Systems.{ArrivalCan, Arrives, EventCan, Happens, HasRoom, MayHappen, PhoneTurns, PhoneCan, CoreTurns, CoreCan, StationTurns, StationCan, StepsAt, with_room};
+ghost use Rattle.lte_events.specs.declared.inputs.ActorIn.{ActorIn};
+ghost use Rattle.lte_world.specs.Replies.{input_at, replies_by, Tells};
+
+use crate::WorldFault;
+use crate::network::{Enrolled, Network, class_of, line};
+use alg_choice::Caps;
+use annex_a_keys::Kasme;
+use enb_context::Station;
+use key_terms::{Holder, Proof};
+use lte_events::{
+    ActorIn, ActorOut, Address, Answer, CoreAct, CoreIn, Event, Few, Line, PhoneAct, PhoneIn,
+    StationAct, StationIn, Who,
+};
+use mme_context::Core;
+use rec_base::{Octets, Use};
+use std::marker::Model;
+use ue_context::Phone;
+
+// The inputs of an event, and what the actors replied to them.
+pub(crate) type Replies = Few<(ActorIn, ActorOut), 2>;
+
+// The phone, the core, the stations, and what is kept beside them.
+#[derive(Drop)]
+pub(crate) struct System {
+    pub(crate) phone: Phone,
+    pub(crate) core: Core,
+    pub(crate) ids: Vec<u8>,
+    pub(crate) stations: Vec<Station>,
+    pub(crate) network: Network,
+}
+
+impl Model for System {
+    ghost use Rattle.std.specs.Prelude.{◌≡◌, ◌==◌, ◌≤◌, map};
+    ghost use Rattle.std.specs.List.{IsDistinct};
+    ghost use Rattle.lte_machine.specs.Ranges.{AllOf};
+    ghost use Rattle.lte_world.specs.Systems.{Actors};
+
+    ghost Value = { Actors };
+
+    ghost view = { λ s. record {
+      phone = s.phone;
+      core = s.core;
+      stations = s.stations.items;
+      stores = s.network;
+    } };
+
+    ghost invariant = { λ s. (map (λ x. x.id) s.stations.items ≡ s.ids.items) × IsDistinct (λ a b. a == b) s.ids.items
+        × AllOf (λ id. id ≤ 7) s.ids.items };
+}
+
+impl System {
+    // A step of the phone.
+    pub fn phone_turn(
+        &mut self,
+        input: PhoneIn,
+        sender: Option<Use>,
+        step: u32,
+        told: &mut Replies,
+    ) -> Result<Line, Proof>
+        requires room { HasRoom self.old.stores }
+        requires input { IsPhoneInput input }
+        requires can { PhoneCan self.old input }
+        requires none { told.old ≡ [] }
+        ensures turns { PhoneTurns self.old self.new input sender step result }
+        ensures told { told.new ≡ replies_by self.old.phone self.old.core self.old.stations (ActorIn.Phone input) }
+    {
+        let out = self.phone.step(&input);
+        let line = self
+            .network
+            .settle(&out, sender, Holder::Phone, Who::Phone, step);
+        told.push((ActorIn::Phone(input), out));
+        line
+    }
+
+    // A step of the core.
+    pub fn core_turn(
+        &mut self,
+        input: CoreIn,
+        sender: Option<Use>,
+        step: u32,
+        told: &mut Replies,
+    ) -> Result<Line, Proof>
+        requires room { HasRoom self.old.stores }
+        requires input { IsCoreInput input }
+        requires can { CoreCan self.old input }
+        requires none { told.old ≡ [] }
+        ensures turns { CoreTurns self.old self.new input sender step result }
+        ensures told { told.new ≡ replies_by self.old.phone self.old.core self.old.stations (ActorIn.Core input) }
+    {
+        let out = self.core.step(&input);
+        let line = self
+            .network
+            .settle(&out, sender, Holder::Core, Who::Core, step);
+        told.push((ActorIn::Core(input), out));
+        line
+    }
+
+    // One event.
+    pub fn happen(&mut self, event: &Event, step: u32, told: &mut Replies) -> Result<Line, Proof>
+        requires room { HasRoom self.old.stores }
+        requires may { MayHappen event.now }
+        requires can { EventCan self.old event.now }
+        requires none { told.old ≡ [] }
+        ensures happens { Happens self.old self.new event.now step result }
+        ensures told { OnOk result (Tells self.old event.now told.new) }
+    {
+        match event {
+            Event::Auth(ksi, root, caps) => self.authenticate(*ksi, *root, *caps, step, told),
+            Event::Phone(act) => self.phone_act(act, step, told),
+            Event::Station(id, act) => self.station_act(*id, act, step, told),
+            Event::Core(act) => self.core_act(act, step, told),
+            Event::Deliver(i) => self.deliver(i, step, told),
+            Event::Inject(to, octets) => self.inject(to, octets, step, told),
+        }
+    }
+
+    // An authentication.
+    fn authenticate(
+        &mut self,
+        ksi: u8,
+        root: [u8; 32],
+        caps: Caps,
+        step: u32,
+        told: &mut Replies,
+    ) -> Result<Line, Proof>
+        requires room { HasRoom self.old.stores }
+        requires may { ksi ≤ 6 }
+        requires can { EventCan self.old (Auth ksi root caps) }
+        requires none { told.old ≡ [] }
+        ensures happens { Happens self.old self.new (Auth ksi root caps) step result }
+        ensures told { OnOk result (Tells self.old (Auth ksi root caps) told.new) }
+    {
+        match self.network.enroll(root) {
+            Enrolled::New => {}
+            Enrolled::Repeated(row) => return Ok(refused(Answer::RepeatedRoot(row.0), step)),
+            Enrolled::Chance(proof) => return Err(proof),
+        }
+        let root = Kasme::of_octets(root);
+        let input = PhoneIn::Auth(ksi, root);
+        let out = self.phone.step(&input);
+        told.push((ActorIn::Phone(input), out));
+        let input = CoreIn::Auth(ksi, root, caps);
+        let out = self.core.step(&input);
+        told.push((ActorIn::Core(input), out));
+        Ok(line(&ActorOut::of(Answer::Done), None, Who::Both, step))
+    }
+
+    // An act of the phone.
+    fn phone_act(&mut self, act: &PhoneAct, step: u32, told: &mut Replies) -> Result<Line, Proof>
+        requires room { HasRoom self.old.stores }
+        requires may { IsPhoneAct act.now }
+        requires can { EventCan self.old (Event.Phone act.now) }
+        requires none { told.old ≡ [] }
+        ensures happens { Happens self.old self.new (Event.Phone act.now) step result }
+        ensures told { OnOk result (Tells self.old (Event.Phone act.now) told.new) }
+    {
+        let input = PhoneIn::Act(copied_phone_act(act));
+        self.phone_turn(input, None, step, told)
+    }
+
+    // An act of a station.
+    fn station_act(
+        &mut self,
+        id: u8,
+        act: &StationAct,
+        step: u32,
+        told: &mut Replies,
+    ) -> Result<Line, Proof>
+        requires room { HasRoom self.old.stores }
+        requires may { IsStationAct act.now }
+        requires can { EventCan self.old (Event.Station id act.now) }
+        requires none { told.old ≡ [] }
+        ensures happens { Happens self.old self.new (Event.Station id act.now) step result }
+        ensures told { OnOk result (Tells self.old (Event.Station id act.now) told.new) }
+    {
+        let input = StationIn::Act(copied_station_act(act));
+        self.station_turn(id, input, None, step, told)
+    }
+
+    // An act of the core.
+    fn core_act(&mut self, act: &CoreAct, step: u32, told: &mut Replies) -> Result<Line, Proof>
+        requires room { HasRoom self.old.stores }
+        requires can { EventCan self.old (Event.Core act.now) }
+        requires none { told.old ≡ [] }
+        ensures happens { Happens self.old self.new (Event.Core act.now) step result }
+        ensures told { OnOk result (Tells self.old (Event.Core act.now) told.new) }
+    {
+        let input = CoreIn::Act(copied_core_act(act));
+        self.core_turn(input, None, step, told)
+    }
+
+    // A record that was sent comes to its address.
+    fn deliver(&mut self, i: &i64, step: u32, told: &mut Replies) -> Result<Line, Proof>
+        requires room { HasRoom self.old.stores }
+        requires can { EventCan self.old (Deliver i.now) }
+        requires none { told.old ≡ [] }
+        ensures happens { Happens self.old self.new (Deliver i.now) step result }
+        ensures told { OnOk result (Tells self.old (Deliver i.now) told.new) }
+    {
+        let Some(sent) = self.network.chosen(i) else {
+            return Ok(refused(Answer::NoRecord, step));
+        };
+        self.arrive(&sent.to, &sent.octets, sent.tuple, step, told)
+    }
+
+    // Octets come that nobody sent, unless somebody did.
+    fn inject(
+        &mut self,
+        to: &Address,
+        octets: &Octets,
+        step: u32,
+        told: &mut Replies,
+    ) -> Result<Line, Proof>
+        requires room { HasRoom self.old.stores }
+        requires may { TakesInjected to.now }
+        requires can { EventCan self.old (Inject to.now octets.now) }
+        requires none { told.old ≡ [] }
+        ensures happens { Happens self.old self.new (Inject to.now octets.now) step result }
+        ensures told { OnOk result (Tells self.old (Inject to.now octets.now) told.new) }
+    {
+        if let Some(number) = self.network.found(class_of(to), octets.as_slice()) {
+            return Ok(refused(Answer::Sent(number), step));
+        }
+        self.arrive(to, octets, None, step, told)
+    }
+
+    // Octets come to an address.
+    fn arrive(
+        &mut self,
+        to: &Address,
+        octets: &Octets,
+        sender: Option<Use>,
+        step: u32,
+        told: &mut Replies,
+    ) -> Result<Line, Proof>
+        requires room { HasRoom self.old.stores }
+        requires can { ArrivalCan self.old to.now octets.now }
+        requires none { told.old ≡ [] }
+        ensures arrives { Arrives self.old self.new to.now octets.now sender step result }
+        ensures told { told.new ≡ replies_by self.old.phone self.old.core self.old.stations (input_at to.now octets.now) }
+    {
+        let octets = copied(octets);
+        match *to {
+            Address::PhoneNas => self.phone_turn(PhoneIn::Nas(octets), sender, step, told),
+            Address::Phone(id, air, bearer) => self.phone_turn(
+                PhoneIn::Air(id, air, bearer, octets),
+                sender,
+                step,
+                told,
+            ),
+            Address::CoreNas => self.core_turn(CoreIn::Nas(octets), sender, step, told),
+            Address::CoreS1 => self.core_turn(CoreIn::S1(octets), sender, step, told),
+            Address::StationAir(id, air, bearer) => self.station_turn(
+                id,
+                StationIn::Air(air, bearer, octets),
+                sender,
+                step,
+                told,
+            ),
+            Address::StationS1(id) => self.station_turn(
+                id,
+                StationIn::S1(octets),
+                sender,
+                step,
+                told,
+            ),
+            Address::StationX2(id) => self.station_turn(
+                id,
+                StationIn::X2(octets),
+                sender,
+                step,
+                told,
+            ),
+        }
+    }
+
+    // A step of a station.
+    fn station_turn(
+        &mut self,
+        id: u8,
+        input: StationIn,
+        sender: Option<Use>,
+        step: u32,
+        told: &mut Replies,
+    ) -> Result<Line, Proof>
+        requires room { HasRoom self.old.stores }
+        requires input { IsStationInput input }
+        requires can { StationCan self.old id input }
+        requires none { told.old ≡ [] }
+        ensures turns { StationTurns self.old self.new id input sender step result }
+        ensures told { told.new ≡ replies_by self.old.phone self.old.core self.old.stations (ActorIn.Station id input) }
+    {
+        let Some(place) = place_of(self.ids.as_slice(), id) else {
+            return Ok(refused(Answer::NoUe, step));
+        };
+        let out = step_at(&mut self.stations, place, &input);
+        let line = self
+            .network
+            .settle(&out, sender, Holder::Station(id), Who::Station(id), step);
+        told.push((ActorIn::Station(id, input), out));
+        line
+    }
+
+    // Makes room for what one event gives out. Where memory runs out nothing changes but the room.
+    pub fn reserve(&mut self) -> Result<(), WorldFault>
+        ensures memory { IsOkUnless result WorldFault.Memory }
+        ensures room { OnOk result (HasRoom self.new.stores) }
+        ensures keeps { HasRoom self.old.stores → HasRoom self.new.stores }
+        ensures same { self.new ≡ with_room self.old self.new }
+    {
+        self.network.reserve()
+    }
+}
+
+// A step of the station at a place.
+fn step_at(stations: &mut Vec<Station>, place: usize, input: &StationIn) -> ActorOut
+    requires place { place < length stations.old.items }
+    requires input { IsStationInput input.now }
+    ensures { StepsAt stations.old.items stations.new.items place input.now result }
+{
+    stations[place].step(input)
+}
+
+// The place of the first station with this number.
+pub(crate) fn place_of(ids: &[u8], id: u8) -> Option<usize>
+    ensures place { result ≡ position (λ x. x == id) ids.now }
+    ensures within { IfSome result (λ k. k < length ids.now) }
+{
+    ids.iter().position(|other| *other == id)
+}
+
+// The line of an event that reaches no actor.
+fn refused(answer: Answer, step: u32) -> Line
+    ensures { result ≡ line_of_reply step World None (reply_of answer) }
+{
+    line(&ActorOut::of(answer), None, Who::World, step)
+}
+
+// The same act.
+fn copied_phone_act(act: &PhoneAct) -> PhoneAct
+    ensures { result ≡ act.now }
+{
+    match act.clone() {
+        Ok(copy) => copy,
+        Err(_) => PhoneAct::GoIdle,
+    }
+}
+
+fn copied_station_act(act: &StationAct) -> StationAct
+    ensures { result ≡ act.now }
+{
+    match act.clone() {
+        Ok(copy) => copy,
+        Err(_) => StationAct::Cancel,
+    }
+}
+
+fn copied_core_act(act: &CoreAct) -> CoreAct
+    ensures { result ≡ act.now }
+{
+    match act.clone() {
+        Ok(copy) => copy,
+        Err(_) => CoreAct::StartSmc,
+    }
+}
+
+// The same octets.
+fn copied(octets: &Octets) -> Octets
+    ensures { result ≡ octets.now }
+{
+    match octets.clone() {
+        Ok(copy) => copy,
+        Err(_) => Octets::new(),
+    }
+}

@@ -1,0 +1,214 @@
+ghost use Rattle.std.specs.Prelude.{◌≡◌, ◌≢◌, ◌<◌, ◌≤◌, [], ◌∷◌, ◌++◌, true, false, length, Some, None, IsTrue, IsOkUnless, OnOk, OnErr, IfOk};
+ghost use Rattle.lte_events.specs.Conditions.{has_station};
+ghost use Rattle.lte_machine.specs.BothRuns.{written_run};
+ghost use Rattle.lte_machine.specs.Carried.{run_value};
+ghost use Rattle.lte_machine.specs.Ciphers.{annex_b};
+ghost use Rattle.lte_machine.specs.Run.{Running, first_world};
+ghost use Rattle.run_stores.specs.Records.{world_uses};
+ghost use Rattle.run_stores.specs.Rows.{world_rows};
+ghost use Rattle.lte_world.specs.InOctets.{answers_of, NoTwoEqual, IsJoined, CommandsShare, PacketsOpen};
+ghost use Rattle.lte_machine.specs.Ranges.{AllOf};
+ghost use Rattle.lte_world.specs.Replies.{RepliedLast, IsOfSetup};
+ghost use Rattle.lte_world.specs.Whole.{begun, run_of, told_of, turned, journal_after, CanBegin, CanApply, InRun, phone_kenb_in, station_kenb_in};
+
+use crate::WorldFault;
+use crate::shelf::Shelf;
+use crate::system::{Replies, System};
+use key_terms::{Ladder, Proof};
+use lte_events::{ActorIn, ActorOut, Cells, Event, Few, Line, Setup};
+use rec_base::Use;
+use std::alloc::Global;
+use std::marker::Model;
+
+/// The whole system: one phone, its stations, one core, and every record that was ever sent.
+///
+/// A contract sees what it started with, the events that it took, the coincidence that ended it if one did, and
+/// whether there is room for one event more. All else is what the run of the written machine in octets says of
+/// these events.
+#[derive(Drop)]
+pub struct World {
+    setup: Setup,
+    journal: Shelf<Event>,
+    system: System,
+    over: Option<Proof>,
+    ready: bool,
+    replies: Replies,
+}
+
+impl Model for World {
+    ghost use Rattle.std.specs.Prelude.{◌<◌, ◌≤◌, length, IsTrue, None};
+    ghost use Rattle.lte_machine.specs.BothRuns.{octet_run};
+    ghost use Rattle.lte_machine.specs.Ranges.{AllOf, IsEvent, IsSetup};
+    ghost use Rattle.lte_world.specs.Systems.{HasRoom};
+    ghost use Rattle.lte_world.specs.Replies.{RepliedLast, UnlessOver};
+    ghost use Rattle.lte_world.specs.Whole.{Whole, Stands};
+
+    ghost Value = { Whole };
+
+    ghost view = { λ w. record { setup = w.setup; journal = w.journal.items; over = w.over; ready = w.ready } };
+
+    ghost invariant = { λ w. IsSetup w.setup × AllOf IsEvent w.journal.items
+        × (IsTrue w.ready → HasRoom w.system.stores × (0 < w.journal.spare))
+        × Stands w.over (octet_run w.setup w.journal.items) w.system (length w.journal.items)
+        × UnlessOver w.over (RepliedLast w.setup w.journal.items w.replies) };
+}
+
+impl World {
+    /// A system that begins with this setup, in which nothing has happened. It makes the list of the stations.
+    pub fn new(alloc: Global, setup: &Setup) -> Result<World, WorldFault>
+        requires { CanBegin setup.now }
+        ensures memory { IsOkUnless result WorldFault.Memory }
+        ensures begins { IfOk result (λ w. w ≡ begun setup.now) }
+        ensures run { IfOk result (λ w. run_of w ≡ Running (first_world setup.now)) }
+    {
+        let system = System::new(alloc, setup)?;
+        Ok(World {
+            setup: copied_setup(setup),
+            journal: Shelf::new(alloc),
+            system,
+            over: None,
+            ready: false,
+            replies: Few::new(),
+        })
+    }
+
+    /// Takes one event: the actor acts, what it gives out is kept, and the line of the event is answered. It takes
+    /// no memory. The event can happen to the system, there are fewer than 200,000 before it, and room was made
+    /// for it.
+    ///
+    /// At a coincidence the answer is `Chance` with its two values, the event does not enter the journal, and every
+    /// later event is answered with the same. `Memory` is never answered.
+    pub fn apply(&mut self, event: &Event) -> Result<Line, WorldFault>
+        requires { CanApply self.old event.now }
+        // What is told of the event in the run in octets, a line or the coincidence.
+        ensures says { result ≡ told_of self.old event.now }
+        // And the run is then that run with the event.
+        ensures run { run_of self.new ≡ turned self.old event.now }
+        ensures journal { self.new.journal ≡ journal_after result self.old.journal event.now }
+        ensures setup { self.new.setup ≡ self.old.setup }
+        // It is the value of the written machine's run over terms.
+        ensures written { OnOk result (run_of self.new ≡ run_value annex_b (written_run self.new.setup self.new.journal)) }
+        ensures memory { result ≢ Err WorldFault.Memory }
+        ensures room { self.new.ready ≡ false }
+        // The step of a line is the number of events before it, and the line is the next answer of the world.
+        ensures step { IfOk result (λ line. line.step ≡ length self.old.journal) }
+        ensures answers { OnOk result (answers_of self.new ≡ answers_of self.old ++ result ∷ []) }
+        // A phone that obeys a handover command fewer than eight chain steps ahead shares the target's key, and one that
+        // obeys one further ahead does not.
+        ensures commands { IfOk result (λ line. CommandsShare self.new (length self.old.journal) line) }
+        // An intact packet in a ready receiver's window opens to what was sent.
+        ensures packets { IfOk result (λ line. PacketsOpen self.new (length self.old.journal) line) }
+    {
+        self.ready = false;
+        if let Some(proof) = self.over {
+            return Err(WorldFault::Chance(proof));
+        }
+        let step = self.journal.as_slice().len() as u32;
+        let mut told = Few::new();
+        match self.system.happen(event, step, &mut told) {
+            Ok(line) => {
+                self.journal.put(copied(event));
+                self.replies = told;
+                Ok(line)
+            }
+            Err(proof) => {
+                self.over = Some(proof);
+                Err(WorldFault::Chance(proof))
+            }
+        }
+    }
+
+    /// Makes room for one event. Where memory runs out nothing changes.
+    pub fn reserve(&mut self) -> Result<(), WorldFault>
+        ensures memory { IsOkUnless result WorldFault.Memory }
+        ensures room { OnOk result (IsTrue self.new.ready) }
+        ensures same { OnOk result (self.new ≡ record self.old { ready = true }) }
+        ensures err { OnErr result (self.new ≡ self.old) }
+    {
+        self.journal.reserve(1).map_err(|_| WorldFault::Memory)?;
+        self.system.reserve()?;
+        self.ready = true;
+        Ok(())
+    }
+
+    /// The events that it took, in order.
+    pub fn journal(&self) -> &[Event]
+        ensures { result.now ≡ self.now.journal }
+    {
+        self.journal.as_slice()
+    }
+
+    /// The keys that were derived, each once, in the order of their first derivation, each with all who held it.
+    pub fn ladder(&self) -> &Ladder
+        ensures { InRun (λ w. result.now.rows ≡ world_rows w) (run_of self.now) }
+    {
+        self.system.ladder()
+    }
+
+    /// How many records were sent.
+    pub fn records(&self) -> u32
+        ensures { InRun (λ w. result ≡ length w.sent) (run_of self.now) }
+    {
+        self.system.records()
+    }
+
+    /// The uses of keys in all that was sent, in order. No two are equal.
+    pub fn uses(&self) -> &[Use]
+        ensures uses { InRun (λ w. result.now ≡ world_uses w) (run_of self.now) }
+        ensures differ { self.now.over ≡ None → NoTwoEqual result.now }
+    {
+        self.system.uses()
+    }
+
+    /// The KeNB of the phone's connection, 32 octets. `None` where it has no connection.
+    pub fn phone_kenb(&self) -> Option<[u8; 32]>
+        ensures { InRun (λ w. result ≡ phone_kenb_in w) (run_of self.now) }
+    {
+        self.system.phone_kenb()
+    }
+
+    /// The KeNB of a station's context, 32 octets. `None` where it has no context, or no station of the setup has this
+    /// number. Where the phone is connected at the air address of the context, it is the phone's.
+    pub fn station_kenb(&self, id: u8) -> Option<[u8; 32]>
+        ensures kenb { InRun (λ w. result ≡ station_kenb_in id w) (run_of self.now) }
+        ensures elsewhere { self.now.over ≡ None → has_station self.now.setup.stations id ≡ false → result ≡ None }
+        ensures joined { InRun (λ w. IsJoined id w → result ≡ phone_kenb_in w) (run_of self.now) }
+    {
+        self.system.station_kenb(id)
+    }
+
+    /// The inputs of the last event with their replies: none, that of one actor, or at an authentication the phone's
+    /// and the core's. Each is of an actor of the setup.
+    pub fn replies(&self) -> &Few<(ActorIn, ActorOut), 2>
+        ensures last { self.now.over ≡ None → RepliedLast self.now.setup self.now.journal result.now }
+        ensures there { self.now.over ≡ None → AllOf (λ r. IsOfSetup self.now.setup r.0) result.now }
+    {
+        &self.replies
+    }
+}
+
+// The same setup.
+fn copied_setup(setup: &Setup) -> Setup
+    ensures { result ≡ setup.now }
+{
+    match setup.clone() {
+        Ok(copy) => copy,
+        Err(_) => Setup {
+            caps: setup.caps,
+            core_priority: setup.core_priority,
+            core_first: setup.core_first,
+            stations: Few::new(),
+            cells: Cells::new(),
+        },
+    }
+}
+
+// The same event.
+fn copied(event: &Event) -> Event
+    ensures { result ≡ event.now }
+{
+    match event.clone() {
+        Ok(copy) => copy,
+        Err(_) => Event::Deliver(0),
+    }
+}
