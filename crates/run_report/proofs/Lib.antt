@@ -1,0 +1,6 @@
+pub mod Shown
+pub mod Telling
+pub mod SoFar
+pub mod Ending
+pub mod Counting
+pub mod Figures

@@ -1,0 +1,42 @@
+-- What is told of one event.
+use Rattle.std.specs.Prelude.{ℕ, ◌<◌, ◌^◌, Bool, true, false, List}
+use Rattle.hmac_kdf.specs.declared.input.KdfInput.{KdfInput}
+use Rattle.hmac_kdf.specs.declared.input.KdfInput.TheVariants.{Kenb}
+use Rattle.key_terms.specs.declared.proof.Proof.{Proof}
+use Rattle.key_terms.specs.declared.proof.Proof.TheVariants as proofs
+use Rattle.lte_events.specs.declared.events.Event.{Event}
+use Rattle.lte_machine.specs.Calls.{line_out}
+use Rattle.lte_machine.specs.Ciphers.{annex_b}
+use Rattle.lte_machine.specs.Machines.{Kept, machine_in_octets}
+use Rattle.lte_machine.specs.Opening.{open_octets}
+use Rattle.lte_machine.specs.Run.{RunState, Running, Stopped, EventReport, Reported, Coincided, event_report}
+use Rattle.report_text.specs.Line.{line_text}
+use Rattle.report_text.specs.Chance.{chance_text}
+use Rattle.run_stores.specs.Proofs.{proof_of}
+
+-- in a run in octets
+abbrev pub told_of : RunState (List ℕ) ℕ Kept → Event → EventReport (List ℕ)
+told_of run e = event_report (open_octets annex_b) (machine_in_octets annex_b) run e
+
+-- its text at this step, and whether it is a coincidence
+abbrev pub event_text : ℕ → EventReport (List ℕ) → List ℕ
+event_text step (Reported line) = line_text (line_out line)
+event_text step (Coincided chance) = chance_text step (proof_of chance)
+
+abbrev pub is_coincidence : EventReport (List ℕ) → Bool
+is_coincidence (Reported line) = false
+is_coincidence (Coincided chance) = true
+
+-- a run that goes on
+abbrev pub GoesOn : RunState (List ℕ) ℕ Kept → Type 0
+GoesOn (Running w) = Unit {0}
+GoesOn (Stopped chance) = ⊥
+
+-- a COUNT of 32 bits
+abbrev pub HasCount : KdfInput → Type 0
+HasCount (Kenb count) = count < 2 ^ 32
+HasCount other = Unit {0}
+
+abbrev pub HasCounts : Proof → Type 0
+HasCounts (proofs.Rows row made) = HasCount made.input
+HasCounts other = Unit {0}

@@ -1,0 +1,45 @@
+-- The report of a run: a line for each event up to the first coincidence, and where there is none, how much there was of
+-- everything and the rows of the ladder.
+use Rattle.std.specs.Prelude.{ℕ, suc, Bool, true, false, List, [], ◌∷◌, ◌++◌, length, map}
+use Rattle.lte_events.specs.declared.events.Event.{Event}
+use Rattle.lte_events.specs.declared.setups.Setup.{Setup}
+use Rattle.lte_machine.specs.BothRuns.{written_run, written_report}
+use Rattle.lte_machine.specs.Calls.{line_out}
+use Rattle.lte_machine.specs.Carried.{run_value, report_value}
+use Rattle.lte_machine.specs.Ciphers.{annex_b}
+use Rattle.lte_machine.specs.Machines.{Kept}
+use Rattle.lte_machine.specs.Run.{RunState, Running, Stopped, EventReport, Reported, Coincided}
+use Rattle.lte_machine.specs.World.{World}
+use Rattle.report_text.specs.Line.{line_text}
+use Rattle.report_text.specs.Chance.{chance_text}
+use Rattle.report_text.specs.End.{end_text}
+use Rattle.report_text.specs.Ladder.{ladder_text}
+use Rattle.run_stores.specs.Proofs.{proof_of}
+use Rattle.run_stores.specs.Rows.{world_rows}
+
+-- a report, and whether a coincidence ends it
+pub record Report : Type 0 where
+  pub text : List ℕ
+  pub coincides : Bool
+
+-- the end of a run that met no coincidence: its events, records and rows by number, and the rows
+abbrev pub end_of_world : ℕ → World (List ℕ) ℕ Kept → List ℕ
+end_of_world events w = end_text events (length w.sent) (length (world_rows w)) ++ ladder_text (world_rows w)
+
+abbrev pub end_of : ℕ → RunState (List ℕ) ℕ Kept → List ℕ
+end_of events (Running w) = end_of_world events w
+end_of events (Stopped chance) = []
+
+-- a text before a report
+abbrev pub before : List ℕ → Report → Report
+before text report = record { text = text ++ report.text; coincides = report.coincides }
+
+-- what is told of each event, this step and those behind it, to the first coincidence; and then the end
+abbrev pub told_from : ℕ → List (EventReport (List ℕ)) → List ℕ → Report
+told_from step [] end = record { text = end; coincides = false }
+told_from step (Reported line ∷ rest) end = before (line_text (line_out line)) (told_from (suc step) rest end)
+told_from step (Coincided chance ∷ rest) end = record { text = chance_text step (proof_of chance); coincides = true }
+
+-- the report of the written machine's run over key terms, printed in values
+unfoldable pub report_of : Setup → List Event → Report
+report_of setup events = told_from 0 (map report_value (written_report setup events)) (end_of (length events) (run_value annex_b (written_run setup events)))

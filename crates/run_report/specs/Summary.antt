@@ -1,0 +1,42 @@
+-- The summary of a run: what its lines come to where no coincidence ends it, and otherwise the coincidence alone.
+use Rattle.std.specs.Prelude.{ℕ, true, false, List, [], ◌∷◌, ◌++◌, length, map}
+use Rattle.lte_events.specs.declared.events.Event.{Event}
+use Rattle.lte_events.specs.declared.lines.Line.{Line}
+use Rattle.lte_events.specs.declared.setups.Setup.{Setup}
+use Rattle.key_terms.specs.declared.proof.Proof.{Proof}
+use Rattle.lte_machine.specs.BothRuns.{written_run, written_report}
+use Rattle.lte_machine.specs.Calls.{line_out}
+use Rattle.lte_machine.specs.Carried.{run_value, report_value}
+use Rattle.lte_machine.specs.Ciphers.{annex_b}
+use Rattle.lte_machine.specs.Machines.{Kept}
+use Rattle.lte_machine.specs.Run.{RunState, Running, Stopped, EventReport, Reported, Coincided}
+use Rattle.report_text.specs.Chance.{chance_text}
+use Rattle.report_text.specs.Summary.{summary_text}
+use Rattle.run_stores.specs.Proofs.{proof_of}
+use Rattle.run_stores.specs.Rows.{world_rows}
+use Rattle.run_report.specs.Report.{Report}
+
+-- how a run comes out: all its lines, or a coincidence at a step
+pub data Outcome : Type 0 where
+  AllLines : List Line → Outcome
+  Coincides : ℕ → Proof → Outcome
+
+-- of what is told of each event, behind these lines
+abbrev pub outcome_from : List Line → List (EventReport (List ℕ)) → Outcome
+outcome_from lines [] = AllLines lines
+outcome_from lines (Reported line ∷ rest) = outcome_from (lines ++ line_out line ∷ []) rest
+outcome_from lines (Coincided chance ∷ rest) = Coincides (length lines) (proof_of chance)
+
+-- how many rows the ladder has then
+abbrev pub rows_in : RunState (List ℕ) ℕ Kept → ℕ
+rows_in (Running w) = length (world_rows w)
+rows_in (Stopped chance) = 0
+
+abbrev pub summary_with : ℕ → Outcome → Report
+summary_with rows (AllLines lines) = record { text = summary_text lines rows; coincides = false }
+summary_with rows (Coincides step proof) = record { text = chance_text step proof; coincides = true }
+
+-- the summary of the written machine's run over key terms, printed in values
+unfoldable pub summary_of : Setup → List Event → Report
+summary_of setup events =
+    summary_with (rows_in (run_value annex_b (written_run setup events))) (outcome_from [] (map report_value (written_report setup events)))

@@ -1,0 +1,8 @@
+/// Why a text was not written to its end.
+#[derive(Clone, Copy, Debug, Drop, PartialEq, Eq)]
+pub enum Unwritten {
+    /// Memory ran out.
+    Memory,
+    /// The output failed.
+    WriteFault,
+}
