@@ -1,0 +1,4 @@
+mod Event
+mod Planned
+mod Texts
+mod Comes
