@@ -1,1 +1,4 @@
 pub mod Running
+pub mod Reports
+pub mod Writing
+pub mod Driving

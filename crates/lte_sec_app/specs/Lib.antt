@@ -1,4 +1,9 @@
 pub mod Status
+pub mod Roles
 pub mod Command
 pub mod Run
 pub mod Ladder
+pub mod Serve
+pub mod Scenario
+pub mod Generated
+pub mod Drive

@@ -16,6 +16,15 @@ pub record Output : Type 0 where
   pub text : List ℕ
   pub ends : Status
 
+-- what was written of an output at each status: all of it, or as far as memory and the sink went
+abbrev pub WritesAt : Output → Status → Told → Told → Type 0
+WritesAt output Memory out out' = GrowsByPrefix out.written out'.written output.text
+WritesAt output WriteFault out out' = Rose out.write_faults out'.write_faults × GrowsByPrefix out.written out'.written output.text
+WritesAt output Done out out' = (output.ends ≡ Done) × Grows out.written out'.written output.text
+WritesAt output Refused out out' = (output.ends ≡ Refused) × Grows out.written out'.written output.text
+WritesAt output Coincidence out out' = (output.ends ≡ Coincidence) × Grows out.written out'.written output.text
+WritesAt output other out out' = ⊥
+
 -- a text within the limit, whose output ends with this status and was written whole
 pub record Answers (output : List ℕ → Output) (ends : Status) (octets : List ℕ) (out out' : Told) : Type 0 where
   pub within : length octets ≤ most_octets

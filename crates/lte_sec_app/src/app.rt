@@ -1,12 +1,24 @@
-ghost use Rattle.std.specs.Prelude.{◌≡◌, ◌≢◌, ◌↔◌, false, Some, None, [], IfSome, IsTrue};
-ghost use Rattle.edge_io.specs.Cause.{NoFault};
+ghost use Rattle.std.specs.Prelude.{◌≡◌, ◌≢◌, ◌↔◌, ℕ, false, Some, None, [], IfSome, IsTrue};
+ghost use Rattle.edge_io.specs.Cause.{NoFault, NoCountFell, Rose};
 ghost use Rattle.edge_io.specs.Used.{UsedAsSource, UsedAsSink};
+ghost use Rattle.lte_properties.specs.Headline.{Headline};
+ghost use Rattle.scenario_file.specs.Draws.{generated_setup, generated};
+ghost use Rattle.peer_calls.specs.Driven.{AllStopped};
 ghost use Rattle.lte_sec_app.specs.Command.{named};
+ghost use Rattle.lte_sec_app.specs.Drive.{DriveAt, DriveIsComplete};
+ghost use Rattle.lte_sec_app.specs.Generated.{gen_output, WritingIsComplete};
 ghost use Rattle.lte_sec_app.specs.Ladder.{ladder_output};
-ghost use Rattle.lte_sec_app.specs.Run.{CommandAt, CommandIsComplete};
+ghost use Rattle.lte_sec_app.specs.Scenario.{run_output, HeadlineOf};
+ghost use Rattle.lte_sec_app.specs.Run.{CommandAt, CommandIsComplete, WritesAt};
+ghost use Rattle.lte_sec_app.specs.Serve.{ServeAt, ServeIsComplete};
+ghost use Rattle.edge_io.specs.declared.peers.Role.{Role};
 
 use crate::command::{Command, command_of};
+use crate::drive::drive;
+use crate::generated::run_generated;
 use crate::ladder::ladder;
+use crate::scenario::run_scenario;
+use crate::serve::serve;
 use crate::status::Status;
 use edge_io::{Peers, Port, Sink, Source};
 use std::alloc::Global;
@@ -18,6 +30,13 @@ pub const LIMIT: usize = 16_777_216;
 /// answer is its status.
 ///
 /// - `ladder` reads a ladder text and writes a line for each of its lines.
+/// - `run` reads a scenario and writes its report: a line for each step, and all keys with their holders.
+/// - `drive` reads a scenario, starts a peer for each of its actors, tells each what its actor is told, and writes the
+///   report of `run`; where a reply differs from the local actor's, a line with both ends it.
+/// - `serve` and a role opens the port and serves the actor of that role there: `phone`, `station` and its
+///   number 0 to 7, or `core`. It reads no input, takes no memory, and writes nothing but the line for a frame
+///   that is none.
+/// - `gen` with a number of steps and a seed reads nothing, runs the scenario of the seed and writes its summary.
 ///
 /// Other words are answered with `BadWords`, and leave every object as it was.
 pub fn run<R: Source, W: Sink, P: Peers, L: Port>(
@@ -42,6 +61,35 @@ pub fn run<R: Source, W: Sink, P: Peers, L: Port>(
     ensures ladder { named words.now ≡ Some Command.Ladder → CommandAt ladder_output result (R.told input.old) (R.told input.new) (W.told out.old) (W.told out.new) }
     ensures ladder_complete { named words.now ≡ Some Command.Ladder → CommandIsComplete ladder_output result (R.told input.old) (R.told input.new) (W.told out.old) (W.told out.new) }
 
+    // What `run` writes: the report of the written machine's run over key terms, printed in values; and the headline of
+    // the scenario, at the statuses at which one was read.
+    ensures run { named words.now ≡ Some Command.Run → CommandAt run_output result (R.told input.old) (R.told input.new) (W.told out.old) (W.told out.new) }
+    ensures run_complete { named words.now ≡ Some Command.Run → CommandIsComplete run_output result (R.told input.old) (R.told input.new) (W.told out.old) (W.told out.new) }
+    ensures headline { named words.now ≡ Some Command.Run → HeadlineOf result (R.told input.old) }
+
+    // What `drive` writes and what it asks of the peers, at each of its statuses: the report of `run`, and the calls of the
+    // plan of the scenario; all peers that were started are stopped; and the headline of the scenario.
+    ensures drive { named words.now ≡ Some Command.Drive → DriveAt result (R.told input.old) (R.told input.new) (W.told out.old) (W.told out.new) (P.told peers.old) (P.told peers.new) }
+    ensures drive_complete { named words.now ≡ Some Command.Drive → DriveIsComplete result (R.told input.old) (R.told input.new) (W.told out.old) (W.told out.new) (P.told peers.old) (P.faults peers.old) (P.faults peers.new) }
+    ensures drive_headline { named words.now ≡ Some Command.Drive → HeadlineOf result (R.told input.old) }
+    ensures stopped { IfSome (P.told peers.new) AllStopped }
+    ensures peer_cause { named words.now ≡ Some Command.Drive → result ≡ Status.PeerFault → Rose (P.faults peers.old) (P.faults peers.new) }
+    ensures no_peer_fault { result ≢ Status.PeerFault → P.faults peers.new ≡ P.faults peers.old }
+
+    // What `serve` reads and writes at the port, and the cause of each of its statuses. It leaves the input as it was.
+    ensures serve { (role : Role) → named words.now ≡ Some (Command.Serve role) → ServeAt role result (L.told port.old) (L.told port.new) (W.told out.old) (W.told out.new) }
+    ensures serve_complete { (role : Role) → named words.now ≡ Some (Command.Serve role) → ServeIsComplete role result (L.told port.old) (L.told port.new) }
+    ensures serve_input { (role : Role) → named words.now ≡ Some (Command.Serve role) → input.new ≡ input.old }
+    ensures no_port_fault { result ≢ Status.PeerFault → NoFault (L.told port.old) (L.told port.new) }
+    ensures port_counts { NoCountFell (L.told port.old) (L.told port.new) }
+
+    // What `gen` writes: the summary of the written machine's run of the scenario that the seed gives; the input stays as it
+    // was, and the headline holds of this scenario too.
+    ensures generated { (steps seed : ℕ) → named words.now ≡ Some (Command.Gen steps seed) → WritesAt (gen_output steps seed) result (W.told out.old) (W.told out.new) }
+    ensures generated_complete { (steps seed : ℕ) → named words.now ≡ Some (Command.Gen steps seed) → WritingIsComplete (gen_output steps seed) result (W.told out.old) (W.told out.new) }
+    ensures generated_input { (steps seed : ℕ) → named words.now ≡ Some (Command.Gen steps seed) → input.new ≡ input.old }
+    ensures generated_headline { (steps seed : ℕ) → named words.now ≡ Some (Command.Gen steps seed) → Headline generated_setup (generated steps seed) }
+
     // An input that was not read within the limit has no output.
     ensures unread { result ≡ Status.ReadFault → out.new ≡ out.old }
     ensures too_long { result ≡ Status.TooLong → out.new ≡ out.old }
@@ -53,11 +101,18 @@ pub fn run<R: Source, W: Sink, P: Peers, L: Port>(
     // What stays of each object.
     ensures input { UsedAsSource (R.told input.old) (R.told input.new) }
     ensures out { UsedAsSink (W.told out.old) (W.told out.new) }
-    ensures peers { peers.new ≡ peers.old }
-    ensures port { port.new ≡ port.old }
+    ensures peers { named words.now ≢ Some Command.Drive → peers.new ≡ peers.old }
+    ensures unread_peers { result ≡ Status.ReadFault → peers.new ≡ peers.old }
+    ensures too_long_peers { result ≡ Status.TooLong → peers.new ≡ peers.old }
+    ensures refused_peers { result ≡ Status.Refused → peers.new ≡ peers.old }
+    ensures port { ((role : Role) → named words.now ≢ Some (Command.Serve role)) → port.new ≡ port.old }
 {
     match command_of(words) {
         None => Status::BadWords,
         Some(Command::Ladder) => ladder(alloc, input, out),
+        Some(Command::Run) => run_scenario(alloc, input, out),
+        Some(Command::Drive) => drive(alloc, input, peers, out),
+        Some(Command::Serve(role)) => serve(role, out, port),
+        Some(Command::Gen(steps, seed)) => run_generated(alloc, steps, seed, out),
     }
 }

@@ -1,19 +1,63 @@
-ghost use Rattle.std.specs.Prelude.{◌≡◌};
-ghost use Rattle.lte_sec_app.specs.Command.{named};
+ghost use Rattle.std.specs.Prelude.{◌≡◌, IfSome};
+ghost use Rattle.std.specs.String.{string_bytes};
+ghost use Rattle.lte_sec_app.specs.Command.{generator_of, generator_by, named, IsCommand};
+
+use crate::roles::role_of;
+use edge_io::Role;
+use ladder_text::number;
+
+/// The greatest number of steps of a generated scenario.
+pub const MOST_STEPS: u32 = 100_000;
 
 /// What the program is asked to do.
 #[derive(Clone, Copy, Debug, PartialEq, Eq)]
 pub enum Command {
     /// Derive the keys of a ladder text.
     Ladder,
+    /// Run a scenario.
+    Run,
+    /// Drive a scenario against peers.
+    Drive,
+    /// Serve the actor of a role over the port.
+    Serve(Role),
+    /// Run the scenario of so many steps, 1 to 100,000, that a seed gives: the steps, and the seed.
+    Gen(u32, u32),
 }
 
 /// The command that these words are, if they are one. It takes no memory.
 pub fn command_of(words: &[String]) -> Option<Command>
-    ensures { result ≡ named words.now }
+    ensures value { result ≡ named words.now }
+    ensures within { IfSome result IsCommand }
 {
     match words {
         [word] if word.as_str() == "ladder" => Some(Command::Ladder),
+        [word] if word.as_str() == "run" => Some(Command::Run),
+        [word] if word.as_str() == "drive" => Some(Command::Drive),
+        [word, words @ ..] if word.as_str() == "serve" => Some(Command::Serve(role_of(words)?)),
+        [word, words @ ..] if word.as_str() == "gen" => generator_of(words),
         _ => None,
     }
+}
+
+// The command `gen` with these words, if they are its numbers.
+fn generator_of(words: &[String]) -> Option<Command>
+    ensures value { result ≡ generator_of words.now }
+    ensures within { IfSome result IsCommand }
+{
+    match words {
+        [steps, seed] => generator_by(steps, seed),
+        _ => None,
+    }
+}
+
+fn generator_by(steps: &String, seed: &String) -> Option<Command>
+    ensures value { result ≡ generator_by (string_bytes steps.now) (string_bytes seed.now) }
+    ensures within { IfSome result IsCommand }
+{
+    let steps = number(steps.as_bytes())?;
+    let seed = number(seed.as_bytes())?;
+    if steps < 1 || steps > MOST_STEPS {
+        return None;
+    }
+    Some(Command::Gen(steps, seed))
 }

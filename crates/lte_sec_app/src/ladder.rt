@@ -4,9 +4,9 @@ ghost use Rattle.edge_io.specs.Used.{UsedAsSource, UsedAsSink};
 ghost use Rattle.lte_sec_app.specs.Ladder.{ladder_output, status_of};
 ghost use Rattle.lte_sec_app.specs.Run.{CommandAt, CommandIsComplete};
 
-use crate::app::LIMIT;
+use crate::reading::read_text;
 use crate::status::Status;
-use edge_io::{ReadAll, Sink, Source, read_all};
+use edge_io::{Sink, Source};
 use ladder_text::{Ending, write_answer};
 use std::alloc::Global;
 
@@ -23,13 +23,10 @@ pub(crate) fn ladder<R: Source, W: Sink>(alloc: Global, input: &mut R, out: &mut
     ensures input { UsedAsSource (R.told input.old) (R.told input.new) }
     ensures out { UsedAsSink (W.told out.old) (W.told out.new) }
 {
-    let octets = match read_all(alloc, input, LIMIT) {
-        Ok(octets) => octets,
-        Err(ReadAll::Memory) => return Status::Memory,
-        Err(ReadAll::ReadFault) => return Status::ReadFault,
-        Err(ReadAll::TooLong) => return Status::TooLong,
-    };
-    status_of(write_answer(alloc, &octets, out))
+    match read_text(alloc, input) {
+        Ok(octets) => status_of(write_answer(alloc, &octets, out)),
+        Err(status) => status,
+    }
 }
 
 // The status of an ending.

@@ -3,12 +3,18 @@
 
 mod app;
 mod command;
+mod drive;
+mod generated;
 mod ladder;
+mod reading;
+mod roles;
+mod scenario;
+mod serve;
 mod status;
 #[cfg(test)]
 mod tests;
 
-use edge_io::{MemPeers, MemPort, MemSink, MemSource, ReaderSource, WriterSink};
+use edge_io::{ChildPeers, LoopbackPort, ReaderSource, WriterSink};
 use status::Status;
 use std::process::ExitCode;
 use std::rt::Env;
@@ -25,13 +31,9 @@ fn status_of(rt: &HostRuntime) -> Status {
         Err(_) => return Status::BadWords,
     };
     let alloc = rt.alloc();
-    let Ok(mut peers) = MemPeers::new(alloc, Vec::new(alloc), 0, Vec::new(alloc)) else {
-        return Status::Memory;
-    };
-    let Ok(sink) = MemSink::new(alloc, 0, Vec::new(alloc)) else {
-        return Status::Memory;
-    };
-    let mut port = MemPort::new(MemSource::new(Vec::new(alloc), Vec::new(alloc)), sink);
+    let program = env::current_exe(rt).ok();
+    let mut peers = ChildPeers::new(rt, alloc, program);
+    let mut port = LoopbackPort::new(rt, io::writer(rt));
     let mut input = ReaderSource::new(rt.reader());
     let mut out = WriterSink::new(io::writer(rt));
     app::run(alloc, &words, &mut input, &mut out, &mut peers, &mut port)

@@ -1,0 +1,54 @@
+-- What `run` writes for a scenario, and what holds of it.
+use Rattle.std.specs.Prelude.{◌≡◌, ℕ, Bool, true, false, List, Result, Ok, Err, IfSome}
+use Rattle.edge_io.specs.Told.{Told}
+use Rattle.lte_events.specs.declared.events.Event.{Event}
+use Rattle.lte_events.specs.declared.setups.Setup.{Setup}
+use Rattle.lte_properties.specs.Headline.{Headline}
+use Rattle.run_report.specs.declared.unwritten.Unwritten.{Unwritten}
+use Rattle.run_report.specs.declared.unwritten.Unwritten.TheVariants as unwritten
+use Rattle.run_report.specs.Report.{Report, report_of}
+use Rattle.scenario_file.specs.declared.faults.ScenarioFault.{ScenarioFault}
+use Rattle.scenario_file.specs.Reading.{reading_of}
+use Rattle.scenario_file.specs.Refused.{refused_text}
+use Rattle.lte_sec_app.specs.declared.status.Status.{Status}
+use Rattle.lte_sec_app.specs.declared.status.Status.TheVariants.{Done, Memory, Refused, WriteFault, Coincidence}
+use Rattle.lte_sec_app.specs.Run.{Output}
+
+-- how a report ends
+abbrev pub ending : Bool → Status
+ending true = Coincidence
+ending false = Done
+
+abbrev pub output_of_report : Report → Output
+output_of_report report = record { text = report.text; ends = ending report.coincides }
+
+-- the report of a scenario, or the refusal of a text that is none
+abbrev pub output_of : Result (Setup × List Event) ScenarioFault → Output
+output_of (Ok scenario) = output_of_report (report_of scenario.0 scenario.1)
+output_of (Err fault) = record { text = refused_text fault; ends = Refused }
+
+-- the output for a text
+abbrev pub run_output : List ℕ → Output
+run_output octets = output_of (reading_of octets)
+
+-- the status at which the writing of a report ended
+abbrev pub status_of : Result Bool Unwritten → Status
+status_of (Ok coincides) = ending coincides
+status_of (Err unwritten.Memory) = Memory
+status_of (Err unwritten.WriteFault) = WriteFault
+
+-- a text is a scenario, and the headline holds of it
+pub record HasHeadline (octets : List ℕ) : Type 0 where
+  pub setup : Setup
+  pub events : List Event
+  pub reads : reading_of octets ≡ Ok (setup, events)
+  pub holds : Headline setup events
+
+-- the text that was read, at the statuses at which it was a scenario that ran to its end or to a coincidence
+abbrev pub HeadlineAt : Status → List ℕ → Type 0
+HeadlineAt Done octets = HasHeadline octets
+HeadlineAt Coincidence octets = HasHeadline octets
+HeadlineAt other octets = Unit {0}
+
+abbrev pub HeadlineOf : Status → Told → Type 0
+HeadlineOf status input = IfSome input.left (HeadlineAt status)

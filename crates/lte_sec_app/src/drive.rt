@@ -1,0 +1,161 @@
+ghost use Rattle.std.specs.Prelude.{◌≡◌, ◌≢◌, ◌≤◌, [], ℕ, List, Ok, Err, length, All, IfOk, IfSome, IsTrue};
+ghost use Rattle.std.specs.String.{string_bytes};
+ghost use Rattle.edge_io.specs.Cause.{NoFault, Rose};
+ghost use Rattle.edge_io.specs.Used.{UsedAsSource, UsedAsSink};
+ghost use Rattle.lte_events.specs.Conditions.{CanStart, CanHappen, SetupFits, EventFits};
+ghost use Rattle.peer_calls.specs.Driven.{AllStopped};
+ghost use Rattle.scenario_file.specs.Reading.{reading_of};
+ghost use Rattle.lte_sec_app.specs.Drive.{AllGoes, DriveAt, DriveIsComplete, LineAt, ScenarioAt, TextAt, TextGoes, difference_text, place_text};
+ghost use Rattle.lte_sec_app.specs.Scenario.{HeadlineAt, HeadlineOf};
+
+use crate::reading::read_text;
+use crate::scenario::write_refusal;
+use crate::status::Status;
+use edge_io::{Peers, Sink, Source, write_all};
+use hub_drive::DriveFault;
+use lte_events::{Event, Setup};
+use role_wire::Frame;
+use scenario_file::{ScenarioFault, read};
+use std::alloc::{AllocError, Global};
+
+// The command `drive`.
+pub(crate) fn drive<R: Source, P: Peers, W: Sink>(
+    alloc: Global,
+    input: &mut R,
+    peers: &mut P,
+    out: &mut W,
+) -> Status
+    requires input_ready { IsTrue (R.told input.old).ready }
+    requires out_ready { IsTrue (W.told out.old).ready }
+    requires none { IfSome (P.told peers.old) (λ t. t.roles ≡ []) }
+    ensures at { DriveAt result (R.told input.old) (R.told input.new) (W.told out.old) (W.told out.new) (P.told peers.old) (P.told peers.new) }
+    ensures complete { DriveIsComplete result (R.told input.old) (R.told input.new) (W.told out.old) (W.told out.new) (P.told peers.old) (P.faults peers.old) (P.faults peers.new) }
+    ensures headline { HeadlineOf result (R.told input.old) }
+    ensures stopped { IfSome (P.told peers.new) AllStopped }
+    ensures peer_cause { result ≡ Status.PeerFault → Rose (P.faults peers.old) (P.faults peers.new) }
+    ensures no_peer_fault { result ≢ Status.PeerFault → P.faults peers.new ≡ P.faults peers.old }
+    ensures unread { result ≡ Status.ReadFault → out.new ≡ out.old }
+    ensures too_long { result ≡ Status.TooLong → out.new ≡ out.old }
+    ensures unread_peers { result ≡ Status.ReadFault → peers.new ≡ peers.old }
+    ensures too_long_peers { result ≡ Status.TooLong → peers.new ≡ peers.old }
+    ensures refused_peers { result ≡ Status.Refused → peers.new ≡ peers.old }
+    ensures no_read_fault { result ≢ Status.ReadFault → NoFault (R.told input.old) (R.told input.new) }
+    ensures no_write_fault { result ≢ Status.WriteFault → NoFault (W.told out.old) (W.told out.new) }
+    ensures input { UsedAsSource (R.told input.old) (R.told input.new) }
+    ensures out { UsedAsSink (W.told out.old) (W.told out.new) }
+{
+    match read_text(alloc, input) {
+        Ok(octets) => drive_text(alloc, &octets, peers, out),
+        Err(status) => status,
+    }
+}
+
+// Drives the scenario that a text says, or writes the refusal of a text that says none.
+fn drive_text<P: Peers, W: Sink>(alloc: Global, octets: &[u8], peers: &mut P, out: &mut W) -> Status
+    requires out_ready { IsTrue (W.told out.old).ready }
+    requires none { IfSome (P.told peers.old) (λ t. t.roles ≡ []) }
+    ensures at { TextAt (reading_of octets.now) result (W.told out.old) (W.told out.new) (P.told peers.old) (P.told peers.new) }
+    ensures complete { TextGoes (reading_of octets.now) result (W.told out.old) (W.told out.new) (P.told peers.old) (P.faults peers.old) (P.faults peers.new) }
+    ensures headline { HeadlineAt result octets.now }
+    ensures stopped { IfSome (P.told peers.new) AllStopped }
+    ensures peer_cause { result ≡ Status.PeerFault → Rose (P.faults peers.old) (P.faults peers.new) }
+    ensures write_cause { result ≡ Status.WriteFault → Rose (W.told out.old).write_faults (W.told out.new).write_faults }
+    ensures no_peer_fault { result ≢ Status.PeerFault → P.faults peers.new ≡ P.faults peers.old }
+    ensures no_write_fault { result ≢ Status.WriteFault → NoFault (W.told out.old) (W.told out.new) }
+    ensures refused_peers { result ≡ Status.Refused → peers.new ≡ peers.old }
+    ensures not_unread { result ≢ Status.ReadFault }
+    ensures not_too_long { result ≢ Status.TooLong }
+    ensures out { UsedAsSink (W.told out.old) (W.told out.new) }
+{
+    match read(alloc, octets) {
+        Ok(scenario) => drive_scenario(alloc, &scenario.setup, &scenario.events, peers, out),
+        Err(ScenarioFault::Memory) => Status::Memory,
+        Err(fault) => write_refusal(alloc, &fault, out),
+    }
+}
+
+// Drives a scenario.
+fn drive_scenario<P: Peers, W: Sink>(
+    alloc: Global,
+    setup: &Setup,
+    events: &[Event],
+    peers: &mut P,
+    out: &mut W,
+) -> Status
+    requires out_ready { IsTrue (W.told out.old).ready }
+    requires none { IfSome (P.told peers.old) (λ t. t.roles ≡ []) }
+    requires can_start { CanStart setup.now }
+    requires setup_fits { SetupFits setup.now }
+    requires cells { 1 ≤ length setup.now.cells }
+    requires can_happen { All (CanHappen setup.now) events.now }
+    requires events_fit { All EventFits events.now }
+    requires few { length events.now ≤ 200000 }
+    ensures at { ScenarioAt setup.now events.now result (W.told out.old) (W.told out.new) (P.told peers.old) (P.told peers.new) }
+    ensures complete { AllGoes setup.now events.now result (W.told out.old) (W.told out.new) (P.told peers.old) (P.faults peers.old) (P.faults peers.new) }
+    ensures stopped { IfSome (P.told peers.new) AllStopped }
+    ensures peer_cause { result ≡ Status.PeerFault → Rose (P.faults peers.old) (P.faults peers.new) }
+    ensures write_cause { result ≡ Status.WriteFault → Rose (W.told out.old).write_faults (W.told out.new).write_faults }
+    ensures no_peer_fault { result ≢ Status.PeerFault → P.faults peers.new ≡ P.faults peers.old }
+    ensures no_write_fault { result ≢ Status.WriteFault → NoFault (W.told out.old) (W.told out.new) }
+    ensures out { UsedAsSink (W.told out.old) (W.told out.new) }
+{
+    match hub_drive::drive(alloc, setup, events, peers, out) {
+        Ok(()) => Status::Done,
+        Err(DriveFault::Memory) => Status::Memory,
+        Err(DriveFault::PeerFault) => Status::PeerFault,
+        Err(DriveFault::Chance) => Status::Coincidence,
+        Err(DriveFault::WriteFault) => Status::WriteFault,
+        Err(DriveFault::Differs { step, wanted, got }) => write_difference(
+            alloc, step, &wanted, &got, out,
+        ),
+    }
+}
+
+// Writes the line for a reply that differs.
+fn write_difference<W: Sink>(
+    alloc: Global,
+    step: Option<u32>,
+    wanted: &Frame,
+    got: &Frame,
+    out: &mut W,
+) -> Status
+    requires { IsTrue (W.told out.old).ready }
+    ensures line { LineAt (difference_text step wanted.now got.now) result (W.told out.old) (W.told out.new) }
+    ensures write_cause { result ≡ Status.WriteFault → Rose (W.told out.old).write_faults (W.told out.new).write_faults }
+    ensures no_write_fault { result ≢ Status.WriteFault → NoFault (W.told out.old) (W.told out.new) }
+    ensures out { UsedAsSink (W.told out.old) (W.told out.new) }
+{
+    match difference_line(alloc, step, wanted, got) {
+        Err(_) => Status::Memory,
+        Ok(line) => match write_all(out, line.as_bytes()) {
+            Ok(()) => Status::Differs,
+            Err(_) => Status::WriteFault,
+        },
+    }
+}
+
+// That line.
+#[tactic(auto, unfolding(crate::specs::Drive::difference_text))]
+fn difference_line(
+    alloc: Global,
+    step: Option<u32>,
+    wanted: &Frame,
+    got: &Frame,
+) -> Result<String, AllocError>
+    ensures { IfOk result (λ text. string_bytes text ≡ difference_text step wanted.now got.now) }
+{
+    let place = place_text(alloc, step)?;
+    let wanted = hex::encode(alloc, wanted.as_slice())?;
+    let got = hex::encode(alloc, got.as_slice())?;
+    format!(in alloc; "{place} differs {wanted} {got}\n")
+}
+
+// Where the reply was wanted.
+fn place_text(alloc: Global, step: Option<u32>) -> Result<String, AllocError>
+    ensures { IfOk result (λ text. string_bytes text ≡ place_text step) }
+{
+    match step {
+        Some(step) => format!(in alloc; "{step}"),
+        None => format!(in alloc; "setup"),
+    }
+}
