@@ -14,7 +14,7 @@ use Rattle.lte_machine.specs.Carried.{map_line, report_value}
 use Rattle.lte_machine.specs.Ciphers.{annex_b}
 use Rattle.lte_machine.specs.Opening.{open_octets}
 use Rattle.lte_machine.specs.Ranges.{AllOf, IsEvent, IsSetup}
-use Rattle.lte_machine.specs.Reply.{Note, map_note}
+use Rattle.lte_machine.specs.Reply.{Note, Came, Secured, Commanded, Changed, Took, map_note}
 use Rattle.lte_machine.specs.Run.{Running, first_world, Reported, event_report}
 use Rattle.lte_machine.specs.Wire.{Outgoing}
 use Rattle.lte_machine.specs.World as world
@@ -22,12 +22,13 @@ use Rattle.lte_machine.specs.World.{World}
 use Rattle.lte_machine.proofs.AnnexB.{annex_b_ciphers}
 use Rattle.lte_machine.proofs.EventByEvent.{tale_snoc, told_each, step_told}
 use Rattle.lte_machine.proofs.WholeRun.{tale_is_value}
-use Rattle.lte_properties.specs.Headline.{Headline}
+use Rattle.lte_properties.specs.BySteps.{TakesAt}
+use Rattle.lte_properties.specs.Headline.{Headline, OfTarget}
 use Rattle.lte_properties.specs.InOctets.{TellsText}
 use Rattle.lte_properties.proofs.HeadlineHolds.{headline}
 use Rattle.lte_properties.proofs.StepByStep.{takes_tell, makes_tell}
 use Rattle.lte_world.specs.declared.faults.WorldFault.{WorldFault}
-use Rattle.lte_world.specs.InOctets.{answers_of, key_told, CommandsShare, PacketsOpen}
+use Rattle.lte_world.specs.InOctets.{answers_of, key_told, IsCommanded, CommandsShare, PacketsOpen}
 use Rattle.lte_world.specs.Systems.{octets}
 use Rattle.lte_world.proofs.OneTerm.{one_term}
 use Rattle.lte_world.specs.Whole.{Whole, answer_of}
@@ -105,11 +106,17 @@ module _ (v : Whole) (set : IsSetup v.setup) (are : AllOf IsEvent v.journal) whe
 
     -- COMMANDS
 
+    target_of : (x : Took Term ℕ) (told : world.Line Term) (takes : TakesAt v.setup v.journal k x told) (came : Came Term ℕ) → x.came ≡ came → IsCommanded came
+        → OfTarget v.setup v.journal k x came told
+    target_of x told takes (Commanded before) is commanded = heads.agreement k x before told (takes, is)
+    target_of x told takes (Changed before root) is commanded = heads.renewal k x before root told takes is
+    target_of x told takes Secured is commanded = absurd commanded
+
     pub commands_share : CommandsShare v k line
-    commands_share x before told obeyed =
-        let target = heads.agreement k x before told obeyed in
-        let is : line ≡ answered told = same_ok (same_some (sym there ∙ line_at k obeyed.0.world obeyed.0.event obeyed.0.after told obeyed.0.step)) in
-        let taken = takes_tell v.setup v.journal k x told obeyed.0 in
+    commands_share x told takes commanded =
+        let target = target_of x told takes x.came refl commanded in
+        let is : line ≡ answered told = same_ok (same_some (sym there ∙ line_at k takes.world takes.event takes.after told takes.step)) in
+        let taken = takes_tell v.setup v.journal k x told takes in
         let made = makes_tell v.setup v.journal target.when target.made target.told target.makes in
         let took_is : key_told line ≡ Some (value_of x.key) = ap key_told is ∙ key_answered told taken.0 taken.2 ∙ ap (λ key. Some (value_of key)) taken.3 in
         let made_is : key_told (answered target.told) ≡ Some (value_of target.made.key) = key_answered target.told made.0 made.2 ∙ ap (λ key. Some (value_of key)) made.3 in record {
@@ -119,5 +126,5 @@ module _ (v : Whole) (set : IsSetup v.setup) (are : AllOf IsEvent v.journal) whe
           made = made_is;
           took = took_is;
           near = λ low. took_is ∙ ap (λ key. Some (value_of key)) (target.near low).0.0 ∙ sym made_is;
-          far = λ high same. target.far high (one_term v.setup v.journal k x told obeyed.0 target.when target.made target.told target.makes target.earlier (same_some (sym took_is ∙ same ∙ made_is)));
+          far = λ high same. target.far high (one_term v.setup v.journal k x told takes target.when target.made target.told target.makes target.earlier (same_some (sym took_is ∙ same ∙ made_is)));
         }

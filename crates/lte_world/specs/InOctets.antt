@@ -10,13 +10,13 @@ use Rattle.key_model.specs.Value.{value_of}
 use Rattle.lte_machine.specs.BothRuns.{octet_report}
 use Rattle.lte_machine.specs.Machines.{Kept}
 use Rattle.lte_machine.specs.PhoneState.{Link, Connected}
-use Rattle.lte_machine.specs.Reply.{Before, Commanded, Took}
+use Rattle.lte_machine.specs.Reply.{Came, Secured, Took}
 use Rattle.lte_machine.specs.StationState.{Station, Context}
 use Rattle.lte_machine.specs.World as world
 use Rattle.lte_machine.specs.World.{World, station_of_id}
 use Rattle.lte_properties.specs.Agreement.{ahead}
-use Rattle.lte_properties.specs.BySteps.{Obeyed}
-use Rattle.lte_properties.specs.Headline.{AtCommand}
+use Rattle.lte_properties.specs.BySteps.{TakesAt}
+use Rattle.lte_properties.specs.Headline.{OfTarget}
 use Rattle.lte_properties.specs.InOctets.{BringsPacket}
 use Rattle.lte_world.specs.declared.faults.WorldFault.{WorldFault}
 use Rattle.lte_world.specs.Whole.{Whole, answer_of}
@@ -44,25 +44,30 @@ pub record IsJoined (id : ℕ) (w : World (List ℕ) ℕ Kept) : Type 0 where
 abbrev pub key_told : Line → Option (List ℕ)
 key_told line = option_map (λ n. n.key) line.note
 
--- a handover command that was obeyed at step k, beside what its target made for it at an earlier step: the line that the world
--- answered then, and the one that it answers now
-pub record SharesKey (v : Whole) (k : ℕ) (x : Took Term ℕ) (before : Before Term ℕ) (told : world.Line Term) (line : Line) : Type 0 where
-  pub target : AtCommand v.setup v.journal k x before told
+-- a command that was obeyed at step k, of a handover or of a change of the key, beside what its target made for it at an earlier
+-- step: the line that the world answered then, and the one that it answers now
+pub record SharesKey (v : Whole) (k : ℕ) (x : Took Term ℕ) (came : Came Term ℕ) (told : world.Line Term) (line : Line) : Type 0 where
+  pub target : OfTarget v.setup v.journal k x came told
   pub earlier : Line
   pub answered : slice_get (answers_of v) target.when ≡ Some (Ok earlier)
   -- the one tells the key that the target made, the other the key that the phone took
   pub made : key_told earlier ≡ Some (value_of target.made.key)
   pub took : key_told line ≡ Some (value_of x.key)
   -- fewer than eight chain steps ahead that is one key
-  pub near : ahead target.made (Commanded before) < 8 → key_told line ≡ key_told earlier
+  pub near : ahead target.made came < 8 → key_told line ≡ key_told earlier
   -- and at eight or more another
-  pub far : 8 ≤ ahead target.made (Commanded before) → key_told line ≢ key_told earlier
+  pub far : 8 ≤ ahead target.made came → key_told line ≢ key_told earlier
+
+-- the phone took a key by a command, and not where the security of its connection began
+abbrev pub IsCommanded : Came Term ℕ → Type 0
+IsCommanded Secured = ⊥
+IsCommanded came = Unit {0}
 
 -- so it is wherever the phone obeys a command at step k
 abbrev pub CommandsShare : Whole → ℕ → Line → Type 0
 CommandsShare v k line =
-    (x : Took Term ℕ) (before : Before Term ℕ) (told : world.Line Term) → Obeyed v.setup v.journal k x before told →
-    SharesKey v k x before told line
+    (x : Took Term ℕ) (told : world.Line Term) → TakesAt v.setup v.journal k x told → IsCommanded x.came →
+    SharesKey v k x x.came told line
 
 -- the line of step k, where that brings an intact packet to a ready receiver in its window: it is done, and tells the text that
 -- was sent

@@ -93,8 +93,8 @@ impl World {
         // The step of a line is the number of events before it, and the line is the next answer of the world.
         ensures step { IfOk result (λ line. line.step ≡ length self.old.journal) }
         ensures answers { OnOk result (answers_of self.new ≡ answers_of self.old ++ result ∷ []) }
-        // A phone that obeys a handover command fewer than eight chain steps ahead shares the target's key, and one that
-        // obeys one further ahead does not.
+        // A phone that obeys a command, of a handover or of a change of the key, fewer than eight chain steps ahead shares the
+        // target's key, and one that obeys one further ahead does not.
         ensures commands { IfOk result (λ line. CommandsShare self.new (length self.old.journal) line) }
         // An intact packet in a ready receiver's window opens to what was sent.
         ensures packets { IfOk result (λ line. PacketsOpen self.new (length self.old.journal) line) }
