@@ -6,7 +6,9 @@ use Rattle.std.specs.Str.{bytes_eq}
 use Rattle.std.specs.String.{string_bytes}
 use Rattle.ladder_text.specs.Text.{number_of}
 use Rattle.lte_sec_app.specs.declared.command.Command.{Command}
-use Rattle.lte_sec_app.specs.declared.command.Command.TheVariants.{Ladder, Run, Drive, Serve, Gen}
+use Rattle.lte_sec_app.specs.declared.command.Command.TheVariants.{Text, Drive, Serve, Gen}
+use Rattle.lte_sec_app.specs.declared.command.TextCommand.{TextCommand}
+use Rattle.lte_sec_app.specs.declared.command.TextCommand.TheVariants.{Ladder, Run}
 use Rattle.role_wire.specs.Ranges.{IsRole}
 use Rattle.lte_sec_app.specs.Roles.{role_of}
 
@@ -23,18 +25,29 @@ abbrev pub generator_of : List (String Global) → Option Command
 generator_of (steps ∷ seed ∷ []) = generator_by (string_bytes steps) (string_bytes seed)
 generator_of words = None
 
+-- the command that reads a text, of this word
+abbrev pub text_command : List ℕ → Option TextCommand
+text_command word =
+    if bytes_eq word (codes "ladder") then Some Ladder
+    else if bytes_eq word (codes "run") then Some Run
+    else None
+
+-- a word alone
+abbrev pub one_word : List ℕ → Option Command
+one_word word = if bytes_eq word (codes "drive") then Some Drive else option_map Text (text_command word)
+
+-- a word with others behind it
+abbrev pub more_words : List ℕ → List (String Global) → Option Command
+more_words word words =
+    if bytes_eq word (codes "serve") then option_map Serve (role_of words)
+    else if bytes_eq word (codes "gen") then generator_of words
+    else None
+
 -- the command that these words are, if they are one
 abbrev pub named : List (String Global) → Option Command
-named (word ∷ []) =
-    if bytes_eq (string_bytes word) (codes "ladder") then Some Ladder
-    else if bytes_eq (string_bytes word) (codes "run") then Some Run
-    else if bytes_eq (string_bytes word) (codes "drive") then Some Drive
-    else None
-named (word ∷ words) =
-    if bytes_eq (string_bytes word) (codes "serve") then option_map Serve (role_of words)
-    else if bytes_eq (string_bytes word) (codes "gen") then generator_of words
-    else None
 named [] = None
+named (word ∷ []) = one_word (string_bytes word)
+named (word ∷ words) = more_words (string_bytes word) words
 
 -- a role that is served is one of the system, and the steps are within their bounds
 abbrev pub IsCommand : Command → Type 0

@@ -5,5 +5,6 @@ pub mod Run
 pub mod Ladder
 pub mod Serve
 pub mod Scenario
+pub mod Text
 pub mod Generated
 pub mod Drive

@@ -1,6 +1,5 @@
 -- What `run` writes for a scenario, and what holds of it.
-use Rattle.std.specs.Prelude.{◌≡◌, ℕ, Bool, true, false, List, Result, Ok, Err, IfSome}
-use Rattle.edge_io.specs.Told.{Told}
+use Rattle.std.specs.Prelude.{◌≡◌, ℕ, Bool, true, false, List, Result, Ok, Err}
 use Rattle.lte_events.specs.declared.events.Event.{Event}
 use Rattle.lte_events.specs.declared.setups.Setup.{Setup}
 use Rattle.lte_properties.specs.Headline.{Headline}
@@ -49,6 +48,3 @@ abbrev pub HeadlineAt : Status → List ℕ → Type 0
 HeadlineAt Done octets = HasHeadline octets
 HeadlineAt Coincidence octets = HasHeadline octets
 HeadlineAt other octets = Unit {0}
-
-abbrev pub HeadlineOf : Status → Told → Type 0
-HeadlineOf status input = IfSome input.left (HeadlineAt status)

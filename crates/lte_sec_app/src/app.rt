@@ -7,19 +7,18 @@ ghost use Rattle.peer_calls.specs.Driven.{AllStopped};
 ghost use Rattle.lte_sec_app.specs.Command.{named};
 ghost use Rattle.lte_sec_app.specs.Drive.{DriveAt, DriveIsComplete};
 ghost use Rattle.lte_sec_app.specs.Generated.{gen_output, WritingIsComplete};
-ghost use Rattle.lte_sec_app.specs.Ladder.{ladder_output};
-ghost use Rattle.lte_sec_app.specs.Scenario.{run_output, HeadlineOf};
+ghost use Rattle.lte_sec_app.specs.Text.{text_output, HoldsOf};
 ghost use Rattle.lte_sec_app.specs.Run.{CommandAt, CommandIsComplete, WritesAt};
 ghost use Rattle.lte_sec_app.specs.Serve.{ServeAt, ServeIsComplete};
 ghost use Rattle.edge_io.specs.declared.peers.Role.{Role};
+ghost use Rattle.lte_sec_app.specs.declared.command.TextCommand.{TextCommand};
 
 use crate::command::{Command, command_of};
 use crate::drive::drive;
 use crate::generated::run_generated;
-use crate::ladder::ladder;
-use crate::scenario::run_scenario;
 use crate::serve::serve;
 use crate::status::Status;
+use crate::text::answer_text;
 use edge_io::{Peers, Port, Sink, Source};
 use std::alloc::Global;
 
@@ -57,21 +56,18 @@ pub fn run<R: Source, W: Sink, P: Peers, L: Port>(
     ensures bad_words_input { result ≡ Status.BadWords → input.new ≡ input.old }
     ensures bad_words_out { result ≡ Status.BadWords → out.new ≡ out.old }
 
-    // What `ladder` writes, and the cause of each of its statuses.
-    ensures ladder { named words.now ≡ Some Command.Ladder → CommandAt ladder_output result (R.told input.old) (R.told input.new) (W.told out.old) (W.told out.new) }
-    ensures ladder_complete { named words.now ≡ Some Command.Ladder → CommandIsComplete ladder_output result (R.told input.old) (R.told input.new) (W.told out.old) (W.told out.new) }
-
-    // What `run` writes: the report of the written machine's run over key terms, printed in values; and the headline of
-    // the scenario, at the statuses at which one was read.
-    ensures run { named words.now ≡ Some Command.Run → CommandAt run_output result (R.told input.old) (R.told input.new) (W.told out.old) (W.told out.new) }
-    ensures run_complete { named words.now ≡ Some Command.Run → CommandIsComplete run_output result (R.told input.old) (R.told input.new) (W.told out.old) (W.told out.new) }
-    ensures headline { named words.now ≡ Some Command.Run → HeadlineOf result (R.told input.old) }
+    // What a command writes for the text that it reads, and the cause of each of its statuses; and the headline of the
+    // scenario, at the statuses at which one was read. `ladder` writes keys, and `run` the report of the written machine's
+    // run over key terms, printed in values.
+    ensures text { (command : TextCommand) → named words.now ≡ Some (Command.Text command) → CommandAt (text_output command) result (R.told input.old) (R.told input.new) (W.told out.old) (W.told out.new) }
+    ensures text_complete { (command : TextCommand) → named words.now ≡ Some (Command.Text command) → CommandIsComplete (text_output command) result (R.told input.old) (R.told input.new) (W.told out.old) (W.told out.new) }
+    ensures headline { (command : TextCommand) → named words.now ≡ Some (Command.Text command) → HoldsOf command result (R.told input.old) }
 
     // What `drive` writes and what it asks of the peers, at each of its statuses: the report of `run`, and the calls of the
     // plan of the scenario; all peers that were started are stopped; and the headline of the scenario.
     ensures drive { named words.now ≡ Some Command.Drive → DriveAt result (R.told input.old) (R.told input.new) (W.told out.old) (W.told out.new) (P.told peers.old) (P.told peers.new) }
     ensures drive_complete { named words.now ≡ Some Command.Drive → DriveIsComplete result (R.told input.old) (R.told input.new) (W.told out.old) (W.told out.new) (P.told peers.old) (P.faults peers.old) (P.faults peers.new) }
-    ensures drive_headline { named words.now ≡ Some Command.Drive → HeadlineOf result (R.told input.old) }
+    ensures drive_headline { named words.now ≡ Some Command.Drive → HoldsOf TextCommand.Run result (R.told input.old) }
     ensures stopped { IfSome (P.told peers.new) AllStopped }
     ensures peer_cause { named words.now ≡ Some Command.Drive → result ≡ Status.PeerFault → Rose (P.faults peers.old) (P.faults peers.new) }
     ensures no_peer_fault { result ≢ Status.PeerFault → P.faults peers.new ≡ P.faults peers.old }
@@ -109,8 +105,7 @@ pub fn run<R: Source, W: Sink, P: Peers, L: Port>(
 {
     match command_of(words) {
         None => Status::BadWords,
-        Some(Command::Ladder) => ladder(alloc, input, out),
-        Some(Command::Run) => run_scenario(alloc, input, out),
+        Some(Command::Text(command)) => answer_text(alloc, command, input, out),
         Some(Command::Drive) => drive(alloc, input, peers, out),
         Some(Command::Serve(role)) => serve(role, out, port),
         Some(Command::Gen(steps, seed)) => run_generated(alloc, steps, seed, out),

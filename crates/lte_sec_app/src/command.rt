@@ -1,6 +1,6 @@
 ghost use Rattle.std.specs.Prelude.{◌≡◌, IfSome};
 ghost use Rattle.std.specs.String.{string_bytes};
-ghost use Rattle.lte_sec_app.specs.Command.{generator_of, generator_by, named, IsCommand};
+ghost use Rattle.lte_sec_app.specs.Command.{generator_of, generator_by, named, one_word, text_command, more_words, IsCommand};
 
 use crate::roles::role_of;
 use edge_io::Role;
@@ -9,13 +9,20 @@ use ladder_text::number;
 /// The greatest number of steps of a generated scenario.
 pub const MOST_STEPS: u32 = 100_000;
 
+/// What is written for a text that the program reads.
+#[derive(Clone, Copy, Debug, PartialEq, Eq)]
+pub enum TextCommand {
+    /// The keys of a ladder text.
+    Ladder,
+    /// The report of a scenario.
+    Run,
+}
+
 /// What the program is asked to do.
 #[derive(Clone, Copy, Debug, PartialEq, Eq)]
 pub enum Command {
-    /// Derive the keys of a ladder text.
-    Ladder,
-    /// Run a scenario.
-    Run,
+    /// Read a text, and write what is asked for it.
+    Text(TextCommand),
     /// Drive a scenario against peers.
     Drive,
     /// Serve the actor of a role over the port.
@@ -30,11 +37,42 @@ pub fn command_of(words: &[String]) -> Option<Command>
     ensures within { IfSome result IsCommand }
 {
     match words {
-        [word] if word.as_str() == "ladder" => Some(Command::Ladder),
-        [word] if word.as_str() == "run" => Some(Command::Run),
-        [word] if word.as_str() == "drive" => Some(Command::Drive),
-        [word, words @ ..] if word.as_str() == "serve" => Some(Command::Serve(role_of(words)?)),
-        [word, words @ ..] if word.as_str() == "gen" => generator_of(words),
+        [] => None,
+        [word] => one_word(word),
+        [word, words @ ..] => more_words(word, words),
+    }
+}
+
+// The command that a word alone is.
+fn one_word(word: &String) -> Option<Command>
+    ensures value { result ≡ one_word (string_bytes word.now) }
+    ensures within { IfSome result IsCommand }
+{
+    match word.as_str() {
+        "drive" => Some(Command::Drive),
+        _ => Some(Command::Text(text_command(word)?)),
+    }
+}
+
+// The command that reads a text, of this word.
+fn text_command(word: &String) -> Option<TextCommand>
+    ensures { result ≡ text_command (string_bytes word.now) }
+{
+    match word.as_str() {
+        "ladder" => Some(TextCommand::Ladder),
+        "run" => Some(TextCommand::Run),
+        _ => None,
+    }
+}
+
+// The command that a word is with others behind it.
+fn more_words(word: &String, words: &[String]) -> Option<Command>
+    ensures value { result ≡ more_words (string_bytes word.now) words.now }
+    ensures within { IfSome result IsCommand }
+{
+    match word.as_str() {
+        "serve" => Some(Command::Serve(role_of(words)?)),
+        "gen" => generator_of(words),
         _ => None,
     }
 }

@@ -6,7 +6,9 @@ ghost use Rattle.lte_events.specs.Conditions.{CanStart, CanHappen, SetupFits, Ev
 ghost use Rattle.peer_calls.specs.Driven.{AllStopped};
 ghost use Rattle.scenario_file.specs.Reading.{reading_of};
 ghost use Rattle.lte_sec_app.specs.Drive.{AllGoes, DriveAt, DriveIsComplete, LineAt, ScenarioAt, TextAt, TextGoes, difference_text, place_text};
-ghost use Rattle.lte_sec_app.specs.Scenario.{HeadlineAt, HeadlineOf};
+ghost use Rattle.lte_sec_app.specs.Scenario.{HeadlineAt};
+ghost use Rattle.lte_sec_app.specs.Text.{HoldsOf};
+ghost use Rattle.lte_sec_app.specs.declared.command.TextCommand.{TextCommand};
 
 use crate::reading::read_text;
 use crate::scenario::write_refusal;
@@ -30,7 +32,7 @@ pub(crate) fn drive<R: Source, P: Peers, W: Sink>(
     requires none { IfSome (P.told peers.old) (λ t. t.roles ≡ []) }
     ensures at { DriveAt result (R.told input.old) (R.told input.new) (W.told out.old) (W.told out.new) (P.told peers.old) (P.told peers.new) }
     ensures complete { DriveIsComplete result (R.told input.old) (R.told input.new) (W.told out.old) (W.told out.new) (P.told peers.old) (P.faults peers.old) (P.faults peers.new) }
-    ensures headline { HeadlineOf result (R.told input.old) }
+    ensures headline { HoldsOf TextCommand.Run result (R.told input.old) }
     ensures stopped { IfSome (P.told peers.new) AllStopped }
     ensures peer_cause { result ≡ Status.PeerFault → Rose (P.faults peers.old) (P.faults peers.new) }
     ensures no_peer_fault { result ≢ Status.PeerFault → P.faults peers.new ≡ P.faults peers.old }

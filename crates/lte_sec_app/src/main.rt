@@ -13,6 +13,7 @@ mod serve;
 mod status;
 #[cfg(test)]
 mod tests;
+mod text;
 
 use edge_io::{ChildPeers, LoopbackPort, ReaderSource, WriterSink};
 use status::Status;

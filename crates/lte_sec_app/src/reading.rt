@@ -4,8 +4,9 @@ ghost use Rattle.edge_io.specs.Cause.{NoFault};
 ghost use Rattle.edge_io.specs.Told.{Told};
 ghost use Rattle.edge_io.specs.Used.{UsedAsSource};
 ghost use Rattle.lte_sec_app.specs.Drive.{IsUnread};
-ghost use Rattle.lte_sec_app.specs.Scenario.{HeadlineOf};
 ghost use Rattle.lte_sec_app.specs.Run.{Output, CommandAt, most_octets};
+ghost use Rattle.lte_sec_app.specs.Text.{HoldsOf};
+ghost use Rattle.lte_sec_app.specs.declared.command.TextCommand.{TextCommand};
 
 use crate::app::LIMIT;
 use crate::status::Status;
@@ -20,7 +21,7 @@ pub(crate) fn read_text<R: Source>(alloc: Global, input: &mut R) -> Result<Vec<u
     ensures within { IfOk result (λ text. length text.items ≤ most_octets) }
     ensures unread { IfErr result (λ status. (output : List ℕ → Output) (out : Told) → CommandAt output status (R.told input.old) (R.told input.new) out out) }
     ensures which { IfErr result IsUnread }
-    ensures no_headline { IfErr result (λ status. HeadlineOf status (R.told input.old)) }
+    ensures holds { IfErr result (λ status. (command : TextCommand) → HoldsOf command status (R.told input.old)) }
     ensures no_fault { result ≢ Err Status.ReadFault → NoFault (R.told input.old) (R.told input.new) }
     ensures input { UsedAsSource (R.told input.old) (R.told input.new) }
 {

@@ -1,40 +1,19 @@
-ghost use Rattle.std.specs.Prelude.{◌≡◌, ◌≢◌, ℕ, List, IfOk, IsTrue};
+ghost use Rattle.std.specs.Prelude.{◌≡◌, ◌≢◌, ℕ, List, IsTrue};
 ghost use Rattle.std.specs.String.{string_bytes};
 ghost use Rattle.edge_io.specs.Cause.{NoFault};
-ghost use Rattle.edge_io.specs.Used.{UsedAsSource, UsedAsSink};
-ghost use Rattle.lte_sec_app.specs.Run.{CommandAt, CommandIsComplete, WritesAt};
-ghost use Rattle.lte_sec_app.specs.Scenario.{run_output, status_of, HeadlineAt, HeadlineOf};
+ghost use Rattle.edge_io.specs.Used.{UsedAsSink};
+ghost use Rattle.lte_sec_app.specs.Run.{WritesAt};
+ghost use Rattle.lte_sec_app.specs.Scenario.{run_output, status_of, HeadlineAt};
 ghost use Rattle.scenario_file.specs.Refused.{refused_text};
 
-use crate::reading::read_text;
 use crate::status::Status;
-use edge_io::{Sink, Source, write_all};
+use edge_io::{Sink, write_all};
 use run_report::{Unwritten, write_run};
 use scenario_file::{ScenarioFault, read};
 use std::alloc::Global;
 
-// The command `run`.
-pub(crate) fn run_scenario<R: Source, W: Sink>(alloc: Global, input: &mut R, out: &mut W) -> Status
-    requires input_ready { IsTrue (R.told input.old).ready }
-    requires out_ready { IsTrue (W.told out.old).ready }
-    ensures at { CommandAt run_output result (R.told input.old) (R.told input.new) (W.told out.old) (W.told out.new) }
-    ensures complete { CommandIsComplete run_output result (R.told input.old) (R.told input.new) (W.told out.old) (W.told out.new) }
-    ensures headline { HeadlineOf result (R.told input.old) }
-    ensures unread { result ≡ Status.ReadFault → out.new ≡ out.old }
-    ensures too_long { result ≡ Status.TooLong → out.new ≡ out.old }
-    ensures no_read_fault { result ≢ Status.ReadFault → NoFault (R.told input.old) (R.told input.new) }
-    ensures no_write_fault { result ≢ Status.WriteFault → NoFault (W.told out.old) (W.told out.new) }
-    ensures input { UsedAsSource (R.told input.old) (R.told input.new) }
-    ensures out { UsedAsSink (W.told out.old) (W.told out.new) }
-{
-    match read_text(alloc, input) {
-        Ok(octets) => write_scenario(alloc, &octets, out),
-        Err(status) => status,
-    }
-}
-
 // Writes the report of the scenario that a text says, or the refusal of a text that says none.
-fn write_scenario<W: Sink>(alloc: Global, octets: &[u8], out: &mut W) -> Status
+pub(crate) fn write_scenario<W: Sink>(alloc: Global, octets: &[u8], out: &mut W) -> Status
     requires { IsTrue (W.told out.old).ready }
     ensures text { WritesAt (run_output octets.now) result (W.told out.old) (W.told out.new) }
     ensures headline { HeadlineAt result octets.now }

@@ -1,0 +1,52 @@
+ghost use Rattle.std.specs.Prelude.{◌≡◌, ◌≢◌, IsTrue};
+ghost use Rattle.edge_io.specs.Cause.{NoFault};
+ghost use Rattle.edge_io.specs.Used.{UsedAsSource, UsedAsSink};
+ghost use Rattle.lte_sec_app.specs.Run.{CommandAt, CommandIsComplete, WritesAt};
+ghost use Rattle.lte_sec_app.specs.Text.{text_output, HoldsAt, HoldsOf};
+
+use crate::command::TextCommand;
+use crate::ladder::write_ladder;
+use crate::reading::read_text;
+use crate::scenario::write_scenario;
+use crate::status::Status;
+use edge_io::{Sink, Source};
+use std::alloc::Global;
+
+// A command that reads a text and writes its output.
+pub(crate) fn answer_text<R: Source, W: Sink>(
+    alloc: Global,
+    command: TextCommand,
+    input: &mut R,
+    out: &mut W,
+) -> Status
+    requires input_ready { IsTrue (R.told input.old).ready }
+    requires out_ready { IsTrue (W.told out.old).ready }
+    ensures at { CommandAt (text_output command) result (R.told input.old) (R.told input.new) (W.told out.old) (W.told out.new) }
+    ensures complete { CommandIsComplete (text_output command) result (R.told input.old) (R.told input.new) (W.told out.old) (W.told out.new) }
+    ensures holds { HoldsOf command result (R.told input.old) }
+    ensures unread { result ≡ Status.ReadFault → out.new ≡ out.old }
+    ensures too_long { result ≡ Status.TooLong → out.new ≡ out.old }
+    ensures no_read_fault { result ≢ Status.ReadFault → NoFault (R.told input.old) (R.told input.new) }
+    ensures no_write_fault { result ≢ Status.WriteFault → NoFault (W.told out.old) (W.told out.new) }
+    ensures input { UsedAsSource (R.told input.old) (R.told input.new) }
+    ensures out { UsedAsSink (W.told out.old) (W.told out.new) }
+{
+    match read_text(alloc, input) {
+        Ok(octets) => write_text(alloc, command, &octets, out),
+        Err(status) => status,
+    }
+}
+
+// Writes the output of a command for a text.
+fn write_text<W: Sink>(alloc: Global, command: TextCommand, octets: &[u8], out: &mut W) -> Status
+    requires { IsTrue (W.told out.old).ready }
+    ensures text { WritesAt (text_output command octets.now) result (W.told out.old) (W.told out.new) }
+    ensures holds { HoldsAt command result octets.now }
+    ensures no_fault { result ≢ Status.WriteFault → NoFault (W.told out.old) (W.told out.new) }
+    ensures out { UsedAsSink (W.told out.old) (W.told out.new) }
+{
+    match command {
+        TextCommand::Ladder => write_ladder(alloc, octets, out),
+        TextCommand::Run => write_scenario(alloc, octets, out),
+    }
+}
