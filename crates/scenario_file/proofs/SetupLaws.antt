@@ -1,13 +1,13 @@
 -- A setup that was read is one that a system can start with.
 use Rattle.std.proofs.Common.{◌≡◌, ℕ, ◌==◌, ◌<◌, ◌≤◌, ◌^◌, ◌-◌, true, false, ◌&&◌, List, [], ◌∷◌, ◌++◌, length, refl, sym, ◌∙◌, subst, Some, None, Result, Ok, Err, All, arith, ⊎_elim, ◌⊎◌, inl, inr}
-use Rattle.std.specs.Prelude.{IsTrue, IfOk, nat_le, nat_lt, if◌then◌else◌}
+use Rattle.std.specs.Prelude.{IsTrue, IfOk, nat_le, nat_lt, if◌then◌else◌, slice_set}
 use Rattle.std.specs.Option.{ok_or}
 use Rattle.std.specs.List.{list_any, IsDistinct}
 use Rattle.std.specs.Cmp.{IsEquivalence}
 use Rattle.std.proofs.lemmas.Bool.{cases_Bool, and_parts, leb-true}
-use Rattle.std.proofs.lemmas.List.{length-append}
+use Rattle.std.proofs.lemmas.List.{length-append, length-set, length-replicate}
 use Rattle.std.proofs.lemmas.Bool.Decides.{nat_tests}
-use Rattle.std.proofs.lemmas.List.Elements.{All-push, All-nil}
+use Rattle.std.proofs.lemmas.List.Elements.{All-push, All-nil, All-set, All-replicate}
 use Rattle.std.proofs.lemmas.List.Folds.{list_any-append}
 use Rattle.std.proofs.lemmas.Map.Keys.{IsDistinct-push}
 use Rattle.toml.specs.Data.{Items, no_items, item, Members, as_table}
@@ -17,14 +17,18 @@ use Rattle.lte_events.specs.Site.{Site, is_site}
 use Rattle.lte_events.specs.declared.setups.Setup.{Setup}
 use Rattle.lte_events.specs.declared.setups.StationSetup.{StationSetup}
 use Rattle.lte_events.specs.Conditions.{has_station, IsStation, CanStart, AreCaps, SetupFits}
-use Rattle.scenario_file.specs.declared.fields.Field.TheVariants.{Caps as CapsField, Phone, Core, Station, Step, First, Priority, Id, Cells}
+use Rattle.scenario_file.specs.declared.fields.Field.TheVariants.{Caps as CapsField, Phone, Core, Station, Step, First, Priority, Id, Cells, Fleet, Phones}
 use Rattle.scenario_file.specs.declared.faults.Refusal.{Refusal}
 use Rattle.scenario_file.specs.declared.faults.Refusal.TheVariants.{Missing, Wrong}
 use Rattle.scenario_file.specs.declared.setup.Network.{Network}
 use Rattle.scenario_file.specs.declared.setup.Numbers.{Numbers}
+use Rattle.scenario_file.specs.declared.setup.Start.{Start}
+use Rattle.scenario_file.specs.declared.systems.System.{System}
+use Rattle.scenario_file.specs.declared.systems.System.TheVariants as system
+use Rattle.scenario_file.specs.Systems.{more_at_top, more_of_station}
 use Rattle.scenario_file.specs.Keys.{only_in}
 use Rattle.scenario_file.specs.Values.{or_default, number_in, first_in, priority_in, array_in, table_in, tables_in, cell_of, count_of}
-use Rattle.scenario_file.specs.Setup.{usual_priority, phone_of, numbers_in, core_in, core_of, id_in, with_site, sites_from, cells_in, with_station, station_from, stations_from, network_of, setup_of}
+use Rattle.scenario_file.specs.Setup.{usual_priority, phones_in, phones_of, phone_of, numbers_in, core_in, core_of, id_in, with_site, sites_from, cells_in, core_number_in, with_station, station_from, stations_from, no_stations, network_of, start_of}
 use Rattle.scenario_file.proofs.FirstFault.{then_ok, then_some, ok_or_ok, ok_same, not_read, default_ok, number_in_range}
 use Rattle.scenario_file.proofs.Ranges.{caps_fit, cell_of_place}
 
@@ -55,6 +59,13 @@ core_good : (document : Members) (core : Numbers) → core_of document ≡ Ok co
 unfolding core_of
 core_good document core = default_ok (λ (n : Numbers). IsFirst n.first) _ core_in Core document core (omega arith, omega arith) (core_in_good document)
 
+-- the core of each of eight stations, 0 or 1
+abbrev AreCores : List ℕ → Type 0
+AreCores cores = All (λ core. core ≤ 1) cores × (length cores ≡ 8)
+
+core_good_at : (cores : List ℕ) (id core : ℕ) → AreCores cores → core ≤ 1 → AreCores (slice_set cores id core)
+core_good_at cores id core good fits = (All-set (λ n. n ≤ 1) cores id core fits good.0, length-set cores id core ∙ good.1)
+
 -- what holds of the stations read so far and of their cells
 record GoodNetwork (network : Network) : Type 0 where
   stations : All IsStation network.stations
@@ -62,6 +73,7 @@ record GoodNetwork (network : Network) : Type 0 where
   cells_have_stations : All (λ site. IsTrue (has_station network.stations site.station)) network.cells
   firsts_fit : All (λ s. s.first < 2 ^ 32) network.stations
   cells_fit : All (λ site. IsCell site.cell) network.cells
+  cores_fit : AreCores network.core_of
 
 same_id : IsEquivalence {K = StationSetup} (λ s t. s.id == t.id)
 same_id = record {
@@ -128,45 +140,53 @@ apart : (stations : List StationSetup) (id : ℕ) → list_any (λ t. id == t.id
 apart [] id = refl
 apart (s ∷ stations) id = rw (equal_turned id s.id, apart stations id) refl
 
-one_more_good : (network : Network) (id : ℕ) (numbers : Numbers) (cells : List Site) → GoodNetwork network → (id ≤ 7) × (has_station network.stations id ≡ false) → IsFirst numbers.first
+one_more_good : (network : Network) (id : ℕ) (numbers : Numbers) (cells : List Site) (core : ℕ) → GoodNetwork network → (id ≤ 7) × (has_station network.stations id ≡ false) → IsFirst numbers.first
     → All (λ site. IsTrue (has_station (network.stations ++ record { id = id; priority = numbers.priority; first = numbers.first } ∷ []) site.station)) cells
     → All (λ site. IsCell site.cell) cells
-    → GoodNetwork (record { stations = network.stations ++ record { id = id; priority = numbers.priority; first = numbers.first } ∷ []; cells = cells })
-one_more_good network id numbers cells good new least stand fit = record {
+    → core ≤ 1
+    → GoodNetwork (record { stations = network.stations ++ record { id = id; priority = numbers.priority; first = numbers.first } ∷ []; cells = cells; core_of = slice_set network.core_of id core })
+one_more_good network id numbers cells core good new least stand fit own = record {
   stations = All-push IsStation network.stations _ good.stations (new.0, least.0);
   ids_differ = IsDistinct-push same_id network.stations _ good.ids_differ (apart network.stations id ∙ new.1);
   cells_have_stations = stand;
   firsts_fit = All-push (λ s. s.first < 2 ^ 32) network.stations _ good.firsts_fit least.1;
   cells_fit = fit;
+  cores_fit = core_good_at network.core_of id core good.cores_fit own;
 }
 
+-- a core is 0 or 1
+core_number_good : (table : Members) (core : ℕ) → core_number_in table ≡ Ok core → core ≤ 1
+core_number_good table core = default_ok (λ n. n ≤ 1) 0 (number_in 0 1) Core table core (omega arith) (λ n read. (number_in_range 0 1 Core table n read).1)
+
 -- one station more
-with_station_good : (network : Network) (table : Members) (next : Network) → GoodNetwork network → with_station network table ≡ Ok next → GoodNetwork next
+with_station_good : (system : System) (network : Network) (table : Members) (next : Network) → GoodNetwork network → with_station system network table ≡ Ok next → GoodNetwork next
 unfolding with_station
-with_station_good network table next good =
-    then_ok (GoodNetwork next) (only_in (Id ∷ Priority ∷ First ∷ Cells ∷ []) table) _ next (λ known e1.
+with_station_good system network table next good =
+    then_ok (GoodNetwork next) (only_in (Id ∷ Priority ∷ First ∷ Cells ∷ more_of_station system) table) _ next (λ known e1.
     then_ok (GoodNetwork next) (id_in network.stations table) _ next (λ id read_id.
     then_ok (GoodNetwork next) (numbers_in table) _ next (λ numbers read_numbers.
-    then_ok (GoodNetwork next) (cells_in network.cells id table) _ next (λ cells read_cells whole.
+    then_ok (GoodNetwork next) (cells_in network.cells id table) _ next (λ cells read_cells.
+    then_ok (GoodNetwork next) (core_number_in table) _ next (λ core read_core whole.
     subst GoodNetwork (ok_same _ _ next refl whole)
-    (one_more_good network id numbers cells good (id_good network.stations table id read_id) (numbers_good table numbers read_numbers)
+    (one_more_good network id numbers cells core good (id_good network.stations table id read_id) (numbers_good table numbers read_numbers)
     (cells_good (λ site. IsTrue (has_station (network.stations ++ record { id = id; priority = numbers.priority; first = numbers.first } ∷ []) site.station)) network.cells id table cells
     (λ k d below. stands_on network.stations _ _ (good.cells_have_stations k d below))
     (λ cell fits. stands_itself network.stations (record { id = id; priority = numbers.priority; first = numbers.first }))
     read_cells)
-    (cells_good (λ site. IsCell site.cell) network.cells id table cells good.cells_fit (λ cell fits. fits) read_cells))))))
+    (cells_good (λ site. IsCell site.cell) network.cells id table cells good.cells_fit (λ cell fits. fits) read_cells)
+    (core_number_good table core read_core)))))))
 
-stations_good : (network : Network) (values : Items) (next : Network) → GoodNetwork network → stations_from network values ≡ Ok next → GoodNetwork next
-stations_good network no_items next good read = subst GoodNetwork (ok_same _ network next refl read) good
-stations_good network (item value values) next good read =
-    then_ok (GoodNetwork next) (station_from network value) _ next (λ one first rest.
-    stations_good one values next
-    (then_ok (GoodNetwork one) (ok_or (as_table value) (Wrong Station)) _ one (λ table e more. with_station_good network table one good more) first)
+stations_good : (system : System) (network : Network) (values : Items) (next : Network) → GoodNetwork network → stations_from system network values ≡ Ok next → GoodNetwork next
+stations_good system network no_items next good read = subst GoodNetwork (ok_same _ network next refl read) good
+stations_good system network (item value values) next good read =
+    then_ok (GoodNetwork next) (station_from system network value) _ next (λ one first rest.
+    stations_good system one values next
+    (then_ok (GoodNetwork one) (ok_or (as_table value) (Wrong Station)) _ one (λ table e more. with_station_good system network table one good more) first)
     rest) read
 
-no_station : GoodNetwork (record { stations = []; cells = [] })
+no_station : GoodNetwork no_stations
 unfolding IsDistinct
-no_station = record { stations = All-nil _; ids_differ = tt; cells_have_stations = All-nil _; firsts_fit = All-nil _; cells_fit = All-nil _ }
+no_station = record { stations = All-nil _; ids_differ = tt; cells_have_stations = All-nil _; firsts_fit = All-nil _; cells_fit = All-nil _; cores_fit = (All-replicate (λ core. core ≤ 1) 8 0 (omega arith), length-replicate {A = ℕ} 8 0) }
 
 -- AT LEAST ONE CELL
 
@@ -201,23 +221,24 @@ unfolding cells_in
 some_cells sites id table more =
     then_ok (1 ≤ length more) (array_in Cells table) _ more (λ values e read. if_few_cells sites id values more (ok_or_ok _ _ more read))
 
-station_has_cells : (network : Network) (table : Members) (next : Network) → with_station network table ≡ Ok next → 1 ≤ length next.cells
+station_has_cells : (system : System) (network : Network) (table : Members) (next : Network) → with_station system network table ≡ Ok next → 1 ≤ length next.cells
 unfolding with_station
-station_has_cells network table next =
-    then_ok (1 ≤ length next.cells) (only_in (Id ∷ Priority ∷ First ∷ Cells ∷ []) table) _ next (λ known e1.
+station_has_cells system network table next =
+    then_ok (1 ≤ length next.cells) (only_in (Id ∷ Priority ∷ First ∷ Cells ∷ more_of_station system) table) _ next (λ known e1.
     then_ok (1 ≤ length next.cells) (id_in network.stations table) _ next (λ id read_id.
     then_ok (1 ≤ length next.cells) (numbers_in table) _ next (λ numbers read_numbers.
-    then_ok (1 ≤ length next.cells) (cells_in network.cells id table) _ next (λ cells read_cells whole.
+    then_ok (1 ≤ length next.cells) (cells_in network.cells id table) _ next (λ cells read_cells.
+    then_ok (1 ≤ length next.cells) (core_number_in table) _ next (λ core read_core whole.
     subst (λ (n : Network). 1 ≤ length n.cells) (ok_same _ _ next refl whole)
-    (some_cells network.cells id table cells read_cells)))))
+    (some_cells network.cells id table cells read_cells))))))
 
-stations_have_cells : (network : Network) (values : Items) (next : Network) → (1 ≤ length network.cells) ⊎ (1 ≤ count_of values) → stations_from network values ≡ Ok next → 1 ≤ length next.cells
-stations_have_cells network no_items next (inl some) read = subst (λ (n : Network). 1 ≤ length n.cells) (ok_same _ network next refl read) some
-stations_have_cells network no_items next (inr none) read = absurd (omega (arith, none))
-stations_have_cells network (item value values) next some read =
-    then_ok (1 ≤ length next.cells) (station_from network value) _ next (λ one first rest.
-    stations_have_cells one values next
-    (inl (then_ok (1 ≤ length one.cells) (ok_or (as_table value) (Wrong Station)) _ one (λ table e more. station_has_cells network table one more) first))
+stations_have_cells : (system : System) (network : Network) (values : Items) (next : Network) → (1 ≤ length network.cells) ⊎ (1 ≤ count_of values) → stations_from system network values ≡ Ok next → 1 ≤ length next.cells
+stations_have_cells system network no_items next (inl some) read = subst (λ (n : Network). 1 ≤ length n.cells) (ok_same _ network next refl read) some
+stations_have_cells system network no_items next (inr none) read = absurd (omega (arith, none))
+stations_have_cells system network (item value values) next some read =
+    then_ok (1 ≤ length next.cells) (station_from system network value) _ next (λ one first rest.
+    stations_have_cells system one values next
+    (inl (then_ok (1 ≤ length one.cells) (ok_or (as_table value) (Wrong Station)) _ one (λ table e more. station_has_cells system network table one more) first))
     rest) read
 
 -- what holds of all stations and of their cells
@@ -228,24 +249,24 @@ record WholeNetwork (network : Network) : Type 0 where
 not_none : (n : ℕ) → (n == 0) ≡ false → 1 ≤ n
 not_none n some = grind (arith, nat_tests, some)
 
-abbrev from_tables : Items → Result Network Refusal
-from_tables values = if count_of values == 0 then Err (Missing Station) else (if nat_lt 8 (count_of values) then Err (Wrong Station) else stations_from (record { stations = []; cells = [] }) values)
+abbrev from_tables : System → Items → Result Network Refusal
+from_tables system values = if count_of values == 0 then Err (Missing Station) else (if nat_lt 8 (count_of values) then Err (Wrong Station) else stations_from system no_stations values)
 
-some_good : (values : Items) (network : Network) → from_tables values ≡ Ok network
+some_good : (system : System) (values : Items) (network : Network) → from_tables system values ≡ Ok network
     → WholeNetwork network
-some_good values network = ⊎_elim
-    (λ (none : (count_of values == 0) ≡ true). λ (read : from_tables values ≡ Ok network). not_read _ (Missing Station) network refl (rw none at read))
-    (λ (some : (count_of values == 0) ≡ false). λ (read : from_tables values ≡ Ok network). ⊎_elim
+some_good system values network = ⊎_elim
+    (λ (none : (count_of values == 0) ≡ true). λ (read : from_tables system values ≡ Ok network). not_read _ (Missing Station) network refl (rw none at read))
+    (λ (some : (count_of values == 0) ≡ false). λ (read : from_tables system values ≡ Ok network). ⊎_elim
     (λ (many : nat_lt 8 (count_of values) ≡ true). not_read _ (Wrong Station) network refl (rw many at (rw some at read)))
     (λ (few : nat_lt 8 (count_of values) ≡ false).
-    let all : stations_from (record { stations = []; cells = [] }) values ≡ Ok network = rw few at (rw some at read) in
-    record { good = stations_good _ values network no_station all; some = stations_have_cells _ values network (inr (not_none _ some)) all })
+    let all : stations_from system no_stations values ≡ Ok network = rw few at (rw some at read) in
+    record { good = stations_good system _ values network no_station all; some = stations_have_cells system _ values network (inr (not_none _ some)) all })
     (cases_Bool (nat_lt 8 (count_of values))))
     (cases_Bool (count_of values == 0))
 
-network_good : (document : Members) (network : Network) → network_of document ≡ Ok network → WholeNetwork network
+network_good : (system : System) (document : Members) (network : Network) → network_of system document ≡ Ok network → WholeNetwork network
 unfolding network_of
-network_good document network = then_ok (WholeNetwork network) (tables_in Station document) _ network (λ values e read. some_good values network read)
+network_good system document network = then_ok (WholeNetwork network) (tables_in Station document) _ network (λ values e read. some_good system values network read)
 
 phone_good : (document : Members) (caps : Caps) → phone_of document ≡ Ok caps → AreCaps caps
 unfolding phone_of
@@ -254,51 +275,85 @@ phone_good document caps =
     then_ok (AreCaps caps) (only_in (CapsField ∷ []) phone) _ caps (λ known e read.
     caps_fit CapsField phone (Ok caps) (sym read)) more)
 
--- what holds of a setup that was read
-record GoodSetup (setup : Setup) : Type 0 where
-  can : CanStart setup
-  fits : SetupFits setup
-  cells : 1 ≤ length setup.cells
+-- a fleet has 1 to 256 phones, and another system one
+abbrev AreSome : ℕ → Type 0
+AreSome phones = (1 ≤ phones) × (phones ≤ 256)
 
-of_parts : (caps : Caps) (core : Numbers) (network : Network) → AreCaps caps → IsFirst core.first → WholeNetwork network
-    → GoodSetup (record { caps = caps; core_priority = core.priority; core_first = core.first; stations = network.stations; cells = network.cells })
-of_parts caps core network caps_good core_good whole = let good = whole.good in record {
+fleet_good : (document : Members) (phones : ℕ) → phones_in document ≡ Ok phones → AreSome phones
+unfolding phones_in
+fleet_good document phones =
+    then_ok (AreSome phones) (table_in Fleet document) _ phones (λ fleet e more.
+    then_ok (AreSome phones) (only_in (Phones ∷ []) fleet) _ phones (λ known e read. number_in_range 1 256 Phones fleet phones read) more)
+
+phones_good : (system : System) (document : Members) (phones : ℕ) → phones_of system document ≡ Ok phones → AreSome phones
+phones_good system.Single document phones read = subst AreSome (ok_same _ 1 phones refl read) (omega arith, omega arith)
+phones_good system.Fleet document phones read = fleet_good document phones read
+phones_good system.TwoCores document phones read = subst AreSome (ok_same _ 1 phones refl read) (omega arith, omega arith)
+
+-- what holds of a start that was read
+record GoodStart (start : Start) : Type 0 where
+  can : CanStart start.setup
+  fits : SetupFits start.setup
+  cells : 1 ≤ length start.setup.cells
+  phones : AreSome start.phones
+  cores : AreCores start.core_of
+
+of_parts : (phones : ℕ) (caps : Caps) (core : Numbers) (network : Network) → AreSome phones → AreCaps caps → IsFirst core.first → WholeNetwork network
+    → GoodStart (record {
+      setup = record { caps = caps; core_priority = core.priority; core_first = core.first; stations = network.stations; cells = network.cells };
+      phones = phones;
+      core_of = network.core_of;
+    })
+of_parts phones caps core network phones_are caps_good core_is whole = let good = whole.good in record {
   can = record {
-    core_first = core_good.0;
+    core_first = core_is.0;
     stations = good.stations;
     ids_differ = good.ids_differ;
     cells_have_stations = good.cells_have_stations;
   };
   fits = record {
     caps = caps_good;
-    core_first = core_good.1;
+    core_first = core_is.1;
     stations = good.firsts_fit;
     cells = good.cells_fit;
   };
   cells = whole.some;
+  phones = phones_are;
+  cores = good.cores_fit;
 }
 
-setup_good_of : (document : Members) (setup : Setup) → setup_of document ≡ Ok setup → GoodSetup setup
-unfolding setup_of
-setup_good_of document setup =
-    then_ok (GoodSetup setup) (only_in (Phone ∷ Core ∷ Station ∷ Step ∷ []) document) _ setup (λ known e1.
-    then_ok (GoodSetup setup) (phone_of document) _ setup (λ caps read_caps.
-    then_ok (GoodSetup setup) (core_of document) _ setup (λ core read_core.
-    then_ok (GoodSetup setup) (network_of document) _ setup (λ network read_network whole.
-    subst GoodSetup (ok_same _ _ setup refl whole)
-    (of_parts caps core network (phone_good document caps read_caps) (core_good document core read_core) (network_good document network read_network))))))
+start_good : (system : System) (document : Members) (start : Start) → start_of system document ≡ Ok start → GoodStart start
+unfolding start_of
+start_good system document start =
+    then_ok (GoodStart start) (only_in (Phone ∷ Core ∷ Station ∷ Step ∷ more_at_top system) document) _ start (λ known e1.
+    then_ok (GoodStart start) (phones_of system document) _ start (λ phones read_phones.
+    then_ok (GoodStart start) (phone_of document) _ start (λ caps read_caps.
+    then_ok (GoodStart start) (core_of document) _ start (λ core read_core.
+    then_ok (GoodStart start) (network_of system document) _ start (λ network read_network whole.
+    subst GoodStart (ok_same _ _ start refl whole)
+    (of_parts phones caps core network (phones_good system document phones read_phones) (phone_good document caps read_caps) (core_good document core read_core) (network_good system document network read_network)))))))
 
--- what is read of a setup is one that a system can start with
-pub setup_can : (document : Members) (r : Result Setup Refusal) → r ≡ setup_of document → IfOk r CanStart
-setup_can document (Ok setup) read = (setup_good_of document setup (sym read)).can
-setup_can document (Err refusal) read = tt
+-- what is read of the start is something that a system can start with
+pub start_can : (system : System) (document : Members) (r : Result Start Refusal) → r ≡ start_of system document → IfOk r (λ s. CanStart s.setup)
+start_can system document (Ok start) read = (start_good system document start (sym read)).can
+start_can system document (Err refusal) read = tt
 
 -- and each number is in its range
-pub setup_fits : (document : Members) (r : Result Setup Refusal) → r ≡ setup_of document → IfOk r SetupFits
-setup_fits document (Ok setup) read = (setup_good_of document setup (sym read)).fits
-setup_fits document (Err refusal) read = tt
+pub start_fits : (system : System) (document : Members) (r : Result Start Refusal) → r ≡ start_of system document → IfOk r (λ s. SetupFits s.setup)
+start_fits system document (Ok start) read = (start_good system document start (sym read)).fits
+start_fits system document (Err refusal) read = tt
 
 -- and there is a cell at least
-pub setup_cells : (document : Members) (r : Result Setup Refusal) → r ≡ setup_of document → IfOk r (λ s. 1 ≤ length s.cells)
-setup_cells document (Ok setup) read = (setup_good_of document setup (sym read)).cells
-setup_cells document (Err refusal) read = tt
+pub start_cells : (system : System) (document : Members) (r : Result Start Refusal) → r ≡ start_of system document → IfOk r (λ s. 1 ≤ length s.setup.cells)
+start_cells system document (Ok start) read = (start_good system document start (sym read)).cells
+start_cells system document (Err refusal) read = tt
+
+-- and a phone, and no more than a fleet has
+pub start_phones : (system : System) (document : Members) (r : Result Start Refusal) → r ≡ start_of system document → IfOk r (λ s. (1 ≤ s.phones) × (s.phones ≤ 256))
+start_phones system document (Ok start) read = (start_good system document start (sym read)).phones
+start_phones system document (Err refusal) read = tt
+
+-- and a core for each number of a station
+pub start_cores : (system : System) (document : Members) (r : Result Start Refusal) → r ≡ start_of system document → IfOk r (λ s. All (λ core. core ≤ 1) s.core_of × (length s.core_of ≡ 8))
+start_cores system document (Ok start) read = (start_good system document start (sym read)).cores
+start_cores system document (Err refusal) read = tt

@@ -1,4 +1,5 @@
 pub mod Field
+pub mod Systems
 pub mod Words
 pub mod Values
 pub mod Keys

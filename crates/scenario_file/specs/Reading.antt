@@ -6,13 +6,17 @@ use Rattle.toml.specs.Data.{Data, Items, no_items, item, Members, as_table}
 use Rattle.toml.specs.Parse.{parse_document}
 use Rattle.lte_events.specs.declared.events.Event.{Event}
 use Rattle.lte_events.specs.declared.setups.Setup.{Setup}
-use Rattle.scenario_file.specs.declared.fields.Field.TheVariants.{Step}
+use Rattle.scenario_file.specs.declared.fields.Field.TheVariants.{Step as StepField}
 use Rattle.scenario_file.specs.declared.faults.Refusal.{Refusal}
 use Rattle.scenario_file.specs.declared.faults.Refusal.TheVariants as refusal
 use Rattle.scenario_file.specs.declared.faults.ScenarioFault.{ScenarioFault}
 use Rattle.scenario_file.specs.declared.faults.ScenarioFault.TheVariants.{NotToml, Missing, Wrong, Unknown, TooMany}
 use Rattle.scenario_file.specs.Values.{◌>>=◌, or_default, tables_in, count_of}
-use Rattle.scenario_file.specs.Setup.{setup_of}
+use Rattle.scenario_file.specs.declared.kept.Step.{Step}
+use Rattle.scenario_file.specs.declared.setup.Start.{Start}
+use Rattle.scenario_file.specs.declared.systems.System.{System}
+use Rattle.scenario_file.specs.declared.systems.System.TheVariants as system
+use Rattle.scenario_file.specs.Setup.{start_of}
 use Rattle.scenario_file.specs.Steps.{step_of}
 
 -- the fault of a refused table: of a step by its number, or before the steps
@@ -27,38 +31,55 @@ at_place step (Err refusal) = Err (fault_at step refusal)
 
 -- the tables of the steps, of which there may be none
 unfoldable pub steps_of : Members → Result Items Refusal
-steps_of document = or_default no_items tables_in Step document
+steps_of document = or_default no_items tables_in StepField document
 
--- the step of this number
-abbrev pub event_of : Setup → Data → Result Event Refusal
-event_of setup value = ok_or (as_table value) (refusal.Wrong Step) >>= λ table. step_of setup table
+-- what a step says; it is named by its number where it is refused
+abbrev pub step_in : System → Start → Data → Result Step Refusal
+step_in system start value = ok_or (as_table value) (refusal.Wrong StepField) >>= λ table. step_of system start table
 
-abbrev pub event_at : Setup → ℕ → Data → Result Event ScenarioFault
-event_at setup n value = at_place (Some n) (event_of setup value)
+abbrev pub step_at : System → Start → ℕ → Data → Result Step ScenarioFault
+step_at system start n value = at_place (Some n) (step_in system start value)
 
--- the events of the steps behind those read so far
-abbrev pub events_from : Setup → List Event → Items → Result (List Event) ScenarioFault
-events_from setup so_far no_items = Ok so_far
-events_from setup so_far (item value values) =
-    event_at setup (length so_far) value >>= λ event. events_from setup (so_far ++ event ∷ []) values
+-- what is kept of the steps, behind what is kept of those read so far
+abbrev pub kept_from : {E : Type 0} → (Step → E) → System → Start → List E → Items → Result (List E) ScenarioFault
+kept_from kept system start so_far no_items = Ok so_far
+kept_from kept system start so_far (item value values) =
+    step_at system start (length so_far) value >>= λ step. kept_from kept system start (so_far ++ kept step ∷ []) values
 
 -- at most 200,000 steps
 abbrev pub if_few : Items → Result (Unit {0}) ScenarioFault
 if_few values = if nat_lt 200000 (count_of values) then Err TooMany else Ok tt
 
--- the scenario of a document
-unfoldable pub scenario_of : Members → Result (Setup × List Event) ScenarioFault
-scenario_of document = do
-  setup ← at_place None (setup_of document)
+-- what a document says of a system of this kind: what it starts with, and what is kept of each step
+unfoldable pub whole_of : {E : Type 0} → (Step → E) → System → Members → Result (Start × List E) ScenarioFault
+whole_of kept system document = do
+  start ← at_place None (start_of system document)
   values ← at_place None (steps_of document)
   few ← if_few values
-  events ← events_from setup [] values
-  Ok (setup, events)
+  steps ← kept_from kept system start [] values
+  Ok (start, steps)
 
 -- the document that a text is, if it is one
 unfoldable pub document_of : List ℕ → Option Members
 document_of text = if is_utf8 text then parse_document text else None
 
--- what a text says
+abbrev pub text_of : {E : Type 0} → (Step → E) → System → List ℕ → Result (Start × List E) ScenarioFault
+text_of kept system text = ok_or (document_of text) NotToml >>= whole_of kept system
+
+-- what a text says of one phone and one core: the setup and the events
 unfoldable pub reading_of : List ℕ → Result (Setup × List Event) ScenarioFault
-reading_of text = ok_or (document_of text) NotToml >>= scenario_of
+reading_of text = do
+  whole ← text_of (λ step. step.event) system.Single text
+  Ok (whole.0.setup, whole.1)
+
+-- of a fleet: how many phones too, and the phone of each event
+unfoldable pub fleet_reading_of : List ℕ → Result (Setup × ℕ × List (ℕ × Event)) ScenarioFault
+fleet_reading_of text = do
+  whole ← text_of (λ step. (step.phone, step.event)) system.Fleet text
+  Ok (whole.0.setup, whole.0.phones, whole.1)
+
+-- of two cores: the core of each station too, by the station's number
+unfoldable pub two_reading_of : List ℕ → Result (Setup × List ℕ × List Event) ScenarioFault
+two_reading_of text = do
+  whole ← text_of (λ step. step.event) system.TwoCores text
+  Ok (whole.0.setup, whole.0.core_of, whole.1)

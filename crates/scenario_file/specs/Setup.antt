@@ -1,5 +1,5 @@
--- What a system starts with: the tables of the phone, the core and the stations.
-use Rattle.std.specs.Prelude.{ℕ, ◌==◌, nat_le, nat_lt, ◌&&◌, if◌then◌else◌, List, [], ◌∷◌, ◌++◌, Option, Some, None, option_and_then, Result, Ok, Err}
+-- What a system starts with: the tables of the fleet, the phone, the core and the stations.
+use Rattle.std.specs.Prelude.{ℕ, ◌==◌, nat_le, nat_lt, ◌&&◌, if◌then◌else◌, List, [], ◌∷◌, ◌++◌, replicate, slice_set, Option, Some, None, option_and_then, Result, Ok, Err}
 use Rattle.std.specs.Option.{ok_or}
 use Rattle.std.specs.List.{list_any}
 use Rattle.toml.specs.Data.{Data, Items, no_items, item, Members, as_table}
@@ -12,17 +12,34 @@ use Rattle.lte_events.specs.declared.setups.Setup.{Setup}
 use Rattle.lte_events.specs.declared.setups.StationSetup.{StationSetup}
 use Rattle.lte_events.specs.Conditions.{has_station}
 use Rattle.scenario_file.specs.declared.fields.Field.{Field}
-use Rattle.scenario_file.specs.declared.fields.Field.TheVariants.{Phone, Core, Station, Step, Caps as CapsField, Priority, First, Id, Cells}
+use Rattle.scenario_file.specs.declared.fields.Field.TheVariants.{Phone, Core, Station, Step, Caps as CapsField, Priority, First, Id, Cells, Fleet, Phones}
 use Rattle.scenario_file.specs.declared.faults.Refusal.{Refusal}
 use Rattle.scenario_file.specs.declared.faults.Refusal.TheVariants.{Missing, Wrong}
 use Rattle.scenario_file.specs.declared.setup.Network.{Network}
 use Rattle.scenario_file.specs.declared.setup.Numbers.{Numbers}
+use Rattle.scenario_file.specs.declared.setup.Start.{Start}
+use Rattle.scenario_file.specs.declared.systems.System.{System}
+use Rattle.scenario_file.specs.declared.systems.System.TheVariants as system
+use Rattle.scenario_file.specs.Systems.{more_at_top, more_of_station}
 use Rattle.scenario_file.specs.Keys.{only_in}
 use Rattle.scenario_file.specs.Values.{◌>>=◌, or_default, table_in, tables_in, array_in, count_of, number_in, first_in, caps_in, priority_in, cell_of}
 
 -- 128-EEA2 before EEA0, where no list is given
 abbrev pub usual_priority : List Eea
 usual_priority = Eea2 ∷ Eea0 ∷ []
+
+-- [fleet]: how many phones
+unfoldable pub phones_in : Members → Result ℕ Refusal
+phones_in document = do
+  fleet ← table_in Fleet document
+  known ← only_in (Phones ∷ []) fleet
+  number_in 1 256 Phones fleet
+
+-- one phone where there is no fleet
+abbrev pub phones_of : System → Members → Result ℕ Refusal
+phones_of system.Single document = Ok 1
+phones_of system.Fleet document = phones_in document
+phones_of system.TwoCores document = Ok 1
 
 -- [phone]
 unfoldable pub phone_of : Members → Result Caps Refusal
@@ -69,44 +86,59 @@ cells_in sites id table = do
   values ← array_in Cells table
   ok_or (if nat_le 1 (count_of values) && nat_le (count_of values) 4 then sites_from sites id values else None) (Wrong Cells)
 
+-- the core of a station: the one that there is, or of two cores the first, where none is given
+abbrev pub core_number_in : Members → Result ℕ Refusal
+core_number_in table = or_default 0 (number_in 0 1) Core table
+
 -- one [[station]] more
-unfoldable pub with_station : Network → Members → Result Network Refusal
-with_station network table = do
-  known ← only_in (Id ∷ Priority ∷ First ∷ Cells ∷ []) table
+unfoldable pub with_station : System → Network → Members → Result Network Refusal
+with_station system network table = do
+  known ← only_in (Id ∷ Priority ∷ First ∷ Cells ∷ more_of_station system) table
   id ← id_in network.stations table
   numbers ← numbers_in table
   cells ← cells_in network.cells id table
+  core ← core_number_in table
   Ok (record {
     stations = network.stations ++ record { id = id; priority = numbers.priority; first = numbers.first } ∷ [];
     cells = cells;
+    core_of = slice_set network.core_of id core;
   })
 
-abbrev pub station_from : Network → Data → Result Network Refusal
-station_from network value = ok_or (as_table value) (Wrong Station) >>= λ table. with_station network table
+abbrev pub station_from : System → Network → Data → Result Network Refusal
+station_from system network value = ok_or (as_table value) (Wrong Station) >>= λ table. with_station system network table
 
 -- the [[station]] in their order
-abbrev pub stations_from : Network → Items → Result Network Refusal
-stations_from network no_items = Ok network
-stations_from network (item value values) = station_from network value >>= λ next. stations_from next values
+abbrev pub stations_from : System → Network → Items → Result Network Refusal
+stations_from system network no_items = Ok network
+stations_from system network (item value values) = station_from system network value >>= λ next. stations_from system next values
+
+-- no station yet
+abbrev pub no_stations : Network
+no_stations = record { stations = []; cells = []; core_of = replicate 8 0 }
 
 -- 1 to 8 stations
-unfoldable pub network_of : Members → Result Network Refusal
-network_of document = do
+unfoldable pub network_of : System → Members → Result Network Refusal
+network_of system document = do
   values ← tables_in Station document
   if count_of values == 0 then Err (Missing Station)
-      else (if nat_lt 8 (count_of values) then Err (Wrong Station) else stations_from (record { stations = []; cells = [] }) values)
+      else (if nat_lt 8 (count_of values) then Err (Wrong Station) else stations_from system no_stations values)
 
--- the setup of a document
-unfoldable pub setup_of : Members → Result Setup Refusal
-setup_of document = do
-  known ← only_in (Phone ∷ Core ∷ Station ∷ Step ∷ []) document
+-- what the system of a document starts with
+unfoldable pub start_of : System → Members → Result Start Refusal
+start_of system document = do
+  known ← only_in (Phone ∷ Core ∷ Station ∷ Step ∷ more_at_top system) document
+  phones ← phones_of system document
   caps ← phone_of document
   core ← core_of document
-  network ← network_of document
+  network ← network_of system document
   Ok (record {
-    caps = caps;
-    core_priority = core.priority;
-    core_first = core.first;
-    stations = network.stations;
-    cells = network.cells;
+    setup = record {
+      caps = caps;
+      core_priority = core.priority;
+      core_first = core.first;
+      stations = network.stations;
+      cells = network.cells;
+    };
+    phones = phones;
+    core_of = network.core_of;
   })

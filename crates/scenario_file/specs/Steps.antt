@@ -1,5 +1,5 @@
 -- The steps of a scenario: for each word of `do` the other fields, in their order, and the event.
-use Rattle.std.specs.Prelude.{ℕ, List, [], ◌∷◌, Option, Some, None, Result, Ok}
+use Rattle.std.specs.Prelude.{ℕ, ◌-◌, List, [], ◌∷◌, ◌++◌, Option, Some, None, Result, Ok}
 use Rattle.toml.specs.Data.{Members}
 use Rattle.rec_base.specs.declared.bearers.Bearer.{Bearer}
 use Rattle.lte_events.specs.declared.acts.HoKind.{HoKind}
@@ -13,7 +13,7 @@ use Rattle.lte_events.specs.declared.events.Event.{Event}
 use Rattle.lte_events.specs.declared.events.Event.TheVariants as event
 use Rattle.lte_events.specs.declared.setups.Setup.{Setup}
 use Rattle.scenario_file.specs.declared.fields.Field.{Field}
-use Rattle.scenario_file.specs.declared.fields.Field.TheVariants.{Station, Caps, Do, Ksi, Kasme, Cell, Record, From, Bearer as BearerField, Text, Who, N, To, Air, Octets}
+use Rattle.scenario_file.specs.declared.fields.Field.TheVariants.{Phone, Station, Caps, Do, Ksi, Kasme, Cell, Record, From, Bearer as BearerField, Text, Who, N, To, Air, Octets}
 use Rattle.scenario_file.specs.declared.faults.Refusal.{Refusal}
 use Rattle.scenario_file.specs.declared.words.Act.{Act}
 use Rattle.scenario_file.specs.declared.words.Act.TheVariants as act
@@ -25,35 +25,30 @@ use Rattle.scenario_file.specs.declared.words.NasEnd.{NasEnd}
 use Rattle.scenario_file.specs.declared.words.NasEnd.TheVariants as nas
 use Rattle.scenario_file.specs.declared.steps.Target.{Target}
 use Rattle.scenario_file.specs.declared.steps.Target.TheVariants as target
+use Rattle.scenario_file.specs.declared.kept.Step.{Step}
+use Rattle.scenario_file.specs.declared.setup.Start.{Start}
+use Rattle.scenario_file.specs.declared.systems.System.{System}
+use Rattle.scenario_file.specs.Systems.{more_of_step}
 use Rattle.scenario_file.specs.Keys.{only_in}
 use Rattle.scenario_file.specs.Values.{◌>>=◌, or_default, number_in, any_number_in, integer_in, station_in, act_in, actor_in, radio_end_in, nas_end_in, srb_in, drb_in, bearer_in, nas_in, path_in, caps_in, key_in, octets_in, cell_in}
 
 -- auth: phone and core authenticate; the capabilities are the phone's where none are given
 unfoldable pub auth_of : Setup → Members → Result Event Refusal
 auth_of setup table = do
-  known ← only_in (Do ∷ Ksi ∷ Kasme ∷ Caps ∷ []) table
   ksi ← number_in 0 6 Ksi table
   kasme ← key_in Kasme table
   caps ← or_default setup.caps caps_in Caps table
   Ok (event.Auth ksi kasme caps)
 
--- smc, release, service, resend, idle: no other field
-unfoldable pub bare_of : Event → Members → Result Event Refusal
-bare_of happens table = do
-  known ← only_in (Do ∷ []) table
-  Ok happens
-
 -- connect
 unfoldable pub connect_of : Members → Result Event Refusal
 connect_of table = do
-  known ← only_in (Do ∷ Cell ∷ []) table
   cell ← cell_in Cell table
   Ok (event.Core (core.Connect cell))
 
 -- x2, s1, intra
 unfoldable pub start_of : HoKind → Setup → Members → Result Event Refusal
 start_of kind setup table = do
-  known ← only_in (Do ∷ Station ∷ Cell ∷ []) table
   id ← station_in setup table
   cell ← cell_in Cell table
   Ok (event.Station id (station.Start kind cell))
@@ -61,14 +56,12 @@ start_of kind setup table = do
 -- command, cancel, ask
 unfoldable pub station_act_of : StationAct → Setup → Members → Result Event Refusal
 station_act_of does setup table = do
-  known ← only_in (Do ∷ Station ∷ []) table
   id ← station_in setup table
   Ok (event.Station id does)
 
 -- deliver
 unfoldable pub deliver_of : Members → Result Event Refusal
 deliver_of table = do
-  known ← only_in (Do ∷ Record ∷ []) table
   record_number ← integer_in Record table
   Ok (event.Deliver record_number)
 
@@ -91,7 +84,6 @@ user_from radio.Station setup table = do
 
 unfoldable pub user_of : Setup → Members → Result Event Refusal
 user_of setup table = do
-  known ← only_in (Do ∷ From ∷ if_station (radio_end_in From table) (BearerField ∷ Text ∷ [])) table
   from ← radio_end_in From table
   user_from from setup table
 
@@ -109,7 +101,6 @@ rrc_from radio.Station setup table = do
 
 unfoldable pub rrc_of : Setup → Members → Result Event Refusal
 rrc_of setup table = do
-  known ← only_in (Do ∷ From ∷ if_station (radio_end_in From table) (BearerField ∷ Text ∷ [])) table
   from ← radio_end_in From table
   rrc_from from setup table
 
@@ -120,7 +111,6 @@ nas_from nas.Core text = event.Core (core.SendNas text)
 
 unfoldable pub nas_event_of : Members → Result Event Refusal
 nas_event_of table = do
-  known ← only_in (Do ∷ From ∷ Text ∷ []) table
   from ← nas_end_in From table
   text ← octets_in 200 Text table
   Ok (nas_from from text)
@@ -148,7 +138,6 @@ skip_at actor.Core setup table = do
 
 unfoldable pub skip_of : Setup → Members → Result Event Refusal
 skip_of setup table = do
-  known ← only_in (Do ∷ Who ∷ if_at_station (actor_in Who table) (BearerField ∷ N ∷ [])) table
   who ← actor_in Who table
   skip_at who setup table
 
@@ -200,18 +189,17 @@ inject_at (target.StationAir bearer) setup table = do
 
 unfoldable pub inject_of : Setup → Members → Result Event Refusal
 inject_of setup table = do
-  known ← only_in (Do ∷ To ∷ BearerField ∷ if_air (target_in table) (Octets ∷ [])) table
   place ← target_in table
   inject_at place setup table
 
--- a [[step]]: `do` is read first
+-- what happens in a [[step]], by `do`; smc, release, service, resend and idle have no other field
 abbrev pub event_by : Act → Setup → Members → Result Event Refusal
 event_by act.Auth setup table = auth_of setup table
-event_by act.Smc setup table = bare_of (event.Core core.StartSmc) table
-event_by act.Release setup table = bare_of (event.Core core.Release) table
-event_by act.Service setup table = bare_of (event.Phone phone.ServiceRequest) table
-event_by act.Resend setup table = bare_of (event.Phone phone.ResendComplete) table
-event_by act.Idle setup table = bare_of (event.Phone phone.GoIdle) table
+event_by act.Smc setup table = Ok (event.Core core.StartSmc)
+event_by act.Release setup table = Ok (event.Core core.Release)
+event_by act.Service setup table = Ok (event.Phone phone.ServiceRequest)
+event_by act.Resend setup table = Ok (event.Phone phone.ResendComplete)
+event_by act.Idle setup table = Ok (event.Phone phone.GoIdle)
 event_by act.Connect setup table = connect_of table
 event_by act.X2 setup table = start_of kind.X2 setup table
 event_by act.S1 setup table = start_of kind.S1 setup table
@@ -226,7 +214,37 @@ event_by act.Nas setup table = nas_event_of table
 event_by act.Skip setup table = skip_of setup table
 event_by act.Inject setup table = inject_of setup table
 
-unfoldable pub step_of : Setup → Members → Result Event Refusal
-step_of setup table = do
+-- its fields by `do`, in the order in which they are read
+abbrev pub fields_of : Act → Members → List Field
+fields_of act.Auth table = Do ∷ Ksi ∷ Kasme ∷ Caps ∷ []
+fields_of act.Smc table = Do ∷ []
+fields_of act.Release table = Do ∷ []
+fields_of act.Service table = Do ∷ []
+fields_of act.Resend table = Do ∷ []
+fields_of act.Idle table = Do ∷ []
+fields_of act.Connect table = Do ∷ Cell ∷ []
+fields_of act.X2 table = Do ∷ Station ∷ Cell ∷ []
+fields_of act.S1 table = Do ∷ Station ∷ Cell ∷ []
+fields_of act.Intra table = Do ∷ Station ∷ Cell ∷ []
+fields_of act.Command table = Do ∷ Station ∷ []
+fields_of act.Cancel table = Do ∷ Station ∷ []
+fields_of act.Ask table = Do ∷ Station ∷ []
+fields_of act.Deliver table = Do ∷ Record ∷ []
+fields_of act.User table = Do ∷ From ∷ if_station (radio_end_in From table) (BearerField ∷ Text ∷ [])
+fields_of act.Rrc table = Do ∷ From ∷ if_station (radio_end_in From table) (BearerField ∷ Text ∷ [])
+fields_of act.Nas table = Do ∷ From ∷ Text ∷ []
+fields_of act.Skip table = Do ∷ Who ∷ if_at_station (actor_in Who table) (BearerField ∷ N ∷ [])
+fields_of act.Inject table = Do ∷ To ∷ BearerField ∷ if_air (target_in table) (Octets ∷ [])
+
+-- to which of so many phones it happens; to the first one where none is given
+abbrev pub phone_in : ℕ → Members → Result ℕ Refusal
+phone_in phones table = or_default 0 (number_in 0 (phones - 1)) Phone table
+
+-- a [[step]]: `do` is read first, and then the phone
+unfoldable pub step_of : System → Start → Members → Result Step Refusal
+step_of system start table = do
   does ← act_in Do table
-  event_by does setup table
+  known ← only_in (fields_of does table ++ more_of_step system) table
+  phone ← phone_in start.phones table
+  happens ← event_by does start.setup table
+  Ok (record { phone = phone; event = happens })

@@ -3,9 +3,9 @@ ghost use Rattle.std.specs.Prelude.{◌≡◌};
 /// A key of a scenario, at its top or in one of its tables.
 #[derive(Clone, Copy, Debug, PartialEq, Eq)]
 pub enum Field {
-    /// `phone`: the table of the phone.
+    /// `phone`: the table of the phone; in a step of a fleet, the number of a phone.
     Phone,
-    /// `core`: the table of the core.
+    /// `core`: the table of the core; in a station beside two cores, the number of its core.
     Core,
     /// `station`: the tables of the stations; in a step, the number of a station.
     Station,
@@ -47,6 +47,10 @@ pub enum Field {
     Air,
     /// `octets`: injected octets.
     Octets,
+    /// `fleet`: the table of the fleet.
+    Fleet,
+    /// `phones`: how many phones a fleet has.
+    Phones,
 }
 
 impl Field {
@@ -79,6 +83,8 @@ impl Field {
             Field::To => "to",
             Field::Air => "air",
             Field::Octets => "octets",
+            Field::Fleet => "fleet",
+            Field::Phones => "phones",
         }
     }
 }

@@ -7,18 +7,21 @@ mod fields;
 mod first_steps;
 mod generator;
 mod journey;
+mod kept;
 mod keys;
 mod reading;
 mod refused;
 mod setup;
 mod steps;
+mod systems;
 #[cfg(test)]
 mod tests;
 mod turns;
 mod values;
+mod whole;
 mod words;
 
 pub use faults::ScenarioFault;
 pub use fields::Field;
 pub use generator::generate;
-pub use reading::{Scenario, read};
+pub use reading::{FleetScenario, Scenario, TwoScenario, read, read_fleet, read_two};

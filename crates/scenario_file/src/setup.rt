@@ -1,12 +1,13 @@
 // What a system starts with: the tables of the phone, the core and the stations.
-ghost use Rattle.std.specs.Prelude.{◌≡◌, ◌≤◌, ◌<◌, ◌+◌, ◌*◌, [], ◌∷◌, length, IfOk, IfSome};
+ghost use Rattle.std.specs.Prelude.{◌≡◌, ◌≤◌, ◌<◌, ◌+◌, ◌*◌, length, IfOk, IfSome};
 ghost use Rattle.toml.specs.View.{table_view, items_view, view};
 ghost use Rattle.scenario_file.specs.declared.fields.Field.TheVariants.{Priority as PriorityField, First};
 ghost use Rattle.scenario_file.specs.Values.{count_of, or_default, priority_in, first_in};
-ghost use Rattle.scenario_file.specs.Setup.{usual_priority, phone_of, numbers_in, core_in, core_of, id_in, with_site, sites_from, cells_in, with_station, station_from, stations_from, network_of, setup_of};
+ghost use Rattle.scenario_file.specs.Setup.{usual_priority, phones_in, phones_of, phone_of, numbers_in, core_in, core_of, id_in, with_site, sites_from, cells_in, core_number_in, with_station, station_from, stations_from, no_stations, network_of, start_of};
 
 use crate::faults::Refusal;
 use crate::keys::only;
+use crate::systems::System;
 use crate::{Field, values};
 use alg_choice::{Caps, Eea, Priority};
 use annex_a_keys::Cell;
@@ -20,32 +21,69 @@ pub(crate) struct Numbers {
     pub(crate) first: u32,
 }
 
-// The stations read so far, and their cells.
+// The stations read so far, their cells, and the core of each by its number.
 #[derive(Debug, PartialEq, Eq, Drop)]
 pub(crate) struct Network {
     pub(crate) stations: Few<StationSetup, 8>,
     pub(crate) cells: Cells,
+    pub(crate) core_of: [u8; 8],
 }
 
-// The setup of a document.
-#[tactic(auto, unfolding(crate::specs::Setup::setup_of))]
-pub(crate) fn setup(document: &Table) -> Result<Setup, Refusal>
-    ensures { result ≡ setup_of (table_view document.now) }
+// What a system starts with: the phone, the core and the stations; how many such phones; and the core of each
+// station by its number, which is 0 where there is no such station.
+#[derive(Debug, PartialEq, Eq, Drop)]
+pub(crate) struct Start {
+    pub(crate) setup: Setup,
+    pub(crate) phones: u16,
+    pub(crate) core_of: [u8; 8],
+}
+
+// What a document says that a system starts with.
+#[tactic(auto, unfolding(crate::specs::Setup::start_of))]
+pub(crate) fn start_in(document: &Table, system: System) -> Result<Start, Refusal>
+    ensures { result ≡ start_of system (table_view document.now) }
 {
     only(
         document,
         &[Field::Phone, Field::Core, Field::Station, Field::Step],
+        system.more_at_top(),
     )?;
+    let phones = phones(document, system)?;
     let caps = phone(document)?;
     let core = core(document)?;
-    let network = network_in(document)?;
-    Ok(Setup {
-        caps,
-        core_priority: core.priority,
-        core_first: core.first,
-        stations: network.stations,
-        cells: network.cells,
+    let network = network_in(document, system)?;
+    let core_of = network.core_of;
+    Ok(Start {
+        setup: Setup {
+            caps,
+            core_priority: core.priority,
+            core_first: core.first,
+            stations: network.stations,
+            cells: network.cells,
+        },
+        phones,
+        core_of,
     })
+}
+
+// How many phones there are.
+fn phones(document: &Table, system: System) -> Result<u16, Refusal>
+    ensures { result ≡ phones_of system (table_view document.now) }
+{
+    match system {
+        System::Fleet => phones_in(document),
+        System::Single | System::TwoCores => Ok(1),
+    }
+}
+
+// The table of the fleet.
+#[tactic(auto, unfolding(crate::specs::Setup::phones_in))]
+fn phones_in(document: &Table) -> Result<u16, Refusal>
+    ensures { result ≡ phones_in (table_view document.now) }
+{
+    let fleet = values::table(document, Field::Fleet)?;
+    only(fleet, &[Field::Phones], &[])?;
+    Ok(values::number(fleet, Field::Phones, 1, 256)? as u16)
 }
 
 // The table of the phone.
@@ -54,7 +92,7 @@ fn phone(document: &Table) -> Result<Caps, Refusal>
     ensures { result ≡ phone_of (table_view document.now) }
 {
     let phone = values::table(document, Field::Phone)?;
-    only(phone, &[Field::Caps])?;
+    only(phone, &[Field::Caps], &[])?;
     values::caps(phone, Field::Caps)
 }
 
@@ -77,7 +115,7 @@ fn core_in(document: &Table, field: Field) -> Result<Numbers, Refusal>
     ensures { result ≡ core_in field (table_view document.now) }
 {
     let core = values::table(document, field)?;
-    only(core, &[Field::Priority, Field::First])?;
+    only(core, &[Field::Priority, Field::First], &[])?;
     numbers_in(core)
 }
 
@@ -118,13 +156,13 @@ pub(crate) fn usual_priority() -> Priority
 
 // The tables of the stations.
 #[tactic(auto, unfolding(crate::specs::Setup::network_of))]
-fn network_in(document: &Table) -> Result<Network, Refusal>
-    ensures { result ≡ network_of (table_view document.now) }
+fn network_in(document: &Table, system: System) -> Result<Network, Refusal>
+    ensures { result ≡ network_of system (table_view document.now) }
 {
     let values = values::tables(document, Field::Station)?;
     match count(values) {
         0 => Err(Refusal::Missing(Field::Station)),
-        1..=8 => stations(values),
+        1..=8 => stations(values, system),
         _ => Err(Refusal::Wrong(Field::Station)),
     }
 }
@@ -139,16 +177,17 @@ pub(crate) fn count(values: &[Value]) -> usize
 }
 
 // The stations in their order.
-fn stations(values: &[Value]) -> Result<Network, Refusal>
+fn stations(values: &[Value], system: System) -> Result<Network, Refusal>
     requires { length values.now ≤ 8 }
-    ensures { result ≡ stations_from (record { stations = []; cells = [] }) (items_view values.now) }
+    ensures { result ≡ stations_from system no_stations (items_view values.now) }
 {
     let mut network = Network {
         stations: Few::new(),
         cells: Cells::new(),
+        core_of: [0; 8],
     };
     for value in values {
-        match station(network, value) {
+        match station(network, value, system) {
             Ok(next) => network = next,
             Err(refusal) => return Err(refusal),
         }
@@ -157,44 +196,61 @@ fn stations(values: &[Value]) -> Result<Network, Refusal>
 }
 
 // The stations with one more.
-fn station(network: Network, value: &Value) -> Result<Network, Refusal>
+fn station(network: Network, value: &Value, system: System) -> Result<Network, Refusal>
     requires stations { length network.stations ≤ 7 }
     requires cells { length network.cells ≤ 28 }
-    ensures value { result ≡ station_from network (view value.now) }
+    ensures value { result ≡ station_from system network (view value.now) }
     ensures one_more { IfOk result (λ next. length next.stations ≡ length network.stations + 1) }
     ensures few { IfOk result (λ next. length next.cells ≤ length network.cells + 4) }
 {
     match value.as_table() {
-        Some(table) => with_station(network, table),
+        Some(table) => with_station(network, table, system),
         None => Err(Refusal::Wrong(Field::Station)),
     }
 }
 
 #[tactic(auto, unfolding(crate::specs::Setup::with_station))]
-fn with_station(network: Network, table: &Table) -> Result<Network, Refusal>
+fn with_station(network: Network, table: &Table, system: System) -> Result<Network, Refusal>
     requires stations { length network.stations ≤ 7 }
     requires cells { length network.cells ≤ 28 }
-    ensures value { result ≡ with_station network (table_view table.now) }
+    ensures value { result ≡ with_station system network (table_view table.now) }
     ensures one_more { IfOk result (λ next. length next.stations ≡ length network.stations + 1) }
     ensures few { IfOk result (λ next. length next.cells ≤ length network.cells + 4) }
 {
     let Network {
         mut stations,
         cells,
+        mut core_of,
     } = network;
     only(
         table,
         &[Field::Id, Field::Priority, Field::First, Field::Cells],
+        system.more_of_station(),
     )?;
     let id = id_in(table, stations.as_slice())?;
     let numbers = numbers_in(table)?;
     let cells = cells_in(table, cells, id)?;
+    core_of[id as usize] = core_number_in(table)?;
     stations.push(StationSetup {
         id,
         priority: numbers.priority,
         first: numbers.first,
     });
-    Ok(Network { stations, cells })
+    Ok(Network {
+        stations,
+        cells,
+        core_of,
+    })
+}
+
+// The core of a station.
+fn core_number_in(table: &Table) -> Result<u8, Refusal>
+    ensures { result ≡ core_number_in (table_view table.now) }
+{
+    match values::found(table, Field::Core) {
+        None => Ok(0),
+        Some(_) => Ok(values::number(table, Field::Core, 0, 1)? as u8),
+    }
 }
 
 // The number of a station, which none before it has.

@@ -1,13 +1,16 @@
 // The steps of a scenario: for each word of `do` its other fields, in their order, and the event.
-ghost use Rattle.std.specs.Prelude.{◌≡◌, ◌∷◌, [], IfOk};
+ghost use Rattle.std.specs.Prelude.{◌≡◌, ◌≤◌, ◌<◌, ◌∷◌, [], IfOk};
 ghost use Rattle.toml.specs.View.{table_view};
 ghost use Rattle.lte_events.specs.Conditions.{CanHappen, StationCan, AreCaps, SetupFits, StationActFits, EventFits};
 ghost use Rattle.scenario_file.specs.declared.fields.Field.TheVariants.{Do, From, Bearer as BearerField, Text, Who, N, To, Octets, Caps as CapsField};
 ghost use Rattle.scenario_file.specs.Values.{or_default, caps_in};
-ghost use Rattle.scenario_file.specs.Steps.{auth_of, bare_of, connect_of, start_of, station_act_of, deliver_of, if_station, user_from, user_of, rrc_from, rrc_of, nas_from, nas_event_of, if_at_station, skip_at, skip_of, phone_target, target_at, target_in, if_air, inject_at, inject_of, event_by, step_of};
+ghost use Rattle.scenario_file.specs.Steps.{auth_of, connect_of, start_of, station_act_of, deliver_of, if_station, user_from, user_of, rrc_from, rrc_of, nas_from, nas_event_of, if_at_station, skip_at, skip_of, phone_target, target_at, target_in, if_air, inject_at, inject_of, event_by, fields_of, phone_in, step_of};
 
 use crate::faults::Refusal;
+use crate::kept::Step;
 use crate::keys::only;
+use crate::setup::Start;
+use crate::systems::System;
 use crate::words::{Act, Actor, NasEnd, RadioEnd};
 use crate::{Field, values};
 use alg_choice::Caps;
@@ -28,18 +31,54 @@ pub(crate) enum Target {
     StationAir(Bearer),
 }
 
-// The event of a step's table.
+// What a step's table says.
 #[tactic(auto, unfolding(crate::specs::Steps::step_of))]
-pub(crate) fn step(table: &Table, setup: &Setup) -> Result<Event, Refusal>
-    requires { SetupFits setup.now }
-    ensures value { result ≡ step_of setup.now (table_view table.now) }
-    ensures can { IfOk result (CanHappen setup.now) }
-    ensures fits { IfOk result EventFits }
+pub(crate) fn step_in(table: &Table, system: System, start: &Start) -> Result<Step, Refusal>
+    requires setup { SetupFits start.now.setup }
+    requires phones { 1 ≤ start.now.phones }
+    ensures value { result ≡ step_of system start.now (table_view table.now) }
+    ensures can { IfOk result (λ step. CanHappen start.now.setup step.event) }
+    ensures fits { IfOk result (λ step. EventFits step.event) }
+    ensures phone { IfOk result (λ step. step.phone < start.now.phones) }
 {
     let act = values::act_at(table, Field::Do)?;
-    event_by(act, table, setup)
+    only(table, fields(act, table), system.more_of_step())?;
+    let phone = phone_in(table, start.phones)?;
+    let event = event_by(act, table, &start.setup)?;
+    Ok(Step { phone, event })
 }
 
+// The phone that a step happens to.
+fn phone_in(table: &Table, phones: u16) -> Result<u16, Refusal>
+    requires { 1 ≤ phones }
+    ensures value { result ≡ phone_in phones (table_view table.now) }
+    ensures stands { IfOk result (λ phone. phone < phones) }
+{
+    match values::found(table, Field::Phone) {
+        None => Ok(0),
+        Some(_) => Ok(values::number(table, Field::Phone, 0, u32::from(phones) - 1)? as u16),
+    }
+}
+
+// The fields of a step by its `do`, in the order in which they are read.
+fn fields(act: Act, table: &Table) -> &'static [Field]
+    ensures { result.now ≡ fields_of act (table_view table.now) }
+{
+    match act {
+        Act::Auth => &[Field::Do, Field::Ksi, Field::Kasme, Field::Caps],
+        Act::Smc | Act::Release | Act::Service | Act::Resend | Act::Idle => &[Field::Do],
+        Act::Connect => &[Field::Do, Field::Cell],
+        Act::X2 | Act::S1 | Act::Intra => &[Field::Do, Field::Station, Field::Cell],
+        Act::Command | Act::Cancel | Act::Ask => &[Field::Do, Field::Station],
+        Act::Deliver => &[Field::Do, Field::Record],
+        Act::User | Act::Rrc => text_fields(values::radio_end_at(table, Field::From)),
+        Act::Nas => &[Field::Do, Field::From, Field::Text],
+        Act::Skip => skip_fields(values::actor_at(table, Field::Who)),
+        Act::Inject => inject_fields(target_in(table)),
+    }
+}
+
+// What happens in a step, by its `do`.
 fn event_by(act: Act, table: &Table, setup: &Setup) -> Result<Event, Refusal>
     requires { SetupFits setup.now }
     ensures value { result ≡ event_by act setup.now (table_view table.now) }
@@ -48,11 +87,11 @@ fn event_by(act: Act, table: &Table, setup: &Setup) -> Result<Event, Refusal>
 {
     match act {
         Act::Auth => auth(table, setup),
-        Act::Smc => bare(table, setup, Event::Core(CoreAct::StartSmc)),
-        Act::Release => bare(table, setup, Event::Core(CoreAct::Release)),
-        Act::Service => bare(table, setup, Event::Phone(PhoneAct::ServiceRequest)),
-        Act::Resend => bare(table, setup, Event::Phone(PhoneAct::ResendComplete)),
-        Act::Idle => bare(table, setup, Event::Phone(PhoneAct::GoIdle)),
+        Act::Smc => Ok(Event::Core(CoreAct::StartSmc)),
+        Act::Release => Ok(Event::Core(CoreAct::Release)),
+        Act::Service => Ok(Event::Phone(PhoneAct::ServiceRequest)),
+        Act::Resend => Ok(Event::Phone(PhoneAct::ResendComplete)),
+        Act::Idle => Ok(Event::Phone(PhoneAct::GoIdle)),
         Act::Connect => connect(table, setup),
         Act::X2 => start(table, setup, HoKind::X2),
         Act::S1 => start(table, setup, HoKind::S1),
@@ -76,7 +115,6 @@ fn auth(table: &Table, setup: &Setup) -> Result<Event, Refusal>
     ensures can { IfOk result (CanHappen setup.now) }
     ensures fits { IfOk result EventFits }
 {
-    only(table, &[Field::Do, Field::Ksi, Field::Kasme, Field::Caps])?;
     let ksi = values::number(table, Field::Ksi, 0, 6)? as u8;
     let kasme = values::key(table, Field::Kasme)?;
     let caps = caps_or(table, setup.caps)?;
@@ -95,26 +133,12 @@ fn caps_or(table: &Table, usual: Caps) -> Result<Caps, Refusal>
     }
 }
 
-// A step with no other field.
-#[tactic(auto, unfolding(crate::specs::Steps::bare_of))]
-fn bare(table: &Table, setup: &Setup, happens: Event) -> Result<Event, Refusal>
-    requires can { CanHappen setup.now happens }
-    requires fits { EventFits happens }
-    ensures value { result ≡ bare_of happens (table_view table.now) }
-    ensures can { IfOk result (CanHappen setup.now) }
-    ensures fits { IfOk result EventFits }
-{
-    only(table, &[Field::Do])?;
-    Ok(happens)
-}
-
 #[tactic(auto, unfolding(crate::specs::Steps::connect_of))]
 fn connect(table: &Table, setup: &Setup) -> Result<Event, Refusal>
     ensures value { result ≡ connect_of (table_view table.now) }
     ensures can { IfOk result (CanHappen setup.now) }
     ensures fits { IfOk result EventFits }
 {
-    only(table, &[Field::Do, Field::Cell])?;
     let cell = values::cell(table, Field::Cell)?;
     Ok(Event::Core(CoreAct::Connect(cell)))
 }
@@ -126,7 +150,6 @@ fn start(table: &Table, setup: &Setup, kind: HoKind) -> Result<Event, Refusal>
     ensures can { IfOk result (CanHappen setup.now) }
     ensures fits { IfOk result EventFits }
 {
-    only(table, &[Field::Do, Field::Station, Field::Cell])?;
     let id = values::station(table, setup)?;
     let cell = values::cell(table, Field::Cell)?;
     Ok(Event::Station(id, StationAct::Start(kind, cell)))
@@ -141,7 +164,6 @@ fn station_act(table: &Table, setup: &Setup, act: StationAct) -> Result<Event, R
     ensures can { IfOk result (CanHappen setup.now) }
     ensures fits { IfOk result EventFits }
 {
-    only(table, &[Field::Do, Field::Station])?;
     let id = values::station(table, setup)?;
     Ok(Event::Station(id, act))
 }
@@ -152,7 +174,6 @@ fn deliver(table: &Table, setup: &Setup) -> Result<Event, Refusal>
     ensures can { IfOk result (CanHappen setup.now) }
     ensures fits { IfOk result EventFits }
 {
-    only(table, &[Field::Do, Field::Record])?;
     let record = values::integer(table, Field::Record)?;
     Ok(Event::Deliver(record))
 }
@@ -163,7 +184,6 @@ fn user(table: &Table, setup: &Setup) -> Result<Event, Refusal>
     ensures can { IfOk result (CanHappen setup.now) }
     ensures fits { IfOk result EventFits }
 {
-    only(table, text_fields(values::radio_end_at(table, Field::From)))?;
     match values::radio_end_at(table, Field::From)? {
         RadioEnd::Phone => user_of_phone(table, setup),
         RadioEnd::Station => user_of_station(table, setup),
@@ -213,7 +233,6 @@ fn rrc(table: &Table, setup: &Setup) -> Result<Event, Refusal>
     ensures can { IfOk result (CanHappen setup.now) }
     ensures fits { IfOk result EventFits }
 {
-    only(table, text_fields(values::radio_end_at(table, Field::From)))?;
     match values::radio_end_at(table, Field::From)? {
         RadioEnd::Phone => rrc_of_phone(table, setup),
         RadioEnd::Station => rrc_of_station(table, setup),
@@ -247,7 +266,6 @@ fn nas(table: &Table, setup: &Setup) -> Result<Event, Refusal>
     ensures can { IfOk result (CanHappen setup.now) }
     ensures fits { IfOk result EventFits }
 {
-    only(table, &[Field::Do, Field::From, Field::Text])?;
     let from = values::nas_end_at(table, Field::From)?;
     let text: ShortText = values::octets(table, Field::Text)?;
     Ok(match from {
@@ -262,7 +280,6 @@ fn skip(table: &Table, setup: &Setup) -> Result<Event, Refusal>
     ensures can { IfOk result (CanHappen setup.now) }
     ensures fits { IfOk result EventFits }
 {
-    only(table, skip_fields(values::actor_at(table, Field::Who)))?;
     let who = values::actor_at(table, Field::Who)?;
     skip_at(who, table, setup)
 }
@@ -314,7 +331,6 @@ fn inject(table: &Table, setup: &Setup) -> Result<Event, Refusal>
     ensures can { IfOk result (CanHappen setup.now) }
     ensures fits { IfOk result EventFits }
 {
-    only(table, inject_fields(target_in(table)))?;
     let place = target_in(table)?;
     inject_at(place, table, setup)
 }

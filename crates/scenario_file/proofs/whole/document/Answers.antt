@@ -1,7 +1,7 @@
 use Rattle.std.proofs.Common.{◌∙◌, sym, rules}
 use Rattle.std.proofs.lemmas.Bool.{false≢true}
 use Rattle.scenario_file.proofs.Documents.{document_of-read, no_document}
-use Rattle.scenario_file.proofs.reading.document.Goals as goal
+use Rattle.scenario_file.proofs.whole.document.Goals as goal
 
 pub returns-in-Ok-clause-document : goal.returns-in-Ok-clause-document
 returns-in-Ok-clause-document c = document_of-read _ _ c.in-Ok.ensures.ok.0 c.in-Ok.ensures.ok.1
