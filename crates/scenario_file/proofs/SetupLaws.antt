@@ -14,7 +14,6 @@ use Rattle.toml.specs.Data.{Items, no_items, item, Members, as_table}
 use Rattle.alg_choice.specs.declared.caps.Caps.{Caps}
 use Rattle.annex_a_keys.specs.Cell.{Place, IsCell}
 use Rattle.lte_events.specs.Site.{Site, is_site}
-use Rattle.lte_events.specs.declared.setups.Setup.{Setup}
 use Rattle.lte_events.specs.declared.setups.StationSetup.{StationSetup}
 use Rattle.lte_events.specs.Conditions.{has_station, IsStation, CanStart, AreCaps, SetupFits}
 use Rattle.scenario_file.specs.declared.fields.Field.TheVariants.{Caps as CapsField, Phone, Core, Station, Step, First, Priority, Id, Cells, Fleet, Phones}

@@ -1,7 +1,6 @@
 -- The line for a text that is no scenario.
 use Rattle.std.specs.Prelude.{ℕ, Option, Some, None, List, [], ◌++◌, codes}
 use Rattle.std.specs.Fmt.{decimal}
-use Rattle.scenario_file.specs.declared.fields.Field.{Field}
 use Rattle.scenario_file.specs.declared.faults.ScenarioFault.{ScenarioFault}
 use Rattle.scenario_file.specs.declared.faults.ScenarioFault.TheVariants.{Memory, NotToml, Missing, Wrong, Unknown, TooMany}
 use Rattle.scenario_file.specs.Field.{name_of}

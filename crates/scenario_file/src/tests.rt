@@ -1,4 +1,5 @@
 mod generated;
+mod systems;
 
 use crate::Field::{
     Air, Bearer as BearerField, Caps as CapsField, Cell as CellField, Cells, Core, Do, First, From,
