@@ -1,5 +1,6 @@
 //! Scenarios: a TOML text that says what a system of one phone, its stations and one core starts with,
-//! and the events that then happen to it, one after the other.
+//! and the events that then happen to it, one after the other; and those of a fleet of phones, and of
+//! two cores.
 #![tactic(auto)]
 
 mod faults;
