@@ -10,9 +10,9 @@ use Rattle.scenario_file.specs.declared.faults.ScenarioFault.{ScenarioFault}
 use Rattle.scenario_file.specs.Reading.{reading_of}
 use Rattle.scenario_file.specs.Refused.{refused_text}
 use Rattle.lte_sec_app.specs.declared.status.Status.{Status}
-use Rattle.lte_sec_app.specs.declared.status.Status.TheVariants.{Done, Memory, ReadFault, Coincidence, TooLong}
+use Rattle.lte_sec_app.specs.declared.status.Status.TheVariants.{Memory, ReadFault, TooLong}
 use Rattle.lte_sec_app.specs.Run.{Output, most_octets, CommandAt}
-use Rattle.lte_sec_app.specs.Scenario.{HasHeadline, HeadlineAt, run_output}
+use Rattle.lte_sec_app.specs.Scenario.{run_output}
 use Rattle.lte_sec_app.specs.Drive.{TextAt, DriveAt, IsUnread, TextGoes, DriveIsComplete}
 
 where_some : {A : Type 0} (o : Option A) (P : A → Type 0) → ((a : A) → P a) → IfSome o P
@@ -44,10 +44,3 @@ unread_complete TooLong input input' out peers faults which at octets left withi
     let a = at run_output out in
     let long = subst (λ o. IfSome o (λ o'. most_octets < length o')) left a.1 in absurd (omega (arith, long, within))
 unread_complete status input input' out peers faults which at octets left within read = absurd which
-
--- THE HEADLINE
-
-pub headline_each : (status : Status) (octets : List ℕ) → HasHeadline octets → HeadlineAt status octets
-headline_each Done octets has = has
-headline_each Coincidence octets has = has
-headline_each status octets has = tt

@@ -1,15 +1,19 @@
--- The headline at each status of `run`.
-use Rattle.std.proofs.Common.{◌≡◌, ℕ, Bool, true, false, Result, Ok, Err, List}
+-- The headline of a scenario that was read.
+use Rattle.std.proofs.Common.{◌≡◌, ℕ, List, Ok}
+use Rattle.std.specs.Prelude.{All}
+use Rattle.lte_events.specs.Conditions.{CanStart, CanHappen, SetupFits, EventFits}
 use Rattle.lte_events.specs.declared.events.Event.{Event}
 use Rattle.lte_events.specs.declared.setups.Setup.{Setup}
-use Rattle.lte_properties.specs.Headline.{Headline}
-use Rattle.run_report.specs.declared.unwritten.Unwritten.{Unwritten}
-use Rattle.run_report.specs.declared.unwritten.Unwritten.TheVariants as unwritten
+use Rattle.lte_machine.proofs.Fitting.{setup_fits, events_fit}
+use Rattle.lte_properties.proofs.HeadlineHolds.{headline}
 use Rattle.scenario_file.specs.Reading.{reading_of}
-use Rattle.lte_sec_app.specs.Scenario.{status_of, HeadlineAt}
+use Rattle.lte_sec_app.specs.Scenario.{HasHeadline}
 
-pub headline_at : (r : Result Bool Unwritten) (octets : List ℕ) (setup : Setup) (events : List Event) → reading_of octets ≡ Ok (setup, events) → Headline setup events → HeadlineAt (status_of r) octets
-headline_at (Ok false) octets setup events reads holds = record { setup = setup; events = events; reads = reads; holds = holds }
-headline_at (Ok true) octets setup events reads holds = record { setup = setup; events = events; reads = reads; holds = holds }
-headline_at (Err unwritten.Memory) octets setup events reads holds = tt
-headline_at (Err unwritten.WriteFault) octets setup events reads holds = tt
+pub has_headline : (octets : List ℕ) (setup : Setup) (events : List Event) → reading_of octets ≡ Ok (setup, events) → CanStart setup → SetupFits setup → All (CanHappen setup) events → All EventFits events
+    → HasHeadline octets
+has_headline octets setup events reads can_start fits can_happen fit = record {
+  setup = setup;
+  events = events;
+  reads = reads;
+  holds = headline setup events (setup_fits setup fits can_start) (events_fit setup events (λ k d low. (fit k d low, can_happen k d low)));
+}

@@ -5,7 +5,13 @@ use Rattle.edge_io.specs.Told.{Told}
 use Rattle.edge_io.specs.Octets.{Grows}
 use Rattle.lte_sec_app.specs.declared.status.Status.{Status}
 use Rattle.lte_sec_app.specs.declared.status.Status.TheVariants.{Done, Memory, Refused, ReadFault, WriteFault, Coincidence, TooLong}
-use Rattle.lte_sec_app.specs.Run.{Output, most_octets, Answers, CommandAt, CommandIsComplete}
+use Rattle.lte_sec_app.specs.Run.{Output, most_octets, Answers, CommandAt, CommandIsComplete, WhereRun}
+
+-- what holds of a text holds at each status
+pub where_run : (status : Status) (holds : Type 0) → holds → WhereRun holds status
+where_run Done holds it = it
+where_run Coincidence holds it = it
+where_run status holds it = tt
 
 -- the answer to known octets
 known : (output : List ℕ → Output) (ends : Status) (octets : List ℕ) (input out out' : Told) → input.left ≡ Some octets → IfSome input.left (λ o. Answers output ends o out out')

@@ -16,6 +16,12 @@ pub record Output : Type 0 where
   pub text : List ℕ
   pub ends : Status
 
+-- what is so at the statuses at which a scenario was read and ran, to its end or to a coincidence
+abbrev pub WhereRun : Type 0 → Status → Type 0
+WhereRun holds Done = holds
+WhereRun holds Coincidence = holds
+WhereRun holds other = Unit {0}
+
 -- what was written of an output at each status: all of it, or as far as memory and the sink went
 abbrev pub WritesAt : Output → Status → Told → Told → Type 0
 WritesAt output Memory out out' = GrowsByPrefix out.written out'.written output.text

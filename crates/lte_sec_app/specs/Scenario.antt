@@ -21,10 +21,14 @@ ending false = Done
 abbrev pub output_of_report : Report → Output
 output_of_report report = record { text = report.text; ends = ending report.coincides }
 
+-- why a text is no scenario
+abbrev pub refusal_output : ScenarioFault → Output
+refusal_output fault = record { text = refused_text fault; ends = Refused }
+
 -- the report of a scenario, or the refusal of a text that is none
 abbrev pub output_of : Result (Setup × List Event) ScenarioFault → Output
 output_of (Ok scenario) = output_of_report (report_of scenario.0 scenario.1)
-output_of (Err fault) = record { text = refused_text fault; ends = Refused }
+output_of (Err fault) = refusal_output fault
 
 -- the output for a text
 abbrev pub run_output : List ℕ → Output
@@ -42,9 +46,3 @@ pub record HasHeadline (octets : List ℕ) : Type 0 where
   pub events : List Event
   pub reads : reading_of octets ≡ Ok (setup, events)
   pub holds : Headline setup events
-
--- the text that was read, at the statuses at which it was a scenario that ran to its end or to a coincidence
-abbrev pub HeadlineAt : Status → List ℕ → Type 0
-HeadlineAt Done octets = HasHeadline octets
-HeadlineAt Coincidence octets = HasHeadline octets
-HeadlineAt other octets = Unit {0}

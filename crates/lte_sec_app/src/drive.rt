@@ -6,7 +6,8 @@ ghost use Rattle.lte_events.specs.Conditions.{CanStart, CanHappen, SetupFits, Ev
 ghost use Rattle.peer_calls.specs.Driven.{AllStopped};
 ghost use Rattle.scenario_file.specs.Reading.{reading_of};
 ghost use Rattle.lte_sec_app.specs.Drive.{AllGoes, DriveAt, DriveIsComplete, LineAt, ScenarioAt, TextAt, TextGoes, difference_text, place_text};
-ghost use Rattle.lte_sec_app.specs.Scenario.{HeadlineAt};
+ghost use Rattle.lte_sec_app.specs.Run.{WhereRun};
+ghost use Rattle.lte_sec_app.specs.Scenario.{HasHeadline};
 ghost use Rattle.lte_sec_app.specs.Text.{HoldsOf};
 ghost use Rattle.lte_sec_app.specs.declared.command.TextCommand.{TextCommand};
 
@@ -58,7 +59,7 @@ fn drive_text<P: Peers, W: Sink>(alloc: Global, octets: &[u8], peers: &mut P, ou
     requires none { IfSome (P.told peers.old) (λ t. t.roles ≡ []) }
     ensures at { TextAt (reading_of octets.now) result (W.told out.old) (W.told out.new) (P.told peers.old) (P.told peers.new) }
     ensures complete { TextGoes (reading_of octets.now) result (W.told out.old) (W.told out.new) (P.told peers.old) (P.faults peers.old) (P.faults peers.new) }
-    ensures headline { HeadlineAt result octets.now }
+    ensures headline { WhereRun (HasHeadline octets.now) result }
     ensures stopped { IfSome (P.told peers.new) AllStopped }
     ensures peer_cause { result ≡ Status.PeerFault → Rose (P.faults peers.old) (P.faults peers.new) }
     ensures write_cause { result ≡ Status.WriteFault → Rose (W.told out.old).write_faults (W.told out.new).write_faults }

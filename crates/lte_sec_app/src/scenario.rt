@@ -2,9 +2,10 @@ ghost use Rattle.std.specs.Prelude.{◌≡◌, ◌≢◌, ℕ, List, IsTrue};
 ghost use Rattle.std.specs.String.{string_bytes};
 ghost use Rattle.edge_io.specs.Cause.{NoFault};
 ghost use Rattle.edge_io.specs.Used.{UsedAsSink};
-ghost use Rattle.lte_sec_app.specs.Run.{WritesAt};
-ghost use Rattle.lte_sec_app.specs.Scenario.{run_output, status_of, HeadlineAt};
-ghost use Rattle.scenario_file.specs.Refused.{refused_text};
+ghost use Rattle.lte_sec_app.specs.Run.{WhereRun, WritesAt};
+ghost use Rattle.lte_sec_app.specs.Scenario.{refusal_output, run_output, status_of, HasHeadline};
+ghost use Rattle.lte_sec_app.specs.Text.{Holds};
+ghost use Rattle.lte_sec_app.specs.declared.command.TextCommand.{TextCommand};
 
 use crate::status::Status;
 use edge_io::{Sink, write_all};
@@ -16,7 +17,7 @@ use std::alloc::Global;
 pub(crate) fn write_scenario<W: Sink>(alloc: Global, octets: &[u8], out: &mut W) -> Status
     requires { IsTrue (W.told out.old).ready }
     ensures text { WritesAt (run_output octets.now) result (W.told out.old) (W.told out.new) }
-    ensures headline { HeadlineAt result octets.now }
+    ensures headline { WhereRun (HasHeadline octets.now) result }
     ensures no_fault { result ≢ Status.WriteFault → NoFault (W.told out.old) (W.told out.new) }
     ensures out { UsedAsSink (W.told out.old) (W.told out.new) }
 {
@@ -30,8 +31,8 @@ pub(crate) fn write_scenario<W: Sink>(alloc: Global, octets: &[u8], out: &mut W)
 // Writes why a text is no scenario.
 pub(crate) fn write_refusal<W: Sink>(alloc: Global, fault: &ScenarioFault, out: &mut W) -> Status
     requires { IsTrue (W.told out.old).ready }
-    ensures text { WritesAt (record { text = refused_text fault.now; ends = Status.Refused }) result (W.told out.old) (W.told out.new) }
-    ensures headline { (octets : List ℕ) → HeadlineAt result octets }
+    ensures text { WritesAt (refusal_output fault.now) result (W.told out.old) (W.told out.new) }
+    ensures holds { (command : TextCommand) (octets : List ℕ) → WhereRun (Holds command octets) result }
     ensures no_fault { result ≢ Status.WriteFault → NoFault (W.told out.old) (W.told out.new) }
     ensures out { UsedAsSink (W.told out.old) (W.told out.new) }
 {

@@ -1,8 +1,8 @@
 ghost use Rattle.std.specs.Prelude.{◌≡◌, ◌≢◌, IsTrue};
 ghost use Rattle.edge_io.specs.Cause.{NoFault};
 ghost use Rattle.edge_io.specs.Used.{UsedAsSource, UsedAsSink};
-ghost use Rattle.lte_sec_app.specs.Run.{CommandAt, CommandIsComplete, WritesAt};
-ghost use Rattle.lte_sec_app.specs.Text.{text_output, HoldsAt, HoldsOf};
+ghost use Rattle.lte_sec_app.specs.Run.{CommandAt, CommandIsComplete, WhereRun, WritesAt};
+ghost use Rattle.lte_sec_app.specs.Text.{text_output, Holds, HoldsOf};
 
 use crate::command::TextCommand;
 use crate::ladder::write_ladder;
@@ -41,7 +41,7 @@ pub(crate) fn answer_text<R: Source, W: Sink>(
 fn write_text<W: Sink>(alloc: Global, command: TextCommand, octets: &[u8], out: &mut W) -> Status
     requires { IsTrue (W.told out.old).ready }
     ensures text { WritesAt (text_output command octets.now) result (W.told out.old) (W.told out.new) }
-    ensures holds { HoldsAt command result octets.now }
+    ensures holds { WhereRun (Holds command octets.now) result }
     ensures no_fault { result ≢ Status.WriteFault → NoFault (W.told out.old) (W.told out.new) }
     ensures out { UsedAsSink (W.told out.old) (W.told out.new) }
 {
