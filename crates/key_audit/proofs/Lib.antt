@@ -1,0 +1,5 @@
+pub mod TermsOf
+pub mod OneStep
+pub mod Neighbours
+pub mod Exactness
+pub mod Filling

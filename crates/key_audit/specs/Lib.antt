@@ -1,0 +1,4 @@
+pub mod Terms
+pub mod Derives
+pub mod Exact
+pub mod Local

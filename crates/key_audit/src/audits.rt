@@ -1,0 +1,164 @@
+ghost use Rattle.std.specs.Prelude.{◌≡◌, ℕ, ◌<◌, ◌≤◌, Bool, true, false, length, slice_get, slice_index_or, IfOk, None};
+ghost use Rattle.key_terms.specs.declared.row.LadderRow.{LadderRow};
+ghost use Rattle.key_terms.specs.Ladder.{IsMade};
+ghost use Rattle.key_audit.specs.Exact.{Exact};
+ghost use Rattle.key_audit.specs.Terms.{sync_row};
+ghost use Rattle.key_audit.specs.Local.{and_mark, above_mark, held_first, row_mark, IsClean, AreClean, Fills};
+
+use hmac_kdf::KdfInput;
+use key_terms::{Ladder, Origin, Row};
+use std::alloc::{AllocError, Global};
+
+/// What each station can derive by itself, for each row of a ladder.
+#[derive(Debug, Drop)]
+pub struct Audit {
+    /// A row for each row of the ladder, in its order.
+    pub rows: Vec<AuditRow>,
+}
+
+/// Which stations can derive the key of a row, by their numbers.
+#[derive(Clone, Copy, Debug, PartialEq, Eq)]
+pub struct AuditRow {
+    /// Whether the station of this number can derive it.
+    pub can: [bool; 8],
+    /// The nearest row that the station holds on the way up from this one; 0 where it cannot.
+    pub from: [u32; 8],
+}
+
+impl AuditRow {
+    ghost use Rattle.std.specs.Prelude.{◌≡◌, ◌≢◌, ℕ, ◌<◌, None};
+    ghost use Rattle.key_audit.specs.Local.{row_mark, IsClean};
+
+    // No station.
+    fn nobody() -> AuditRow
+        ensures marks { (station : ℕ) → station < 8 → row_mark station result ≡ None }
+        ensures clean { IsClean result }
+    {
+        AuditRow {
+            can: [false; 8],
+            from: [0; 8],
+        }
+    }
+
+    // The row from which a station can derive it, if it can.
+    pub(crate) fn mark(&self, station: usize) -> Option<u32>
+        requires { station < 8 }
+        ensures { result ≡ row_mark station self.now }
+    {
+        if self.can[station] {
+            Some(self.from[station])
+        } else {
+            None
+        }
+    }
+
+    // Puts in that row, or that it cannot.
+    fn put(&mut self, station: usize, mark: Option<u32>)
+        requires { station < 8 }
+        ensures this { row_mark station self.new ≡ mark }
+        ensures others { (other : ℕ) → other ≢ station → row_mark other self.new ≡ row_mark other self.old }
+        ensures clean { IsClean self.old → IsClean self.new }
+    {
+        self.can[station] = mark.is_some();
+        self.from[station] = mark.unwrap_or(0);
+    }
+}
+
+/// Memory ran out.
+#[derive(Clone, Copy, Debug, PartialEq, Eq)]
+pub struct AuditMemory;
+
+impl From<AllocError> for AuditMemory {
+    fn from(_fault: AllocError) -> AuditMemory {
+        AuditMemory
+    }
+}
+
+/// Which station can derive the key of which row, from the rows that it holds: the exact audit.
+pub fn audit_of(alloc: Global, ladder: &Ladder) -> Result<Audit, AuditMemory>
+    ensures { IfOk result (λ audit. Exact ladder.now.rows audit.rows.items) }
+{
+    let rows = fill(alloc, ladder)?;
+    Ok(Audit { rows })
+}
+
+// One row after the other.
+fn fill(alloc: Global, ladder: &Ladder) -> Result<Vec<AuditRow>, AllocError>
+    ensures { IfOk result (λ audit. Exact ladder.now.rows audit.items) }
+{
+    let mut rows = Vec::with_capacity(alloc, ladder.len())?;
+    for k in 0..ladder.len() {
+        let row = audit_row(ladder, &rows, k as u32);
+        rows.push(row)?;
+    }
+    Ok(rows)
+}
+
+// Who can derive row k, where those before it are known: who can derive what it is derived from, and who holds it.
+fn audit_row(ladder: &Ladder, before: &[AuditRow], k: u32) -> AuditRow
+    requires stands { k < length ladder.now.rows }
+    requires known { k ≡ length before.now }
+    requires clean { AreClean before.now }
+    ensures { (row : LadderRow) → slice_get ladder.now.rows k ≡ Some row → Fills ladder.now.rows before.now k row result }
+{
+    let row = ladder.row(Row(k));
+    let above = above(ladder, before, k, &row.origin, &row.octets);
+    with_holders(&above, k, &row.stations)
+}
+
+// Who can derive what a row is derived from.
+fn above(ladder: &Ladder, before: &[AuditRow], k: u32, origin: &Origin, octets: &[u8; 32]) -> AuditRow
+    requires known { k ≡ length before.now }
+    requires made { IsMade ladder.now.rows k origin.now octets.now }
+    requires clean { AreClean before.now }
+    ensures marks { (station : ℕ) → station < 8 → row_mark station result ≡ above_mark ladder.now.rows before.now station k origin.now }
+    ensures clean { IsClean result }
+{
+    match origin {
+        Origin::Root => AuditRow::nobody(),
+        Origin::From(key, KdfInput::Nh(sync)) => match sync_row(ladder, k, sync) {
+            Some(sync) => who_also(&before[key.0 as usize], &before[sync as usize]),
+            None => AuditRow::nobody(),
+        },
+        Origin::From(key, _) => before[key.0 as usize],
+    }
+}
+
+// The row with the octets of the SYNC-input of row k, which comes before it.
+pub(crate) fn sync_row(ladder: &Ladder, k: u32, sync: &[u8; 32]) -> Option<u32>
+    ensures { result ≡ sync_row ladder.now.rows k sync.now }
+{
+    let row = ladder.find(sync)?;
+    if row.0 < k { Some(row.0) } else { None }
+}
+
+// The stations of two rows, each from the row that the first names.
+fn who_also(row: &AuditRow, other: &AuditRow) -> AuditRow
+    ensures marks { (station : ℕ) → station < 8 → row_mark station result ≡ and_mark (row_mark station other.now) (row_mark station row.now) }
+    ensures clean { IsClean result }
+{
+    let mut both = AuditRow::nobody();
+    for station in 0..8 {
+        both.put(station, other.mark(station).and(row.mark(station)));
+    }
+    both
+}
+
+// The stations of a row, and those who hold row k.
+fn with_holders(above: &AuditRow, k: u32, held: &[bool; 8]) -> AuditRow
+    ensures marks { (station : ℕ) → station < 8 → row_mark station result ≡ held_first (slice_index_or held.now station false) k (row_mark station above.now) }
+    ensures clean { IsClean result }
+{
+    let mut row = AuditRow::nobody();
+    for station in 0..8 {
+        row.put(station, held_first(held[station], k, above.mark(station)));
+    }
+    row
+}
+
+// Row k itself, where a station holds it.
+pub(crate) fn held_first(held: bool, k: u32, above: Option<u32>) -> Option<u32>
+    ensures { result ≡ held_first held k above }
+{
+    if held { Some(k) } else { above }
+}
