@@ -3,3 +3,4 @@ pub mod OneStep
 pub mod Neighbours
 pub mod Exactness
 pub mod Filling
+pub mod Ways

@@ -2,3 +2,4 @@ pub mod Terms
 pub mod Derives
 pub mod Exact
 pub mod Local
+pub mod Text

@@ -7,6 +7,7 @@ ghost use Rattle.key_audit.specs.Local.{and_mark, above_mark, held_first, row_ma
 
 use hmac_kdf::KdfInput;
 use key_terms::{Ladder, Origin, Row};
+use report_text::TextMemory;
 use std::alloc::{AllocError, Global};
 
 /// What each station can derive by itself, for each row of a ladder.
@@ -70,6 +71,12 @@ pub struct AuditMemory;
 
 impl From<AllocError> for AuditMemory {
     fn from(_fault: AllocError) -> AuditMemory {
+        AuditMemory
+    }
+}
+
+impl From<TextMemory> for AuditMemory {
+    fn from(_fault: TextMemory) -> AuditMemory {
         AuditMemory
     }
 }

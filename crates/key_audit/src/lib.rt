@@ -3,6 +3,10 @@
 
 mod audits;
 mod checks;
+mod paths;
+mod texts;
+
 
 pub use audits::{Audit, AuditMemory, AuditRow, audit_of};
 pub use checks::check;
+pub use texts::{audit_text, first_line, last_line, row_line};

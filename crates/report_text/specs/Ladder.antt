@@ -1,5 +1,5 @@
 -- The rows of the ladder in a report.
-use Rattle.std.specs.Prelude.{ℕ, ◌+◌, Bool, true, false, List, [], ◌∷◌, ◌++◌, codes, unwrap_or, slice_index_or}
+use Rattle.std.specs.Prelude.{ℕ, ◌+◌, Bool, true, false, Option, Some, None, List, [], ◌∷◌, ◌++◌, codes, unwrap_or, slice_get, slice_index_or}
 use Rattle.std.specs.Fmt.{decimal}
 use Rattle.hex.specs.Hex.{encode_lower}
 use Rattle.hmac_kdf.specs.declared.input.KdfInput.{KdfInput}
@@ -32,6 +32,14 @@ input_text rows key (Alg type id) = of_three (codes "alg") key.0 type id
 abbrev pub form_text : List LadderRow → Origin → List ℕ
 form_text rows Root = codes "root"
 form_text rows (From key input) = input_text rows key input
+
+-- of the row of this number, if it stands
+abbrev pub form_in : List LadderRow → Option LadderRow → List ℕ
+form_in rows None = []
+form_in rows (Some row) = form_text rows row.origin
+
+abbrev pub form_at : List LadderRow → ℕ → List ℕ
+form_at rows k = form_in rows (slice_get rows k)
 
 -- who holds the key: the phone, the core, stations 0 to 7, each behind a comma
 abbrev pub if_held : Bool → List ℕ → List ℕ

@@ -1,7 +1,7 @@
 ghost use Rattle.std.specs.Prelude.{◌≡◌, ℕ, ◌<◌, ◌∷◌, ◌++◌, [], Some, length, slice_get, IfOk, OnOk};
 ghost use Rattle.std.specs.String.{string_bytes};
 ghost use Rattle.key_terms.specs.Ladder.{row_of};
-ghost use Rattle.report_text.specs.Ladder.{of_two, of_three, sync_row, input_text, form_text, if_held, each_holder, without_comma, row_head, row_text, ladder_text};
+ghost use Rattle.report_text.specs.Ladder.{of_two, of_three, sync_row, input_text, form_text, form_at, if_held, each_holder, without_comma, row_head, row_text, ladder_text};
 
 use crate::TextMemory;
 use hmac_kdf::KdfInput;
@@ -17,6 +17,15 @@ pub fn ladder_text(alloc: Global, ladder: &Ladder) -> Result<Vec<u8>, TextMemory
         add_row(alloc, &mut text, ladder, Row(k as u32))?;
     }
     Ok(text)
+}
+
+/// What a row of a ladder is, in ASCII: a root, or a derivation with the row of its key.
+pub fn form(alloc: Global, ladder: &Ladder, row: Row) -> Result<Vec<u8>, TextMemory>
+    requires { row.0 < length ladder.now.rows }
+    ensures { IfOk result (λ text. text.items ≡ form_at ladder.now.rows row.0) }
+{
+    let text = form_text(alloc, ladder, &ladder.row(row).origin)?;
+    Ok(text.into_bytes())
 }
 
 // Appends the line of a row.

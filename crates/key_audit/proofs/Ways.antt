@@ -1,0 +1,97 @@
+-- The way up from a row.
+use Rattle.std.proofs.Common.{◌≡◌, ℕ, zero, suc, ◌<◌, ◌==◌, Bool, true, false, Option, Some, None, List, [], ◌∷◌, ◌++◌, ◌+◌, ◌-◌, codes, drop, get_or, length, refl, sym, ap, ◌∙◌, arith}
+use Rattle.std.proofs.lemmas.Bool.{eq-eqb, ne_eqb}
+use Rattle.std.proofs.lemmas.Option.{none-some}
+use Rattle.std.proofs.lemmas.List.{append_assoc, drop_more}
+use Rattle.std.specs.Fmt.{decimal}
+use Rattle.std.specs.Prelude.{if◌then◌else◌, IsTrue}
+use Rattle.std.specs.List.{slice_get}
+use Rattle.key_terms.specs.declared.row.LadderRow.{LadderRow}
+use Rattle.key_terms.specs.declared.row.Origin.{Origin}
+use Rattle.key_terms.specs.Ladder.{AreMade}
+use Rattle.key_audit.specs.declared.audits.AuditRow.{AuditRow}
+use Rattle.key_audit.specs.Derives.{key_in, key_row}
+use Rattle.key_audit.specs.Text.{on_from, way_within, way_up, further, for_each, stations, row_line, row_lines}
+use Rattle.key_audit.proofs.Neighbours.{key_before}
+
+-- how far a walk has still to go, at the most
+abbrev pub left : Option ℕ → ℕ
+left None = 0
+left (Some k) = suc k
+
+-- the row of a key comes before
+pub before : (rows : List LadderRow) → AreMade rows → (k key : ℕ) → key_row rows k ≡ Some key → key < k
+before rows made k key is = by (slice_get rows k) refl
+  where
+    by : (o : Option LadderRow) → slice_get rows k ≡ o → key < k
+    by None at = absurd (none-some key (sym (ap key_in at) ∙ is))
+    by (Some r) at = key_before rows k key r.octets r.origin (made k r at) (sym (ap key_in at) ∙ is)
+
+-- ways that are one from each row before are one from the row of a key
+on_same : (rows : List LadderRow) → AreMade rows → (k : ℕ) (f g : ℕ → List ℕ) → ((j : ℕ) → j < k → f j ≡ g j) → (o : Option ℕ) → key_row rows k ≡ o → on_from f o ≡ on_from g o
+on_same rows made k f g same None is = refl
+on_same rows made k f g same (Some key) is = same key (before rows made k key is)
+
+-- enough steps are enough
+way_same : (rows : List LadderRow) → AreMade rows → (to n m k : ℕ) → k < n → k < m → way_within n rows to k ≡ way_within m rows to k
+way_same rows made to zero m k small large = absurd (omega (arith, small))
+way_same rows made to (suc n) zero k small large = absurd (omega (arith, large))
+way_same rows made to (suc n) (suc m) k small large =
+    ap (λ rest. k ∷ (if k == to then [] else rest))
+    (on_same rows made k (way_within n rows to) (way_within m rows to) (λ j less. way_same rows made to n m j (omega (arith, less, small)) (omega (arith, less, large))) (key_row rows k) refl)
+
+-- the way goes on from the row of the key
+pub way_on : (rows : List LadderRow) → AreMade rows → (to k : ℕ) → way_up rows to k ≡ k ∷ (if k == to then [] else on_from (way_up rows to) (key_row rows k))
+unfolding way_up
+way_on rows made to k =
+    ap (λ rest. k ∷ (if k == to then [] else rest))
+    (on_same rows made k (way_within k rows to) (way_up rows to) (λ j less. way_same rows made to k (suc j) j less (omega arith)) (key_row rows k) refl)
+
+-- it ends at the row that was looked for
+pub way_ends : (rows : List LadderRow) → AreMade rows → (to k : ℕ) → k ≡ to → way_up rows to k ≡ k ∷ []
+way_ends rows made to k same = way_on rows made to k ∙ ap (λ b. k ∷ (if b then [] else on_from (way_up rows to) (key_row rows k))) (eq-eqb k to same)
+
+-- or goes on
+pub way_next : (rows : List LadderRow) → AreMade rows → (to k : ℕ) → (k ≡ to → ⊥) → (o : Option ℕ) → key_row rows k ≡ o → way_up rows to k ≡ k ∷ on_from (way_up rows to) o
+way_next rows made to k differs o is =
+    way_on rows made to k ∙ ap (λ b. k ∷ (if b then [] else on_from (way_up rows to) (key_row rows k))) (ne_eqb k to differs) ∙ ap (λ key. k ∷ on_from (way_up rows to) key) is
+
+-- one number more of a path
+pub one_further : (path : List ℕ) (i k : ℕ) (so_far after whole : List ℕ) → i < length path → k ≡ get_or path i k → after ≡ so_far ++ (codes ">" ++ decimal k) → so_far ++ further (drop i path) ≡ whole
+    → after ++ further (drop (i + 1) path) ≡ whole
+one_further path i k so_far after whole below is added done =
+    let rest : List ℕ = further (drop (i + 1) path) in
+    ap (λ t. t ++ rest) added ∙ append_assoc so_far (codes ">" ++ decimal k) rest
+    ∙ ap (λ n. so_far ++ ((codes ">" ++ decimal n) ++ rest)) is
+    ∙ ap (λ more. so_far ++ further more) (sym (drop_more path i k below)) ∙ done
+
+-- what is written for one station more
+pub one_station : (text : ℕ → List ℕ) (station : ℕ) (so_far after whole : List ℕ) → station < 8 → after ≡ so_far ++ text station → so_far ++ for_each text (drop station stations) ≡ whole
+    → after ++ for_each text (drop (station + 1) stations) ≡ whole
+one_station text station so_far after whole below added done =
+    let rest : List ℕ = for_each text (drop (station + 1) stations) in
+    ap (λ t. t ++ rest) added ∙ append_assoc so_far (text station) rest
+    ∙ ap (λ s. so_far ++ (text s ++ rest)) (sym (numbered station below))
+    ∙ ap (λ more. so_far ++ for_each text more) (sym (drop_more stations station 0 below)) ∙ done
+  where
+    numbered : (s : ℕ) → s < 8 → get_or stations s 0 ≡ s
+    numbered zero below = refl
+    numbered (suc zero) below = refl
+    numbered (suc (suc zero)) below = refl
+    numbered (suc (suc (suc zero))) below = refl
+    numbered (suc (suc (suc (suc zero)))) below = refl
+    numbered (suc (suc (suc (suc (suc zero))))) below = refl
+    numbered (suc (suc (suc (suc (suc (suc zero)))))) below = refl
+    numbered (suc (suc (suc (suc (suc (suc (suc zero))))))) below = refl
+    numbered (suc (suc (suc (suc (suc (suc (suc (suc s)))))))) below = absurd (omega (arith, below))
+
+-- one line more
+pub one_line : (rows : List LadderRow) (audit : List AuditRow) (k all : ℕ) (so_far after whole : List ℕ) → k < all → after ≡ so_far ++ row_line rows audit k → so_far ++ row_lines rows audit k (all - k) ≡ whole
+    → after ++ row_lines rows audit (k + 1) (all - (k + 1)) ≡ whole
+one_line rows audit k all so_far after whole below added done =
+    let rest : List ℕ = row_lines rows audit (k + 1) (all - (k + 1)) in
+    let left : all - k ≡ suc (all - (k + 1)) = omega (arith, below) in
+    let next : suc k ≡ k + 1 = omega arith in
+    ap (λ t. t ++ rest) added ∙ append_assoc so_far (row_line rows audit k) rest
+    ∙ ap (λ n. so_far ++ (row_line rows audit k ++ row_lines rows audit n (all - (k + 1)))) (sym next)
+    ∙ ap (λ n. so_far ++ row_lines rows audit k n) (sym left) ∙ done
