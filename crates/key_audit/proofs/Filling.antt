@@ -13,8 +13,8 @@ use Rattle.key_audit.specs.declared.audits.AuditRow.{AuditRow}
 use Rattle.key_audit.specs.Terms.{sync_row}
 use Rattle.key_audit.specs.Derives.{held_by}
 use Rattle.key_audit.specs.Exact.{can_in, from_in, can_at, from_at}
-use Rattle.key_audit.specs.Local.{mark_if, mark_at, and_mark, mark_of, above_mark, held_first, local_mark, IsClean, AreClean, Fills, RowFits, Fits}
-use Rattle.key_audit.proofs.TermsOf.{if_before_cases}
+use Rattle.key_audit.specs.Local.{held_first, local_mark, mark_of, mark_at, IsClean, AreClean, Fills, RowFits, FitBelow, Fits}
+use Rattle.key_audit.proofs.Neighbours.{above_same}
 
 -- no station
 nobody : AuditRow
@@ -26,40 +26,22 @@ read_stays audit made j below =
     let at = slice_get-get_or audit j nobody below in
     slice_get_stays audit (made ∷ []) j (get_or audit j nobody) at ∙ sym at
 
-mark_read : (s : ℕ) (o p : Option AuditRow) → o ≡ p → mark_if (can_in s o) (from_in s o) ≡ mark_if (can_in s p) (from_in s p)
-mark_read s o p same = ap (λ q. mark_if (can_in s q) (from_in s q)) same
-
 mark_stays : (audit : List AuditRow) (made : AuditRow) (s j : ℕ) → j < length audit → mark_at (audit ++ made ∷ []) s j ≡ mark_at audit s j
-mark_stays audit made s j below = mark_read s _ _ (read_stays audit made j below)
-
-sync_stays : (rows : List LadderRow) (audit : List AuditRow) (made : AuditRow) (s k : ℕ) (sync : List ℕ) → k ≤ length audit → mark_of (audit ++ made ∷ []) s (sync_row rows k sync) ≡ mark_of audit s (sync_row rows k sync)
-sync_stays rows audit made s k sync within = elim (if_before_cases k (row_of rows sync)) [
-    | inl none ↦ rw none refl
-    | inr some ↦ rw (some.1) (mark_stays audit made s some.0 (omega (arith, some.2, within)))
-  ]
-
-above_stays : (rows : List LadderRow) (audit : List AuditRow) (made : AuditRow) (s k : ℕ) (octets : List ℕ) (o : Origin) → IsMade rows k o octets → k ≤ length audit
-    → above_mark rows (audit ++ made ∷ []) s k o ≡ above_mark rows audit s k o
-above_stays rows audit made s k octets origins.Root is within = refl
-above_stays rows audit made s k octets (origins.From key (KdfInput.Kenb count)) is within = mark_stays audit made s key.0 (omega (arith, is.0, within))
-above_stays rows audit made s k octets (origins.From key (KdfInput.Nh sync)) is within =
-    ap (λ m. and_mark m (mark_at (audit ++ made ∷ []) s key.0)) (sync_stays rows audit made s k sync within)
-    ∙ ap (and_mark (mark_of audit s (sync_row rows k sync))) (mark_stays audit made s key.0 (omega (arith, is.0, within)))
-above_stays rows audit made s k octets (origins.From key (KdfInput.Star pci earfcn)) is within = mark_stays audit made s key.0 (omega (arith, is.0, within))
-above_stays rows audit made s k octets (origins.From key (KdfInput.Alg kind identity)) is within = mark_stays audit made s key.0 (omega (arith, is.0, within))
+mark_stays audit made s j below = ap (mark_of s) (read_stays audit made j below)
 
 local_stays : (rows : List LadderRow) → IsLadder rows → (audit : List AuditRow) (made : AuditRow) (s k : ℕ) (r : LadderRow) → slice_get rows k ≡ Some r → k ≤ length audit
-    → local_mark rows (audit ++ made ∷ []) s k r ≡ local_mark rows audit s k r
-local_stays rows ladder audit made s k r at within = ap (held_first (held_by s r) k) (above_stays rows audit made s k r.octets r.origin (ladder.made k r at) within)
+    → local_mark rows (mark_at (audit ++ made ∷ []) s) s k r ≡ local_mark rows (mark_at audit s) s k r
+local_stays rows ladder audit made s k r at within =
+    ap (held_first (held_by s r) k) (above_same rows k r.octets r.origin (ladder.made k r at) (mark_at (audit ++ made ∷ []) s) (mark_at audit s) (λ j less. mark_stays audit made s j (omega (arith, less, within))))
 
 -- the rows before row k are filled
 pub record Filled (rows : List LadderRow) (audit : List AuditRow) (k : ℕ) : Type 0 where
   pub as_many : length audit ≡ k
-  pub each : (j s : ℕ) → j < k → s < 8 → RowFits rows audit j s
+  pub each : FitBelow rows audit k
   pub clean : AreClean audit
 
 pub filled_none : (rows : List LadderRow) → Filled rows [] 0
-filled_none rows = record { as_many = refl; each = λ j s below few. absurd (omega (arith, below)); clean = λ j row at. absurd (none-some row at) }
+filled_none rows = record { as_many = refl; each = λ j below. absurd (omega (arith, below)); clean = λ j row at. absurd (none-some row at) }
 
 -- a row that stood fits, and the new one does
 fits_still : (rows : List LadderRow) → IsLadder rows → (audit : List AuditRow) (made : AuditRow) (j s : ℕ) → j < length audit → RowFits rows audit j s → RowFits rows (audit ++ made ∷ []) j s
@@ -73,7 +55,7 @@ fits_new rows ladder audit made k s number few within fills =
     let end : slice_get (audit ++ made ∷ []) k ≡ Some made = ap (slice_get (audit ++ made ∷ [])) number ∙ slice_get_at_end audit made in
     let row = slice_get-get_or rows k (unheld origins.Root []) within in
     record {
-      mark = λ r at. mark_read s _ _ end ∙ (fills r at).marks s few ∙ sym (local_stays rows ladder audit made s k r at (omega (arith, number)));
+      mark = λ r at. ap (mark_of s) end ∙ (fills r at).marks s few ∙ sym (local_stays rows ladder audit made s k r at (omega (arith, number)));
       nothing = λ cannot. ap (from_in s) end ∙ (fills _ row).clean s few (sym (ap (can_in s) end) ∙ cannot);
     }
 
@@ -81,18 +63,18 @@ pub filled_more : (rows : List LadderRow) → IsLadder rows → (audit after : L
     → ((r : LadderRow) → slice_get rows k ≡ Some r → Fills rows audit k r made) → Filled rows after (k + 1)
 filled_more rows ladder audit after made k put filled within fills = subst (λ a. Filled rows a (k + 1)) (sym put) (record {
   as_many = length-append audit (made ∷ []) ∙ omega (arith, filled.as_many);
-  each = λ j s below few. elim (cases_lt j k) [
-      | inl before ↦ fits_still rows ladder audit made j s (omega (arith, before, filled.as_many)) (filled.each j s before few)
+  each = λ j below s few. elim (cases_lt j k) [
+      | inl before ↦ fits_still rows ladder audit made j s (omega (arith, before, filled.as_many)) (filled.each j before s few)
       | inr last ↦ let this : k ≡ j = omega (arith, last, below) in subst (λ i. RowFits rows (audit ++ made ∷ []) i s) this (fits_new rows ladder audit made k s (sym filled.as_many) few within fills)
     ];
   clean = λ j row at. elim (slice_get_push audit made j row at) [
       | inl before ↦ filled.clean j row before
-      | inr last ↦ subst IsClean (sym last.1) (fills _ (slice_get-get_or rows k (unheld origins.Root []) within)).clean
+      | inr last ↦ subst (λ r. IsClean (Some r)) (sym last.1) (fills _ (slice_get-get_or rows k (unheld origins.Root []) within)).clean
     ];
 })
 
 pub filled_all : (rows : List LadderRow) (audit : List AuditRow) (k : ℕ) → Filled rows audit k → k ≡ length rows → Fits rows audit
 filled_all rows audit k filled all = record {
   as_many = filled.as_many ∙ all;
-  each = λ j s below few. filled.each j s (omega (arith, below, all)) few;
+  each = λ j below. filled.each j (omega (arith, below, all));
 }

@@ -2,18 +2,16 @@
 use Rattle.std.proofs.Common.{◌≡◌, ℕ, ◌<◌, ◌⊎◌, inl, inr, Option, Some, None, List, length, refl, sym, ap, subst, ◌∙◌, Bool, true, false}
 use Rattle.std.proofs.lemmas.Bool.{false≢true}
 use Rattle.std.proofs.lemmas.Option.{none-some}
-use Rattle.std.specs.Prelude.{◌↔◌, IsTrue}
+use Rattle.std.specs.Prelude.{◌↔◌, IsTrue, IsSome}
 use Rattle.std.specs.List.{slice_get}
 use Rattle.hmac_kdf.specs.declared.input.KdfInput.{KdfInput}
 use Rattle.key_terms.specs.declared.row.LadderRow.{LadderRow}
 use Rattle.key_terms.specs.declared.row.Origin.{Origin}
 use Rattle.key_terms.specs.declared.row.Origin.TheVariants as origins
 use Rattle.key_terms.specs.Ladder.{row_of, IsMade}
-use Rattle.key_audit.specs.declared.audits.AuditRow.{AuditRow}
 use Rattle.key_audit.specs.Terms.{sync_row}
 use Rattle.key_audit.specs.Derives.{holds, key_of, key_row, IsNearest, by_itself, by_key}
-use Rattle.key_audit.specs.Exact.{can_at, from_at}
-use Rattle.key_audit.specs.Local.{mark_if, mark_at, and_mark, mark_of, above_mark, held_first}
+use Rattle.key_audit.specs.Local.{sync_mark, and_mark, above_mark}
 use Rattle.key_audit.proofs.TermsOf.{if_before_cases}
 use Rattle.key_audit.proofs.OneStep.{AtSync, Above}
 
@@ -36,50 +34,59 @@ above_carried rows P Q k octets (origins.From key (KdfInput.Nh sync)) made carri
 above_carried rows P Q k octets (origins.From key (KdfInput.Star pci earfcn)) made carries h = carries key.0 made.0 h
 above_carried rows P Q k octets (origins.From key (KdfInput.Alg kind identity)) made carries h = carries key.0 made.0 h
 
--- a mark is there exactly where the station can
-pub mark_there : (can : Bool) (from x : ℕ) → mark_if can from ≡ Some x → IsTrue can × (from ≡ x)
-mark_there true from x is = (refl, cc)
-mark_there false from x is = absurd (none-some x is)
+-- a mark that is there
+abbrev pub Marked : (ℕ → Option ℕ) → ℕ → Type 0
+Marked mark j = IsSome (mark j)
 
-pub mark_true : (can : Bool) (from : ℕ) → IsTrue can → mark_if can from ≡ Some from
-mark_true can from is = ap (λ b. mark_if b from) is
+pub marked : {o : Option ℕ} (x : ℕ) → o ≡ Some x → IsSome o
+marked x is = subst IsSome (sym is) refl
 
--- where the neighbours say so, there is a mark, that of the row of the key
-abbrev pub Can : List AuditRow → ℕ → ℕ → Type 0
-Can audit s j = IsTrue (can_at audit s j)
+pub mark_there : (o : Option ℕ) → IsSome o → (x : ℕ) × (o ≡ Some x)
+mark_there None some = absurd (false≢true some)
+mark_there (Some x) some = (x, refl)
 
-sync_marked : (audit : List AuditRow) (s x : ℕ) (o m : Option ℕ) → and_mark (mark_of audit s o) m ≡ Some x → AtSync (Can audit s) o × (m ≡ Some x)
-sync_marked audit s x None m is = absurd (none-some x is)
-sync_marked audit s x (Some j) m is = by (mark_at audit s j) refl is
-  where
-    by : (n : Option ℕ) → mark_at audit s j ≡ n → and_mark n m ≡ Some x → Can audit s j × (m ≡ Some x)
-    by None e is = absurd (none-some x is)
-    by (Some y) e is = ((mark_there (can_at audit s j) (from_at audit s j) y e).0, is)
+-- a mark that comes from above is that of the row of the key
+and_there : (o m : Option ℕ) (x : ℕ) → and_mark o m ≡ Some x → IsSome o × (m ≡ Some x)
+and_there None m x is = absurd (none-some x is)
+and_there (Some y) m x is = (refl, is)
 
-pub above_marked : (rows : List LadderRow) (audit : List AuditRow) (s k x : ℕ) (o : Origin) → above_mark rows audit s k o ≡ Some x
-    → Above rows (Can audit s) k o × ((key : ℕ) × (key_of o ≡ Some key) × Can audit s key × (from_at audit s key ≡ x))
-above_marked rows audit s k x origins.Root is = absurd (none-some x is)
-above_marked rows audit s k x (origins.From key (KdfInput.Kenb count)) is = let m = mark_there (can_at audit s key.0) (from_at audit s key.0) x is in (m.0, (key.0, refl, m.0, m.1))
-above_marked rows audit s k x (origins.From key (KdfInput.Nh sync)) is =
-    let both = sync_marked audit s x (sync_row rows k sync) (mark_at audit s key.0) is in
-    let m = mark_there (can_at audit s key.0) (from_at audit s key.0) x both.1 in
-    ((m.0, both.0), (key.0, refl, m.0, m.1))
-above_marked rows audit s k x (origins.From key (KdfInput.Star pci earfcn)) is = let m = mark_there (can_at audit s key.0) (from_at audit s key.0) x is in (m.0, (key.0, refl, m.0, m.1))
-above_marked rows audit s k x (origins.From key (KdfInput.Alg kind identity)) is = let m = mark_there (can_at audit s key.0) (from_at audit s key.0) x is in (m.0, (key.0, refl, m.0, m.1))
+sync_there : (mark : ℕ → Option ℕ) (o : Option ℕ) → IsSome (sync_mark mark o) → AtSync (Marked mark) o
+sync_there mark None some = absurd (false≢true some)
+sync_there mark (Some j) some = some
+
+pub above_marked : (rows : List LadderRow) (mark : ℕ → Option ℕ) (k x : ℕ) (o : Origin) → above_mark rows mark k o ≡ Some x → Above rows (Marked mark) k o × ((key : ℕ) × (key_of o ≡ Some key) × (mark key ≡ Some x))
+above_marked rows mark k x origins.Root is = absurd (none-some x is)
+above_marked rows mark k x (origins.From key (KdfInput.Kenb count)) is = (marked x is, (key.0, refl, is))
+above_marked rows mark k x (origins.From key (KdfInput.Nh sync)) is =
+    let both = and_there (sync_mark mark (sync_row rows k sync)) (mark key.0) x is in
+    ((marked x both.1, sync_there mark (sync_row rows k sync) both.0), (key.0, refl, both.1))
+above_marked rows mark k x (origins.From key (KdfInput.Star pci earfcn)) is = (marked x is, (key.0, refl, is))
+above_marked rows mark k x (origins.From key (KdfInput.Alg kind identity)) is = (marked x is, (key.0, refl, is))
 
 -- and the other way
-mark_sync : (audit : List AuditRow) (s : ℕ) (o m : Option ℕ) → AtSync (Can audit s) o → and_mark (mark_of audit s o) m ≡ m
-mark_sync audit s None m can = absurd can
-mark_sync audit s (Some j) m can = ap (λ n. and_mark n m) (mark_true (can_at audit s j) (from_at audit s j) can)
+there_sync : (mark : ℕ → Option ℕ) (o m : Option ℕ) → AtSync (Marked mark) o → and_mark (sync_mark mark o) m ≡ m
+there_sync mark None m some = absurd some
+there_sync mark (Some j) m some = let there = mark_there (mark j) some in ap (λ n. and_mark n m) there.1
 
-pub marked_above : (rows : List LadderRow) (audit : List AuditRow) (s k : ℕ) (o : Origin) → Above rows (Can audit s) k o
-    → (key : ℕ) × (key_of o ≡ Some key) × Can audit s key × (above_mark rows audit s k o ≡ Some (from_at audit s key))
-marked_above rows audit s k origins.Root none = absurd none
-marked_above rows audit s k (origins.From key (KdfInput.Kenb count)) up = (key.0, refl, up, mark_true (can_at audit s key.0) (from_at audit s key.0) up)
-marked_above rows audit s k (origins.From key (KdfInput.Nh sync)) up =
-    (key.0, refl, up.0, mark_sync audit s (sync_row rows k sync) (mark_at audit s key.0) up.1 ∙ mark_true (can_at audit s key.0) (from_at audit s key.0) up.0)
-marked_above rows audit s k (origins.From key (KdfInput.Star pci earfcn)) up = (key.0, refl, up, mark_true (can_at audit s key.0) (from_at audit s key.0) up)
-marked_above rows audit s k (origins.From key (KdfInput.Alg kind identity)) up = (key.0, refl, up, mark_true (can_at audit s key.0) (from_at audit s key.0) up)
+pub marked_above : (rows : List LadderRow) (mark : ℕ → Option ℕ) (k : ℕ) (o : Origin) → Above rows (Marked mark) k o → (key : ℕ) × (key_of o ≡ Some key) × Marked mark key × (above_mark rows mark k o ≡ mark key)
+marked_above rows mark k origins.Root up = absurd up
+marked_above rows mark k (origins.From key (KdfInput.Kenb count)) up = (key.0, refl, up, refl)
+marked_above rows mark k (origins.From key (KdfInput.Nh sync)) up = (key.0, refl, up.0, there_sync mark (sync_row rows k sync) (mark key.0) up.1)
+marked_above rows mark k (origins.From key (KdfInput.Star pci earfcn)) up = (key.0, refl, up, refl)
+marked_above rows mark k (origins.From key (KdfInput.Alg kind identity)) up = (key.0, refl, up, refl)
+
+-- marks that are one in each row before give one mark from above
+sync_same : (rows : List LadderRow) (k : ℕ) (f g : ℕ → Option ℕ) → ((j : ℕ) → j < k → f j ≡ g j) → (o : Option ℕ) → ((j : ℕ) → o ≡ Some j → j < k) → sync_mark f o ≡ sync_mark g o
+sync_same rows k f g same None less = refl
+sync_same rows k f g same (Some j) less = same j (less j refl)
+
+pub above_same : (rows : List LadderRow) (k : ℕ) (octets : List ℕ) (o : Origin) → IsMade rows k o octets → (f g : ℕ → Option ℕ) → ((j : ℕ) → j < k → f j ≡ g j) → above_mark rows f k o ≡ above_mark rows g k o
+above_same rows k octets origins.Root made f g same = refl
+above_same rows k octets (origins.From key (KdfInput.Kenb count)) made f g same = same key.0 made.0
+above_same rows k octets (origins.From key (KdfInput.Nh sync)) made f g same =
+    ap (λ m. and_mark m (f key.0)) (sync_same rows k f g same (sync_row rows k sync) (sync_before rows k sync)) ∙ ap (and_mark (sync_mark g (sync_row rows k sync))) (same key.0 made.0)
+above_same rows k octets (origins.From key (KdfInput.Star pci earfcn)) made f g same = same key.0 made.0
+above_same rows k octets (origins.From key (KdfInput.Alg kind identity)) made f g same = same key.0 made.0
 
 -- a row that is held is the nearest
 pub nearest_held : (rows : List LadderRow) (s k from : ℕ) → IsTrue (holds rows s k) → IsNearest rows s k from → from ≡ k

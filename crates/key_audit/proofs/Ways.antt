@@ -9,9 +9,9 @@ use Rattle.std.specs.List.{slice_get}
 use Rattle.key_terms.specs.declared.row.LadderRow.{LadderRow}
 use Rattle.key_terms.specs.declared.row.Origin.{Origin}
 use Rattle.key_terms.specs.Ladder.{AreMade}
-use Rattle.key_audit.specs.declared.audits.AuditRow.{AuditRow}
+use Rattle.report_text.specs.Ladder.{form_at}
 use Rattle.key_audit.specs.Derives.{key_in, key_row}
-use Rattle.key_audit.specs.Text.{on_from, way_within, way_up, further, for_each, stations, row_line, row_lines}
+use Rattle.key_audit.specs.Text.{on_from, way_within, way_up, further, for_each, stations, name_if, by_if, names_text, paths_text, line_of, row_line, row_lines}
 use Rattle.key_audit.proofs.Neighbours.{key_before}
 
 -- how far a walk has still to go, at the most
@@ -86,12 +86,22 @@ one_station text station so_far after whole below added done =
     numbered (suc (suc (suc (suc (suc (suc (suc (suc s)))))))) below = absurd (omega (arith, below))
 
 -- one line more
-pub one_line : (rows : List LadderRow) (audit : List AuditRow) (k all : ℕ) (so_far after whole : List ℕ) → k < all → after ≡ so_far ++ row_line rows audit k → so_far ++ row_lines rows audit k (all - k) ≡ whole
-    → after ++ row_lines rows audit (k + 1) (all - (k + 1)) ≡ whole
-one_line rows audit k all so_far after whole below added done =
-    let rest : List ℕ = row_lines rows audit (k + 1) (all - (k + 1)) in
+pub one_line : (rows : List LadderRow) (marks : ℕ → ℕ → Option ℕ) (k all : ℕ) (so_far after whole : List ℕ) → k < all → after ≡ so_far ++ row_line rows marks k → so_far ++ row_lines rows marks k (all - k) ≡ whole
+    → after ++ row_lines rows marks (k + 1) (all - (k + 1)) ≡ whole
+one_line rows marks k all so_far after whole below added done =
+    let rest : List ℕ = row_lines rows marks (k + 1) (all - (k + 1)) in
     let left : all - k ≡ suc (all - (k + 1)) = omega (arith, below) in
     let next : suc k ≡ k + 1 = omega arith in
-    ap (λ t. t ++ rest) added ∙ append_assoc so_far (row_line rows audit k) rest
-    ∙ ap (λ n. so_far ++ (row_line rows audit k ++ row_lines rows audit n (all - (k + 1)))) (sym next)
-    ∙ ap (λ n. so_far ++ row_lines rows audit k n) (sym left) ∙ done
+    ap (λ t. t ++ rest) added ∙ append_assoc so_far (row_line rows marks k) rest
+    ∙ ap (λ n. so_far ++ (row_line rows marks k ++ row_lines rows marks n (all - (k + 1)))) (sym next)
+    ∙ ap (λ n. so_far ++ row_lines rows marks k n) (sym left) ∙ done
+
+-- marks that are one give one text
+each_same : (f g : ℕ → List ℕ) → ((s : ℕ) → s < 8 → f s ≡ g s) → for_each f stations ≡ for_each g stations
+each_same f g same =
+    rw (same 0 (omega arith), same 1 (omega arith), same 2 (omega arith), same 3 (omega arith), same 4 (omega arith), same 5 (omega arith), same 6 (omega arith), same 7 (omega arith)) refl
+
+pub line_same : (rows : List LadderRow) (f g : ℕ → ℕ → Option ℕ) (k : ℕ) → ((s : ℕ) → s < 8 → f s k ≡ g s k) → row_line rows f k ≡ row_line rows g k
+line_same rows f g k same =
+    ap (λ names. line_of k (form_at rows k) names (paths_text rows k (λ s. f s k))) (each_same _ _ (λ s few. ap (λ m. name_if m s) (same s few)))
+    ∙ ap (line_of k (form_at rows k) (names_text (λ s. g s k))) (each_same _ _ (λ s few. ap (λ m. by_if rows k m s) (same s few)))

@@ -1,5 +1,5 @@
--- A row of an audit by its neighbours alone.
-use Rattle.std.specs.Prelude.{◌≡◌, ℕ, ◌<◌, Bool, true, false, List, Option, Some, None, length, slice_get}
+-- Which station can derive which row, row by row: by the rows that a row comes from, and by who holds it.
+use Rattle.std.specs.Prelude.{◌≡◌, ℕ, zero, suc, ◌<◌, Bool, true, false, List, Option, Some, None, length, slice_get}
 use Rattle.hmac_kdf.specs.declared.input.KdfInput.TheVariants.{Nh}
 use Rattle.key_terms.specs.declared.row.LadderRow.{LadderRow}
 use Rattle.key_terms.specs.declared.row.Origin.{Origin}
@@ -7,73 +7,89 @@ use Rattle.key_terms.specs.declared.row.Origin.TheVariants.{Root, From}
 use Rattle.key_audit.specs.declared.audits.AuditRow.{AuditRow}
 use Rattle.key_audit.specs.Terms.{sync_row}
 use Rattle.key_audit.specs.Derives.{held_by}
-use Rattle.key_audit.specs.Exact.{can_in, from_in, can_at, from_at}
+use Rattle.key_audit.specs.Exact.{can_in, from_in}
 
--- the row from which a station derives a key, if it can
-abbrev pub mark_if : Bool → ℕ → Option ℕ
-mark_if true from = Some from
-mark_if false from = None
+-- A mark of a row says that a station can derive it, and from which row that it holds. Where `mark` gives those of the rows
+-- before: that of the SYNC-input, and of the key where the first is there
+abbrev pub sync_mark : (ℕ → Option ℕ) → Option ℕ → Option ℕ
+sync_mark mark None = None
+sync_mark mark (Some j) = mark j
 
-abbrev pub mark_at : List AuditRow → ℕ → ℕ → Option ℕ
-mark_at audit station k = mark_if (can_at audit station k) (from_at audit station k)
-
--- a second mark, where there is a first
 abbrev pub and_mark : Option ℕ → Option ℕ → Option ℕ
 and_mark None mark = None
 and_mark (Some first) mark = mark
 
-abbrev pub mark_of : List AuditRow → ℕ → Option ℕ → Option ℕ
-mark_of audit station None = None
-mark_of audit station (Some j) = mark_at audit station j
+-- of what a row is derived from (A.3, A.4, A.5, A.7)
+abbrev pub above_mark : List LadderRow → (ℕ → Option ℕ) → ℕ → Origin → Option ℕ
+above_mark rows mark k Root = None
+above_mark rows mark k (From key (Nh sync)) = and_mark (sync_mark mark (sync_row rows k sync)) (mark key.0)
+above_mark rows mark k (From key other) = mark key.0
 
--- by the row of the key, and for an NH by that of the SYNC-input too (A.3, A.4, A.5, A.7)
-abbrev pub above_mark : List LadderRow → List AuditRow → ℕ → ℕ → Origin → Option ℕ
-above_mark rows audit station k Root = None
-above_mark rows audit station k (From key (Nh sync)) = and_mark (mark_of audit station (sync_row rows k sync)) (mark_at audit station key.0)
-above_mark rows audit station k (From key other) = mark_at audit station key.0
-
--- the row itself, where the station holds it
+-- or the row itself, where the station holds it
 abbrev pub held_first : Bool → ℕ → Option ℕ → Option ℕ
 held_first true k above = Some k
 held_first false k above = above
 
-abbrev pub local_mark : List LadderRow → List AuditRow → ℕ → ℕ → LadderRow → Option ℕ
-local_mark rows audit station k row = held_first (held_by station row) k (above_mark rows audit station k row.origin)
+abbrev pub local_mark : List LadderRow → (ℕ → Option ℕ) → ℕ → ℕ → LadderRow → Option ℕ
+local_mark rows mark station k row = held_first (held_by station row) k (above_mark rows mark k row.origin)
 
--- what a row of an audit says of a station, and that it names no row where the station cannot
-abbrev pub row_mark : ℕ → AuditRow → Option ℕ
-row_mark station row = mark_if (can_in station (Some row)) (from_in station (Some row))
+-- THE MARK OF A ROW
 
-abbrev pub IsClean : AuditRow → Type 0
-IsClean row = (station : ℕ) → station < 8 → can_in station (Some row) ≡ false → from_in station (Some row) ≡ 0
+abbrev pub mark_in : List LadderRow → (ℕ → Option ℕ) → ℕ → ℕ → Option LadderRow → Option ℕ
+mark_in rows mark station k None = None
+mark_in rows mark station k (Some row) = local_mark rows mark station k row
+
+-- found in at most so many steps: each row comes from rows before it
+abbrev pub mark_within : ℕ → List LadderRow → ℕ → ℕ → Option ℕ
+mark_within zero rows station k = None
+mark_within (suc steps) rows station k = mark_in rows (mark_within steps rows station) station k (slice_get rows k)
+
+unfoldable pub exact_mark : List LadderRow → ℕ → ℕ → Option ℕ
+exact_mark rows station k = mark_within (suc k) rows station k
+
+-- WHAT AN AUDIT SAYS
+
+abbrev pub mark_if : Bool → ℕ → Option ℕ
+mark_if true from = Some from
+mark_if false from = None
+
+abbrev pub mark_of : ℕ → Option AuditRow → Option ℕ
+mark_of station row = mark_if (can_in station row) (from_in station row)
+
+abbrev pub mark_at : List AuditRow → ℕ → ℕ → Option ℕ
+mark_at audit station k = mark_of station (slice_get audit k)
+
+-- a row that names no row where a station cannot derive it
+abbrev pub IsClean : Option AuditRow → Type 0
+IsClean row = (station : ℕ) → station < 8 → can_in station row ≡ false → from_in station row ≡ 0
 
 abbrev pub AreClean : List AuditRow → Type 0
-AreClean audit = (k : ℕ) (row : AuditRow) → slice_get audit k ≡ Some row → IsClean row
+AreClean audit = (k : ℕ) (row : AuditRow) → slice_get audit k ≡ Some row → IsClean (Some row)
 
--- a row that fits those before it
+-- a row that is made of those before it
 pub record Fills (rows : List LadderRow) (before : List AuditRow) (k : ℕ) (row : LadderRow) (made : AuditRow) : Type 0 where
-  pub marks : (station : ℕ) → station < 8 → row_mark station made ≡ local_mark rows before station k row
-  pub clean : IsClean made
+  pub marks : (station : ℕ) → station < 8 → mark_of station (Some made) ≡ local_mark rows (mark_at before station) station k row
+  pub clean : IsClean (Some made)
 
--- a row of an audit says of a station what its neighbours do
+-- a row says of a station what its neighbours do
 pub record RowFits (rows : List LadderRow) (audit : List AuditRow) (k : ℕ) (station : ℕ) : Type 0 where
-  pub mark : (row : LadderRow) → slice_get rows k ≡ Some row → mark_at audit station k ≡ local_mark rows audit station k row
-  pub nothing : can_at audit station k ≡ false → from_at audit station k ≡ 0
-
--- and so does each
-pub record Fits (rows : List LadderRow) (audit : List AuditRow) : Type 0 where
-  pub as_many : length audit ≡ length rows
-  pub each : (k station : ℕ) → k < length rows → station < 8 → RowFits rows audit k station
-
--- the two say the same as a mark
-abbrev pub Says : Bool → ℕ → Option ℕ → Type 0
-Says can from None = (can ≡ false) × (from ≡ 0)
-Says can from (Some row) = (can ≡ true) × (from ≡ row)
+  pub mark : (row : LadderRow) → slice_get rows k ≡ Some row → mark_at audit station k ≡ local_mark rows (mark_at audit station) station k row
+  pub nothing : can_in station (slice_get audit k) ≡ false → from_in station (slice_get audit k) ≡ 0
 
 -- of each station
 abbrev pub AllFit : List LadderRow → List AuditRow → ℕ → Type 0
 AllFit rows audit k = (station : ℕ) → station < 8 → RowFits rows audit k station
 
--- and of each row below k
+-- and so does each row below k
 abbrev pub FitBelow : List LadderRow → List AuditRow → ℕ → Type 0
 FitBelow rows audit k = (j : ℕ) → j < k → AllFit rows audit j
+
+-- an audit in which each does
+pub record Fits (rows : List LadderRow) (audit : List AuditRow) : Type 0 where
+  pub as_many : length audit ≡ length rows
+  pub each : FitBelow rows audit (length rows)
+
+-- these two say the same as a mark
+abbrev pub Says : Bool → ℕ → Option ℕ → Type 0
+Says can from None = (can ≡ false) × (from ≡ 0)
+Says can from (Some row) = (can ≡ true) × (from ≡ row)

@@ -1,11 +1,10 @@
 -- The text of an audit: who can derive each row of the ladder, and on which way.
-use Rattle.std.specs.Prelude.{ℕ, zero, suc, ◌==◌, Bool, true, false, if◌then◌else◌, List, [], ◌∷◌, ◌++◌, Option, Some, None, codes, length, reverse, slice_get}
+use Rattle.std.specs.Prelude.{ℕ, zero, suc, ◌==◌, if◌then◌else◌, List, [], ◌∷◌, ◌++◌, Option, Some, None, codes, length, reverse}
 use Rattle.std.specs.Fmt.{decimal}
 use Rattle.key_terms.specs.declared.row.LadderRow.{LadderRow}
-use Rattle.report_text.specs.Ladder.{form_at, if_held, without_comma}
-use Rattle.key_audit.specs.declared.audits.AuditRow.{AuditRow}
+use Rattle.report_text.specs.Ladder.{form_at, without_comma}
 use Rattle.key_audit.specs.Derives.{key_row}
-use Rattle.key_audit.specs.Exact.{can_in, from_in}
+use Rattle.key_audit.specs.Local.{exact_mark}
 
 -- the rows from a row up to another, each but the first that of the key of the one before, in at most so many steps
 abbrev pub on_from : (ℕ → List ℕ) → Option ℕ → List ℕ
@@ -50,18 +49,20 @@ by_head station = codes " by S" ++ (decimal station ++ codes " ")
 abbrev pub by_text : List LadderRow → ℕ → ℕ → ℕ → List ℕ
 by_text rows k station from = by_head station ++ path_text rows from k
 
-abbrev pub name_if : Option AuditRow → ℕ → List ℕ
-name_if row station = if_held (can_in station row) (name_text station)
+abbrev pub name_if : Option ℕ → ℕ → List ℕ
+name_if None station = []
+name_if (Some from) station = name_text station
 
-abbrev pub by_if : List LadderRow → ℕ → Option AuditRow → ℕ → List ℕ
-by_if rows k row station = if_held (can_in station row) (by_text rows k station (from_in station row))
+abbrev pub by_if : List LadderRow → ℕ → Option ℕ → ℕ → List ℕ
+by_if rows k None station = []
+by_if rows k (Some from) station = by_text rows k station from
 
--- who can derive row k, or `-`, and on which path each can
-abbrev pub names_text : Option AuditRow → List ℕ
-names_text row = for_each (name_if row) stations
+-- who can derive row k, or `-`, and on which path each can: by the mark of each station
+abbrev pub names_text : (ℕ → Option ℕ) → List ℕ
+names_text mark = for_each (λ station. name_if (mark station) station) stations
 
-abbrev pub paths_text : List LadderRow → ℕ → Option AuditRow → List ℕ
-paths_text rows k row = for_each (by_if rows k row) stations
+abbrev pub paths_text : List LadderRow → ℕ → (ℕ → Option ℕ) → List ℕ
+paths_text rows k mark = for_each (λ station. by_if rows k (mark station) station) stations
 
 -- the line of row k
 unfoldable pub row_head : ℕ → List ℕ
@@ -70,13 +71,14 @@ row_head k = codes "row " ++ (decimal k ++ codes " ")
 abbrev pub line_of : ℕ → List ℕ → List ℕ → List ℕ → List ℕ
 line_of k form names paths = row_head k ++ (form ++ (codes " " ++ (without_comma names ++ (paths ++ codes "\n"))))
 
-abbrev pub row_line : List LadderRow → List AuditRow → ℕ → List ℕ
-row_line rows audit k = line_of k (form_at rows k) (names_text (slice_get audit k)) (paths_text rows k (slice_get audit k))
+abbrev pub row_line : List LadderRow → (ℕ → ℕ → Option ℕ) → ℕ → List ℕ
+row_line rows marks k =
+    line_of k (form_at rows k) (names_text (λ station. marks station k)) (paths_text rows k (λ station. marks station k))
 
 -- of so many rows from row k on
-abbrev pub row_lines : List LadderRow → List AuditRow → ℕ → ℕ → List ℕ
-row_lines rows audit k zero = []
-row_lines rows audit k (suc more) = row_line rows audit k ++ row_lines rows audit (suc k) more
+abbrev pub row_lines : List LadderRow → (ℕ → ℕ → Option ℕ) → ℕ → ℕ → List ℕ
+row_lines rows marks k zero = []
+row_lines rows marks k (suc more) = row_line rows marks k ++ row_lines rows marks (suc k) more
 
 -- how many rows there are
 unfoldable pub first_line : ℕ → List ℕ
@@ -86,5 +88,6 @@ first_line rows = codes "audit " ++ (decimal rows ++ codes "\n")
 abbrev pub last_line : List ℕ
 last_line = codes "checked\n"
 
-abbrev pub audit_text : List LadderRow → List AuditRow → List ℕ
-audit_text rows audit = first_line (length rows) ++ (row_lines rows audit 0 (length rows) ++ last_line)
+-- the text of the exact audit
+abbrev pub audit_text : List LadderRow → List ℕ
+audit_text rows = first_line (length rows) ++ (row_lines rows (exact_mark rows) 0 (length rows) ++ last_line)

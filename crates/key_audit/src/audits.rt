@@ -1,9 +1,9 @@
-ghost use Rattle.std.specs.Prelude.{◌≡◌, ℕ, ◌<◌, ◌≤◌, Bool, true, false, length, slice_get, slice_index_or, IfOk, None};
+ghost use Rattle.std.specs.Prelude.{◌≡◌, ℕ, ◌<◌, ◌≤◌, Bool, true, false, length, slice_get, slice_index_or, IfOk, Some, None};
 ghost use Rattle.key_terms.specs.declared.row.LadderRow.{LadderRow};
 ghost use Rattle.key_terms.specs.Ladder.{IsMade};
 ghost use Rattle.key_audit.specs.Exact.{Exact};
 ghost use Rattle.key_audit.specs.Terms.{sync_row};
-ghost use Rattle.key_audit.specs.Local.{and_mark, above_mark, held_first, row_mark, IsClean, AreClean, Fills};
+ghost use Rattle.key_audit.specs.Local.{and_mark, above_mark, held_first, mark_of, mark_at, IsClean, AreClean, Fills};
 
 use hmac_kdf::KdfInput;
 use key_terms::{Ladder, Origin, Row};
@@ -27,13 +27,13 @@ pub struct AuditRow {
 }
 
 impl AuditRow {
-    ghost use Rattle.std.specs.Prelude.{◌≡◌, ◌≢◌, ℕ, ◌<◌, None};
-    ghost use Rattle.key_audit.specs.Local.{row_mark, IsClean};
+    ghost use Rattle.std.specs.Prelude.{◌≡◌, ◌≢◌, ℕ, ◌<◌, Some, None};
+    ghost use Rattle.key_audit.specs.Local.{mark_of, IsClean};
 
     // No station.
     fn nobody() -> AuditRow
-        ensures marks { (station : ℕ) → station < 8 → row_mark station result ≡ None }
-        ensures clean { IsClean result }
+        ensures marks { (station : ℕ) → station < 8 → mark_of station (Some result) ≡ None }
+        ensures clean { IsClean (Some result) }
     {
         AuditRow {
             can: [false; 8],
@@ -44,7 +44,7 @@ impl AuditRow {
     // The row from which a station can derive it, if it can.
     pub(crate) fn mark(&self, station: usize) -> Option<u32>
         requires { station < 8 }
-        ensures { result ≡ row_mark station self.now }
+        ensures { result ≡ mark_of station (Some self.now) }
     {
         if self.can[station] {
             Some(self.from[station])
@@ -56,9 +56,9 @@ impl AuditRow {
     // Puts in that row, or that it cannot.
     fn put(&mut self, station: usize, mark: Option<u32>)
         requires { station < 8 }
-        ensures this { row_mark station self.new ≡ mark }
-        ensures others { (other : ℕ) → other ≢ station → row_mark other self.new ≡ row_mark other self.old }
-        ensures clean { IsClean self.old → IsClean self.new }
+        ensures this { mark_of station (Some self.new) ≡ mark }
+        ensures others { (other : ℕ) → other ≢ station → mark_of other (Some self.new) ≡ mark_of other (Some self.old) }
+        ensures clean { IsClean (Some self.old) → IsClean (Some self.new) }
     {
         self.can[station] = mark.is_some();
         self.from[station] = mark.unwrap_or(0);
@@ -118,8 +118,8 @@ fn above(ladder: &Ladder, before: &[AuditRow], k: u32, origin: &Origin, octets: 
     requires known { k ≡ length before.now }
     requires made { IsMade ladder.now.rows k origin.now octets.now }
     requires clean { AreClean before.now }
-    ensures marks { (station : ℕ) → station < 8 → row_mark station result ≡ above_mark ladder.now.rows before.now station k origin.now }
-    ensures clean { IsClean result }
+    ensures marks { (station : ℕ) → station < 8 → mark_of station (Some result) ≡ above_mark ladder.now.rows (mark_at before.now station) k origin.now }
+    ensures clean { IsClean (Some result) }
 {
     match origin {
         Origin::Root => AuditRow::nobody(),
@@ -141,8 +141,8 @@ pub(crate) fn sync_row(ladder: &Ladder, k: u32, sync: &[u8; 32]) -> Option<u32>
 
 // The stations of two rows, each from the row that the first names.
 fn who_also(row: &AuditRow, other: &AuditRow) -> AuditRow
-    ensures marks { (station : ℕ) → station < 8 → row_mark station result ≡ and_mark (row_mark station other.now) (row_mark station row.now) }
-    ensures clean { IsClean result }
+    ensures marks { (station : ℕ) → station < 8 → mark_of station (Some result) ≡ and_mark (mark_of station (Some other.now)) (mark_of station (Some row.now)) }
+    ensures clean { IsClean (Some result) }
 {
     let mut both = AuditRow::nobody();
     for station in 0..8 {
@@ -153,8 +153,8 @@ fn who_also(row: &AuditRow, other: &AuditRow) -> AuditRow
 
 // The stations of a row, and those who hold row k.
 fn with_holders(above: &AuditRow, k: u32, held: &[bool; 8]) -> AuditRow
-    ensures marks { (station : ℕ) → station < 8 → row_mark station result ≡ held_first (slice_index_or held.now station false) k (row_mark station above.now) }
-    ensures clean { IsClean result }
+    ensures marks { (station : ℕ) → station < 8 → mark_of station (Some result) ≡ held_first (slice_index_or held.now station false) k (mark_of station (Some above.now)) }
+    ensures clean { IsClean (Some result) }
 {
     let mut row = AuditRow::nobody();
     for station in 0..8 {

@@ -88,7 +88,7 @@ fn above_mark(
     requires stands { k < length ladder.now.rows }
     requires made { IsMade ladder.now.rows k origin.now octets.now }
     requires station { station < 8 }
-    ensures { result ≡ above_mark ladder.now.rows audit.now station k origin.now }
+    ensures { result ≡ above_mark ladder.now.rows (mark_at audit.now station) k origin.now }
 {
     match origin {
         Origin::Root => None,

@@ -1,9 +1,10 @@
 ghost use Rattle.std.specs.Prelude.{◌≡◌, ◌<◌, ◌∷◌, ◌++◌, [], Bool, Some, length, slice_get, IfOk, OnOk};
 ghost use Rattle.std.specs.String.{string_bytes};
 ghost use Rattle.key_terms.specs.Ladder.{IsLadder};
-ghost use Rattle.report_text.specs.Ladder.{if_held, without_comma};
+ghost use Rattle.report_text.specs.Ladder.{without_comma};
 ghost use Rattle.key_audit.specs.Exact.{Exact};
-ghost use Rattle.key_audit.specs.Text.{name_text, by_head, by_text, by_if, names_text, paths_text, row_head, line_of, row_line, first_line, last_line, audit_text};
+ghost use Rattle.key_audit.specs.Text.{name_text, by_head, by_text, name_if, by_if, names_text, paths_text, row_head, line_of, row_line, first_line, last_line, audit_text};
+ghost use Rattle.key_audit.specs.Local.{mark_of, mark_at, exact_mark};
 
 use crate::paths::path_text;
 use crate::{Audit, AuditMemory, AuditRow};
@@ -15,7 +16,7 @@ use std::alloc::{AllocError, Global};
 /// that it was checked.
 pub fn audit_text(alloc: Global, ladder: &Ladder, audit: &Audit) -> Result<Vec<u8>, AuditMemory>
     requires { Exact ladder.now.rows audit.now.rows.items }
-    ensures { IfOk result (λ text. text.items ≡ audit_text ladder.now.rows audit.now.rows.items) }
+    ensures { IfOk result (λ text. text.items ≡ audit_text ladder.now.rows) }
 {
     let mut text = first_line(alloc, ladder)?;
     for k in 0..ladder.len() {
@@ -48,7 +49,7 @@ pub fn last_line() -> &'static [u8]
     b"checked\n"
 }
 
-/// The line of a row.
+/// The line of a row in it.
 pub fn row_line(
     alloc: Global,
     ladder: &Ladder,
@@ -58,9 +59,25 @@ pub fn row_line(
     requires exact { Exact ladder.now.rows audit.now.rows.items }
     requires ladder { IsLadder ladder.now.rows }
     requires stands { row.0 < length ladder.now.rows }
-    ensures { IfOk result (λ text. text.items ≡ row_line ladder.now.rows audit.now.rows.items row.0) }
+    ensures { IfOk result (λ text. text.items ≡ row_line ladder.now.rows (exact_mark ladder.now.rows) row.0) }
 {
-    let marks = audit.rows[row.0 as usize];
+    let line = marked_line(alloc, ladder, &audit.rows, row)?;
+    Ok(line)
+}
+
+// The line of a row, by the marks of an audit.
+fn marked_line(
+    alloc: Global,
+    ladder: &Ladder,
+    audit: &[AuditRow],
+    row: Row,
+) -> Result<Vec<u8>, AuditMemory>
+    requires ladder { IsLadder ladder.now.rows }
+    requires stands { row.0 < length ladder.now.rows }
+    requires as_many { length audit.now ≡ length ladder.now.rows }
+    ensures { IfOk result (λ text. text.items ≡ row_line ladder.now.rows (mark_at audit.now) row.0) }
+{
+    let marks = audit[row.0 as usize];
     let form = form(alloc, ladder, row)?;
     let names = names_text(alloc, &marks)?;
     let paths = paths_text(alloc, ladder, row.0, &marks)?;
@@ -105,22 +122,23 @@ fn without_comma(names: &[u8]) -> &[u8]
 
 // The stations that can derive a row, each behind a comma.
 fn names_text(alloc: Global, marks: &AuditRow) -> Result<Vec<u8>, AllocError>
-    ensures { IfOk result (λ text. text.items ≡ names_text (Some marks.now)) }
+    ensures { IfOk result (λ text. text.items ≡ names_text (λ s. mark_of s (Some marks.now))) }
 {
     let mut text = Vec::new(alloc);
     for station in 0..8 {
-        add_name(alloc, &mut text, marks.can[station], station)?;
+        let name = name_if(alloc, marks.mark(station), station)?;
+        text.extend_from_slice(&name)?;
     }
     Ok(text)
 }
 
-fn add_name(alloc: Global, text: &mut Vec<u8>, can: bool, station: usize) -> Result<(), AllocError>
-    ensures { OnOk result (text.new.items ≡ text.old.items ++ if_held can (name_text station)) }
+fn name_if(alloc: Global, mark: Option<u32>, station: usize) -> Result<Vec<u8>, AllocError>
+    ensures { IfOk result (λ text. text.items ≡ name_if mark station) }
 {
-    if can {
-        text.extend_from_slice(name_text(alloc, station)?.as_bytes())?;
+    match mark {
+        None => Ok(Vec::new(alloc)),
+        Some(_) => Ok(name_text(alloc, station)?.into_bytes()),
     }
-    Ok(())
 }
 
 #[tactic(auto, unfolding(crate::specs::Text::name_text))]
@@ -139,11 +157,11 @@ fn paths_text(
 ) -> Result<Vec<u8>, AllocError>
     requires ladder { IsLadder ladder.now.rows }
     requires stands { k < length ladder.now.rows }
-    ensures { IfOk result (λ text. text.items ≡ paths_text ladder.now.rows k (Some marks.now)) }
+    ensures { IfOk result (λ text. text.items ≡ paths_text ladder.now.rows k (λ s. mark_of s (Some marks.now))) }
 {
     let mut text = Vec::new(alloc);
     for station in 0..8 {
-        let by = by_if(alloc, ladder, k, station, marks)?;
+        let by = by_if(alloc, ladder, k, marks.mark(station), station)?;
         text.extend_from_slice(&by)?;
     }
     Ok(text)
@@ -153,18 +171,16 @@ fn by_if(
     alloc: Global,
     ladder: &Ladder,
     k: u32,
+    mark: Option<u32>,
     station: usize,
-    marks: &AuditRow,
 ) -> Result<Vec<u8>, AllocError>
     requires ladder { IsLadder ladder.now.rows }
     requires stands { k < length ladder.now.rows }
-    requires station { station < 8 }
-    ensures { IfOk result (λ text. text.items ≡ by_if ladder.now.rows k (Some marks.now) station) }
+    ensures { IfOk result (λ text. text.items ≡ by_if ladder.now.rows k mark station) }
 {
-    if marks.can[station] {
-        by_text(alloc, ladder, k, station, marks.from[station])
-    } else {
-        Ok(Vec::new(alloc))
+    match mark {
+        None => Ok(Vec::new(alloc)),
+        Some(from) => by_text(alloc, ladder, k, station, from),
     }
 }
 
