@@ -5,6 +5,8 @@ mod audits;
 mod checks;
 mod laws;
 mod paths;
+#[cfg(test)]
+mod tests;
 mod texts;
 
 

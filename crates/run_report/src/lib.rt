@@ -6,6 +6,6 @@ mod reports;
 mod summaries;
 mod unwritten;
 
-pub use reports::{write_end, write_event, write_run};
+pub use reports::{write_chance, write_end, write_event, write_run};
 pub use summaries::write_summary;
 pub use unwritten::Unwritten;

@@ -94,8 +94,8 @@ pub fn write_event<W: Sink>(
     }
 }
 
-// Writes what shows a coincidence at this step.
-pub(crate) fn write_chance<W: Sink>(
+/// Writes what shows a coincidence at this step.
+pub fn write_chance<W: Sink>(
     alloc: Global,
     step: u32,
     proof: Proof,

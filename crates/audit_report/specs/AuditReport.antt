@@ -1,0 +1,28 @@
+-- The audit of a run: where no coincidence ends it, who can derive each of its keys; and otherwise the coincidence alone.
+use Rattle.std.specs.Prelude.{ℕ, true, false, List, [], map}
+use Rattle.key_audit.specs.Text.{audit_text}
+use Rattle.lte_events.specs.declared.events.Event.{Event}
+use Rattle.lte_events.specs.declared.setups.Setup.{Setup}
+use Rattle.lte_machine.specs.BothRuns.{written_run, written_report}
+use Rattle.lte_machine.specs.Carried.{run_value, report_value}
+use Rattle.lte_machine.specs.Ciphers.{annex_b}
+use Rattle.lte_machine.specs.Machines.{Kept}
+use Rattle.lte_machine.specs.Run.{RunState, Running, Stopped}
+use Rattle.report_text.specs.Chance.{chance_text}
+use Rattle.run_report.specs.Report.{Report}
+use Rattle.run_report.specs.Summary.{Outcome, AllLines, Coincides, outcome_from}
+use Rattle.run_stores.specs.Rows.{world_rows}
+
+-- the text of the exact audit of the ladder of a run
+abbrev pub audit_in : RunState (List ℕ) ℕ Kept → List ℕ
+audit_in (Running w) = audit_text (world_rows w)
+audit_in (Stopped chance) = []
+
+abbrev pub audit_with : List ℕ → Outcome → Report
+audit_with text (AllLines lines) = record { text = text; coincides = false }
+audit_with text (Coincides step proof) = record { text = chance_text step proof; coincides = true }
+
+-- the audit of the written machine's run over key terms, printed in values
+unfoldable pub audit_report_of : Setup → List Event → Report
+audit_report_of setup events =
+    audit_with (audit_in (run_value annex_b (written_run setup events))) (outcome_from [] (map report_value (written_report setup events)))

@@ -1,0 +1,3 @@
+pub mod AuditReport
+pub mod Course
+pub mod Alone

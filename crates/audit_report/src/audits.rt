@@ -1,0 +1,98 @@
+ghost use Rattle.std.specs.Prelude.{◌≡◌, ◌≢◌, ◌≤◌, Err, length, All, IfOk, IsTrue};
+ghost use Rattle.edge_io.specs.Cause.{NoFault};
+ghost use Rattle.edge_io.specs.Used.{UsedAsSink};
+ghost use Rattle.key_audit.specs.Text.{audit_text};
+ghost use Rattle.lte_events.specs.Conditions.{CanHappen, EventFits};
+ghost use Rattle.lte_world.specs.Whole.{CanBegin, begun, most_events};
+ghost use Rattle.run_report.specs.Written.{Written};
+ghost use Rattle.audit_report.specs.Alone.{EachAlone};
+ghost use Rattle.audit_report.specs.AuditReport.{audit_report_of};
+
+use crate::courses::{Course, run_through};
+use crate::lines::write_checked;
+use edge_io::Sink;
+use key_audit::{audit_of, check};
+use key_terms::Ladder;
+use lte_events::{Event, Setup};
+use lte_world::World;
+use run_report::{Unwritten, write_chance};
+use std::alloc::Global;
+
+/// Lets these events happen to a system, and writes the exact audit of its keys, each line by one `write_all`: which
+/// station can derive which key by itself, and on which path, when a check of its own has accepted it. Where there is
+/// a coincidence its line is written alone, and the answer is whether there was one.
+#[tactic(auto, using(crate::proofs::Together::each_alone))]
+pub fn write_audit<W: Sink>(
+    alloc: Global,
+    setup: &Setup,
+    events: &[Event],
+    out: &mut W,
+) -> Result<bool, Unwritten>
+    requires out_ready { IsTrue (W.told out.old).ready }
+    requires begins { CanBegin setup.now }
+    requires can { All (CanHappen setup.now) events.now }
+    requires fit { All EventFits events.now }
+    requires few { length events.now ≤ most_events }
+    ensures report { Written (audit_report_of setup.now events.now).text result (W.told out.old) (W.told out.new) }
+    ensures coincidence { IfOk result (λ coincides. coincides ≡ (audit_report_of setup.now events.now).coincides) }
+    // What the stations of a set held lets them derive a key of the run exactly where one of them can by itself.
+    ensures alone { EachAlone setup.now events.now }
+    ensures no_fault { result ≢ Err Unwritten.WriteFault → NoFault (W.told out.old) (W.told out.new) }
+    ensures out { UsedAsSink (W.told out.old) (W.told out.new) }
+{
+    let mut world = match World::new(alloc, setup) {
+        Ok(world) => world,
+        Err(_) => return Err(Unwritten::Memory),
+    };
+    audit_run(alloc, &mut world, events, out)
+}
+
+// The same, in a system that has just begun.
+fn audit_run<W: Sink>(
+    alloc: Global,
+    world: &mut World,
+    events: &[Event],
+    out: &mut W,
+) -> Result<bool, Unwritten>
+    requires out_ready { IsTrue (W.told out.old).ready }
+    requires begins { CanBegin world.old.setup }
+    requires begun { world.old ≡ begun world.old.setup }
+    requires can { All (CanHappen world.old.setup) events.now }
+    requires fit { All EventFits events.now }
+    requires few { length events.now ≤ most_events }
+    ensures report { Written (audit_report_of world.old.setup events.now).text result (W.told out.old) (W.told out.new) }
+    ensures coincidence { IfOk result (λ coincides. coincides ≡ (audit_report_of world.old.setup events.now).coincides) }
+    ensures no_fault { result ≢ Err Unwritten.WriteFault → NoFault (W.told out.old) (W.told out.new) }
+    ensures out { UsedAsSink (W.told out.old) (W.told out.new) }
+{
+    match run_through(world, events) {
+        Ok(Course::Ended) => match write_ladder(alloc, world.ladder(), out) {
+            Ok(()) => Ok(false),
+            Err(fault) => Err(fault),
+        },
+        Ok(Course::Chance(step, proof)) => match write_chance(alloc, step, proof, out) {
+            Ok(()) => Ok(true),
+            Err(fault) => Err(fault),
+        },
+        Err(_) => Err(Unwritten::Memory),
+    }
+}
+
+// Writes the audit of a ladder that the check accepts.
+fn write_ladder<W: Sink>(alloc: Global, ladder: &Ladder, out: &mut W) -> Result<(), Unwritten>
+    requires out_ready { IsTrue (W.told out.old).ready }
+    ensures text { Written (audit_text ladder.now.rows) result (W.told out.old) (W.told out.new) }
+    ensures no_fault { result ≢ Err Unwritten.WriteFault → NoFault (W.told out.old) (W.told out.new) }
+    ensures out { UsedAsSink (W.told out.old) (W.told out.new) }
+{
+    match audit_of(alloc, ladder) {
+        Ok(audit) => {
+            if check(ladder, &audit) {
+                write_checked(alloc, ladder, &audit, out)
+            } else {
+                unreachable!()
+            }
+        }
+        Err(_) => Err(Unwritten::Memory),
+    }
+}

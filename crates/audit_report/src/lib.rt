@@ -1,0 +1,8 @@
+//! The audit of a run: which station can derive which of its keys by itself.
+#![tactic(auto)]
+
+mod audits;
+mod courses;
+mod lines;
+
+pub use audits::write_audit;
