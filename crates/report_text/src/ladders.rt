@@ -28,6 +28,16 @@ pub fn form(alloc: Global, ladder: &Ladder, row: Row) -> Result<Vec<u8>, TextMem
     Ok(text.into_bytes())
 }
 
+/// The line of a report for one row of a ladder, in ASCII, with the LF that ends it. The row stands.
+pub fn row_line(alloc: Global, ladder: &Ladder, row: Row) -> Result<Vec<u8>, TextMemory>
+    requires { row.0 < length ladder.now.rows }
+    ensures { IfOk result (λ text. (r : LadderRow) → slice_get ladder.now.rows row.0 ≡ Some r → text.items ≡ row_text ladder.now.rows row.0 r) }
+{
+    let mut text = Vec::new(alloc);
+    add_row(alloc, &mut text, ladder, row)?;
+    Ok(text)
+}
+
 // Appends the line of a row.
 fn add_row(alloc: Global, text: &mut Vec<u8>, ladder: &Ladder, row: Row) -> Result<(), AllocError>
     requires { row.0 < length ladder.now.rows }

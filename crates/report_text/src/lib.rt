@@ -14,7 +14,7 @@ mod tests;
 
 pub use chances::chance;
 pub use ends::end;
-pub use ladders::{form, ladder_text};
+pub use ladders::{form, ladder_text, row_line};
 pub use lines::line;
 pub use memory::TextMemory;
 pub use summaries::{Figure, Tally, summary_line};

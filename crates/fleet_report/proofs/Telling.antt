@@ -1,0 +1,122 @@
+-- The report of a fleet, piece by piece.
+use Rattle.std.proofs.Common.{◌≡◌, refl, sym, ap, subst, ◌∙◌, ℕ, zero, suc, ◌+◌, ◌<◌, ◌≤◌, Bool, true, false, List, [], ◌∷◌, ◌++◌, length, drop, get_or, append_assoc, append-nil, arith, Result, Ok, Err}
+use Rattle.std.proofs.lemmas.List.{length-replicate}
+use Rattle.std.specs.Prelude.{slice_get, Some}
+use Rattle.lte_events.specs.declared.events.Event.{Event}
+use Rattle.lte_events.specs.declared.setups.Setup.{Setup}
+use Rattle.key_terms.specs.declared.row.LadderRow.{LadderRow}
+use Rattle.lte_machine.specs.Machines.{Kept}
+use Rattle.lte_machine.specs.Run.{RunState, Running, Stopped}
+use Rattle.lte_world.specs.Whole.{InRun}
+use Rattle.report_text.specs.End.{end_text}
+use Rattle.report_text.specs.Ladder.{row_text}
+use Rattle.run_stores.specs.Rows.{world_rows}
+use Rattle.fleet_world.specs.declared.faults.FleetFault.{FleetFault}
+use Rattle.fleet_world.specs.declared.lines.FleetLine.{FleetLine}
+use Rattle.fleet_world.specs.Answers.{answer, own_at, owns_after, owns_from, owns_of, no_events}
+use Rattle.fleet_world.specs.Fleets.{GoesOn}
+use Rattle.fleet_world.specs.Phones.{phone_run}
+use Rattle.fleet_world.proofs.Searching.{rows_left}
+use Rattle.fleet_world.proofs.Separating.{length_after}
+use Rattle.fleet_report.specs.Events.{ends_it}
+use Rattle.fleet_report.specs.Lines.{Output, output_text, texts, phone_text, answer_output, row_outputs, end_outputs}
+use Rattle.fleet_report.specs.Report.{Outputs, ends_from, goes_on, outputs_from, report_from}
+
+-- ROWS
+
+pub row_next : (p : ℕ) (rows : List LadderRow) (k : ℕ) (r : LadderRow) → slice_get rows k ≡ Some r
+    → texts (row_outputs p rows k (drop k rows)) ≡ phone_text p (row_text rows k r) ++ texts (row_outputs p rows (k + 1) (drop (k + 1) rows))
+row_next p rows k r at = ap (λ l. texts (row_outputs p rows k l)) (rows_left rows k r at)
+
+drop_past : {A : Type 0} (xs : List A) (k : ℕ) → length xs ≤ k → drop k xs ≡ []
+drop_past [] zero le = refl
+drop_past [] (suc k) le = refl
+drop_past (x ∷ xs) zero le = absurd (omega (arith, le))
+drop_past (x ∷ xs) (suc k) le = drop_past xs k (omega (arith, le))
+
+pub rows_past : (p : ℕ) (rows : List LadderRow) (k : ℕ) → length rows ≤ k → texts (row_outputs p rows k (drop k rows)) ≡ []
+rows_past p rows k le = ap (λ l. texts (row_outputs p rows k l)) (drop_past rows k le)
+
+-- THE END OF A PHONE
+
+pub end_is : (p events records : ℕ) (rows : List LadderRow) (run : RunState (List ℕ) ℕ Kept) → GoesOn run → InRun (λ w. rows ≡ world_rows w) run → InRun (λ w. records ≡ length w.sent) run
+    → texts (end_outputs p events run) ≡ phone_text p (end_text events records (length rows)) ++ texts (row_outputs p rows 0 rows)
+end_is p events records rows (Running w) goes are few =
+    ap (λ n. phone_text p (end_text events n (length (world_rows w))) ++ texts (row_outputs p (world_rows w) 0 (world_rows w))) (sym few)
+    ∙ ap (λ rs. phone_text p (end_text events records (length rs)) ++ texts (row_outputs p rs 0 rs)) (sym are)
+end_is p events records rows (Stopped chance) goes are few = absurd goes
+
+texts_append : (xs ys : List Output) → texts (xs ++ ys) ≡ texts xs ++ texts ys
+texts_append [] ys = refl
+texts_append (x ∷ xs) ys = ap (λ t. output_text x ++ t) (texts_append xs ys) ∙ sym (append_assoc (output_text x) (texts xs) (texts ys))
+
+drop_one : (xs : List (List Event)) (k : ℕ) → k < length xs → drop k xs ≡ own_at xs k ∷ drop (suc k) xs
+drop_one [] k low = absurd (omega (arith, low))
+drop_one (x ∷ xs) zero low = refl
+drop_one (x ∷ xs) (suc k) low = drop_one xs k (omega (arith, low))
+
+pub end_next : (setup : Setup) (owns : List (List Event)) (k : ℕ) → k < length owns
+    → texts (ends_from setup k (drop k owns)) ≡ texts (end_outputs k (length (own_at owns k)) (phone_run setup (own_at owns k))) ++ texts (ends_from setup (k + 1) (drop (k + 1) owns))
+end_next setup owns k low =
+    let next : suc k ≡ k + 1 = omega arith in
+    ap (λ l. texts (ends_from setup k l)) (drop_one owns k low ∙ ap (λ n. own_at owns k ∷ drop n owns) next)
+    ∙ texts_append (end_outputs k (length (own_at owns k)) (phone_run setup (own_at owns k))) (ends_from setup (k + 1) (drop (k + 1) owns))
+
+pub ends_past : (setup : Setup) (owns : List (List Event)) (k : ℕ) → length owns ≤ k → texts (ends_from setup k (drop k owns)) ≡ []
+ends_past setup owns k le = ap (λ l. texts (ends_from setup k l)) (drop_past owns k le)
+
+length_from : (setup : Setup) (owns : List (List Event)) (events : List (ℕ × Event)) → length (owns_from setup owns events) ≡ length owns
+length_from setup owns [] = refl
+length_from setup owns (x ∷ xs) = length_from setup (owns_after setup owns x.0 x.1) xs ∙ length_after setup owns x.0 x.1
+
+pub many_owns : (setup : Setup) (phones : ℕ) (events : List (ℕ × Event)) → length (owns_of setup phones events) ≡ phones
+many_owns setup phones events = length_from setup (no_events phones) events ∙ length-replicate phones []
+
+-- EVENTS
+
+-- a line, and what comes behind it
+module _ (setup : Setup) (owns : List (List Event)) (step : ℕ) (x : ℕ × Event) (xs : List (ℕ × Event)) where
+  abbrev pub told : Result FleetLine FleetFault
+  told = answer setup owns x.0 x.1
+
+  abbrev pub piece : List ℕ
+  piece = output_text (answer_output step (length (own_at owns x.0)) told)
+
+  abbrev rest : Outputs
+  rest = outputs_from setup (owns_after setup owns x.0 x.1) (suc step) xs
+
+  going : (r : Result FleetLine FleetFault) (out : Output) → ends_it r ≡ false → goes_on r out rest ≡ record { lines = out ∷ rest.lines; coincides = rest.coincides }
+  going (Ok t) out is = refl
+  going (Err f) out is = absurd cc
+
+  ending : (r : Result FleetLine FleetFault) (out : Output) → ends_it r ≡ true → goes_on r out rest ≡ record { lines = out ∷ []; coincides = true }
+  ending (Ok t) out is = absurd cc
+  ending (Err f) out is = refl
+
+  pub line_text : ends_it told ≡ false → (report_from setup owns step (x ∷ xs)).text ≡ piece ++ (report_from setup (owns_after setup owns x.0 x.1) (suc step) xs).text
+  line_text is = ap (λ (o : Outputs). texts o.lines) (going told (answer_output step (length (own_at owns x.0)) told) is)
+
+  pub line_coincides : ends_it told ≡ false → (report_from setup owns step (x ∷ xs)).coincides ≡ (report_from setup (owns_after setup owns x.0 x.1) (suc step) xs).coincides
+  line_coincides is = ap (λ (o : Outputs). o.coincides) (going told (answer_output step (length (own_at owns x.0)) told) is)
+
+  pub last_text : ends_it told ≡ true → (report_from setup owns step (x ∷ xs)).text ≡ piece ++ []
+  last_text is = ap (λ (o : Outputs). texts o.lines) (ending told (answer_output step (length (own_at owns x.0)) told) is)
+
+  pub last_coincides : ends_it told ≡ true → (report_from setup owns step (x ∷ xs)).coincides ≡ true
+  last_coincides is = ap (λ (o : Outputs). o.coincides) (ending told (answer_output step (length (own_at owns x.0)) told) is)
+
+  -- its line is a part of the report either way
+  pub parts : (left : List ℕ) × ((report_from setup owns step (x ∷ xs)).text ≡ piece ++ left) × (ends_it told ≡ true → left ≡ [])
+  parts = by (ends_it told) refl
+    where
+      by : (b : Bool) → ends_it told ≡ b → (left : List ℕ) × ((report_from setup owns step (x ∷ xs)).text ≡ piece ++ left) × (ends_it told ≡ true → left ≡ [])
+      by true is = ([], last_text is, λ e. refl)
+      by false is = ((report_from setup (owns_after setup owns x.0 x.1) (suc step) xs).text, line_text is, λ e. let bad : true ≡ false = sym e ∙ is in absurd cc)
+
+pub events_left : (events : List (ℕ × Event)) (i : ℕ) (x : ℕ × Event) → i < length events → x ≡ get_or events i x → drop i events ≡ x ∷ drop (suc i) events
+events_left [] i x low is = absurd (omega (arith, low))
+events_left (y ∷ ys) zero x low is = ap (λ z. z ∷ ys) (sym is)
+events_left (y ∷ ys) (suc i) x low is = events_left ys i x (omega (arith, low)) is
+
+pub none_left : (events : List (ℕ × Event)) (i : ℕ) → length events ≤ i → drop i events ≡ []
+none_left events i le = drop_past events i le

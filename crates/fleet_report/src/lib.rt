@@ -1,0 +1,8 @@
+//! The report of a fleet: what each phone does on each event of a list, line after line, and behind the last
+//! all keys of each phone with their holders.
+#![tactic(auto)]
+
+mod lines;
+mod reports;
+
+pub use reports::write_fleet;

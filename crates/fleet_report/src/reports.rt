@@ -1,0 +1,227 @@
+ghost use Rattle.std.specs.Prelude.{◌≡◌, ◌≢◌, ℕ, ◌<◌, ◌≤◌, ◌++◌, ◌∷◌, [], List, false, None, Ok, Err, length, All, IfOk, IsTrue};
+ghost use Rattle.edge_io.specs.Cause.{NoFault};
+ghost use Rattle.edge_io.specs.Used.{UsedAsSink};
+ghost use Rattle.lte_events.specs.Conditions.{CanHappen, EventFits};
+ghost use Rattle.lte_world.specs.Whole.{CanBegin, most_events, run_of};
+ghost use Rattle.run_report.specs.Events.{HasCounts};
+ghost use Rattle.run_report.specs.Written.{Written};
+ghost use Rattle.fleet_world.specs.Answers.{own_at};
+ghost use Rattle.fleet_world.specs.Fleets.{most_phones, owns_in, answer_of, CanTake};
+ghost use Rattle.fleet_world.specs.Worlds.{Goes};
+ghost use Rattle.fleet_report.specs.Events.{ends_it, HasItsCounts, IsOfPhone};
+ghost use Rattle.fleet_report.specs.Lines.{answer_output, output_text, phone_text, texts, row_outputs, end_outputs};
+ghost use Rattle.fleet_report.specs.Promises.{Holds};
+ghost use Rattle.fleet_report.specs.Report.{ends_from, fleet_report_of};
+
+use crate::lines::{fault_text, phone_text, told_text};
+use edge_io::{Sink, write_all};
+use fleet_world::{Fleet, FleetFault};
+use hmac_kdf::KdfInput;
+use key_terms::{Ladder, Proof, Row};
+use lte_events::{Event, Setup};
+use lte_world::World;
+use report_text::{TextMemory, end, row_line};
+use run_report::Unwritten;
+use std::alloc::Global;
+
+/// Lets these events happen to a fleet of so many phones, and writes the report of them, each of its lines by one
+/// `write_all`: a line for each event, and behind the last the end of each phone's own report. A coincidence ends
+/// the report, and the answer is whether there was one.
+pub fn write_fleet<W: Sink>(
+    alloc: Global,
+    setup: &Setup,
+    phones: u16,
+    events: &[(u16, Event)],
+    out: &mut W,
+) -> Result<bool, Unwritten>
+    requires out_ready { IsTrue (W.told out.old).ready }
+    requires begins { CanBegin setup.now }
+    requires some { 1 ≤ phones }
+    requires phones { phones ≤ most_phones }
+    requires of_phones { All (IsOfPhone phones) events.now }
+    requires can { All (λ x. CanHappen setup.now x.1) events.now }
+    requires fit { All (λ x. EventFits x.1) events.now }
+    requires few { length events.now ≤ most_events }
+    ensures report { Written (fleet_report_of setup.now phones events.now).text result (W.told out.old) (W.told out.new) }
+    ensures coincidence { IfOk result (λ coincides. coincides ≡ (fleet_report_of setup.now phones events.now).coincides) }
+    ensures holds { Holds setup.now phones events.now }
+    ensures no_fault { result ≢ Err Unwritten.WriteFault → NoFault (W.told out.old) (W.told out.new) }
+    ensures out { UsedAsSink (W.told out.old) (W.told out.new) }
+{
+    let mut fleet = match Fleet::new(alloc, setup, phones) {
+        Ok(fleet) => fleet,
+        Err(_) => return Err(Unwritten::Memory),
+    };
+    for step in events {
+        match write_event(alloc, &mut fleet, step.0, &step.1, out) {
+            Ok(false) => {}
+            Ok(true) => return Ok(true),
+            Err(fault) => return Err(fault),
+        }
+    }
+    match write_ends(alloc, &fleet, phones, out) {
+        Ok(()) => Ok(false),
+        Err(fault) => Err(fault),
+    }
+}
+
+// Lets one event happen, and writes what is told of it. The answer is whether it is a coincidence.
+fn write_event<W: Sink>(
+    alloc: Global,
+    fleet: &mut Fleet,
+    phone: u16,
+    event: &Event,
+    out: &mut W,
+) -> Result<bool, Unwritten>
+    requires out_ready { IsTrue (W.told out.old).ready }
+    requires goes_on { fleet.old.over ≡ None }
+    requires can { CanTake fleet.old phone event.now }
+    ensures text { Written (output_text (answer_output (length fleet.old.journal) (length (own_at (owns_in fleet.old) phone)) (answer_of fleet.old phone event.now))) result (W.told out.old) (W.told out.new) }
+    ensures coincidence { IfOk result (λ coincides. coincides ≡ ends_it (answer_of fleet.old phone event.now)) }
+    ensures fleet { result ≡ Ok false → fleet.new.over ≡ None }
+    ensures setup { result ≡ Ok false → fleet.new.setup ≡ fleet.old.setup }
+    ensures journal { result ≡ Ok false → fleet.new.journal ≡ fleet.old.journal ++ (phone, event.now) ∷ [] }
+    ensures phones { result ≡ Ok false → length fleet.new.worlds ≡ length fleet.old.worlds }
+    ensures no_fault { result ≢ Err Unwritten.WriteFault → NoFault (W.told out.old) (W.told out.new) }
+    ensures out { UsedAsSink (W.told out.old) (W.told out.new) }
+{
+    let step = fleet.journal().len() as u32;
+    let own = fleet.world(phone).journal().len() as u32;
+    match fleet.apply(phone, event) {
+        Ok(told) => match write_text(told_text(alloc, step, &told), out) {
+            Ok(()) => Ok(false),
+            Err(fault) => Err(fault),
+        },
+        Err(FleetFault::Memory) => Err(Unwritten::Memory),
+        Err(fault) => {
+            has_counts(fault);
+            match write_text(fault_text(alloc, step, own, fault), out) {
+                Ok(()) => Ok(true),
+                Err(fault) => Err(fault),
+            }
+        }
+    }
+}
+
+// Writes the end of each phone's own report, phone after phone.
+fn write_ends<W: Sink>(
+    alloc: Global,
+    fleet: &Fleet,
+    phones: u16,
+    out: &mut W,
+) -> Result<(), Unwritten>
+    requires out_ready { IsTrue (W.told out.old).ready }
+    requires goes_on { fleet.now.over ≡ None }
+    requires phones { phones ≡ length fleet.now.worlds }
+    requires few { length fleet.now.journal ≤ most_events }
+    ensures text { Written (texts (ends_from fleet.now.setup 0 (owns_in fleet.now))) result (W.told out.old) (W.told out.new) }
+    ensures no_fault { result ≢ Err Unwritten.WriteFault → NoFault (W.told out.old) (W.told out.new) }
+    ensures out { UsedAsSink (W.told out.old) (W.told out.new) }
+{
+    for phone in 0..phones {
+        match write_end(alloc, phone, fleet.world(phone), out) {
+            Ok(()) => {}
+            Err(fault) => return Err(fault),
+        }
+    }
+    Ok(())
+}
+
+// Writes how much there was of everything for a phone, and the rows of its ladder.
+fn write_end<W: Sink>(
+    alloc: Global,
+    phone: u16,
+    world: &World,
+    out: &mut W,
+) -> Result<(), Unwritten>
+    requires out_ready { IsTrue (W.told out.old).ready }
+    requires goes_on { Goes world.now }
+    requires few { length world.now.journal ≤ most_events }
+    ensures text { Written (texts (end_outputs phone (length world.now.journal) (run_of world.now))) result (W.told out.old) (W.told out.new) }
+    ensures no_fault { result ≢ Err Unwritten.WriteFault → NoFault (W.told out.old) (W.told out.new) }
+    ensures out { UsedAsSink (W.told out.old) (W.told out.new) }
+{
+    let events = world.journal().len() as u32;
+    let rows = world.ladder().len() as u32;
+    match write_line(alloc, phone, end(alloc, events, world.records(), rows), out) {
+        Ok(()) => write_rows(alloc, phone, world.ladder(), out),
+        Err(fault) => Err(fault),
+    }
+}
+
+// Writes the rows of a phone's ladder.
+fn write_rows<W: Sink>(
+    alloc: Global,
+    phone: u16,
+    ladder: &Ladder,
+    out: &mut W,
+) -> Result<(), Unwritten>
+    requires { IsTrue (W.told out.old).ready }
+    ensures text { Written (texts (row_outputs phone ladder.now.rows 0 ladder.now.rows)) result (W.told out.old) (W.told out.new) }
+    ensures no_fault { result ≢ Err Unwritten.WriteFault → NoFault (W.told out.old) (W.told out.new) }
+    ensures out { UsedAsSink (W.told out.old) (W.told out.new) }
+{
+    for number in 0..ladder.len() {
+        match write_line(alloc, phone, row_line(alloc, ladder, Row(number as u32)), out) {
+            Ok(()) => {}
+            Err(fault) => return Err(fault),
+        }
+    }
+    Ok(())
+}
+
+// Writes a line of a phone for which there was memory.
+fn write_line<W: Sink>(
+    alloc: Global,
+    phone: u16,
+    line: Result<Vec<u8>, TextMemory>,
+    out: &mut W,
+) -> Result<(), Unwritten>
+    requires { IsTrue (W.told out.old).ready }
+    ensures text { (octets : List ℕ) → IfOk line (λ t. t.items ≡ octets) → Written (phone_text phone octets) result (W.told out.old) (W.told out.new) }
+    ensures no_fault { result ≢ Err Unwritten.WriteFault → NoFault (W.told out.old) (W.told out.new) }
+    ensures out { UsedAsSink (W.told out.old) (W.told out.new) }
+{
+    match line {
+        Ok(line) => write_text(phone_text(alloc, phone, &line), out),
+        Err(_) => Err(Unwritten::Memory),
+    }
+}
+
+// Writes a text for which there was memory.
+fn write_text<W: Sink>(text: Result<Vec<u8>, TextMemory>, out: &mut W) -> Result<(), Unwritten>
+    requires { IsTrue (W.told out.old).ready }
+    ensures text { (octets : List ℕ) → IfOk text (λ t. t.items ≡ octets) → Written octets result (W.told out.old) (W.told out.new) }
+    ensures no_fault { result ≢ Err Unwritten.WriteFault → NoFault (W.told out.old) (W.told out.new) }
+    ensures out { UsedAsSink (W.told out.old) (W.told out.new) }
+{
+    match text {
+        Err(_) => Err(Unwritten::Memory),
+        Ok(text) => match write_all(out, &text) {
+            Ok(()) => Ok(()),
+            Err(_) => Err(Unwritten::WriteFault),
+        },
+    }
+}
+
+// The COUNT of a derivation in it has 32 bits.
+fn has_counts(fault: FleetFault)
+    ensures { HasItsCounts fault }
+{
+    match fault {
+        FleetFault::Chance(_, proof) => count_of(proof),
+        FleetFault::Cross { .. } | FleetFault::Memory => {}
+    }
+}
+
+fn count_of(proof: Proof)
+    ensures { HasCounts proof }
+{
+    match proof {
+        Proof::Rows(_, made) => match made.input {
+            KdfInput::Kenb(_count) => {}
+            KdfInput::Nh(_) | KdfInput::Star(..) | KdfInput::Alg(..) => {}
+        },
+        Proof::RootIsRow(..) | Proof::Tuples(..) => {}
+    }
+}

@@ -1,0 +1,10 @@
+pub mod Ladders
+pub mod Roots
+pub mod Searching
+pub mod Separating
+pub mod Together
+pub mod Isolating
+pub mod Standing
+pub mod Taking
+pub mod Applying
+pub mod Reading

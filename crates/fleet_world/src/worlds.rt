@@ -1,0 +1,59 @@
+// The worlds of the phones.
+ghost use Rattle.std.specs.Prelude.{◌≡◌, ◌<◌, ◌≤◌, length, replicate, IfOk, IsOkUnless};
+ghost use Rattle.lte_world.specs.Whole.{CanApply, CanBegin, begun};
+ghost use Rattle.fleet_world.specs.Worlds.{CanTakeAt, Goes, Takes, TakesAt, with_room};
+
+use crate::FleetFault;
+use lte_events::{Event, Line, Setup};
+use lte_world::{World, WorldFault};
+use std::alloc::Global;
+
+// So many worlds, in which nothing has happened.
+pub(crate) fn worlds_of(alloc: Global, setup: &Setup, phones: u16) -> Result<Vec<World>, FleetFault>
+    requires { CanBegin setup.now }
+    ensures memory { IsOkUnless result FleetFault.Memory }
+    ensures begin { IfOk result (λ worlds. worlds.items ≡ replicate phones (begun setup.now)) }
+{
+    let mut worlds = Vec::new(alloc);
+    for _phone in 0..phones {
+        let world = match World::new(alloc, setup) {
+            Ok(world) => world,
+            Err(_) => return Err(FleetFault::Memory),
+        };
+        match worlds.push(world) {
+            Ok(()) => {}
+            Err(_) => return Err(FleetFault::Memory),
+        }
+    }
+    Ok(worlds)
+}
+
+// The world of a phone takes an event: how many rows its ladder had before, and the line.
+pub(crate) fn take(
+    worlds: &mut Vec<World>,
+    place: usize,
+    event: &Event,
+) -> Result<(usize, Line), WorldFault>
+    requires place { place < length worlds.old.items }
+    requires can { CanTakeAt worlds.old.items place event.now }
+    ensures { TakesAt worlds.old.items worlds.new.items place event.now result }
+{
+    take_in(&mut worlds[place], event)
+}
+
+// A world takes an event.
+fn take_in(world: &mut World, event: &Event) -> Result<(usize, Line), WorldFault>
+    requires goes { Goes world.old }
+    requires can { CanApply (with_room world.old) event.now }
+    ensures { Takes world.old world.new event.now result }
+{
+    match world.reserve() {
+        Ok(()) => {}
+        Err(_) => return Err(WorldFault::Memory),
+    }
+    let before = world.ladder().len();
+    match world.apply(event) {
+        Ok(line) => Ok((before, line)),
+        Err(fault) => Err(fault),
+    }
+}
