@@ -1,0 +1,10 @@
+pub mod Told
+pub mod Taking
+pub mod Keeping
+pub mod Starting
+pub mod Applied
+pub mod SoFar
+pub mod CoreText
+pub mod Adding
+pub mod Once
+pub mod Promised

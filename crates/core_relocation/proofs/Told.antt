@@ -1,0 +1,107 @@
+-- What a system in octets tells of an event is what the written machine's run tells, in values.
+use Rattle.std.proofs.Common.{◌≡◌, refl, sym, ap, ◌∙◌, ℕ, List, [], ◌∷◌, ◌++◌, map, Option, Some, None, Result, Ok, Err}
+use Rattle.key_model.specs.Term.{Term}
+use Rattle.key_terms.specs.declared.proof.Proof.{Proof}
+use Rattle.lte_events.specs.declared.events.Event.{Event}
+use Rattle.lte_events.specs.declared.lines.Line.{Line}
+use Rattle.lte_events.specs.declared.setups.Setup.{Setup}
+use Rattle.lte_machine.specs.BothRuns.{annex_b_terms, written_run, written_report, octet_run, octet_report}
+use Rattle.lte_machine.specs.Carried.{report_value}
+use Rattle.lte_machine.specs.Ciphers.{annex_b}
+use Rattle.lte_machine.specs.Machines.{Kept, machine_in_octets, written_machine}
+use Rattle.lte_machine.specs.Opening.{open_octets}
+use Rattle.lte_machine.specs.Ranges.{AllOf, IsEvent, IsSetup}
+use Rattle.lte_machine.specs.Run.{RunState, Running, Stopped, EventReport, Reported, Coincided, after, event_report, first_world, reported, turn}
+use Rattle.lte_machine.specs.Step.{StepResult, Continues, Stops, next}
+use Rattle.lte_machine.specs.World.{World}
+use Rattle.lte_machine.proofs.AnnexB.{annex_b_ciphers}
+use Rattle.lte_machine.proofs.EventByEvent.{tale_snoc}
+use Rattle.lte_machine.proofs.RangeStation.{all_append}
+use Rattle.lte_machine.proofs.WholeRun.{run_is_value, tale_is_value}
+use Rattle.lte_world.specs.declared.faults.WorldFault.{WorldFault}
+use Rattle.lte_world.specs.Whole.{Whole, answer_of, run_of, told_of, turned, unless_over}
+use Rattle.run_report.specs.Events.{GoesOn}
+use Rattle.core_relocation.specs.Run.{run_after, told_after}
+
+-- LISTS
+
+last_of : {A : Type 0} → A → List A → A
+last_of d [] = d
+last_of d (x ∷ xs) = last_of x xs
+
+last_more : {A : Type 0} (d : A) (xs : List A) (x : A) → last_of d (xs ++ x ∷ []) ≡ x
+unfolding last_of
+last_more d [] x = refl
+last_more d (y ∷ ys) x = last_more y ys x
+
+last_same : {A : Type 0} (xs ys : List A) (x y : A) → xs ++ x ∷ [] ≡ ys ++ y ∷ [] → x ≡ y
+last_same xs ys x y e = sym (last_more x xs x) ∙ ap (last_of x) e ∙ last_more x ys y
+
+map_more : {A B : Type 0} (f : A → B) (xs : List A) (x : A) → map f (xs ++ x ∷ []) ≡ map f xs ++ f x ∷ []
+map_more f [] x = refl
+map_more f (y ∷ ys) x = ap (λ zs. f y ∷ zs) (map_more f ys x)
+
+-- ONE EVENT MORE
+
+module _ (setup : Setup) (set : IsSetup setup) (heard : List Event) (are : AllOf IsEvent heard) where
+  -- the run in octets is that of the written machine, in values
+  pub run_same : (core_of : List ℕ) → octet_run setup heard ≡ run_after setup core_of heard
+  run_same core_of = run_is_value annex_b annex_b_ciphers setup set heard are
+
+  -- and so is what it tells of one event more
+  pub told_same : (e : Event) → IsEvent e → event_report (open_octets annex_b) (machine_in_octets annex_b) (octet_run setup heard) e
+      ≡ report_value (event_report (open_octets annex_b_terms) (written_machine annex_b) (written_run setup heard) e)
+  told_same e is =
+      let all = all_append IsEvent heard (e ∷ []) are (is, tt) in
+      let whole = tale_is_value annex_b annex_b_ciphers setup set (heard ++ e ∷ []) all in
+      last_same (octet_report setup heard) (map report_value (written_report setup heard))
+      (event_report (open_octets annex_b) (machine_in_octets annex_b) (octet_run setup heard) e)
+      (report_value (event_report (open_octets annex_b_terms) (written_machine annex_b) (written_run setup heard) e))
+      (sym (tale_snoc (open_octets annex_b) (machine_in_octets annex_b) (Running (first_world setup)) heard e) ∙ whole
+      ∙ ap (map report_value) (tale_snoc (open_octets annex_b_terms) (written_machine annex_b) (Running (first_world setup)) heard e)
+      ∙ map_more report_value (written_report setup heard) (event_report (open_octets annex_b_terms) (written_machine annex_b) (written_run setup heard) e))
+
+-- A SYSTEM THAT GOES ON
+
+pub none_over : (o : Option Proof) (run : RunState (List ℕ) ℕ Kept) → GoesOn (unless_over o run) → o ≡ None
+none_over None run goes = refl
+none_over (Some proof) run goes = absurd goes
+
+same_over : (o : Option Proof) (run : RunState (List ℕ) ℕ Kept) → GoesOn (unless_over o run) → unless_over o run ≡ run
+same_over None run goes = refl
+same_over (Some proof) run goes = absurd goes
+
+pub runs_octets : (v : Whole) → GoesOn (run_of v) → run_of v ≡ octet_run v.setup v.journal
+runs_octets v goes = same_over v.over (octet_run v.setup v.journal) goes
+
+-- what it tells of an event is what the written machine's run tells
+pub told_written : (v : Whole) → IsSetup v.setup → AllOf IsEvent v.journal → GoesOn (run_of v) → (core_of : List ℕ) (e : Event) → IsEvent e → told_of v e ≡ told_after v.setup core_of v.journal e
+told_written v set are goes core_of e is =
+    ap (λ run. answer_of (event_report (open_octets annex_b) (machine_in_octets annex_b) run e)) (runs_octets v goes)
+    ∙ ap answer_of (told_same v.setup set v.journal are e is)
+
+-- WITH A LINE, AND WITHOUT
+
+line_goes : (s : StepResult (List ℕ) ℕ Kept) (line : Line) → answer_of (reported s) ≡ Ok line → GoesOn (after s)
+line_goes (Continues w told) line e = tt
+line_goes (Stops chance) line e = cc
+
+fault_stops : (s : StepResult (List ℕ) ℕ Kept) (fault : WorldFault) → answer_of (reported s) ≡ Err fault → GoesOn (after s) → ⊥
+fault_stops (Continues w told) fault e goes = cc
+fault_stops (Stops chance) fault e goes = goes
+
+tells_line : (run : RunState (List ℕ) ℕ Kept) (e : Event) (line : Line) → answer_of (event_report (open_octets annex_b) (machine_in_octets annex_b) run e) ≡ Ok line
+    → GoesOn run × GoesOn (turn (open_octets annex_b) (machine_in_octets annex_b) run e)
+tells_line (Running w) e line told = (tt, line_goes (next (open_octets annex_b) (machine_in_octets annex_b) w e) line told)
+tells_line (Stopped chance) e line told = cc
+
+tells_fault : (run : RunState (List ℕ) ℕ Kept) (e : Event) (fault : WorldFault) → answer_of (event_report (open_octets annex_b) (machine_in_octets annex_b) run e) ≡ Err fault
+    → GoesOn (turn (open_octets annex_b) (machine_in_octets annex_b) run e) → ⊥
+tells_fault (Running w) e fault told goes = fault_stops (next (open_octets annex_b) (machine_in_octets annex_b) w e) fault told goes
+tells_fault (Stopped chance) e fault told goes = goes
+
+pub with_line : (v : Whole) (e : Event) (line : Line) → told_of v e ≡ Ok line → GoesOn (run_of v) × GoesOn (turned v e)
+with_line v e line told = tells_line (run_of v) e line told
+
+pub with_fault : (v : Whole) (e : Event) (fault : WorldFault) → told_of v e ≡ Err fault → GoesOn (turned v e) → ⊥
+with_fault v e fault told goes = tells_fault (run_of v) e fault told goes

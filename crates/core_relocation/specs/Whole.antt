@@ -1,0 +1,49 @@
+-- Two cores as a caller sees them.
+use Rattle.std.specs.Prelude.{◌≡◌, ℕ, ◌≤◌, ◌<◌, List, length, Result, Ok, Err}
+use Rattle.lte_events.specs.Conditions.{CanHappen, EventFits}
+use Rattle.lte_events.specs.declared.events.Event.{Event}
+use Rattle.lte_machine.specs.Ranges.{AllOf, IsEvent, IsSetup}
+use Rattle.lte_world.specs.Whole as world
+use Rattle.lte_world.specs.Whole.{most_events, run_of}
+use Rattle.run_report.specs.Events.{GoesOn}
+use Rattle.core_relocation.specs.declared.cores.Cores.{Cores}
+use Rattle.core_relocation.specs.declared.senders.Sender.{Sender}
+use Rattle.core_relocation.specs.Run.{TwoState, run_after, two_state}
+
+pub record TwoWhole : Type 0 where
+  -- the one system
+  pub world : world.Whole
+  -- the core of each station, the cells, and where the context is
+  pub cores : Cores
+  -- the events that were answered by a line
+  pub events : List Event
+  -- who sent each record
+  pub senders : List Sender
+
+-- what they have come to
+abbrev pub state_of : TwoWhole → TwoState
+state_of v = record { steps = length v.events; heard = v.world.journal; held = v.cores.held; senders = v.senders }
+
+-- what the run of the written machine with two cores has come to after these events
+abbrev pub state_written : TwoWhole → TwoState
+state_written v = two_state v.world.setup v.cores.core_of v.events
+
+-- no coincidence ended the system
+abbrev pub StillRuns : TwoWhole → Type 0
+StillRuns v = GoesOn (run_of v.world)
+
+-- what holds of them
+pub record Keeps (v : TwoWhole) : Type 0 where
+  pub set : IsSetup v.world.setup
+  pub are : AllOf IsEvent v.world.journal
+  pub cells : v.cores.cells ≡ v.world.setup.cells
+  pub heard : length v.world.journal ≤ length v.events
+  pub sent : length v.senders ≤ length v.events
+  pub run : StillRuns v → run_of v.world ≡ run_after v.world.setup v.cores.core_of v.world.journal
+  pub state : StillRuns v → state_of v ≡ state_written v
+
+-- an event that can happen to them
+pub record CanTake (v : TwoWhole) (e : Event) : Type 0 where
+  pub can : CanHappen v.world.setup e
+  pub fits : EventFits e
+  pub few : length v.events < most_events

@@ -1,0 +1,23 @@
+ghost use Rattle.std.specs.Prelude.{◌≡◌};
+ghost use Rattle.core_relocation.specs.Acted.{acted};
+
+use lte_events::{Line, Who};
+
+/// What is answered to an event of a system with two cores.
+#[derive(Clone, Debug, PartialEq, Eq, Drop)]
+pub enum TwoLine {
+    /// The line of the event, and the core that acted, if a core alone did.
+    By(Line, Option<u8>),
+    /// The event asks this core, which neither holds the context nor is to get it.
+    NotHere(u8),
+}
+
+// The core that acted, if a core alone did.
+pub(crate) fn acted(who: Who, core: u8) -> Option<u8>
+    ensures { result ≡ acted who core }
+{
+    match who {
+        Who::Core => Some(core),
+        _ => None,
+    }
+}
