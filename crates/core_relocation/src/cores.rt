@@ -67,14 +67,13 @@ impl Held {
         if core == self.holder {
             return self.closed();
         }
-        Held {
-            holder: self.holder,
-            next: Some(Relocation {
-                core,
-                source,
-                attempt,
-            }),
-        }
+        let holder = self.holder;
+        let next = Some(Relocation {
+            core,
+            source,
+            attempt,
+        });
+        Held { holder, next }
     }
 
     // The attempt was cancelled.

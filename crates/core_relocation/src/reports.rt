@@ -4,8 +4,6 @@ ghost use Rattle.edge_io.specs.Cause.{NoFault};
 ghost use Rattle.edge_io.specs.Used.{UsedAsSink};
 ghost use Rattle.lte_events.specs.Conditions.{CanHappen, EventFits};
 ghost use Rattle.lte_world.specs.Whole.{CanBegin, most_events};
-ghost use Rattle.report_text.specs.Chance.{HasString, chance_text};
-ghost use Rattle.run_report.specs.Events.{HasCounts};
 ghost use Rattle.run_report.specs.Written.{Written};
 ghost use Rattle.core_relocation.specs.Report.{is_fault, told_text, two_report_of};
 ghost use Rattle.core_relocation.specs.Run.{next_answer};
@@ -14,12 +12,10 @@ ghost use Rattle.core_relocation.specs.Whole.{CanTake, StillRuns, state_written}
 use crate::texts::two_text;
 use crate::two::Two;
 use edge_io::{Sink, write_all};
-use hmac_kdf::KdfInput;
-use key_terms::Proof;
 use lte_events::{Event, Setup};
 use lte_world::WorldFault;
-use report_text::{TextMemory, chance};
-use run_report::{Unwritten, write_end};
+use report_text::TextMemory;
+use run_report::{Unwritten, write_chance, write_end};
 use std::alloc::Global;
 
 /// Lets these events happen to a system with two cores, and writes the report of them: that of `run`, with the number of the
@@ -89,36 +85,6 @@ fn write_answer<W: Sink>(
             Err(fault) => Err(fault),
         },
         Err(WorldFault::Memory) => Err(Unwritten::Memory),
-    }
-}
-
-// Writes what shows a coincidence at this step.
-fn write_chance<W: Sink>(
-    alloc: Global,
-    step: u32,
-    proof: Proof,
-    out: &mut W,
-) -> Result<(), Unwritten>
-    requires out_ready { IsTrue (W.told out.old).ready }
-    requires string { HasCounts proof → HasString proof }
-    ensures text { Written (chance_text step proof) result (W.told out.old) (W.told out.new) }
-    ensures no_fault { result ≢ Err Unwritten.WriteFault → NoFault (W.told out.old) (W.told out.new) }
-    ensures out { UsedAsSink (W.told out.old) (W.told out.new) }
-{
-    has_counts(proof);
-    write_text(chance(alloc, step, &proof), out)
-}
-
-// The COUNT of a derivation in it has 32 bits.
-fn has_counts(proof: Proof)
-    ensures { HasCounts proof }
-{
-    match proof {
-        Proof::Rows(_, made) => match made.input {
-            KdfInput::Kenb(_count) => {}
-            KdfInput::Nh(_) | KdfInput::Star(..) | KdfInput::Alg(..) => {}
-        },
-        Proof::RootIsRow(..) | Proof::Tuples(..) => {}
     }
 }
 
