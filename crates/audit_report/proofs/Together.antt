@@ -9,14 +9,21 @@ use Rattle.lte_events.specs.declared.events.Event.{Event}
 use Rattle.lte_events.specs.declared.setups.Setup.{Setup}
 use Rattle.lte_machine.specs.BothRuns.{annex_b_terms, written_run}
 use Rattle.lte_machine.specs.Ciphers.{annex_b}
-use Rattle.lte_machine.specs.Machines.{written_machine, written_in_values}
+use Rattle.lte_machine.specs.Machines.{Kept, written_machine, written_in_values}
 use Rattle.lte_machine.specs.Opening.{open_octets}
-use Rattle.lte_machine.specs.Run.{Running, run, first_world}
+use Rattle.lte_machine.specs.Run.{RunState, Running, Stopped, run, first_world}
 use Rattle.lte_machine.specs.Wire.{Outgoing}
 use Rattle.lte_machine.specs.World.{World, Holder, AtPhone, AtCore, AtStation, Holding}
 use Rattle.lte_machine.proofs.StillRun.{still_is_run}
 use Rattle.lte_properties.specs.Separation.{Those, HeldBy, IsStationOf, Separates}
 use Rattle.lte_properties.proofs.KeySeparation.Ever.{separation_holds}
+use Rattle.key_audit.specs.Local.{exact_mark}
+use Rattle.key_audit.proofs.Exactness.{marks_right, marks_nearest, exact_marks_fit}
+use Rattle.key_terms.specs.declared.row.LadderRow.{LadderRow}
+use Rattle.key_terms.specs.Ladder.{IsLadder}
+use Rattle.lte_world.specs.Whole.{InRun}
+use Rattle.run_stores.specs.Rows.{world_rows}
+use Rattle.audit_report.specs.Audited.{IsExact}
 use Rattle.audit_report.specs.Alone.{HeldAlone, OneDerives, AloneAsTogether, EachAlone}
 
 -- a key that the stations of a set held, one of them held
@@ -78,3 +85,18 @@ each_alone setup events n w runs =
     together setup.cells w
     (subst (λ (v : World Term ℕ (Outgoing Term ℕ)). Separates setup.cells v) (sym (still_is_run (open_octets annex_b_terms) (written_machine annex_b) (first_world setup) (take n events) w runs))
     (separation_holds same_value annex_b_terms written_in_values setup (take n events)))
+
+-- the marks of a ladder are exact
+pub is_exact : (rows : List LadderRow) → IsLadder rows → IsExact rows
+is_exact rows ladder = record {
+  can = λ s k within. marks_right rows ladder (exact_mark rows s) s (exact_marks_fit rows ladder s) k within;
+  from = λ s k from within is. marks_nearest rows ladder (exact_mark rows s) s (exact_marks_fit rows ladder s) k from within is;
+}
+
+-- and so in the run of which it is the ladder
+pub exact_in : (rows : List LadderRow) (run run' : RunState (List ℕ) ℕ Kept) → run ≡ run' → InRun (λ w. rows ≡ world_rows w) run → IsExact rows → InRun (λ w. IsExact (world_rows w)) run'
+exact_in rows run run' same are exact = subst (InRun (λ w. IsExact (world_rows w))) same (by run are)
+  where
+    by : (r : RunState (List ℕ) ℕ Kept) → InRun (λ w. rows ≡ world_rows w) r → InRun (λ w. IsExact (world_rows w)) r
+    by (Running w) is = subst IsExact is exact
+    by (Stopped chance) is = tt

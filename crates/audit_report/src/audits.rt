@@ -1,4 +1,4 @@
-ghost use Rattle.std.specs.Prelude.{◌≡◌, ◌≢◌, ◌≤◌, Err, length, All, IfOk, IsTrue};
+ghost use Rattle.std.specs.Prelude.{◌≡◌, ◌≢◌, ◌≤◌, false, Ok, Err, length, All, IfOk, IsTrue};
 ghost use Rattle.edge_io.specs.Cause.{NoFault};
 ghost use Rattle.edge_io.specs.Used.{UsedAsSink};
 ghost use Rattle.key_audit.specs.Text.{audit_text};
@@ -6,6 +6,7 @@ ghost use Rattle.lte_events.specs.Conditions.{CanHappen, EventFits};
 ghost use Rattle.lte_world.specs.Whole.{CanBegin, begun, most_events};
 ghost use Rattle.run_report.specs.Written.{Written};
 ghost use Rattle.audit_report.specs.Alone.{EachAlone};
+ghost use Rattle.audit_report.specs.Audited.{IsExact, AuditIsExact};
 ghost use Rattle.audit_report.specs.AuditReport.{audit_report_of};
 
 use crate::courses::{Course, run_through};
@@ -37,6 +38,8 @@ pub fn write_audit<W: Sink>(
     ensures coincidence { IfOk result (λ coincides. coincides ≡ (audit_report_of setup.now events.now).coincides) }
     // What the stations of a set held lets them derive a key of the run exactly where one of them can by itself.
     ensures alone { EachAlone setup.now events.now }
+    // And the audit that was written is exact.
+    ensures exact { result ≡ Ok false → AuditIsExact setup.now events.now }
     ensures no_fault { result ≢ Err Unwritten.WriteFault → NoFault (W.told out.old) (W.told out.new) }
     ensures out { UsedAsSink (W.told out.old) (W.told out.new) }
 {
@@ -62,6 +65,7 @@ fn audit_run<W: Sink>(
     requires few { length events.now ≤ most_events }
     ensures report { Written (audit_report_of world.old.setup events.now).text result (W.told out.old) (W.told out.new) }
     ensures coincidence { IfOk result (λ coincides. coincides ≡ (audit_report_of world.old.setup events.now).coincides) }
+    ensures exact { result ≡ Ok false → AuditIsExact world.old.setup events.now }
     ensures no_fault { result ≢ Err Unwritten.WriteFault → NoFault (W.told out.old) (W.told out.new) }
     ensures out { UsedAsSink (W.told out.old) (W.told out.new) }
 {
@@ -79,9 +83,11 @@ fn audit_run<W: Sink>(
 }
 
 // Writes the audit of a ladder that the check accepts.
+#[tactic(auto, using(crate::proofs::Together::is_exact))]
 fn write_ladder<W: Sink>(alloc: Global, ladder: &Ladder, out: &mut W) -> Result<(), Unwritten>
     requires out_ready { IsTrue (W.told out.old).ready }
     ensures text { Written (audit_text ladder.now.rows) result (W.told out.old) (W.told out.new) }
+    ensures exact { IsExact ladder.now.rows }
     ensures no_fault { result ≢ Err Unwritten.WriteFault → NoFault (W.told out.old) (W.told out.new) }
     ensures out { UsedAsSink (W.told out.old) (W.told out.new) }
 {

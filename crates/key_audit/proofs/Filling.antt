@@ -1,18 +1,15 @@
 -- An audit that is filled from the first row to the last fits: a row depends on those before it alone.
-use Rattle.std.proofs.Common.{◌≡◌, ℕ, suc, ◌+◌, ◌<◌, ◌≤◌, ◌⊎◌, inl, inr, Option, Some, None, List, [], ◌∷◌, ◌++◌, length, get_or, length-append, refl, sym, ap, subst, ◌∙◌, arith, false}
+use Rattle.std.proofs.Common.{◌≡◌, ℕ, ◌+◌, ◌<◌, ◌≤◌, inl, inr, Some, List, [], ◌∷◌, ◌++◌, length, get_or, length-append, refl, sym, ap, subst, ◌∙◌, arith}
 use Rattle.std.proofs.lemmas.Option.{slice_get-get_or, none-some}
 use Rattle.std.proofs.lemmas.Bool.{cases_lt}
 use Rattle.std.specs.List.{slice_get}
-use Rattle.hmac_kdf.specs.declared.input.KdfInput.{KdfInput}
 use Rattle.key_terms.specs.declared.row.LadderRow.{LadderRow}
-use Rattle.key_terms.specs.declared.row.Origin.{Origin}
 use Rattle.key_terms.specs.declared.row.Origin.TheVariants as origins
-use Rattle.key_terms.specs.Ladder.{unheld, row_of, IsMade, IsLadder}
+use Rattle.key_terms.specs.Ladder.{unheld, IsLadder}
 use Rattle.key_terms.proofs.Places.{slice_get_stays, slice_get_at_end, slice_get_push}
 use Rattle.key_audit.specs.declared.audits.AuditRow.{AuditRow}
-use Rattle.key_audit.specs.Terms.{sync_row}
 use Rattle.key_audit.specs.Derives.{held_by}
-use Rattle.key_audit.specs.Exact.{can_in, from_in, can_at, from_at}
+use Rattle.key_audit.specs.Exact.{can_in, from_in}
 use Rattle.key_audit.specs.Local.{held_first, local_mark, mark_of, mark_at, IsClean, AreClean, Fills, RowFits, FitBelow, Fits}
 use Rattle.key_audit.proofs.Neighbours.{above_same}
 
@@ -64,13 +61,13 @@ pub filled_more : (rows : List LadderRow) → IsLadder rows → (audit after : L
 filled_more rows ladder audit after made k put filled within fills = subst (λ a. Filled rows a (k + 1)) (sym put) (record {
   as_many = length-append audit (made ∷ []) ∙ omega (arith, filled.as_many);
   each = λ j below s few. elim (cases_lt j k) [
-      | inl before ↦ fits_still rows ladder audit made j s (omega (arith, before, filled.as_many)) (filled.each j before s few)
-      | inr last ↦ let this : k ≡ j = omega (arith, last, below) in subst (λ i. RowFits rows (audit ++ made ∷ []) i s) this (fits_new rows ladder audit made k s (sym filled.as_many) few within fills)
-    ];
+    | inl before ↦ fits_still rows ladder audit made j s (omega (arith, before, filled.as_many)) (filled.each j before s few)
+    | inr last ↦ let this : k ≡ j = omega (arith, last, below) in subst (λ i. RowFits rows (audit ++ made ∷ []) i s) this (fits_new rows ladder audit made k s (sym filled.as_many) few within fills)
+  ];
   clean = λ j row at. elim (slice_get_push audit made j row at) [
-      | inl before ↦ filled.clean j row before
-      | inr last ↦ subst (λ r. IsClean (Some r)) (sym last.1) (fills _ (slice_get-get_or rows k (unheld origins.Root []) within)).clean
-    ];
+    | inl before ↦ filled.clean j row before
+    | inr last ↦ subst (λ r. IsClean (Some r)) (sym last.1) (fills _ (slice_get-get_or rows k (unheld origins.Root []) within)).clean
+  ];
 })
 
 pub filled_all : (rows : List LadderRow) (audit : List AuditRow) (k : ℕ) → Filled rows audit k → k ≡ length rows → Fits rows audit

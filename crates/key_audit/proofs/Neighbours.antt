@@ -1,9 +1,8 @@
 -- What the neighbours of a row say, and the nearest row that is held.
-use Rattle.std.proofs.Common.{◌≡◌, ℕ, ◌<◌, ◌⊎◌, inl, inr, Option, Some, None, List, length, refl, sym, ap, subst, ◌∙◌, Bool, true, false}
+use Rattle.std.proofs.Common.{◌≡◌, ℕ, ◌<◌, inl, inr, Option, Some, None, List, refl, sym, ap, subst, ◌∙◌, false}
 use Rattle.std.proofs.lemmas.Bool.{false≢true}
 use Rattle.std.proofs.lemmas.Option.{none-some}
-use Rattle.std.specs.Prelude.{◌↔◌, IsTrue, IsSome}
-use Rattle.std.specs.List.{slice_get}
+use Rattle.std.specs.Prelude.{IsTrue, IsSome}
 use Rattle.hmac_kdf.specs.declared.input.KdfInput.{KdfInput}
 use Rattle.key_terms.specs.declared.row.LadderRow.{LadderRow}
 use Rattle.key_terms.specs.declared.row.Origin.{Origin}
@@ -22,9 +21,9 @@ sync_carried k (Some j) P Q carries h before = carries j (before j refl) h
 
 sync_before : (rows : List LadderRow) (k : ℕ) (sync : List ℕ) (j : ℕ) → sync_row rows k sync ≡ Some j → j < k
 sync_before rows k sync j is = elim (if_before_cases k (row_of rows sync)) [
-    | inl none ↦ absurd (none-some j (sym none ∙ is))
-    | inr some ↦ let both : Some some.0 ≡ Some j = sym some.1 ∙ is in let one : some.0 ≡ j = cc in subst (λ i. i < k) one some.2
-  ]
+  | inl none ↦ absurd (none-some j (sym none ∙ is))
+  | inr some ↦ let both : Some some.0 ≡ Some j = sym some.1 ∙ is in let one : some.0 ≡ j = cc in subst (λ i. i < k) one some.2
+]
 
 pub above_carried : (rows : List LadderRow) (P Q : ℕ → Type 0) (k : ℕ) (octets : List ℕ) (o : Origin) → IsMade rows k o octets → ((j : ℕ) → j < k → P j → Q j) → Above rows P k o → Above rows Q k o
 above_carried rows P Q k octets origins.Root made carries h = h

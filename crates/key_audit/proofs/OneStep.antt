@@ -1,5 +1,5 @@
 -- A station can derive the key of a row exactly where it holds it, or can derive what it is derived from.
-use Rattle.std.proofs.Common.{◌≡◌, ℕ, ◌<◌, ◌⊎◌, inl, inr, Option, Some, None, List, length, refl, sym, ap, subst, ◌∙◌, true, false, arith}
+use Rattle.std.proofs.Common.{◌≡◌, ℕ, ◌<◌, ◌⊎◌, inl, inr, Option, Some, None, List, length, refl, sym, ap, subst, ◌∙◌, arith}
 use Rattle.std.proofs.lemmas.Bool.{false≢true}
 use Rattle.std.proofs.lemmas.Option.{slice_get_within}
 use Rattle.std.specs.Prelude.{◌↔◌, IsTrue}
@@ -12,7 +12,7 @@ use Rattle.key_terms.specs.declared.row.Origin.{Origin}
 use Rattle.key_terms.specs.declared.row.Origin.TheVariants as origins
 use Rattle.key_terms.specs.Ladder.{IsLadder}
 use Rattle.key_audit.specs.Terms.{sync_row, sync_term, origin_term, term_at}
-use Rattle.key_audit.specs.Derives.{held_by, held_in, holds, HeldTerms, CanDerive}
+use Rattle.key_audit.specs.Derives.{held_by, held_in, HeldTerms, CanDerive}
 use Rattle.key_audit.proofs.TermsOf.{term_is, one_row}
 
 -- what is derivable is in the set, or what it is made of is derivable
@@ -111,9 +111,9 @@ one_step rows ladder s k r at = (up, down)
 
     up : CanDerive rows s k → IsTrue (held_by s r) ⊎ Above rows (CanDerive rows s) k r.origin
     up d = elim (derived rows ladder s k r.octets r.origin (subst (Derivable (HeldTerms rows s)) is d)) [
-        | inl h ↦ inl (held_is rows ladder s k r at _ (sym is) h)
-        | inr above ↦ inr above
-      ]
+      | inl h ↦ inl (held_is rows ladder s k r at _ (sym is) h)
+      | inr above ↦ inr above
+    ]
 
     down : IsTrue (held_by s r) ⊎ Above rows (CanDerive rows s) k r.origin → CanDerive rows s k
     down (inl h) = in_set (k, ap (held_in s) at ∙ h, refl)

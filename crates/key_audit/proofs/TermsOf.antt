@@ -1,27 +1,26 @@
 -- The terms of the rows of a ladder: each is of those before it, has the octets of its row, and is of no other row.
-use Rattle.std.proofs.Common.{◌≡◌, ℕ, zero, suc, ◌<◌, ◌≤◌, ◌⊎◌, inl, inr, Option, Some, None, List, [], ◌∷◌, length, ltb, refl, sym, ap, subst, ◌∙◌, arith, false, true}
+use Rattle.std.proofs.Common.{◌≡◌, ℕ, zero, suc, ◌<◌, ◌⊎◌, inl, inr, Option, Some, None, List, refl, sym, ap, ◌∙◌, arith}
 use Rattle.std.proofs.lemmas.Bool.{cases_lt, lt-ltb, le-ltb}
-use Rattle.std.proofs.lemmas.Option.{slice_get_cases, none-some}
-use Rattle.std.specs.Option.{option_map, IsSome}
+use Rattle.std.specs.Option.{option_map}
 use Rattle.std.specs.List.{slice_get}
 use Rattle.hmac_kdf.specs.declared.input.KdfInput.{KdfInput}
 use Rattle.hmac_kdf.specs.Kdf.{kdf}
-use Rattle.key_model.specs.Term.{Term, Root, Kenb, Nh, Star, Alg}
+use Rattle.key_model.specs.Term.{Term, Kenb, Nh, Star, Alg}
 use Rattle.key_model.specs.Value.{value_of}
 use Rattle.key_terms.specs.declared.row.LadderRow.{LadderRow}
 use Rattle.key_terms.specs.declared.row.Origin.{Origin}
 use Rattle.key_terms.specs.declared.row.Origin.TheVariants as origins
-use Rattle.key_terms.specs.Ladder.{row_of, octets_at, IsMade, AreMade, IsLadder}
+use Rattle.key_terms.specs.Ladder.{row_of, IsMade, AreMade, IsLadder}
 use Rattle.key_terms.proofs.LadderLemmas.{stands, found_row}
-use Rattle.key_audit.specs.Terms.{if_before, sync_row, sync_term, derived_term, origin_term, row_term, term_within, term_at}
+use Rattle.key_audit.specs.Terms.{if_before, sync_row, sync_term, origin_term, row_term, term_within, term_at}
 
 -- the row of a SYNC-input comes before, and has the octets
 pub if_before_cases : (k : ℕ) (o : Option ℕ) → (if_before k o ≡ None) ⊎ ((j : ℕ) × (if_before k o ≡ Some j) × (j < k) × (o ≡ Some j))
 if_before_cases k None = inl refl
 if_before_cases k (Some j) = elim (cases_lt j k) [
-    | inl below ↦ inr (j, rw (lt-ltb j k below) refl, below, refl)
-    | inr past ↦ inl (rw (le-ltb j k past) refl)
-  ]
+  | inl below ↦ inr (j, rw (lt-ltb j k below) refl, below, refl)
+  | inr past ↦ inl (rw (le-ltb j k past) refl)
+]
 
 -- two numberings that are one below row k
 abbrev pub SameBelow : ℕ → (ℕ → Term) → (ℕ → Term) → Type 0
@@ -29,9 +28,9 @@ SameBelow k f g = (j : ℕ) → j < k → f j ≡ g j
 
 sync_same : (rows : List LadderRow) (k : ℕ) (sync : List ℕ) (f g : ℕ → Term) → SameBelow k f g → sync_term rows sync f (sync_row rows k sync) ≡ sync_term rows sync g (sync_row rows k sync)
 sync_same rows k sync f g same = elim (if_before_cases k (row_of rows sync)) [
-    | inl none ↦ rw none refl
-    | inr some ↦ rw (some.1) (same some.0 some.2)
-  ]
+  | inl none ↦ rw none refl
+  | inr some ↦ rw (some.1) (same some.0 some.2)
+]
 
 -- the term of a row depends on the terms of the rows before it alone
 pub origin_same : (rows : List LadderRow) (f g : ℕ → Term) (k : ℕ) (octets : List ℕ) (o : Origin) → IsMade rows k o octets → SameBelow k f g → origin_term rows f k octets o ≡ origin_term rows g k octets o
@@ -63,11 +62,11 @@ term_is rows made k r at =
 -- its octets are those of the row
 octets_same : (rows : List LadderRow) (k : ℕ) (value : (j : ℕ) → j < k → (r : LadderRow) → slice_get rows j ≡ Some r → value_of (term_at rows j) ≡ r.octets) (sync : List ℕ) → value_of (sync_term rows sync (term_at rows) (sync_row rows k sync)) ≡ sync
 octets_same rows k value sync = elim (if_before_cases k (row_of rows sync)) [
-    | inl none ↦ rw none refl
-    | inr some ↦
-        let row = found_row rows sync some.0 some.3 in
-        rw (some.1) (value some.0 some.2 row.0 row.1 ∙ row.2)
-  ]
+  | inl none ↦ rw none refl
+  | inr some ↦
+      let row = found_row rows sync some.0 some.3 in
+      rw (some.1) (value some.0 some.2 row.0 row.1 ∙ row.2)
+]
 
 derived_value : (rows : List LadderRow) (k : ℕ) → ((j : ℕ) → j < k → (r : LadderRow) → slice_get rows j ≡ Some r → value_of (term_at rows j) ≡ r.octets) → (octets : List ℕ) (o : Origin) → IsMade rows k o octets
     → value_of (origin_term rows (term_at rows) k octets o) ≡ octets

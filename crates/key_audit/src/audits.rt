@@ -1,6 +1,6 @@
 ghost use Rattle.std.specs.Prelude.{◌≡◌, ℕ, ◌<◌, ◌≤◌, Bool, true, false, length, slice_get, slice_index_or, IfOk, Some, None};
 ghost use Rattle.key_terms.specs.declared.row.LadderRow.{LadderRow};
-ghost use Rattle.key_terms.specs.Ladder.{IsMade};
+ghost use Rattle.key_terms.specs.Ladder.{IsLadder, IsMade};
 ghost use Rattle.key_audit.specs.Exact.{Exact};
 ghost use Rattle.key_audit.specs.Terms.{sync_row};
 ghost use Rattle.key_audit.specs.Local.{and_mark, above_mark, held_first, mark_of, mark_at, IsClean, AreClean, Fills};
@@ -83,7 +83,8 @@ impl From<TextMemory> for AuditMemory {
 
 /// Which station can derive the key of which row, from the rows that it holds: the exact audit.
 pub fn audit_of(alloc: Global, ladder: &Ladder) -> Result<Audit, AuditMemory>
-    ensures { IfOk result (λ audit. Exact ladder.now.rows audit.rows.items) }
+    ensures exact { IfOk result (λ audit. Exact ladder.now.rows audit.rows.items) }
+    ensures ladder { IsLadder ladder.now.rows }
 {
     let rows = fill(alloc, ladder)?;
     Ok(Audit { rows })
@@ -91,7 +92,8 @@ pub fn audit_of(alloc: Global, ladder: &Ladder) -> Result<Audit, AuditMemory>
 
 // One row after the other.
 fn fill(alloc: Global, ladder: &Ladder) -> Result<Vec<AuditRow>, AllocError>
-    ensures { IfOk result (λ audit. Exact ladder.now.rows audit.items) }
+    ensures exact { IfOk result (λ audit. Exact ladder.now.rows audit.items) }
+    ensures ladder { IsLadder ladder.now.rows }
 {
     let mut rows = Vec::with_capacity(alloc, ladder.len())?;
     for k in 0..ladder.len() {
@@ -114,7 +116,13 @@ fn audit_row(ladder: &Ladder, before: &[AuditRow], k: u32) -> AuditRow
 }
 
 // Who can derive what a row is derived from.
-fn above(ladder: &Ladder, before: &[AuditRow], k: u32, origin: &Origin, octets: &[u8; 32]) -> AuditRow
+fn above(
+    ladder: &Ladder,
+    before: &[AuditRow],
+    k: u32,
+    origin: &Origin,
+    octets: &[u8; 32],
+) -> AuditRow
     requires known { k ≡ length before.now }
     requires made { IsMade ladder.now.rows k origin.now octets.now }
     requires clean { AreClean before.now }

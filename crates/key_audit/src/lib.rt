@@ -9,7 +9,6 @@ mod paths;
 mod tests;
 mod texts;
 
-
 pub use audits::{Audit, AuditMemory, AuditRow, audit_of};
 pub use checks::check;
 pub use laws::marks_are_exact;

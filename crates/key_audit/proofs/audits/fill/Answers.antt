@@ -12,7 +12,7 @@ loop-k-preserved c = (
   omega (arith, c.loop-k-test.true, c.len-k-end.ensures.len),
 )
 
-pub returns : goal.returns
-returns c =
+pub returns-clause-exact : goal.returns-clause-exact
+returns-clause-exact c =
     exact_where_fits c.args.ladder.now.rows c.len.ensures.ladder c.loop-k.rows.items
     (filled_all c.args.ladder.now.rows c.loop-k.rows.items c.loop-k.k c.loop-k.invariant.0 (omega (arith, c.loop-k.invariant.1, c.loop-k-test.false, c.len-k-end.ensures.len)))

@@ -1,5 +1,4 @@
-use Rattle.std.proofs.Common.{◌≡◌, ◌∙◌, sym, ap, subst, length, rules}
-use Rattle.std.proofs.lemmas.Bool.{eqb-true}
+use Rattle.std.proofs.Common.{rules}
 use Rattle.key_audit.proofs.Exactness.{exact_is_local}
 use Rattle.key_audit.proofs.checks.check.Goals as goal
 
