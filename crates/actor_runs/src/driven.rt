@@ -4,28 +4,30 @@ use edge_io::{MemPeers, MemSink};
 use hub_drive::{DriveFault, drive};
 use scenario_file::read;
 use std::process::Abort;
-use std::test::Fail;
 
 // How it ended.
 #[derive(Clone, Copy, Debug, PartialEq, Eq)]
 enum End {
     Done,
+    Memory,
     PeerFault,
     Other,
 }
 
-// Drives it where the call of the peers with this number fails: how it ended, and what was written.
-fn driven<R: Abort + AllocGlobal>(rt: &R, failing: u64) -> Result<(End, Vec<u8>), Fail> {
-    let scenario = read(rt.alloc(), SCENARIO)?;
+// Drives it, where one call of the peers may fail: how it ended, and the output; none where there was no memory to begin.
+fn driven<R: Abort + AllocGlobal>(rt: &R, failing: Option<u64>) -> Option<(End, MemSink)> {
+    let scenario = read(rt.alloc(), SCENARIO).ok()?;
     assert!(rt; scenario.setup.cells.len() > 0 && scenario.events.len() <= 200_000);
     let mut replies = Vec::new(rt.alloc());
     for texts in [PHONE.as_slice(), &CORE, &STATION_0, &STATION_1] {
-        replies.push(octets_of(rt, texts)?)?;
+        replies.push(octets_of(rt, texts)?).ok()?;
     }
     let mut listed = Vec::new(rt.alloc());
-    listed.push(failing)?;
-    let mut peers = MemPeers::new(rt.alloc(), replies, 2_048, listed)?;
-    let mut out = MemSink::new(rt.alloc(), 8_192, Vec::new(rt.alloc()))?;
+    if let Some(number) = failing {
+        listed.push(number).ok()?;
+    }
+    let mut peers = MemPeers::new(rt.alloc(), replies, 2_048, listed).ok()?;
+    let mut out = MemSink::new(rt.alloc(), 8_192, Vec::new(rt.alloc())).ok()?;
     let end = match drive(
         rt.alloc(),
         &scenario.setup,
@@ -34,35 +36,38 @@ fn driven<R: Abort + AllocGlobal>(rt: &R, failing: u64) -> Result<(End, Vec<u8>)
         &mut out,
     ) {
         Ok(()) => End::Done,
+        Err(DriveFault::Memory) => End::Memory,
         Err(DriveFault::PeerFault) => End::PeerFault,
         Err(_) => End::Other,
     };
-    Ok((end, out.octets().to_vec(rt.alloc())?))
+    Some((end, out))
 }
 
-fn octets_of<R: Abort + AllocGlobal>(rt: &R, texts: &[&str]) -> Result<Vec<u8>, Fail> {
+fn octets_of<R: AllocGlobal>(rt: &R, texts: &[&str]) -> Option<Vec<u8>> {
     let mut octets = Vec::new(rt.alloc());
     for text in texts {
-        octets.extend_from_slice(hex::decode(rt.alloc(), text)?.as_slice())?;
+        octets
+            .extend_from_slice(hex::decode(rt.alloc(), text).ok()?.as_slice())
+            .ok()?;
     }
-    Ok(octets)
+    Some(octets)
 }
 
 // So many lines of the report.
-fn lines<R: AllocGlobal>(rt: &R, count: usize) -> Result<Vec<u8>, Fail> {
+fn lines<R: AllocGlobal>(rt: &R, count: usize) -> Option<Vec<u8>> {
     let mut text = Vec::new(rt.alloc());
     for line in REPORT.iter().take(count) {
-        text.extend_from_slice(line.as_bytes())?;
-        text.push(b'\n')?;
+        text.extend_from_slice(line.as_bytes()).ok()?;
+        text.push(b'\n').ok()?;
     }
-    Ok(text)
+    Some(text)
 }
 
 // Four starts, and three calls for each reply: four Setups, two inputs at step 0, and one at each later step.
 const CALLS: u64 = 100;
 
 #[test]
-fn each_call_of_the_peers_fails_in_turn(rt: HostRuntime) -> Result<(), Fail> {
+fn each_call_of_the_peers_fails_in_turn(rt: HostRuntime) {
     for number in 0..=CALLS {
         let (end, count) = match number {
             0..=15 => (End::PeerFault, 0),
@@ -70,13 +75,25 @@ fn each_call_of_the_peers_fails_in_turn(rt: HostRuntime) -> Result<(), Fail> {
             19..CALLS => (End::PeerFault, (number as usize - 4) / 3 - 4),
             _ => (End::Done, REPORT.len()),
         };
-        let (ended, written) = driven(&rt, number)?;
+        let wanted = lines(&rt, count).expect(&rt, "memory");
+        let (ended, out) = driven(&rt, Some(number)).expect(&rt, "memory");
         assert_eq!(rt; ended, end, "call {number}");
-        assert_eq!(rt;
-            written.as_slice(),
-            lines(&rt, count)?.as_slice(),
-            "call {number}"
-        );
+        assert_eq!(rt; out.octets(), wanted.as_slice(), "call {number}");
     }
-    Ok(())
+}
+
+// Where memory is refused, as by `rt try --test --fail-alloc` and `bench/memory`, a prefix of the report is written, and else all of it.
+#[test]
+fn refused_memory_leaves_a_prefix(rt: HostRuntime) {
+    let Some(report) = lines(&rt, REPORT.len()) else {
+        return;
+    };
+    let Some((ended, out)) = driven(&rt, None) else {
+        return;
+    };
+    match ended {
+        End::Done => assert_eq!(rt; out.octets(), report.as_slice()),
+        End::Memory => assert!(rt; report.as_slice().starts_with(out.octets())),
+        End::PeerFault | End::Other => assert!(rt; false, "it ends so where memory is refused"),
+    }
 }
