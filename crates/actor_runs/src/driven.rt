@@ -16,12 +16,15 @@ enum End {
 
 // Drives it, where one call of the peers may fail: how it ended, and the output; none where there was no memory to begin.
 fn driven<R: Abort + AllocGlobal>(rt: &R, failing: Option<u64>) -> Option<(End, MemSink)> {
-    let scenario = read(rt.alloc(), SCENARIO).ok()?;
+    let Ok(scenario) = read(rt.alloc(), SCENARIO) else {
+        return None;
+    };
     assert!(rt; scenario.setup.cells.len() > 0 && scenario.events.len() <= 200_000);
     let mut replies = Vec::new(rt.alloc());
-    for texts in [PHONE.as_slice(), &CORE, &STATION_0, &STATION_1] {
-        replies.push(octets_of(rt, texts)?).ok()?;
-    }
+    replies.push(octets_of(rt, &PHONE)?).ok()?;
+    replies.push(octets_of(rt, &CORE)?).ok()?;
+    replies.push(octets_of(rt, &STATION_0)?).ok()?;
+    replies.push(octets_of(rt, &STATION_1)?).ok()?;
     let mut listed = Vec::new(rt.alloc());
     if let Some(number) = failing {
         listed.push(number).ok()?;
