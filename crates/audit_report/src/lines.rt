@@ -73,10 +73,7 @@ fn write_rows<W: Sink>(
 }
 
 // Writes a line for which there was memory.
-fn write_line<W: Sink>(
-    line: Result<Vec<u8>, AuditMemory>,
-    out: &mut W,
-) -> Result<(), Unwritten>
+fn write_line<W: Sink>(line: Result<Vec<u8>, AuditMemory>, out: &mut W) -> Result<(), Unwritten>
     requires out_ready { IsTrue (W.told out.old).ready }
     ensures text { (octets : List ℕ) → IfOk line (λ t. t.items ≡ octets) → Written octets result (W.told out.old) (W.told out.new) }
     ensures no_fault { result ≢ Err Unwritten.WriteFault → NoFault (W.told out.old) (W.told out.new) }
