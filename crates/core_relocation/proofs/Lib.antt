@@ -7,4 +7,5 @@ pub mod SoFar
 pub mod CoreText
 pub mod Adding
 pub mod Once
+pub mod Journal
 pub mod Promised

@@ -18,6 +18,7 @@ use Rattle.core_relocation.specs.Acted.{acted}
 use Rattle.core_relocation.specs.Holder.{acting, away, core_at, is_next, station_in, unless}
 use Rattle.core_relocation.specs.Promises.{MayAct, TwoHeadline}
 use Rattle.core_relocation.specs.Run.{TwoState, answer_by, cores_of, fields_of_run, first_state, heard_of, next_answer, next_state, run_after, state_by, states, told_after, two_state}
+use Rattle.core_relocation.proofs.Journal.{lines_are}
 use Rattle.core_relocation.proofs.Once.{no_nh_twice}
 
 -- WHAT THE SYSTEM SAW
@@ -82,6 +83,7 @@ two_headline setup core_of events set are =
     let heard = heard_of setup core_of events in
     let all = heard_all setup core_of IsEvent events are in record {
       headline = headline setup heard set all;
+      lines = lines_are setup core_of events;
       nh = λ n u runs. no_nh_twice setup set (take n heard) (all_first IsEvent n heard all) u runs;
       acting = λ k e line core at is. acts_in setup core_of (two_state setup core_of (take k events)) e line core is;
     }

@@ -1,8 +1,7 @@
 // A system with two cores, in scenarios of which another implementation of the same rules was asked, and what follows where the
 // context is.
-ghost use Rattle.std.specs.Prelude.{◌≡◌, ◌≤◌, All, length};
+ghost use Rattle.std.specs.Prelude.{◌≡◌, All};
 ghost use Rattle.lte_events.specs.Conditions.{CanHappen, EventFits};
-ghost use Rattle.lte_world.specs.Whole.{most_events};
 
 use crate::tests::Told::{By, Else, NotHere};
 use crate::{Two, TwoLine, write_two};
@@ -192,7 +191,7 @@ fn text_of(alloc: Global, steps: &str) -> Result<Vec<u8>, AllocError> {
 }
 
 // What is told of an event that is done.
-fn told(line: &TwoLine) -> Option<Told> {
+fn told_of(line: &TwoLine) -> Option<Told> {
     match line {
         TwoLine::NotHere(core) => Some(NotHere(*core)),
         TwoLine::By(line, core) => match line.answer {
@@ -238,7 +237,7 @@ fn follow(rt: &impl Abort, two: &mut Two, events: &[Event], case: &Case)
         let step = two.events().len();
         let line = happen(rt, two, event);
         let row = row_of(rt, case, step);
-        assert_eq!(rt; told(&line), Some(row.0), "{}: {step}", case.shown);
+        assert_eq!(rt; told_of(&line), Some(row.0), "{}: {step}", case.shown);
         assert_eq!(rt; two.holder(), row.1, "{}: {step}", case.shown);
         assert_eq!(rt; two.next(), row.2, "{}: {step}", case.shown);
     }
