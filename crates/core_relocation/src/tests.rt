@@ -2,11 +2,12 @@
 // context is.
 ghost use Rattle.std.specs.Prelude.{◌≡◌, All};
 ghost use Rattle.lte_events.specs.Conditions.{CanHappen, EventFits};
+ghost use Rattle.lte_world.specs.Whole.{CanBegin};
 
 use crate::tests::Told::{By, Else, NotHere};
 use crate::{Two, TwoLine, write_two};
 use edge_io::MemSink;
-use lte_events::{Answer, Event};
+use lte_events::{Answer, Event, Setup};
 use lte_world::WorldFault;
 use scenario_file::read;
 use std::alloc::{AllocError, Global};
@@ -204,6 +205,18 @@ fn told_of(line: &TwoLine) -> Option<Told> {
     }
 }
 
+// Two cores in which nothing has happened.
+fn begin(rt: &impl Abort, alloc: Global, setup: &Setup) -> Two
+    requires { CanBegin setup.now }
+    ensures { result.world.setup ≡ setup.now }
+{
+    match Two::new(alloc, setup, &CORE_OF) {
+        Ok(two) => two,
+        // memory ran out once
+        Err(_) => Two::new(alloc, setup, &CORE_OF).expect(rt, "memory"),
+    }
+}
+
 // The answer to one event.
 fn happen(rt: &impl Abort, two: &mut Two, event: &Event) -> TwoLine
     requires can { CanHappen two.old.world.setup event.now }
@@ -249,11 +262,7 @@ fn the_context_is_handed_on(rt: HostRuntime) -> Result<(), Fail> {
         let text = text_of(rt.alloc(), case.steps)?;
         let scenario = read(rt.alloc(), &text)?;
         assert!(rt; scenario.setup.cells.len() > 0);
-        let mut two = match Two::new(rt.alloc(), &scenario.setup, &CORE_OF) {
-            Ok(two) => two,
-            // memory ran out once
-            Err(_) => Two::new(rt.alloc(), &scenario.setup, &CORE_OF).expect(&rt, "memory"),
-        };
+        let mut two = begin(&rt, rt.alloc(), &scenario.setup);
         follow(&rt, &mut two, &scenario.events, case);
         assert!(rt; two.world().journal().len() <= two.events().len());
     }
