@@ -1,2 +1,6 @@
 pub mod Partly
 pub mod Telling
+pub mod Holding
+pub mod Shown
+pub mod Looping
+pub mod Ending

@@ -1,5 +1,7 @@
 -- A text of which a part is written, and the rest is to be.
 use Rattle.std.proofs.Common.{◌≡◌, refl, sym, ap, subst, ◌∙◌, Result, Ok, Err, List, [], ◌∷◌, ◌++◌, append_assoc, append-nil, ℕ}
+use Rattle.std.specs.Prelude.{IfOk}
+use Rattle.std.proofs.Math.Nat.{le_refl}
 use Rattle.edge_io.proofs.Known.{nothing_out, grows_twice}
 use Rattle.edge_io.specs.Told.{Told}
 use Rattle.edge_io.specs.Cause.{NoCountFell}
@@ -34,3 +36,12 @@ pub last_written : {A : Type 0} (result : Result A Unwritten) (whole rest piece 
     → NoCountFell first mid → Written piece result mid now → Written whole result first now
 last_written result whole rest piece left first mid now s is none counts written =
     written_on result whole s.text piece left first mid now (s.parts ∙ ap (λ r. s.text ++ r) is ∙ sym (append_assoc s.text piece left)) none counts s.grown written
+
+-- what holds of an answer
+pub if_ok : {A E : Type 0} (P Q : A → Type 0) (result : Result A E) → ((a : A) → P a → Q a) → IfOk result P → IfOk result Q
+if_ok P Q (Ok a) f h = f a h
+if_ok P Q (Err e) f h = h
+
+-- no count fell where nothing was done
+pub no_fall : (now : Told) → NoCountFell now now
+no_fall now = record { reads = le_refl now.read_faults; writes = le_refl now.write_faults; opens = le_refl now.open_faults }

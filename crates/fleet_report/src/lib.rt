@@ -2,7 +2,9 @@
 //! all keys of each phone with their holders.
 #![tactic(auto)]
 
+mod laws;
 mod lines;
 mod reports;
 
+pub use laws::no_phone_sees_another;
 pub use reports::write_fleet;

@@ -53,11 +53,7 @@ pub(crate) fn fault_text(
 }
 
 // A line of a phone, behind its number.
-pub(crate) fn phone_text(
-    alloc: Global,
-    phone: u16,
-    line: &[u8],
-) -> Result<Vec<u8>, TextMemory>
+pub(crate) fn phone_text(alloc: Global, phone: u16, line: &[u8]) -> Result<Vec<u8>, TextMemory>
     ensures { IfOk result (λ text. text.items ≡ phone_text phone line.now) }
 {
     let mut text = prefix(alloc, phone)?.into_bytes();

@@ -1,16 +1,14 @@
-ghost use Rattle.std.specs.Prelude.{◌≡◌, ◌≢◌, ℕ, ◌<◌, ◌≤◌, ◌++◌, ◌∷◌, [], List, false, None, Ok, Err, length, All, IfOk, IsTrue};
+ghost use Rattle.std.specs.Prelude.{◌≡◌, ◌≢◌, ℕ, ◌<◌, ◌≤◌, ◌++◌, ◌∷◌, [], List, true, false, None, Ok, Err, length, All, IfOk, IsTrue};
 ghost use Rattle.edge_io.specs.Cause.{NoFault};
 ghost use Rattle.edge_io.specs.Used.{UsedAsSink};
 ghost use Rattle.lte_events.specs.Conditions.{CanHappen, EventFits};
 ghost use Rattle.lte_world.specs.Whole.{CanBegin, most_events, run_of};
 ghost use Rattle.run_report.specs.Events.{HasCounts};
 ghost use Rattle.run_report.specs.Written.{Written};
-ghost use Rattle.fleet_world.specs.Answers.{own_at};
-ghost use Rattle.fleet_world.specs.Fleets.{most_phones, owns_in, answer_of, CanTake};
+ghost use Rattle.fleet_world.specs.Fleets.{most_phones, owns_in, CanTake};
 ghost use Rattle.fleet_world.specs.Worlds.{Goes};
-ghost use Rattle.fleet_report.specs.Events.{ends_it, HasItsCounts, IsOfPhone};
-ghost use Rattle.fleet_report.specs.Lines.{answer_output, output_text, phone_text, texts, row_outputs, end_outputs};
-ghost use Rattle.fleet_report.specs.Promises.{Holds};
+ghost use Rattle.fleet_report.specs.Events.{event_text, event_ends, HasItsCounts, IsOfPhone};
+ghost use Rattle.fleet_report.specs.Lines.{IsShown, answer_output, output_text, phone_text, texts, row_outputs, end_outputs};
 ghost use Rattle.fleet_report.specs.Report.{ends_from, fleet_report_of};
 
 use crate::lines::{fault_text, phone_text, told_text};
@@ -44,7 +42,6 @@ pub fn write_fleet<W: Sink>(
     requires few { length events.now ≤ most_events }
     ensures report { Written (fleet_report_of setup.now phones events.now).text result (W.told out.old) (W.told out.new) }
     ensures coincidence { IfOk result (λ coincides. coincides ≡ (fleet_report_of setup.now phones events.now).coincides) }
-    ensures holds { Holds setup.now phones events.now }
     ensures no_fault { result ≢ Err Unwritten.WriteFault → NoFault (W.told out.old) (W.told out.new) }
     ensures out { UsedAsSink (W.told out.old) (W.told out.new) }
 {
@@ -76,8 +73,8 @@ fn write_event<W: Sink>(
     requires out_ready { IsTrue (W.told out.old).ready }
     requires goes_on { fleet.old.over ≡ None }
     requires can { CanTake fleet.old phone event.now }
-    ensures text { Written (output_text (answer_output (length fleet.old.journal) (length (own_at (owns_in fleet.old) phone)) (answer_of fleet.old phone event.now))) result (W.told out.old) (W.told out.new) }
-    ensures coincidence { IfOk result (λ coincides. coincides ≡ ends_it (answer_of fleet.old phone event.now)) }
+    ensures text { Written (event_text fleet.old phone event.now) result (W.told out.old) (W.told out.new) }
+    ensures coincidence { IfOk result (λ coincides. coincides ≡ event_ends fleet.old phone event.now) }
     ensures fleet { result ≡ Ok false → fleet.new.over ≡ None }
     ensures setup { result ≡ Ok false → fleet.new.setup ≡ fleet.old.setup }
     ensures journal { result ≡ Ok false → fleet.new.journal ≡ fleet.old.journal ++ (phone, event.now) ∷ [] }
@@ -92,14 +89,33 @@ fn write_event<W: Sink>(
             Ok(()) => Ok(false),
             Err(fault) => Err(fault),
         },
-        Err(FleetFault::Memory) => Err(Unwritten::Memory),
-        Err(fault) => {
-            has_counts(fault);
-            match write_text(fault_text(alloc, step, own, fault), out) {
-                Ok(()) => Ok(true),
-                Err(fault) => Err(fault),
-            }
-        }
+        Err(fault) => write_fault(alloc, step, own, fault, out),
+    }
+}
+
+// Writes the line for a coincidence. Where there was no memory for an answer, nothing is written.
+fn write_fault<W: Sink>(
+    alloc: Global,
+    step: u32,
+    own: u32,
+    fault: FleetFault,
+    out: &mut W,
+) -> Result<bool, Unwritten>
+    requires out_ready { IsTrue (W.told out.old).ready }
+    requires shown { HasItsCounts fault → IsShown fault }
+    ensures text { fault ≢ FleetFault.Memory → Written (output_text (answer_output step own (Err fault))) result (W.told out.old) (W.told out.new) }
+    ensures memory { fault ≡ FleetFault.Memory → (result ≡ Err Unwritten.Memory) × (out.new ≡ out.old) }
+    ensures ends { IfOk result (λ coincides. coincides ≡ true) }
+    ensures no_fault { result ≢ Err Unwritten.WriteFault → NoFault (W.told out.old) (W.told out.new) }
+    ensures out { UsedAsSink (W.told out.old) (W.told out.new) }
+{
+    if fault == FleetFault::Memory {
+        return Err(Unwritten::Memory);
+    }
+    has_counts(fault);
+    match write_text(fault_text(alloc, step, own, fault), out) {
+        Ok(()) => Ok(true),
+        Err(fault) => Err(fault),
     }
 }
 
@@ -142,9 +158,10 @@ fn write_end<W: Sink>(
     ensures out { UsedAsSink (W.told out.old) (W.told out.new) }
 {
     let events = world.journal().len() as u32;
-    let rows = world.ladder().len() as u32;
+    let ladder = world.ladder();
+    let rows = ladder.len() as u32;
     match write_line(alloc, phone, end(alloc, events, world.records(), rows), out) {
-        Ok(()) => write_rows(alloc, phone, world.ladder(), out),
+        Ok(()) => write_rows(alloc, phone, ladder, out),
         Err(fault) => Err(fault),
     }
 }
@@ -162,7 +179,12 @@ fn write_rows<W: Sink>(
     ensures out { UsedAsSink (W.told out.old) (W.told out.new) }
 {
     for number in 0..ladder.len() {
-        match write_line(alloc, phone, row_line(alloc, ladder, Row(number as u32)), out) {
+        match write_line(
+            alloc,
+            phone,
+            row_line(alloc, ladder, Row(number as u32)),
+            out,
+        ) {
             Ok(()) => {}
             Err(fault) => return Err(fault),
         }

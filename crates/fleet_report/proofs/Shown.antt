@@ -1,0 +1,93 @@
+-- A coincidence of a phone has a text.
+use Rattle.std.proofs.Common.{◌≡◌, ◌≢◌, refl, sym, ap, subst, ◌∙◌, ℕ, Bool, true, false, List, length, Option, Some, None, Result, Ok, Err}
+use Rattle.std.specs.Prelude.{IfOk}
+use Rattle.edge_io.proofs.Known.{none_of}
+use Rattle.edge_io.specs.Told.{Told}
+use Rattle.lte_events.specs.Conditions.{CanHappen, EventFits}
+use Rattle.lte_events.specs.declared.events.Event.{Event}
+use Rattle.lte_events.specs.declared.setups.Setup.{Setup}
+use Rattle.key_terms.specs.declared.proof.Proof.{Proof}
+use Rattle.lte_machine.specs.BothRuns.{octet_run}
+use Rattle.lte_machine.specs.Ciphers.{annex_b}
+use Rattle.lte_machine.specs.Machines.{Kept, machine_in_octets}
+use Rattle.lte_machine.specs.Opening.{open_octets}
+use Rattle.lte_machine.specs.Ranges.{AllOf, IsEvent, IsSetup}
+use Rattle.lte_machine.specs.Run.{RunState, Running, Stopped, EventReport, Reported, Coincided, event_report}
+use Rattle.lte_machine.proofs.Fitting.{event_fits}
+use Rattle.report_text.specs.Chance.{HasString}
+use Rattle.run_report.specs.Events.{HasCounts}
+use Rattle.run_report.specs.Written.{Written}
+use Rattle.run_report.specs.declared.unwritten.Unwritten.{Unwritten}
+use Rattle.run_report.specs.declared.unwritten.Unwritten.TheVariants as unwritten
+use Rattle.fleet_world.specs.declared.lines.FleetLine.{FleetLine}
+use Rattle.run_report.proofs.Shown.{shown}
+use Rattle.run_stores.specs.Proofs.{proof_of}
+use Rattle.fleet_world.specs.declared.faults.FleetFault.{FleetFault}
+use Rattle.fleet_world.specs.declared.faults.FleetFault.TheVariants as fault
+use Rattle.fleet_world.specs.Answers.{own_at, taken_by, crossing, unless_taken, answer}
+use Rattle.fleet_world.specs.Fleets.{Fleeted, CanTake, IsOwn, GoesOn, owns_in, answer_of, unless_over}
+use Rattle.fleet_world.specs.Meeting.{Meeting}
+use Rattle.fleet_world.specs.Phones.{phone_run, phone_told}
+use Rattle.fleet_world.proofs.Standing.{told_is}
+use Rattle.fleet_world.proofs.Together.{octets_are}
+use Rattle.fleet_report.specs.Events.{HasItsCounts, ends_it}
+use Rattle.fleet_report.specs.Lines.{IsShown, output_text, answer_output}
+use Rattle.fleet_report.proofs.Partly.{if_ok}
+
+-- a Chance is one of the phone's own run
+chance_told : (t : Option ℕ) (told : EventReport (List ℕ)) (met : Option Meeting) (p q : ℕ) (proof : Proof) → unless_taken p t told met ≡ Err (fault.Chance q proof) → (c : _) × (told ≡ Coincided c) × (proof ≡ proof_of c)
+chance_told (Some k) told met p q proof is = absurd cc
+chance_told None (Coincided c) met p q proof is = (c, refl, cc)
+chance_told None (Reported told) None p q proof is = absurd cc
+chance_told None (Reported told) (Some m) p q proof is = absurd cc
+
+goes : (run : RunState (List ℕ) ℕ Kept) → GoesOn run → (w : _) × (run ≡ Running w)
+goes (Running w) on = (w, refl)
+goes (Stopped chance) on = absurd on
+
+-- and a derivation in it has a string S
+chance_shown : (setup : Setup) (most : ℕ) (own : List Event) (e : Event) (chance : _) → IsSetup setup → IsOwn setup most own → IsEvent e → phone_told setup own e ≡ Coincided chance → HasCounts (proof_of chance) → HasString (proof_of chance)
+chance_shown setup most own e chance is h good told counts =
+    let octets = octets_are setup own is h.in_range in
+    let on = goes (octet_run setup own) (subst GoesOn (sym octets) h.goes) in
+    shown setup own on.0 e chance is h.in_range on.1 good
+    (ap (λ r. event_report (open_octets annex_b) (machine_in_octets annex_b) r e) (sym on.1) ∙ told_is setup own e is h.in_range good ∙ told) counts
+
+pub answers_are : (v : Fleeted) (p : ℕ) (e : Event) → v.over ≡ None → answer_of v p e ≡ answer v.setup (owns_in v) p e
+answers_are v p e none = ap (λ o. unless_over o (answer v.setup (owns_in v) p e)) none
+
+pub fault_shown : (v : Fleeted) (p : ℕ) (e : Event) (f : FleetFault) → v.over ≡ None → IsSetup v.setup → IsOwn v.setup (length v.journal) (own_at (owns_in v) p) → CanTake v p e
+    → (◌≢◌ {A = Result FleetLine FleetFault} (Err f) (Err fault.Memory) → Err f ≡ answer_of v p e) → HasItsCounts f → IsShown f
+fault_shown v p e fault.Memory none is h can answered counts = tt
+fault_shown v p e (fault.Cross phone row other other_row) none is h can answered counts = tt
+fault_shown v p e (fault.Chance q proof) none is h can answered counts =
+    let told = chance_told (taken_by v.setup (owns_in v) p e) (phone_told v.setup (own_at (owns_in v) p) e) (crossing v.setup (owns_in v) p e) p q proof (sym (answered (λ same. cc) ∙ answers_are v p e none)) in
+    subst HasString (sym told.2)
+    (chance_shown v.setup (length v.journal) (own_at (owns_in v) p) e told.0 is h (event_fits v.setup e can.fits can.can) told.1 (subst HasCounts told.2 counts))
+
+-- the line for a coincidence is that of the answer
+pub fault_written : (v : Fleeted) (p : ℕ) (e : Event) (f : FleetFault) (step own : ℕ) (result : Result Bool Unwritten) (before after : Told)
+    → (◌≢◌ {A = Result FleetLine FleetFault} (Err f) (Err fault.Memory) → Err f ≡ answer_of v p e)
+    → (f ≢ fault.Memory → Written (output_text (answer_output step own (Err f))) result before after) → (f ≡ fault.Memory → (result ≡ Err unwritten.Memory) × (after ≡ before))
+    → Written (output_text (answer_output step own (answer_of v p e))) result before after
+fault_written v p e fault.Memory step own result before after says text memory =
+    let nothing = memory refl in
+    let whole = output_text (answer_output step own (answer_of v p e)) in
+    subst (λ r. Written whole r before after) (sym nothing.0) (subst (λ t. Written {A = Bool} whole (Err unwritten.Memory) before t) (sym nothing.1) (none_of before.written whole))
+fault_written v p e (fault.Chance q proof) step own result before after says text memory =
+    subst (λ a. Written (output_text (answer_output step own a)) result before after) (says (λ same. cc)) (text (λ same. cc))
+fault_written v p e (fault.Cross phone row other other_row) step own result before after says text memory =
+    subst (λ a. Written (output_text (answer_output step own a)) result before after) (says (λ same. cc)) (text (λ same. cc))
+
+-- and so is its end
+pub fault_ends : (v : Fleeted) (p : ℕ) (e : Event) (f : FleetFault) (result : Result Bool Unwritten)
+    → (◌≢◌ {A = Result FleetLine FleetFault} (Err f) (Err fault.Memory) → Err f ≡ answer_of v p e)
+    → (f ≡ fault.Memory → result ≡ Err unwritten.Memory) → IfOk result (λ b. b ≡ true) → IfOk result (λ b. b ≡ ends_it (answer_of v p e))
+fault_ends v p e fault.Memory result says memory ends = subst (λ r. IfOk r (λ b. b ≡ ends_it (answer_of v p e))) (sym (memory refl)) tt
+fault_ends v p e (fault.Chance q proof) result says memory ends = if_ok (λ b. b ≡ true) (λ b. b ≡ ends_it (answer_of v p e)) result (λ b is. is ∙ ap ends_it (says (λ same. cc))) ends
+fault_ends v p e (fault.Cross phone row other other_row) result says memory ends = if_ok (λ b. b ≡ true) (λ b. b ≡ ends_it (answer_of v p e)) result (λ b is. is ∙ ap ends_it (says (λ same. cc))) ends
+
+-- which is not that of a line
+pub never_false : (A : Type 0) (result : Result Bool Unwritten) → IfOk result (λ b. b ≡ true) → result ≡ Ok false → A
+never_false A (Ok b) ends is = let same : b ≡ false = cc in let bad : true ≡ false = sym ends ∙ same in absurd cc
+never_false A (Err f) ends is = absurd cc
