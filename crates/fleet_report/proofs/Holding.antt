@@ -78,10 +78,9 @@ text_of lines = flat_map line_text lines
 
 told_text : (step : ℕ) (rs : List (EventReport Term)) (end : List ℕ) → AllOf IsLine rs → (told_from step (map report_value rs) end).text ≡ text_of (lines_in (map report_value rs)) ++ end
 told_text step [] end all = refl
-told_text step (Reported told ∷ rs) end all = tied told
-  where
-    tied : (x : _) → (told_from step (report_value (Reported x) ∷ map report_value rs) end).text ≡ text_of (lines_in (report_value (Reported x) ∷ map report_value rs)) ++ end
-    tied x = ap (λ t. line_text (line_out (map_line value_of x)) ++ t) (told_text (suc step) rs end all.1) ∙ sym (append_assoc (line_text (line_out (map_line value_of x))) (text_of (lines_in (map report_value rs))) end)
+told_text step (Reported told ∷ rs) end all =
+    ap (λ t. line_text (line_out (map_line value_of told)) ++ t) (told_text (suc step) rs end all.1)
+    ∙ sym (append_assoc (line_text (line_out (map_line value_of told))) (text_of (lines_in (map report_value rs))) end)
 told_text step (Coincided chance ∷ rs) end all = absurd all.0
 
 report_is : (setup : Setup) (events : List Event) → GoesOn setup events → (report_of setup events).text ≡ text_of (own_lines setup events) ++ end_of (length events) (phone_run setup events)
@@ -94,11 +93,11 @@ report_is setup events goes =
 texts_append : (p : ℕ) (xs ys : List Output) → phone_texts p (xs ++ ys) ≡ phone_texts p xs ++ phone_texts p ys
 texts_append p [] ys = refl
 texts_append p (ByFleet text ∷ xs) ys = texts_append p xs ys
-texts_append p (ByPhone q text ∷ xs) ys = by (q == p)
+texts_append p (ByPhone q text ∷ xs) ys = by (q == p) (texts_append p xs ys)
   where
-    by : (b : Bool) → text_if b text (phone_texts p (xs ++ ys)) ≡ text_if b text (phone_texts p xs) ++ phone_texts p ys
-    by true = ap (λ t. text ++ t) (texts_append p xs ys) ∙ sym (append_assoc text (phone_texts p xs) (phone_texts p ys))
-    by false = texts_append p xs ys
+    by : (b : Bool) → phone_texts p (xs ++ ys) ≡ phone_texts p xs ++ phone_texts p ys → text_if b text (phone_texts p (xs ++ ys)) ≡ text_if b text (phone_texts p xs) ++ phone_texts p ys
+    by true more = ap (λ t. text ++ t) more ∙ sym (append_assoc text (phone_texts p xs) (phone_texts p ys))
+    by false more = more
 
 same_number : (p : ℕ) → (p == p) ≡ true
 same_number p = eq-eqb p p refl
@@ -127,11 +126,11 @@ end_none p q events differ (Running w) =
 end_none p q events differ (Stopped chance) = refl
 
 differs : (p q : ℕ) → q ≢ p → (q == p) ≡ false
-differs p q no = by (q == p) refl
+differs p q other = by (q == p) refl
   where
     by : (b : Bool) → (q == p) ≡ b → b ≡ false
     by false is = refl
-    by true is = absurd (no (eqb-true q p is))
+    by true is = absurd (other (eqb-true q p is))
 
 -- none behind it
 ends_none : (setup : Setup) (p k : ℕ) (owns : List (List Event)) → p < k → phone_texts p (ends_from setup k owns) ≡ []
@@ -165,21 +164,20 @@ phone_text_is : (setup : Setup) (owns : List (List Event)) (step : ℕ) (events 
 phone_text_is setup owns step [] p low answered = let same : 0 + p ≡ p = omega arith in ap (λ n. phone_texts n (ends_from setup 0 owns)) (sym same) ∙ ends_texts setup 0 p owns low
 phone_text_is setup owns step (x ∷ xs) p low answered =
     by (answer setup owns x.0 x.1) answered.0
+    (phone_text_is setup (owns_after setup owns x.0 x.1) (suc step) xs p (subst (λ n. p < n) (sym (length_after setup owns x.0 x.1)) low) answered.1)
   where
-    more : phone_texts p (outputs_from setup (owns_after setup owns x.0 x.1) (suc step) xs).lines ≡ text_of (lines_of p (answers setup (owns_after setup owns x.0 x.1) xs)) ++ end_at setup (owns_from setup (owns_after setup owns x.0 x.1) xs) p
-    more = phone_text_is setup (owns_after setup owns x.0 x.1) (suc step) xs p (subst (λ n. p < n) (sym (length_after setup owns x.0 x.1)) low) answered.1
-
     by : (r : Result FleetLine FleetFault) → IsOk r
+        → phone_texts p (outputs_from setup (owns_after setup owns x.0 x.1) (suc step) xs).lines ≡ text_of (lines_of p (answers setup (owns_after setup owns x.0 x.1) xs)) ++ end_at setup (owns_from setup (owns_after setup owns x.0 x.1) xs) p
         → phone_texts p (goes_on r (answer_output step (length (own_at owns x.0)) r) (outputs_from setup (owns_after setup owns x.0 x.1) (suc step) xs)).lines
         ≡ text_of (lines_of p (r ∷ answers setup (owns_after setup owns x.0 x.1) xs)) ++ end_at setup (owns_from setup (owns_after setup owns x.0 x.1) xs) p
-    by (Ok (line.Taken q)) ok = more
-    by (Ok (line.Of q told)) ok = tied (q == p)
+    by (Ok (line.Taken q)) ok more = more
+    by (Ok (line.Of q told)) ok more = tied (q == p)
       where
         tied : (b : Bool) → text_if b (line_text told) (phone_texts p (outputs_from setup (owns_after setup owns x.0 x.1) (suc step) xs).lines)
             ≡ text_of (line_if b told (lines_of p (answers setup (owns_after setup owns x.0 x.1) xs))) ++ end_at setup (owns_from setup (owns_after setup owns x.0 x.1) xs) p
         tied false = more
         tied true = ap (λ t. line_text told ++ t) more ∙ sym (append_assoc (line_text told) (text_of (lines_of p (answers setup (owns_after setup owns x.0 x.1) xs))) (end_at setup (owns_from setup (owns_after setup owns x.0 x.1) xs) p))
-    by (Err f) ok = absurd (false≢true ok)
+    by (Err f) ok more = absurd (false≢true ok)
 
 -- RANGES
 
