@@ -2,3 +2,4 @@ pub mod Running
 pub mod Reports
 pub mod Writing
 pub mod Driving
+pub mod Audited

@@ -8,7 +8,7 @@ use Rattle.ladder_text.specs.Text.{number_of}
 use Rattle.lte_sec_app.specs.declared.command.Command.{Command}
 use Rattle.lte_sec_app.specs.declared.command.Command.TheVariants.{Text, Drive, Serve, Gen}
 use Rattle.lte_sec_app.specs.declared.command.TextCommand.{TextCommand}
-use Rattle.lte_sec_app.specs.declared.command.TextCommand.TheVariants.{Ladder, Run}
+use Rattle.lte_sec_app.specs.declared.command.TextCommand.TheVariants.{Ladder, Run, Fleet, Two, Audit}
 use Rattle.role_wire.specs.Ranges.{IsRole}
 use Rattle.lte_sec_app.specs.Roles.{role_of}
 
@@ -30,6 +30,9 @@ abbrev pub text_command : List ℕ → Option TextCommand
 text_command word =
     if bytes_eq word (codes "ladder") then Some Ladder
     else if bytes_eq word (codes "run") then Some Run
+    else if bytes_eq word (codes "fleet") then Some Fleet
+    else if bytes_eq word (codes "two") then Some Two
+    else if bytes_eq word (codes "audit") then Some Audit
     else None
 
 -- a word alone

@@ -5,6 +5,9 @@ pub mod Run
 pub mod Ladder
 pub mod Serve
 pub mod Scenario
+pub mod Fleet
+pub mod Two
+pub mod Audit
 pub mod Text
 pub mod Generated
 pub mod Drive

@@ -2,20 +2,29 @@
 use Rattle.std.specs.Prelude.{ℕ, List, IfSome}
 use Rattle.edge_io.specs.Told.{Told}
 use Rattle.lte_sec_app.specs.declared.command.TextCommand.{TextCommand}
-use Rattle.lte_sec_app.specs.declared.command.TextCommand.TheVariants.{Ladder, Run}
+use Rattle.lte_sec_app.specs.declared.command.TextCommand.TheVariants.{Ladder, Run, Fleet, Two, Audit}
 use Rattle.lte_sec_app.specs.declared.status.Status.{Status}
 use Rattle.lte_sec_app.specs.Run.{Output, WhereRun}
 use Rattle.lte_sec_app.specs.Ladder.{ladder_output}
 use Rattle.lte_sec_app.specs.Scenario.{run_output, HasHeadline}
+use Rattle.lte_sec_app.specs.Fleet.{fleet_output, HasFleet}
+use Rattle.lte_sec_app.specs.Two.{two_output, HasTwo}
+use Rattle.lte_sec_app.specs.Audit.{audit_output, HasAudit}
 
 abbrev pub text_output : TextCommand → List ℕ → Output
 text_output Ladder = ladder_output
 text_output Run = run_output
+text_output Fleet = fleet_output
+text_output Two = two_output
+text_output Audit = audit_output
 
 -- what holds of a text where it is a scenario; a ladder text is none
 abbrev pub Holds : TextCommand → List ℕ → Type 0
 Holds Ladder octets = Unit {0}
 Holds Run octets = HasHeadline octets
+Holds Fleet octets = HasFleet octets
+Holds Two octets = HasTwo octets
+Holds Audit octets = HasAudit octets
 
 -- of the text that an input held
 abbrev pub HoldsOf : TextCommand → Status → Told → Type 0

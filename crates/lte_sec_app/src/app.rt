@@ -30,6 +30,9 @@ pub const LIMIT: usize = 16_777_216;
 ///
 /// - `ladder` reads a ladder text and writes a line for each of its lines.
 /// - `run` reads a scenario and writes its report: a line for each step, and all keys with their holders.
+/// - `fleet` reads a scenario of many phones and writes the reports of all of them.
+/// - `two` reads a scenario of two cores and writes its report, with the core that acted.
+/// - `audit` reads a scenario and writes which stations can derive which of its keys.
 /// - `drive` reads a scenario, starts a peer for each of its actors, tells each what its actor is told, and writes the
 ///   report of `run`; where a reply differs from the local actor's, a line with both ends it.
 /// - `serve` and a role opens the port and serves the actor of that role there: `phone`, `station` and its
@@ -57,8 +60,9 @@ pub fn run<R: Source, W: Sink, P: Peers, L: Port>(
     ensures bad_words_out { result ≡ Status.BadWords → out.new ≡ out.old }
 
     // What a command writes for the text that it reads, and the cause of each of its statuses; and the headline of the
-    // scenario, at the statuses at which one was read. `ladder` writes keys, and `run` the report of the written machine's
-    // run over key terms, printed in values.
+    // scenario, at the statuses at which one was read. `ladder` writes keys, `run` the report of the written machine's run
+    // over key terms, printed in values, `fleet` that of each phone, `two` that with two cores, and
+    // `audit` who can derive which key of the run.
     ensures text { (command : TextCommand) → named words.now ≡ Some (Command.Text command) → CommandAt (text_output command) result (R.told input.old) (R.told input.new) (W.told out.old) (W.told out.new) }
     ensures text_complete { (command : TextCommand) → named words.now ≡ Some (Command.Text command) → CommandIsComplete (text_output command) result (R.told input.old) (R.told input.new) (W.told out.old) (W.told out.new) }
     ensures headline { (command : TextCommand) → named words.now ≡ Some (Command.Text command) → HoldsOf command result (R.told input.old) }

@@ -16,6 +16,12 @@ pub enum TextCommand {
     Ladder,
     /// The report of a scenario.
     Run,
+    /// The report of a scenario of many phones.
+    Fleet,
+    /// The report of a scenario of two cores.
+    Two,
+    /// The audit of the keys of a scenario.
+    Audit,
 }
 
 /// What the program is asked to do.
@@ -61,6 +67,9 @@ fn text_command(word: &String) -> Option<TextCommand>
     match word.as_str() {
         "ladder" => Some(TextCommand::Ladder),
         "run" => Some(TextCommand::Run),
+        "fleet" => Some(TextCommand::Fleet),
+        "two" => Some(TextCommand::Two),
+        "audit" => Some(TextCommand::Audit),
         _ => None,
     }
 }

@@ -2,8 +2,10 @@
 #![tactic(auto)]
 
 mod app;
+mod audit;
 mod command;
 mod drive;
+mod fleet;
 mod generated;
 mod ladder;
 mod reading;
@@ -14,6 +16,7 @@ mod status;
 #[cfg(test)]
 mod tests;
 mod text;
+mod two;
 
 use edge_io::{ChildPeers, LoopbackPort, ReaderSource, WriterSink};
 use status::Status;

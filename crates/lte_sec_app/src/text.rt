@@ -4,11 +4,14 @@ ghost use Rattle.edge_io.specs.Used.{UsedAsSource, UsedAsSink};
 ghost use Rattle.lte_sec_app.specs.Run.{CommandAt, CommandIsComplete, WhereRun, WritesAt};
 ghost use Rattle.lte_sec_app.specs.Text.{text_output, Holds, HoldsOf};
 
+use crate::audit::write_keys;
 use crate::command::TextCommand;
+use crate::fleet::write_phones;
 use crate::ladder::write_ladder;
 use crate::reading::read_text;
 use crate::scenario::write_scenario;
 use crate::status::Status;
+use crate::two::write_cores;
 use edge_io::{Sink, Source};
 use std::alloc::Global;
 
@@ -48,5 +51,8 @@ fn write_text<W: Sink>(alloc: Global, command: TextCommand, octets: &[u8], out: 
     match command {
         TextCommand::Ladder => write_ladder(alloc, octets, out),
         TextCommand::Run => write_scenario(alloc, octets, out),
+        TextCommand::Fleet => write_phones(alloc, octets, out),
+        TextCommand::Two => write_cores(alloc, octets, out),
+        TextCommand::Audit => write_keys(alloc, octets, out),
     }
 }

@@ -1,0 +1,26 @@
+-- What holds of an audited scenario, at each status.
+use Rattle.std.proofs.Common.{◌≡◌, ◌∙◌, ℕ, Bool, true, false, List, Result, Ok, Err, refl}
+use Rattle.std.specs.Prelude.{IfOk}
+use Rattle.audit_report.specs.Alone.{EachAlone}
+use Rattle.audit_report.specs.AuditReport.{audit_report_of}
+use Rattle.audit_report.specs.Audited.{AuditIsExact}
+use Rattle.lte_events.specs.declared.events.Event.{Event}
+use Rattle.lte_events.specs.declared.setups.Setup.{Setup}
+use Rattle.lte_properties.specs.Headline.{Headline}
+use Rattle.run_report.specs.declared.unwritten.Unwritten.{Unwritten}
+use Rattle.run_report.specs.declared.unwritten.Unwritten.TheVariants as unwritten
+use Rattle.scenario_file.specs.Reading.{reading_of}
+use Rattle.lte_sec_app.specs.Audit.{HasAudit}
+use Rattle.lte_sec_app.specs.Run.{WhereRun}
+use Rattle.lte_sec_app.specs.Scenario.{status_of}
+
+module _ (octets : List ℕ) (setup : Setup) (events : List Event) (reads : reading_of octets ≡ Ok (setup, events)) (heads : Headline setup events) (alone : EachAlone setup events) where
+  has_audit : ((audit_report_of setup events).coincides ≡ false → AuditIsExact setup events) → HasAudit octets
+  has_audit exact = record { setup = setup; events = events; reads = reads; headline = heads; exact = exact; alone = alone }
+
+  pub audited : (r : Result Bool Unwritten) → (r ≡ Ok false → AuditIsExact setup events) → IfOk r (λ coincides. coincides ≡ (audit_report_of setup events).coincides)
+      → WhereRun (HasAudit octets) (status_of r)
+  audited (Ok false) exact is = has_audit (λ none. exact refl)
+  audited (Ok true) exact is = has_audit (λ none. let clash : true ≡ false = is ∙ none in absurd cc)
+  audited (Err unwritten.Memory) exact is = tt
+  audited (Err unwritten.WriteFault) exact is = tt

@@ -1,0 +1,31 @@
+-- What `audit` writes for a scenario, and what holds of it.
+use Rattle.std.specs.Prelude.{◌≡◌, ℕ, false, List, Result, Ok, Err}
+use Rattle.audit_report.specs.Alone.{EachAlone}
+use Rattle.audit_report.specs.AuditReport.{audit_report_of}
+use Rattle.audit_report.specs.Audited.{AuditIsExact}
+use Rattle.lte_events.specs.declared.events.Event.{Event}
+use Rattle.lte_events.specs.declared.setups.Setup.{Setup}
+use Rattle.lte_properties.specs.Headline.{Headline}
+use Rattle.scenario_file.specs.declared.faults.ScenarioFault.{ScenarioFault}
+use Rattle.scenario_file.specs.Reading.{reading_of}
+use Rattle.lte_sec_app.specs.Run.{Output}
+use Rattle.lte_sec_app.specs.Scenario.{output_of_report, refusal_output}
+
+-- the audit of a scenario, or the refusal of a text that is none
+abbrev pub output_of : Result (Setup × List Event) ScenarioFault → Output
+output_of (Ok scenario) = output_of_report (audit_report_of scenario.0 scenario.1)
+output_of (Err fault) = refusal_output fault
+
+-- the output for a text
+abbrev pub audit_output : List ℕ → Output
+audit_output octets = output_of (reading_of octets)
+
+-- a text is a scenario of which the headline holds; where no coincidence ends it its audit is exact, and what stations can derive of
+-- its keys together, one of them can alone
+pub record HasAudit (octets : List ℕ) : Type 0 where
+  pub setup : Setup
+  pub events : List Event
+  pub reads : reading_of octets ≡ Ok (setup, events)
+  pub headline : Headline setup events
+  pub exact : (audit_report_of setup events).coincides ≡ false → AuditIsExact setup events
+  pub alone : EachAlone setup events
