@@ -9,7 +9,8 @@ use crate::{Algs, Caps, Priority};
 #[derive(Clone, Copy, Debug, PartialEq, Eq)]
 pub struct NoAlgorithm;
 
-/// The algorithm of highest priority that the phone supports (TS 33.401 7.2.4.2.1 and 7.2.4.3.1).
+/// The algorithm of highest priority that the phone supports (TS 33.401 7.2.4.2.1 and 7.2.4.3.1). `NoAlgorithm` where
+/// it supports none of the list, or not 128-EIA2.
 #[tactic(auto, unfolding(crate::specs::Choice::choice_of, crate::specs::Choice::are_supported))]
 pub fn choose(priority: &Priority, caps: &Caps) -> Result<Algs, NoAlgorithm>
     ensures value { result ≡ choice_of priority.now caps.now }

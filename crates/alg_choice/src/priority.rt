@@ -45,7 +45,7 @@ impl Priority {
         self.first
     }
 
-    /// The other algorithm, if there is one.
+    /// The other algorithm. `None` where the list has one alone.
     pub fn second(&self) -> Option<Eea>
         ensures value { result ≡ slice_get self.now 1 }
         ensures no_third { length self.now ≤ 2 }

@@ -38,7 +38,7 @@ impl Kasme {
         self.octets
     }
 
-    /// KeNB (TS 33.401 A.3) at an uplink NAS COUNT, and its derivation.
+    /// KeNB (TS 33.401 A.3) at an uplink NAS COUNT, of 24 bits in four octets, and its derivation.
     pub fn kenb(&self, count: u32) -> (Kenb, Derived)
         ensures value { result.0 ≡ kdf self.now (KdfInput.Kenb count) }
         ensures derived { result.1 ≡ derivation self.now (KdfInput.Kenb count) }
@@ -76,7 +76,8 @@ impl Kasme {
         (Nh::of_octets(derived.out), derived)
     }
 
-    /// A NAS algorithm key (TS 33.401 A.7) for an algorithm identity, and its derivation.
+    /// A NAS algorithm key (TS 33.401 A.7) for an algorithm identity, 0 or 2, and its derivation. The type is NAS
+    /// encryption or integrity.
     pub fn nas_alg(&self, kind: AlgType, id: u8) -> (AlgKey, Derived)
         requires { IsOfNas kind }
         ensures value { result.0 ≡ kdf self.now (KdfInput.Alg (distinguisher kind) id) }

@@ -58,8 +58,8 @@ impl Kenb {
         Star::derive(self.octets, cell)
     }
 
-    /// An RRC or user-plane algorithm key (TS 33.401 A.7) for an algorithm identity, and its
-    /// derivation.
+    /// An algorithm key (TS 33.401 A.7) for an algorithm identity, 0 or 2, and its derivation. The type is RRC
+    /// encryption, RRC integrity or user-plane encryption.
     pub fn alg(&self, kind: AlgType, id: u8) -> (AlgKey, Derived)
         requires { IsOfAs kind }
         ensures value { result.0 ≡ kdf self.now (KdfInput.Alg (distinguisher kind) id) }

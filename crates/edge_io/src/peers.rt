@@ -3,9 +3,11 @@ use crate::failed::Failed;
 /// What a peer plays.
 #[derive(Clone, Copy, Debug, PartialEq, Eq)]
 pub enum Role {
+    /// The phone.
     Phone,
-    /// The station with this number.
+    /// The station with this number, 0 to 7.
     Station(u8),
+    /// The core.
     Core,
 }
 

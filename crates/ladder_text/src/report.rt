@@ -42,7 +42,7 @@ pub fn write_report<W: Sink>(alloc: Global, lines: &[LadderLine], out: &mut W) -
     Ending::Done
 }
 
-/// Writes the refusal of a text by the number of its first bad line.
+/// Writes the refusal of a text by the number of its first bad line, counted from 1.
 pub fn write_refusal<W: Sink>(alloc: Global, line: u32, out: &mut W) -> Ending
     requires { IsTrue (W.told out.old).ready }
     ensures output { Writes (record { text = refusal_text line; ends = Ending.Refused }) result (W.told out.old) (W.told out.new) }

@@ -38,7 +38,7 @@ impl<T: Drop> From<AllocFailed<T>> for TextFault {
     }
 }
 
-/// The lines of a ladder text, all checked for form and need.
+/// The lines of a ladder text, at most 4,096, all checked for form and need.
 pub fn read_lines(alloc: Global, text: &[u8]) -> Result<Vec<LadderLine>, TextFault>
     ensures lines { IfOk result (λ lines. reading_of text.now ≡ Ok lines.items) }
     ensures good { IfOk result (λ lines. AreGood [] lines.items) }

@@ -12,7 +12,7 @@ pub enum PhoneIn {
     Act(PhoneAct),
     /// A NAS message came.
     Nas(Octets),
-    /// A PDCP PDU came from a station, 0 to 7, at an address there, on a bearer.
+    /// A PDCP PDU came from a station, 0 to 7, at an air address of four octets there, on a bearer.
     Air(u8, u32, Bearer, Octets),
 }
 
@@ -21,7 +21,7 @@ pub enum PhoneIn {
 pub enum StationIn {
     /// An act of its own.
     Act(StationAct),
-    /// A PDCP PDU came at an address, on a bearer.
+    /// A PDCP PDU came at an air address of four octets, on a bearer.
     Air(u32, Bearer, Octets),
     /// A record came on S1.
     S1(Octets),

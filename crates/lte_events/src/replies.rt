@@ -10,7 +10,7 @@ use rec_base::{Octets, Use, UserText, Way};
 pub struct Record {
     /// Where it goes.
     pub to: Address,
-    /// Its octets.
+    /// Its octets, at most 1,536.
     pub octets: Octets,
 }
 

@@ -50,7 +50,7 @@ impl RxCount {
         Ok(count)
     }
 
-    /// Takes a COUNT whose message was verified as the last accepted one.
+    /// Takes a COUNT whose message was verified as the last accepted one: at or above the next one, and below 2^24.
     pub fn accept(&mut self, count: u32)
         requires at_or_above { self.old ≤ count }
         requires below { count < count_limit }

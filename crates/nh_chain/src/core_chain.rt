@@ -31,7 +31,7 @@ impl Model for CoreChain {
 }
 
 impl CoreChain {
-    /// The chain of a new connection, its KeNB at an uplink NAS COUNT, and the derivation of that
+    /// The chain of a new connection, its KeNB at an uplink NAS COUNT, of 24 bits, and the derivation of that
     /// (TS 33.401 A.3).
     pub fn begin(root: &Kasme, count: u32) -> (CoreChain, Kenb, Derived)
         ensures chain { result.0 ≡ begun octet_reading root.now result.1 }

@@ -54,7 +54,7 @@ pub fn start_all<P: Peers>(peers: &mut P, setup: &Setup) -> (u8, Result<(), Driv
     (count, Ok(()))
 }
 
-/// Stops the peers below a number.
+/// Stops the peers whose numbers are below `count`.
 pub fn stop_all<P: Peers>(peers: &mut P, count: u8)
     requires { AllRun count (P.told peers.old) }
     ensures told { P.told peers.new ≡ option_map (stopped_below count) (P.told peers.old) }

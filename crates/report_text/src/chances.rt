@@ -9,8 +9,8 @@ use key_terms::{Proof, Row};
 use rec_base::{Dir, Use};
 use std::alloc::{AllocError, Global};
 
-/// The line of a report for a step that is a coincidence, in ASCII, with the LF that ends it. A derivation
-/// in the proof has a string S.
+/// The line of a report for a step that is a coincidence, in ASCII, with the LF that ends it. The input of a
+/// derivation in the proof is in its range.
 pub fn chance(alloc: Global, step: u32, proof: &Proof) -> Result<Vec<u8>, TextMemory>
     requires { HasString proof.now }
     ensures { IfOk result (λ text. text.items ≡ chance_text step proof.now) }

@@ -45,7 +45,7 @@ impl Model for Tally {
 }
 
 impl Tally {
-    /// Of no line.
+    /// The figures of no lines.
     pub fn new() -> Tally
         ensures { result ≡ tally_of [] }
     {

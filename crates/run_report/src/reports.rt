@@ -19,7 +19,7 @@ use report_text::{TextMemory, chance, end, ladder_text, line};
 use std::alloc::Global;
 
 /// Lets these events happen to a system, and writes the report of them: a line for each event by one
-/// `write_all`, and behind the last how much there was of everything and the rows of the ladder. A coincidence
+/// `write_all`, and behind the last how many events, records and rows there were, and the rows. A coincidence
 /// ends the report, and the answer is whether there was one.
 pub fn write_run<W: Sink>(
     alloc: Global,
@@ -124,7 +124,7 @@ fn has_counts(proof: Proof)
     }
 }
 
-/// Writes how much there was of everything, and the rows of the ladder.
+/// Writes how many events, records and rows there were, and the rows of the ladder.
 pub fn write_end<W: Sink>(alloc: Global, world: &World, out: &mut W) -> Result<(), Unwritten>
     requires out_ready { IsTrue (W.told out.old).ready }
     requires goes_on { GoesOn (run_of world.now) }
