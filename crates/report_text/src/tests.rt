@@ -1,7 +1,7 @@
 ghost use Rattle.std.specs.Prelude.{◌≤◌, length};
 
 use crate::ladders::{each_holder, without_comma};
-use crate::{Figure, Tally, chance, form, ladder_text, line, summary_line};
+use crate::{Figure, Tally, chance, ladder_text, line, summary_line};
 use alg_choice::{Algs, Caps, Eea};
 use annex_a_keys::{AlgType, Cell, Kasme, Kenb};
 use key_terms::{Ladder, LadderRow, Origin, Proof, Row};
@@ -211,9 +211,6 @@ row 4 alg(1,3,2) 9bf10551417d3b3128705dd54a20f8f1ae14c26e3ba014f8e4279841fb8ade2
 ";
     let text = ladder_text(rt.alloc(), &ladder)?;
     assert_eq!(rt; text.as_slice(), wanted.as_bytes());
-    assert_eq!(rt; ladder.len(), 5);
-    let text = form(rt.alloc(), &ladder, Row(2))?;
-    assert_eq!(rt; text.as_slice(), b"nh(0,1)".as_slice());
     Ok(())
 }
 
