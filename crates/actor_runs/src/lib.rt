@@ -1,14 +1,19 @@
-//! Runs of a phone, two stations and the core, as tests: each record is carried by the test from the actor that sent it to
-//! the one that it is for, or the whole is driven against peers. What they answer comes from an independent implementation.
+//! Tests of the actors: a phone, a station and the core alone, each behind a port, and runs of them all in which each
+//! record is carried by the test from the actor that sent it to the one that it is for. What they answer comes from an
+//! independent implementation.
 #![tactic(auto)]
 
 #[cfg(test)]
-mod driven;
+mod cores;
 #[cfg(test)]
 mod edges;
 #[cfg(test)]
-mod kept;
+mod phones;
 #[cfg(test)]
 mod runs;
+#[cfg(test)]
+mod sessions;
+#[cfg(test)]
+mod stations;
 #[cfg(test)]
 mod system;

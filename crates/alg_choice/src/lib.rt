@@ -7,8 +7,6 @@ mod algs;
 mod caps;
 mod choices;
 mod priority;
-#[cfg(test)]
-mod tests;
 
 pub use algs::{Algs, Eea};
 pub use caps::Caps;

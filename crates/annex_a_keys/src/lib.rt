@@ -9,8 +9,6 @@ mod kasme;
 mod kenb;
 mod nh;
 mod star;
-#[cfg(test)]
-mod tests;
 
 pub use alg_key::AlgKey;
 pub use alg_type::AlgType;

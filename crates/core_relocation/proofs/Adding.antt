@@ -34,7 +34,7 @@ use Rattle.lte_machine.specs.CoreRows.{CoreNasRow, NasRefused, PlainReject, SmcC
 use Rattle.lte_machine.specs.CoreRows as core_rows
 use Rattle.lte_machine.specs.CoreChoice.{core_header, core_nas_front, core_nas_row, core_record_row, core_act_row}
 use Rattle.lte_machine.specs.CoreStep.{plain_core, core_opens, core_pdu_in, core_received, core_step}
-use Rattle.lte_machine.specs.World.{Machine, World, AtPhone, AtCore, AtStation, with_one, phone_after, core_after, station_after, by_world, phone_turn, core_turn, station_of_id, turn_of, station_turn, authenticated, auth_unless, known_root, next_root, content_in, arrives, chosen, delivered, class_of, is_sent, injected, happens}
+use Rattle.lte_machine.specs.World.{Machine, World, AtPhone, AtCore, AtStation, with_one, phone_after, core_after, station_after, by_world, phone_turn, core_turn, station_of_id, turn_of, station_turn, authenticated, auth_unless, known_root, next_root, content_in, arrives, record_at, delivery, class_of, is_sent, injected, happens}
 use Rattle.lte_machine.specs.Machines.{content_of}
 use Rattle.lte_machine.specs.Run.{stations_of, first_world}
 use Rattle.lte_properties.specs.ChainBelow.{AllOf}
@@ -222,7 +222,7 @@ module _ (sites : List Site) (same : Term → Term → Bool) (octets : Outgoing 
   arrives_adds w (Address.StationX2 station) pdu came c h = station_record_adds w OnX2 station came c h
 
   -- a record of those that were sent
-  delivered_adds : (w : TheWorld) (o : Option (Outgoing Term ℕ)) → OfSome (FlyOk (GivenTo w.sent) sites w.tried) o → Holders sites w → Adds w (delivered m w o).0
+  delivered_adds : (w : TheWorld) (o : Option (Outgoing Term ℕ)) → OfSome (FlyOk (GivenTo w.sent) sites w.tried) o → Holders sites w → Adds w (delivery m w o).0
   delivered_adds w None f h = by_world_adds w NoRecord
   delivered_adds w (Some x) f h = arrives_adds w (address_of x) (octets x) (Some x) (refl, f) h
 
@@ -236,5 +236,5 @@ module _ (sites : List Site) (same : Term → Term → Bool) (octets : Outgoing 
   happens_adds w (Event.Phone act) h = phone_turn_adds w (PhoneActs act) None tt h
   happens_adds w (Event.Station id act) h = station_acts_adds w id act None h
   happens_adds w (Event.Core act) h = core_acts_adds w act None h
-  happens_adds w (Event.Deliver i) h = delivered_adds w (chosen i w.sent) (all_chosen (FlyOk (GivenTo w.sent) sites w.tried) i w.sent h.flying) h
+  happens_adds w (Event.Deliver i) h = delivered_adds w (record_at i w.sent) (all_chosen (FlyOk (GivenTo w.sent) sites w.tried) i w.sent h.flying) h
   happens_adds w (Event.Inject to pdu) h = injected_adds w to pdu (position_from (is_sent m (class_of to) pdu) 0 w.sent) h

@@ -12,7 +12,7 @@ use Rattle.lte_machine.specs.BothRuns.{octet_run}
 use Rattle.lte_machine.specs.Machines.{Kept}
 use Rattle.lte_machine.specs.Run.{RunState, Running, Stopped}
 use Rattle.lte_machine.specs.StationState.{Station}
-use Rattle.lte_machine.specs.World.{World, chosen, station_of_id}
+use Rattle.lte_machine.specs.World.{World, record_at, station_of_id}
 use Rattle.lte_world.specs.Replies.{RepliedLast, delivered_replies, input_at, replies_in, replies_of, station_replies}
 use Rattle.lte_world.specs.Whole.{Whole, run_of}
 use Rattle.run_report.specs.Events.{GoesOn}
@@ -41,7 +41,7 @@ delivered w (Some x) = at_address w x.to x.octets
 -- so the context moves as it would by the record that was delivered
 moves : (c : Cores) (core : ℕ) (w : World (List ℕ) ℕ Kept) (e : Event) → moved c core e (fields_told (replies_of w e)) ≡ moved c core e (fields_in w e)
 unfolding replies_of
-moves c core w (Event.Deliver i) = ap (moved c core (Event.Deliver i)) (delivered w (chosen i w.sent))
+moves c core w (Event.Deliver i) = ap (moved c core (Event.Deliver i)) (delivered w (record_at i w.sent))
 moves c core w (Event.Core act) = refl
 moves c core w (Event.Auth ksi kasme caps) = refl
 moves c core w (Event.Phone act) = refl

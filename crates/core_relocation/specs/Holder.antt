@@ -20,7 +20,7 @@ use Rattle.s1x2_rec.specs.declared.records.CoreRecord.{CoreRecord}
 use Rattle.s1x2_rec.specs.Fields.{Fields, HandoverRequired, HandoverNotify, HandoverCancel}
 use Rattle.s1x2_rec.specs.Reading.{read_core}
 use Rattle.lte_machine.specs.Machines.{Kept}
-use Rattle.lte_machine.specs.World.{World, chosen}
+use Rattle.lte_machine.specs.World.{World, record_at}
 use Rattle.core_relocation.specs.declared.cores.Cores.{Cores}
 use Rattle.core_relocation.specs.declared.cores.Held.{Held}
 use Rattle.core_relocation.specs.declared.cores.Relocation.{Relocation}
@@ -52,7 +52,7 @@ station_sending (Some sender) = on_s1 sender.who sender.class
 
 -- the station of which a record on S1 is delivered to a core, if the event does that
 abbrev pub station_in : List Sender → Event → Option ℕ
-station_in senders (Event.Deliver i) = station_sending (chosen i senders)
+station_in senders (Event.Deliver i) = station_sending (record_at i senders)
 station_in senders other = None
 
 -- WHICH CORE
@@ -176,7 +176,7 @@ fields_at (Some x) = fields_to x.to x.octets
 
 -- the record on S1 that an event delivers to a core, as it reads
 abbrev pub fields_in : World (List ℕ) ℕ Kept → Event → Option Fields
-fields_in w (Event.Deliver i) = fields_at (chosen i w.sent)
+fields_in w (Event.Deliver i) = fields_at (record_at i w.sent)
 fields_in w other = None
 
 -- the same, as the inputs of an event say it

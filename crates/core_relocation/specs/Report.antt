@@ -8,7 +8,7 @@ use Rattle.lte_events.specs.Answer.{name_of}
 use Rattle.lte_world.specs.declared.faults.WorldFault.{WorldFault}
 use Rattle.lte_world.specs.declared.faults.WorldFault.TheVariants.{Memory, Chance}
 use Rattle.report_text.specs.Chance.{chance_text}
-use Rattle.report_text.specs.Kept.{kept_text}
+use Rattle.report_text.specs.Details.{details_text}
 use Rattle.report_text.specs.Line.{alarm_text, line_text, note_text, opened_text, sent_text}
 use Rattle.run_report.specs.Report.{Report, before, end_of}
 use Rattle.core_relocation.specs.declared.lines.TwoLine.{TwoLine}
@@ -19,7 +19,7 @@ use Rattle.core_relocation.specs.Run.{answers, first_state, heard_of, run_after}
 abbrev pub rest_text : Line → List ℕ
 rest_text line =
     name_of line.answer
-    ++ (kept_text line.answer ++ (sent_text line.sent ++ (opened_text line.opened ++ (note_text line.note
+    ++ (details_text line.answer ++ (sent_text line.sent ++ (opened_text line.opened ++ (note_text line.note
     ++ (alarm_text line.alarm ++ codes "\n")))))
 
 unfoldable pub core_text : Line → ℕ → List ℕ

@@ -9,8 +9,6 @@ mod log;
 mod reports;
 mod senders;
 mod taken;
-#[cfg(test)]
-mod tests;
 mod texts;
 mod two;
 

@@ -8,7 +8,8 @@ use lte_events::{Line, Who};
 pub enum TwoLine {
     /// The line of the event, and the core that acted, if a core alone did.
     By(Line, Option<u8>),
-    /// The event asks this core, which neither holds the context nor is to get it.
+    /// The event asks this core, which does not hold the context; where a record came to it, it is not to get it
+    /// either.
     NotHere(u8),
 }
 

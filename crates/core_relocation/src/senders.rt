@@ -1,6 +1,6 @@
 // Who sent each record.
 ghost use Rattle.std.specs.Prelude.{◌≡◌, ◌<◌, ◌^◌, List, length};
-ghost use Rattle.lte_machine.specs.World.{chosen};
+ghost use Rattle.lte_machine.specs.World.{record_at};
 ghost use Rattle.core_relocation.specs.Holder.{on_s1, station_in, station_sending, at_place};
 ghost use Rattle.core_relocation.specs.declared.senders.Sender.{Sender};
 
@@ -31,7 +31,7 @@ pub(crate) fn station_in(senders: &[Sender], event: &Event) -> Option<u8>
     ensures { result ≡ station_in senders.now event.now }
 {
     match event {
-        Event::Deliver(i) => match chosen(senders, i) {
+        Event::Deliver(i) => match record_at(senders, i) {
             Some(sender) => sender.station(),
             None => None,
         },
@@ -40,9 +40,9 @@ pub(crate) fn station_in(senders: &[Sender], event: &Event) -> Option<u8>
 }
 
 // The sender of a record by its number, or from the newest back where that is negative.
-fn chosen(senders: &[Sender], i: &i64) -> Option<Sender>
+fn record_at(senders: &[Sender], i: &i64) -> Option<Sender>
     requires { length senders.now < 2 ^ 32 }
-    ensures { result ≡ chosen i.now senders.now }
+    ensures { result ≡ record_at i.now senders.now }
 {
     let place = place_of(i, senders.len() as u32)?;
     senders.get(place as usize).copied()
@@ -50,7 +50,7 @@ fn chosen(senders: &[Sender], i: &i64) -> Option<Sender>
 
 // The place of a number among so many, from the newest back where it is negative.
 fn place_of(i: &i64, len: u32) -> Option<u32>
-    ensures { (senders : List Sender) → length senders ≡ len → at_place senders result ≡ chosen i.now senders }
+    ensures { (senders : List Sender) → length senders ≡ len → at_place senders result ≡ record_at i.now senders }
 {
     if *i >= 0 {
         return u32::try_from(*i).ok();

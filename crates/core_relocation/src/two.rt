@@ -37,7 +37,8 @@ impl Model for Two {
 }
 
 impl Two {
-    /// Two cores in which nothing has happened. Core 0 holds the context.
+    /// Two cores in which nothing has happened. Core 0 holds the context. The core of each station is 0 or 1. `Memory`
+    /// where memory runs out.
     pub fn new(alloc: Global, setup: &Setup, core_of: &[u8; 8]) -> Result<Two, WorldFault>
         requires begins { CanBegin setup.now }
         requires two { All (λ core. core ≤ 1) core_of.now }

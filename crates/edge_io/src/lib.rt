@@ -52,6 +52,3 @@ pub use source::Source;
 pub use writer::Writer;
 pub use writer_sink::WriterSink;
 pub use writing::write_all;
-
-#[cfg(test)]
-mod tests;

@@ -45,7 +45,8 @@ pub trait Peers {
 
     ghost told: { Self → Option PeersTold };
 
-    /// Starts a peer in this role and answers its number.
+    /// Starts a peer in this role and answers its number. `Failed` where it did not start, `Memory` where
+    /// memory ran out.
     fn start(&mut self, role: Role) -> Result<u8, StartFault>
         ensures place { IfOk result (λ place.
             IfSome (told self.old) (λ t. place ≡ length t.roles)) }

@@ -7,7 +7,8 @@ use crate::source::Source;
 
 /// One connection, which is read and written once it is open.
 pub trait Port: Source + Sink {
-    /// Waits for the one connection that is served. The port is ready from then on.
+    /// Waits for the one connection that is served. The port is ready from then on. `Failed` where it did
+    /// not open, and counted a fault.
     fn open(&mut self) -> Result<(), Failed>
         requires { (Self.told self.old).ready ≡ false }
         ensures opened { OnOk result (IsTrue (Self.told self.new).ready) }

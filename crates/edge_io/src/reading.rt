@@ -22,7 +22,7 @@ pub enum ReadAll {
 }
 
 /// Reads the source to its end, and answers all octets that were left: at most `limit`, else
-/// `TooLong`.
+/// `TooLong`. `ReadFault` where a read failed, `Memory` where memory ran out.
 pub fn read_all<S: Source>(alloc: Global, src: &mut S, limit: usize) -> Result<Vec<u8>, ReadAll>
     requires { IsTrue (S.told src.old).ready }
     ensures ready { IsTrue (S.told src.new).ready }
@@ -68,7 +68,8 @@ pub fn read_all<S: Source>(alloc: Global, src: &mut S, limit: usize) -> Result<V
     }
 }
 
-/// Reads until `buf` is full or the input ends, and answers how many octets it read.
+/// Reads until `buf` is full or the input ends, and answers how many octets it read. `Failed` where a
+/// read failed.
 pub fn read_fill<S: Source>(src: &mut S, buf: &mut [u8]) -> Result<usize, Failed>
     requires { IsTrue (S.told src.old).ready }
     ensures ready { IsTrue (S.told src.new).ready }

@@ -8,7 +8,7 @@ use crate::failed::Failed;
 /// What octets are written to.
 pub trait Sink: Edge {
     /// Takes octets from the front of `piece` and answers how many. Of a piece that is not empty
-    /// it takes at least one, or counts a fault.
+    /// it takes at least one, or answers `Failed` and counts a fault.
     fn write(&mut self, piece: &[u8]) -> Result<usize, Failed>
         requires { IsTrue (Self.told self.old).ready }
         ensures ready { IsTrue (Self.told self.new).ready }

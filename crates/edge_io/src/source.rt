@@ -9,7 +9,7 @@ use crate::failed::Failed;
 /// What octets are read from.
 pub trait Source: Edge {
     /// Reads the next octets into the front of `buf` and answers how many. At a buffer that is not
-    /// empty, 0 is the end of the input.
+    /// empty, 0 is the end of the input. `Failed` where it failed, and counted a fault.
     fn read(&mut self, buf: &mut [u8]) -> Result<usize, Failed>
         requires { IsTrue (Self.told self.old).ready }
         ensures ready { IsTrue (Self.told self.new).ready }

@@ -6,7 +6,7 @@ use crate::failed::Failed;
 use crate::sink::Sink;
 
 /// Writes all these octets. It returns, since each turn writes at least one octet or ends with a
-/// fault.
+/// fault. `Failed` where a write failed; a prefix is then written.
 pub fn write_all<K: Sink>(sink: &mut K, octets: &[u8]) -> Result<(), Failed>
     requires { IsTrue (K.told sink.old).ready }
     ensures ready { IsTrue (K.told sink.new).ready }

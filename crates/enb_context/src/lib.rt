@@ -18,8 +18,6 @@ mod sends;
 mod signals;
 mod station;
 mod step;
-#[cfg(test)]
-mod tests;
 mod x2_records;
 
 pub use station::Station;

@@ -69,8 +69,8 @@ impl Station {
 
     /// One step: what comes, and the reply. A user packet goes on a DRB, and an RRC text on an SRB.
     ///
-    /// The step is that of the written machine, each answer with its cause in the tables of its rows, and it takes no
-    /// memory. A refused step leaves the station as it was.
+    /// The step is that of the written machine, and it takes no memory. Each answer stands with its cause, in the order
+    /// in which they are tried, in `StationChoice` of `lte_machine`. A refused step leaves the station as it was.
     pub fn step(&mut self, input: &StationIn) -> ActorOut
         requires { IsInput input.now }
         ensures step { (self.new, result) ≡ station_call self.old input.now }

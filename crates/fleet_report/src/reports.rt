@@ -22,9 +22,10 @@ use report_text::{TextMemory, end, row_line};
 use run_report::Unwritten;
 use std::alloc::Global;
 
-/// Lets these events happen to a fleet of so many phones, and writes the report of them, each of its lines by one
+/// Lets these events happen to a fleet of so many phones, 1 to 256, and writes the report of them, each of its lines by one
 /// `write_all`: a line for each event, and behind the last the end of each phone's own report. A coincidence ends
-/// the report, and the answer is whether there was one.
+/// the report, and the answer is whether there was one. `Memory` where memory runs out, and `WriteFault` where the
+/// output fails; a prefix is then written.
 pub fn write_fleet<W: Sink>(
     alloc: Global,
     setup: &Setup,

@@ -40,7 +40,7 @@ impl Model for Fleet {
 }
 
 impl Fleet {
-    /// A fleet of so many phones, 1 to 256, in which nothing has happened.
+    /// A fleet of so many phones, 1 to 256, in which nothing has happened. `Memory` where memory runs out.
     pub fn new(alloc: Global, setup: &Setup, phones: u16) -> Result<Fleet, FleetFault>
         requires begins { CanBegin setup.now }
         requires some { 1 ≤ phones }

@@ -9,8 +9,6 @@ ghost use Rattle.hmac_kdf.specs.Hmac.{key_block, padded_with, hmac as hmac_of};
 ghost use Rattle.hmac_kdf.specs.Kdf.{kdf_string, IsKdfInput, kdf as kdf_of};
 
 mod input;
-#[cfg(test)]
-mod tests;
 
 pub use input::KdfInput;
 use sha2::{Digest, Sha256};

@@ -6,8 +6,6 @@
 mod origins;
 mod prep;
 mod preps;
-#[cfg(test)]
-mod tests;
 
 pub use origins::By;
 pub use prep::Prep;

@@ -25,6 +25,9 @@ use std::alloc::Global;
 /// and sets them up. Then each event happens to the local system, its line is written, and each peer is told
 /// what its actor is told; its reply is compared with the local actor's. Behind the last event the end of the
 /// report is written. All peers that were started are stopped, whatever it answers.
+///
+/// `Memory` where memory ran out, `PeerFault` where a call on a peer failed, `Differs` at the first reply that is
+/// not the local one, `Chance` at a coincidence, `WriteFault` where the output failed.
 pub fn drive<P: Peers, W: Sink>(
     alloc: Global,
     setup: &Setup,

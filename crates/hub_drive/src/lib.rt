@@ -7,6 +7,3 @@ mod happening;
 
 pub use driving::drive;
 pub use peer_calls::DriveFault;
-
-#[cfg(test)]
-mod tests;

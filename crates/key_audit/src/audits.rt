@@ -81,7 +81,8 @@ impl From<TextMemory> for AuditMemory {
     }
 }
 
-/// Which station can derive the key of which row, from the rows that it holds: the exact audit.
+/// Which station can derive the key of which row, from the rows that it holds: the exact audit. The one error is
+/// want of memory.
 pub fn audit_of(alloc: Global, ladder: &Ladder) -> Result<Audit, AuditMemory>
     ensures exact { IfOk result (λ audit. Exact ladder.now.rows audit.rows.items) }
     ensures ladder { IsLadder ladder.now.rows }

@@ -5,8 +5,6 @@ mod audits;
 mod checks;
 mod laws;
 mod paths;
-#[cfg(test)]
-mod tests;
 mod texts;
 
 pub use audits::{Audit, AuditMemory, AuditRow, audit_of};

@@ -13,7 +13,7 @@ use report_text::form;
 use std::alloc::{AllocError, Global};
 
 /// The text of an exact audit, in ASCII: how many rows the ladder has, who can derive each and on which path, and
-/// that it was checked.
+/// that it was checked. The one error is want of memory.
 pub fn audit_text(alloc: Global, ladder: &Ladder, audit: &Audit) -> Result<Vec<u8>, AuditMemory>
     requires { Exact ladder.now.rows audit.now.rows.items }
     ensures { IfOk result (λ text. text.items ≡ audit_text ladder.now.rows) }
@@ -27,7 +27,7 @@ pub fn audit_text(alloc: Global, ladder: &Ladder, audit: &Audit) -> Result<Vec<u
     Ok(text)
 }
 
-/// The first line of that text.
+/// The first line of that text. The one error is want of memory.
 pub fn first_line(alloc: Global, ladder: &Ladder) -> Result<Vec<u8>, AuditMemory>
     ensures { IfOk result (λ text. text.items ≡ first_line (length ladder.now.rows)) }
 {
@@ -49,7 +49,7 @@ pub fn last_line() -> &'static [u8]
     b"checked\n"
 }
 
-/// The line of a row in it.
+/// The line of a row in it. The one error is want of memory.
 pub fn row_line(
     alloc: Global,
     ladder: &Ladder,

@@ -11,8 +11,6 @@ mod derivable;
 mod handovers;
 mod numbers;
 mod readings;
-#[cfg(test)]
-mod tests;
 
 pub use chains::{chain_numbers, ncc_is_number_modulo_eight};
 pub use derivable::{

@@ -5,8 +5,6 @@ mod index;
 mod ladder;
 mod proof;
 mod row;
-#[cfg(test)]
-mod tests;
 
 pub use ladder::{Ladder, LadderFault};
 pub use proof::Proof;

@@ -39,7 +39,7 @@ pub enum Answer {
     NotConnected,
     /// The message is for another station or air address.
     NotAddressed,
-    /// The connection was not made by a handover.
+    /// The connection was not made by a handover or a key change.
     NothingToResend,
     /// The phone has a connection already.
     AlreadyConnected,
@@ -55,11 +55,11 @@ pub enum Answer {
     UnknownCell,
     /// The context did not come by an X2 handover.
     NoPathSwitch,
-    /// A handover attempt is present: its number.
+    /// An attempt at a handover or a key change is present: its number.
     AttemptOpen(u32),
     /// There is no such handover attempt.
     NoAttempt,
-    /// The handover command was sent already.
+    /// The command of the handover or key change was sent already.
     CommandSent,
     /// The number is not above the greatest seen: seen, got. Of an answer to an attempt that was answered
     /// already: the attempt's number, twice.
@@ -70,7 +70,8 @@ pub enum Answer {
     NotReady,
     /// Too few numbers are left.
     NumberSpent,
-    /// No NAS message asks for a connection.
+    /// No NAS message asks for a connection. At a phone also: a key change, where the KASME in use is that of
+    /// the connection.
     NoTrigger,
     /// No NAS security mode command procedure is open.
     NoSmc,

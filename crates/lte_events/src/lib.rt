@@ -13,8 +13,6 @@ mod lines;
 mod replies;
 mod setups;
 mod sites;
-#[cfg(test)]
-mod tests;
 
 pub use acts::{CoreAct, HoKind, PhoneAct, StationAct};
 pub use addresses::Address;

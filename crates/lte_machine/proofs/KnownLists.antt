@@ -13,7 +13,7 @@ use Rattle.lte_machine.specs.Wire.{Ciphering, Outgoing, SealedNas, PlainNas, Sea
 use Rattle.lte_machine.specs.PhoneState.{Partial, NasContext, Radio, Idle, Connecting, Connected, Phone}
 use Rattle.lte_machine.specs.StationState.{Station, Context, Attempt, OverX2, OverS1, Within, X2State, X2Open, X2Ready, X2Commanded, Renewing}
 use Rattle.lte_machine.specs.CoreState.{Core, CorePartial, CoreContext, CoreLink}
-use Rattle.lte_machine.specs.World.{with_one, put_if, put_station, newest_if, chosen, uses_in}
+use Rattle.lte_machine.specs.World.{with_one, put_if, put_station, newest_if, record_at, uses_in}
 use Rattle.lte_machine.specs.Ranges.{AllOf}
 use Rattle.lte_machine.specs.Known.{AsKnown, NasKnown, PairKnown, PartialKnown, NasContextKnown, RadioKnown, PhoneKnown, X2Known, AttemptKnown, ContextKnown, PrepKnown, StationKnown, CorePartialKnown, ProcedureKnown, CoreContextKnown, LinkKnown, CoreKnown, CipheringKnown, SentKnown}
 use Rattle.lte_machine.proofs.Rows.{From, from_more}
@@ -60,7 +60,7 @@ module _ {A : Type 0} (P : A → Type 0) where
   newest_of false i xs h = tt
 
   -- a record that is delivered is one of those sent
-  pub all_chosen : (i : ℤ) (xs : List A) → AllOf P xs → OfSome P (chosen i xs)
+  pub all_chosen : (i : ℤ) (xs : List A) → AllOf P xs → OfSome P (record_at i xs)
   all_chosen (pos i) xs h = all_get xs i h
   all_chosen (negsuc i) xs h = newest_of (nat_lt i (length xs)) (length xs - 1 - i) xs h
 

@@ -29,7 +29,7 @@ use Rattle.lte_machine.specs.CoreState.{Core, CoreInput, CoreActs, CoreNasPdu, C
 use Rattle.lte_machine.specs.CoreRows.{OfAuth as OfCoreAuth}
 use Rattle.lte_machine.specs.CoreChoice.{core_row}
 use Rattle.lte_machine.specs.CoreStep.{plain_core, core_front_of, core_root, core_received, core_opens, core_pdu_in, core_step}
-use Rattle.lte_machine.specs.World.{Holder, AtPhone, AtCore, AtStation, Machine, World, holds, uses_in, phone_after, core_after, station_after, by_world, phone_turn, core_turn, station_of_id, turn_of, station_turn, authenticated, auth_unless, known_root, next_root, content_in, arrives, chosen, delivered, class_of, is_sent, injected, happens}
+use Rattle.lte_machine.specs.World.{Holder, AtPhone, AtCore, AtStation, Machine, World, holds, uses_in, phone_after, core_after, station_after, by_world, phone_turn, core_turn, station_of_id, turn_of, station_turn, authenticated, auth_unless, known_root, next_root, content_in, arrives, record_at, delivery, class_of, is_sent, injected, happens}
 use Rattle.lte_machine.specs.Machines.{content_of, machine_by}
 use Rattle.lte_machine.specs.Run.{stations_of, first_world}
 use Rattle.lte_machine.specs.Distinct.{keys_of, Member}
@@ -260,7 +260,7 @@ module _ (root : ℕ → List ℕ → Term) (octets : Outgoing Term ℕ → List
   arrives_grounds w (Address.StationS1 station) pdu came c g = station_turn_grounds w station (StationRecord OnS1 (content_in m came)) came (read_known w came c) g
   arrives_grounds w (Address.StationX2 station) pdu came c g = station_turn_grounds w station (StationRecord OnX2 (content_in m came)) came (read_known w came c) g
 
-  delivered_grounds : (w : TheWorld) (o : Option (Outgoing Term ℕ)) → CameKnown w o → Grounds w → Grounds (delivered m w o).0
+  delivered_grounds : (w : TheWorld) (o : Option (Outgoing Term ℕ)) → CameKnown w o → Grounds w → Grounds (delivery m w o).0
   delivered_grounds w None c g = by_world_grounds w NoRecord g
   delivered_grounds w (Some x) c g = arrives_grounds w (address_of x) (octets x) (Some x) c g
 
@@ -275,7 +275,7 @@ module _ (root : ℕ → List ℕ → Term) (octets : Outgoing Term ℕ → List
   happens_grounds w (Event.Phone act) g = phone_turn_grounds w (PhoneActs act) None tt g
   happens_grounds w (Event.Station id act) g = station_turn_grounds w id (StationActs act) None tt g
   happens_grounds w (Event.Core act) g = core_turn_grounds w (CoreActs act) None tt tt g
-  happens_grounds w (Event.Deliver i) g = delivered_grounds w (chosen i w.sent) (all_chosen (SentKnown (IsReported w)) i w.sent g.keys.sent) g
+  happens_grounds w (Event.Deliver i) g = delivered_grounds w (record_at i w.sent) (all_chosen (SentKnown (IsReported w)) i w.sent g.keys.sent) g
   happens_grounds w (Event.Inject to pdu) g = injected_grounds w to pdu (position_from (is_sent m (class_of to) pdu) 0 w.sent) g
 
   -- every run keeps it

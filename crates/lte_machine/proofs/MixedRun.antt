@@ -32,7 +32,7 @@ use Rattle.lte_machine.specs.StationState.{Station, StationInput, StationActs, A
 use Rattle.lte_machine.specs.StationStep.{station_front_of, station_opens, station_pdu_in, station_step}
 use Rattle.lte_machine.specs.CoreState.{CoreInput, CoreActs, CoreNasPdu, CoreRecord}
 use Rattle.lte_machine.specs.CoreStep.{core_front_of, core_opens, core_pdu_in, core_step}
-use Rattle.lte_machine.specs.World.{Machine, World, phone_after, core_after, station_after, phone_turn, core_turn, station_of_id, turn_of, station_turn, auth_unless, known_root, next_root, content_in, arrives, chosen, delivered, class_of, is_sent, injected, happens}
+use Rattle.lte_machine.specs.World.{Machine, World, phone_after, core_after, station_after, phone_turn, core_turn, station_of_id, turn_of, station_turn, auth_unless, known_root, next_root, content_in, arrives, record_at, delivery, class_of, is_sent, injected, happens}
 use Rattle.lte_machine.specs.Machines.{sender_of, machine_over}
 use Rattle.lte_machine.specs.Run.{Running, replay, first_world}
 use Rattle.lte_machine.specs.Distinct.{keys_of, Member, OneValueOneTerm}
@@ -346,7 +346,7 @@ module _ (c : Ciphers Term) (between : Fields → Option (NumberedKey Term ℕ) 
     auth_same ksi key caps None = refl
     auth_same ksi key caps (Some row) = refl
 
-    delivered_same : (o : Option (Outgoing Term ℕ)) → CameKnown o → Calm (delivered m w o).0 → (delivered m w o).0 ≡ (delivered (mixed c between) w o).0
+    delivered_same : (o : Option (Outgoing Term ℕ)) → CameKnown o → Calm (delivery m w o).0 → (delivery m w o).0 ≡ (delivery (mixed c between) w o).0
     delivered_same None k later = refl
     delivered_same (Some x) k later = arrives_same (address_of x) (octets_of c between x) (Some x) k later
 
@@ -361,7 +361,7 @@ module _ (c : Ciphers Term) (between : Fields → Option (NumberedKey Term ℕ) 
     happens_same (Event.Phone act) later = phone_turn_same (PhoneActs act) None tt later
     happens_same (Event.Station id act) later = station_turn_same id (StationActs act) None tt
     happens_same (Event.Core act) later = core_turn_same (CoreActs act) None tt
-    happens_same (Event.Deliver i) later = delivered_same (chosen i w.sent) (all_chosen (SentKnown (IsReported w)) i w.sent g.keys.sent) later
+    happens_same (Event.Deliver i) later = delivered_same (record_at i w.sent) (all_chosen (SentKnown (IsReported w)) i w.sent g.keys.sent) later
     happens_same (Event.Inject to pdu) later = injected_same to pdu (position_from (is_sent m (class_of to) pdu) 0 w.sent) later
 
   -- EVERY RUN

@@ -17,7 +17,7 @@ use Rattle.lte_machine.specs.StationState.{Station, StationInput, StationActs, A
 use Rattle.lte_machine.specs.StationStep.{station_step, station_opens, station_pdu_in}
 use Rattle.lte_machine.specs.CoreState.{CoreInput, CoreActs, CoreNasPdu}
 use Rattle.lte_machine.specs.CoreStep.{core_step, core_opens, core_pdu_in}
-use Rattle.lte_machine.specs.World.{Machine, World, phone_after, core_after, station_after, phone_turn, core_turn, turn_of, station_of_id, content_in, arrives, chosen, delivered, injected, is_sent, class_of, happens}
+use Rattle.lte_machine.specs.World.{Machine, World, phone_after, core_after, station_after, phone_turn, core_turn, turn_of, station_of_id, content_in, arrives, record_at, delivery, injected, is_sent, class_of, happens}
 use Rattle.lte_machine.specs.Step.{attempted, arrival_attempts, attempts_at, delivery_attempts, injection_attempts, opening_chance, by_chance, next}
 use Rattle.lte_machine.specs.Run.{RunState, Running, Stopped, turn, replay, event_report, report, after, reported}
 use Rattle.lte_machine.specs.Machines.{machine_over, opening_by_octets}
@@ -77,7 +77,7 @@ module _ (same : Term → Term → Bool) (c : Ciphers Term) (good : AreCiphers c
   arrives_same w (Address.StationX2 station) pdu o came calm =
       record_same w station (StationRecord OnX2 (content_in m o)) o (station_of_id station w.stations) (λ t p. refl)
 
-  delivered_same : (w : W) (o : Option (Outgoing Term ℕ)) → opening_chance (open_octets c) m (delivery_attempts m w o) ≡ None → delivered m w o ≡ delivered q w o
+  delivered_same : (w : W) (o : Option (Outgoing Term ℕ)) → opening_chance (open_octets c) m (delivery_attempts m w o) ≡ None → delivery m w o ≡ delivery q w o
   delivered_same w None calm = refl
   delivered_same w (Some x) calm = arrives_same w (m.address x) (m.octets x) (Some x) refl calm
 
@@ -90,7 +90,7 @@ module _ (same : Term → Term → Bool) (c : Ciphers Term) (good : AreCiphers c
   happens_same w (Event.Phone act) calm = phone_same w (PhoneActs act) None tt calm
   happens_same w (Event.Station id act) calm = station_same w id (StationActs act) None (station_of_id id w.stations) tt calm
   happens_same w (Event.Core act) calm = core_same w (CoreActs act) None tt calm
-  happens_same w (Event.Deliver i) calm = delivered_same w (chosen i w.sent) calm
+  happens_same w (Event.Deliver i) calm = delivered_same w (record_at i w.sent) calm
   happens_same w (Event.Inject to octets) calm = injected_same w to octets (position_from (is_sent m (class_of to) octets) 0 w.sent) calm
 
   attempted_same : (w : W) (e : Event) → attempted m w e ≡ attempted q w e

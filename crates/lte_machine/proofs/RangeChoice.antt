@@ -28,7 +28,7 @@ use Rattle.lte_machine.specs.Ranges.{AllOf, IsStationAct}
 use Rattle.lte_machine.specs.Reply.{Origin}
 use Rattle.lte_machine.specs.StationState.{OverX2, OverS1, Within, X2State, X2Open, X2Ready, X2Commanded, S1State, S1Open, S1Ready, S1Commanded, Interface, OnS1, OnX2, StationInput, StationActs, AirPdu, StationRecord, Renewing}
 use Rattle.lte_machine.specs.StationRows.{Wanted, RecordRow, ContextGiven, PairTaken, PreparedByS1, PreparedByX2, AckedByS1, AckedByX2, AirRow, CompletedByX2, CompletedWithin, ActRow, StartedByX2, StartedByS1, StartedWithin, CancelledByX2, CancelledByS1, PathSwitchAsked, StationRow, OfRecord, OfAir, OfAct, KeyRenewed}
-use Rattle.lte_machine.specs.StationChoice.{PlainStation, PlainContext, PlainAttempt, runs_out, is_own, is_full, is_misplaced, greatest, initial_chosen, initial_row, release_row, answer_row_by, answer_row, wanted_chosen, wanted_row, acked_open, s1_acked_row, s1_ack_row, x2_acked_row, x2_ack_row, cancel_row, x2_released_row, x2_release_row, s1_row, x2_row, record_row, AirFront, AirSettled, OnStarting, OnSignalling, OnUser, OnPrepared, counted, starting_front, active_front, context_front, prepared_front, air_front_by, air_front, starting_row, rrc_row, completed_row, prepared_row, air_row, active_row, unless_spent, begun_row, alone_row, target_row, start_row, x2_command_row, s1_command_row, attempt_command_row, command_row, x2_cancel_row, s1_cancel_row, within_cancel_row, attempt_cancel_row, give_up_row, came_row, ask_row, packet_row, send_rrc_row, skip_row, act_row, station_front, station_row, renewed_row, renewed_alone, modification_row}
+use Rattle.lte_machine.specs.StationChoice.{PlainStation, PlainContext, PlainAttempt, runs_out, is_own, is_full, is_misplaced, greatest, initial_choice, initial_row, release_row, answer_row_by, answer_row, wanted_choice, wanted_row, acked_open, s1_acked_row, s1_ack_row, x2_acked_row, x2_ack_row, cancel_row, x2_released_row, x2_release_row, s1_row, x2_row, record_row, AirFront, AirSettled, OnStarting, OnSignalling, OnUser, OnPrepared, counted, starting_front, active_front, context_front, prepared_front, air_front_by, air_front, starting_row, rrc_row, completed_row, prepared_row, air_row, active_row, unless_spent, begun_row, alone_row, target_row, start_row, x2_command_row, s1_command_row, attempt_command_row, command_row, x2_cancel_row, s1_cancel_row, within_cancel_row, attempt_cancel_row, give_up_row, came_row, ask_row, packet_row, send_rrc_row, skip_row, act_row, station_front, station_row, renewed_row, renewed_alone, modification_row}
 use Rattle.lte_machine.proofs.RangeHolds.{OriginRanged, ByRanged, X2Ranged, S1Ranged, AttemptRanged, ContextRanged, PrepRanged, PrepIs, StationRanged, ReadRanged, StationInputRanged}
 
 -- what a row tells is in range
@@ -77,7 +77,7 @@ drawn_first n h e = (h, grind (arith, nat_tests))
 -- BY A RECORD
 
 initial_chosen_ranged : (s : PlainStation) (conn : ℕ) (cell : Place) (caps : Caps) (chosen : Result Algs Unmatched) → IsNumber conn × IsCell cell × IsCaps caps →
-    RecordRowRanged (initial_chosen s conn cell caps chosen)
+    RecordRowRanged (initial_choice s conn cell caps chosen)
 initial_chosen_ranged s conn cell caps (Err none) h = tt
 initial_chosen_ranged s conn cell caps (Ok algs) h = by_test RecordRowRanged (runs_out 1 s.next) _ _ (λ e. tt) (λ e. h)
 
@@ -102,7 +102,7 @@ answer_ranged number (Some c) h = answer_ranged_by number c.outstanding c.conn c
 module _ (s : PlainStation) (next : 1 ≤ s.next) where
   wanted_chosen_ranged : (conn : ℕ) (from : Origin) (cell : Place) (caps : Caps) (row : Wanted → RecordRow) → ((w : Wanted) → WantedRanged w → RecordRowRanged (row w)) →
       IsNumber conn × (from.source ≤ 7) × IsNumber from.attempt × IsCell cell × IsCaps caps →
-      (chosen : Result Algs Unmatched) → RecordRowRanged (wanted_chosen s conn from cell caps row chosen)
+      (chosen : Result Algs Unmatched) → RecordRowRanged (wanted_choice s conn from cell caps row chosen)
   wanted_chosen_ranged conn from cell caps row f h (Err none) = tt
   wanted_chosen_ranged conn from cell caps row f h (Ok algs) =
       by_test RecordRowRanged (runs_out 1 s.next) _ _ (λ e. tt) (λ e. f _ (h.0, h.1, h.2, h.3, h.4, drawn s.next next e))

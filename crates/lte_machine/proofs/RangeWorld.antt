@@ -29,7 +29,7 @@ use Rattle.lte_machine.specs.StationState.{Station, StationInput, StationActs, A
 use Rattle.lte_machine.specs.StationStep.{station_opens, station_pdu_in, station_step}
 use Rattle.lte_machine.specs.CoreState.{Core, CoreInput, CoreAuth, CoreActs, CoreNasPdu, CoreRecord}
 use Rattle.lte_machine.specs.CoreStep.{core_opens, core_pdu_in, core_step}
-use Rattle.lte_machine.specs.World.{Machine, World, with_one, phone_after, core_after, put_if, put_station, station_after, phone_turn, core_turn, station_of_id, turn_of, station_turn, auth_unless, known_root, next_root, content_in, arrives, newest_if, chosen, delivered, class_of, is_sent, injected, happens}
+use Rattle.lte_machine.specs.World.{Machine, World, with_one, phone_after, core_after, put_if, put_station, station_after, phone_turn, core_turn, station_of_id, turn_of, station_turn, auth_unless, known_root, next_root, content_in, arrives, newest_if, record_at, delivery, class_of, is_sent, injected, happens}
 use Rattle.lte_machine.specs.Machines.{machine_by, content_of}
 use Rattle.lte_machine.specs.Run.{stations_of, first_world}
 use Rattle.lte_machine.proofs.RangeKeys.{octets_value, length_value}
@@ -75,7 +75,7 @@ newest_ranged true i xs h = got_ranged xs i h
 newest_ranged false i xs h = tt
 
 -- a record that is delivered was sent
-pub chosen_ranged : (i : ℤ) (xs : List (Outgoing Term ℕ)) → AllOf RecordRanged xs → SentRanged (chosen i xs)
+pub chosen_ranged : (i : ℤ) (xs : List (Outgoing Term ℕ)) → AllOf RecordRanged xs → SentRanged (record_at i xs)
 chosen_ranged (pos i) xs h = got_ranged xs i h
 chosen_ranged (negsuc i) xs h = newest_ranged (nat_lt i (length xs)) (length xs - 1 - i) xs h
 
@@ -144,7 +144,7 @@ module _ (same : Term → Term → Bool) (root : ℕ → List ℕ → Term) (oct
   arrives_ranged w (Address.StationS1 station) pdu came c h = station_turn_ranged w station (StationRecord OnS1 (content_in m came)) came (came_ranged came c) h
   arrives_ranged w (Address.StationX2 station) pdu came c h = station_turn_ranged w station (StationRecord OnX2 (content_in m came)) came (came_ranged came c) h
 
-  delivered_ranged : (w : TheWorld) (o : Option (Outgoing Term ℕ)) → SentRanged o → Ranged w → Ranged (delivered m w o).0
+  delivered_ranged : (w : TheWorld) (o : Option (Outgoing Term ℕ)) → SentRanged o → Ranged w → Ranged (delivery m w o).0
   delivered_ranged w None c h = h
   delivered_ranged w (Some x) c h = arrives_ranged w (m.address x) (m.octets x) (Some x) c h
 
@@ -158,7 +158,7 @@ module _ (same : Term → Term → Bool) (root : ℕ → List ℕ → Term) (oct
   ranged_keeps w (Event.Phone act) is h = phone_turn_ranged w (PhoneActs act) None h
   ranged_keeps w (Event.Station id act) is h = station_turn_ranged w id (StationActs act) None is h
   ranged_keeps w (Event.Core act) is h = core_turn_ranged w (CoreActs act) None is h
-  ranged_keeps w (Event.Deliver i) is h = delivered_ranged w (chosen i w.sent) (chosen_ranged i w.sent h.2) h
+  ranged_keeps w (Event.Deliver i) is h = delivered_ranged w (record_at i w.sent) (chosen_ranged i w.sent h.2) h
   ranged_keeps w (Event.Inject to pdu) is h = injected_ranged w to pdu (position_from (is_sent m (class_of to) pdu) 0 w.sent) h
 
 -- THE FIRST WORLD

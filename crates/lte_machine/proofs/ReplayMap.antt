@@ -15,7 +15,7 @@ use Rattle.lte_machine.specs.StationState.{Station, StationInput, StationActs, A
 use Rattle.lte_machine.specs.StationStep.{station_pdu_in}
 use Rattle.lte_machine.specs.CoreState.{CoreInput, CoreActs, CoreNasPdu, CoreRecord, map_core_input}
 use Rattle.lte_machine.specs.CoreStep.{core_pdu_in}
-use Rattle.lte_machine.specs.World.{Machine, World, Line, station_of_id, content_in, chosen, is_sent, class_of, happens}
+use Rattle.lte_machine.specs.World.{Machine, World, Line, station_of_id, content_in, record_at, is_sent, class_of, happens}
 use Rattle.lte_machine.specs.Step.{Attempted, attempted, phone_attempts, core_attempts, attempts_at, station_attempts, arrival_attempts, delivery_attempts, injection_attempts, opening_chance, StepResult, Continues, Stops, by_ladder, by_chance, next}
 use Rattle.lte_machine.specs.Run.{RunState, Running, Stopped, after, turn, replay, reported, event_report, report}
 use Rattle.lte_machine.specs.Ranges.{AllOf, IsEvent}
@@ -132,7 +132,7 @@ module _ {K C S L D T : Type 0} (m : Machine K C S) (q : Machine L D T) (f : K �
   attempted-map w (Event.Phone act) back = phone_attempts-map w (PhoneActs act) [] refl refl None
   attempted-map w (Event.Station id act) back = station_attempts-map w id (StationActs act) [] refl refl None
   attempted-map w (Event.Core act) back = core_attempts-map w (CoreActs act) [] refl refl None
-  attempted-map w (Event.Deliver i) back = delivery-map w (chosen i w.sent) back ∙ ap (delivery_attempts q (map_world f g z w)) (chosen-map m q f g z a i w.sent)
+  attempted-map w (Event.Deliver i) back = delivery-map w (record_at i w.sent) back ∙ ap (delivery_attempts q (map_world f g z w)) (chosen-map m q f g z a i w.sent)
   attempted-map w (Event.Inject to octets) back =
       injection-map w to octets (position_from (is_sent m (class_of to) octets) 0 w.sent)
       ∙ ap (injection_attempts q (map_world f g z w) to octets) (found-map m q f g z a (class_of to) octets 0 w.sent)

@@ -17,7 +17,7 @@ use Rattle.lte_machine.specs.Carried.{map_stations, run_value, report_value}
 use Rattle.lte_machine.specs.Machines.{Kept, machine_in_octets, sender_of, opening_by_octets, written_machine, written_in_values, kept_in_values}
 use Rattle.lte_machine.specs.Ranges.{AllOf, IsEvent, IsSetup}
 use Rattle.lte_machine.specs.Run.{Running, replay, report, stations_of, first_world}
-use Rattle.lte_machine.specs.World.{Machine, World, chosen}
+use Rattle.lte_machine.specs.World.{Machine, World, record_at}
 use Rattle.lte_machine.proofs.InOctets.{agree, KeepsBack, run_in_octets, tale_in_octets}
 use Rattle.lte_machine.proofs.RangeHolds.{RecordRanged, SentRanged, Ranged}
 use Rattle.lte_machine.proofs.RangeWorld.{chosen_ranged, ranged_keeps, first_ranged, reads_back}
@@ -68,7 +68,7 @@ module _ (c : Ciphers (List ℕ)) where
   ranged_back w (Event.Phone act) h = tt
   ranged_back w (Event.Station id act) h = tt
   ranged_back w (Event.Core act) h = tt
-  ranged_back w (Event.Deliver i) h = sent_back (chosen i w.sent) (chosen_ranged i w.sent h.2)
+  ranged_back w (Event.Deliver i) h = sent_back (record_at i w.sent) (chosen_ranged i w.sent h.2)
   ranged_back w (Event.Inject to octets) h = tt
 
   -- so ranges are a property of worlds by which what was sent reads back

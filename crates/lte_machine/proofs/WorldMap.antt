@@ -24,7 +24,7 @@ use Rattle.lte_machine.specs.StationState.{Station, StationInput, StationActs, A
 use Rattle.lte_machine.specs.StationStep.{station_step, station_opens, station_pdu_in}
 use Rattle.lte_machine.specs.CoreState.{Core, CoreInput, CoreAuth, CoreActs, CoreNasPdu, CoreRecord, map_core, map_core_input}
 use Rattle.lte_machine.specs.CoreStep.{core_step, core_opens, core_pdu_in}
-use Rattle.lte_machine.specs.World.{Machine, World, Line, Holder, AtPhone, AtCore, AtStation, with_one, uses_in, holds, kept, class_of, sent_line, line_of, phone_after, core_after, put_if, put_station, station_after, by_world, phone_turn, core_turn, station_of_id, turn_of, station_turn, authenticated, auth_unless, is_root_row, next_root, known_root, content_in, arrives, newest_if, chosen, delivered, told_in, same_class, is_sent, injected, happens}
+use Rattle.lte_machine.specs.World.{Machine, World, Line, Holder, AtPhone, AtCore, AtStation, with_one, uses_in, holds, world_with, class_of, sent_line, line_of, phone_after, core_after, put_if, put_station, station_after, by_world, phone_turn, core_turn, station_of_id, turn_of, station_turn, authenticated, auth_unless, is_root_row, next_root, known_root, content_in, arrives, newest_if, record_at, delivery, told_in, same_class, is_sent, injected, happens}
 use Rattle.lte_machine.specs.Carried.{map_holding, map_stations, map_world, map_line}
 use Rattle.lte_machine.proofs.PhoneMap.{phone_opens_map, phone_step_map}
 use Rattle.lte_machine.proofs.CoreMap.{core_opens_map, core_step_map}
@@ -104,7 +104,7 @@ module _ {K C S L D T : Type 0} (m : Machine K C S) (q : Machine L D T) (f : K �
   BackAt (Address.StationX2 station) o = content_in q (option_map z o) ≡ map_read f g (content_in m o)
   BackAt other o = Unit {0}
 
-  kept-map : (w : World K C S) (holder : Holder) (r : Reply K C) → map_world f g z (kept m w holder r) ≡ kept q (map_world f g z w) holder (map_reply f g r)
+  kept-map : (w : World K C S) (holder : Holder) (r : Reply K C) → map_world f g z (world_with m w holder r) ≡ world_with q (map_world f g z w) holder (map_reply f g r)
   kept-map w holder r = λ j. record {
     events = w.events + 1;
     phone = map_phone f g w.phone;
@@ -249,7 +249,7 @@ module _ {K C S L D T : Type 0} (m : Machine K C S) (q : Machine L D T) (f : K �
   newest_if-map true i xs = slice_get-map z xs i
   newest_if-map false i xs = refl
 
-  pub chosen-map : (i : ℤ) (xs : List S) → option_map z (chosen i xs) ≡ chosen i (map z xs)
+  pub chosen-map : (i : ℤ) (xs : List S) → option_map z (record_at i xs) ≡ record_at i (map z xs)
   chosen-map (pos i) xs = slice_get-map z xs i
   chosen-map (negsuc i) xs =
       newest_if-map (nat_lt i (length xs)) (length xs - 1 - i) xs
@@ -260,7 +260,7 @@ module _ {K C S L D T : Type 0} (m : Machine K C S) (q : Machine L D T) (f : K �
   BackIf None = Unit {0}
   BackIf (Some x) = BackAt (m.address x) (Some x)
 
-  delivered-map : (w : World K C S) (o : Option S) → BackIf o → map_told f g z (delivered m w o) ≡ delivered q (map_world f g z w) (option_map z o)
+  delivered-map : (w : World K C S) (o : Option S) → BackIf o → map_told f g z (delivery m w o) ≡ delivery q (map_world f g z w) (option_map z o)
   delivered-map w None back = by_world-map w NoRecord
   delivered-map w (Some x) back =
       arrives-map w (m.address x) (m.octets x) (Some x) back
@@ -295,7 +295,7 @@ module _ {K C S L D T : Type 0} (m : Machine K C S) (q : Machine L D T) (f : K �
 
   -- of the records that an event may deliver
   abbrev pub BackOf : World K C S → Event → Type 0
-  BackOf w (Event.Deliver i) = BackIf (chosen i w.sent)
+  BackOf w (Event.Deliver i) = BackIf (record_at i w.sent)
   BackOf w other = Unit {0}
 
   pub happens-map : (w : World K C S) (e : Event) → BackOf w e → map_told f g z (happens m w e) ≡ happens q (map_world f g z w) e
@@ -307,7 +307,7 @@ module _ {K C S L D T : Type 0} (m : Machine K C S) (q : Machine L D T) (f : K �
   happens-map w (Event.Phone act) back = phone_turn-map w (PhoneActs act) [] refl refl None
   happens-map w (Event.Station id act) back = station_turn-map w id (StationActs act) [] refl refl None
   happens-map w (Event.Core act) back = core_turn-map w (CoreActs act) [] refl refl None
-  happens-map w (Event.Deliver i) back = delivered-map w (chosen i w.sent) back ∙ ap (delivered q (map_world f g z w)) (chosen-map i w.sent)
+  happens-map w (Event.Deliver i) back = delivered-map w (record_at i w.sent) back ∙ ap (delivery q (map_world f g z w)) (chosen-map i w.sent)
   happens-map w (Event.Inject to octets) back =
       injected-map w to octets (position_from (is_sent m (class_of to) octets) 0 w.sent)
       ∙ ap (injected q (map_world f g z w) to octets) (found-map (class_of to) octets 0 w.sent)

@@ -78,9 +78,9 @@ attempt_number (Renewing renewal) = renewal.number
 -- RECORDS
 
 -- the algorithms are chosen, and an air address is drawn (TS 33.401 7.2.4.2.1)
-abbrev pub initial_chosen : PlainStation → ℕ → Place → Caps → Result Algs Unmatched → RecordRow
-initial_chosen s conn cell caps (Err none) = RecordRefused NoAlgorithm
-initial_chosen s conn cell caps (Ok algs) =
+abbrev pub initial_choice : PlainStation → ℕ → Place → Caps → Result Algs Unmatched → RecordRow
+initial_choice s conn cell caps (Err none) = RecordRefused NoAlgorithm
+initial_choice s conn cell caps (Ok algs) =
     if runs_out 1 s.next then RecordRefused NumberSpent else ContextGiven conn cell caps algs s.next
 
 -- Initial Context Setup Request (TS 36.413 8.3.1). This project's own rule: connections are numbered, and one that is not
@@ -88,7 +88,7 @@ initial_chosen s conn cell caps (Ok algs) =
 abbrev pub initial_row : PlainStation → ℕ → Place → Caps → RecordRow
 initial_row s conn cell caps =
     if nat_le conn s.last then RecordRefused (OldConnection s.last conn)
-    else (if is_own s cell then initial_chosen s conn cell caps (choice_of s.priority caps)
+    else (if is_own s cell then initial_choice s conn cell caps (choice_of s.priority caps)
     else RecordRefused UnknownCell)
 
 -- UE Context Release Command (TS 36.413 8.3.3)
@@ -109,9 +109,9 @@ answer_row number (Some c) = answer_row_by number c.outstanding (PairTaken c.con
 
 -- the algorithms are chosen, and an air address is drawn (TS 33.401 7.2.4.2.2 and 7.2.4.2.3); the row is that of the
 -- interface
-abbrev pub wanted_chosen : PlainStation → ℕ → Origin → Place → Caps → (Wanted → RecordRow) → Result Algs Unmatched → RecordRow
-wanted_chosen s conn from cell caps row (Err none) = RecordRefused NoAlgorithm
-wanted_chosen s conn from cell caps row (Ok algs) =
+abbrev pub wanted_choice : PlainStation → ℕ → Origin → Place → Caps → (Wanted → RecordRow) → Result Algs Unmatched → RecordRow
+wanted_choice s conn from cell caps row (Err none) = RecordRefused NoAlgorithm
+wanted_choice s conn from cell caps row (Ok algs) =
     if runs_out 1 s.next then RecordRefused NumberSpent
     else row (record { conn = conn; from = from; cell = cell; caps = caps; algs = algs; air = s.next })
 
@@ -131,7 +131,7 @@ wanted_row s conn from cell caps row =
     else (if not (is_own s cell) then RecordRefused UnknownCell
     else (if nat_le from.attempt (greatest s from.source) then RecordRefused (Repeated (greatest s from.source) from.attempt)
     else (if (conn == s.last) && is_full s then RecordRefused PrepFull
-    else wanted_chosen s conn from cell caps row (choice_of s.priority caps))))
+    else wanted_choice s conn from cell caps row (choice_of s.priority caps))))
 
 -- an answer to an attempt of this kind and number, which may still be open
 abbrev pub acked_open : ℕ → ℕ → RecordRow → RecordRow

@@ -12,7 +12,7 @@ use Rattle.lte_machine.specs.StationState.{Station, StationInput, StationActs, A
 use Rattle.lte_machine.specs.StationStep.{station_opens, station_pdu_in}
 use Rattle.lte_machine.specs.CoreState.{CoreInput, CoreActs, CoreNasPdu, CoreRecord}
 use Rattle.lte_machine.specs.CoreStep.{core_opens, core_pdu_in}
-use Rattle.lte_machine.specs.World.{Machine, World, Line, station_of_id, content_in, chosen, is_sent, class_of, happens}
+use Rattle.lte_machine.specs.World.{Machine, World, Line, station_of_id, content_in, record_at, is_sent, class_of, happens}
 
 -- what an event opens: what the receiver expects, the octets, and what came
 pub record Attempted (K S : Type 0) : Type 0 where
@@ -62,7 +62,7 @@ attempted m w (Event.Auth ksi octets caps) = opens_none
 attempted m w (Event.Phone act) = phone_attempts m w (PhoneActs act) None
 attempted m w (Event.Station id act) = station_attempts m w id (StationActs act) None
 attempted m w (Event.Core act) = core_attempts m w (CoreActs act) None
-attempted m w (Event.Deliver i) = delivery_attempts m w (chosen i w.sent)
+attempted m w (Event.Deliver i) = delivery_attempts m w (record_at i w.sent)
 attempted m w (Event.Inject to octets) = injection_attempts m w to octets (position_from (is_sent m (class_of to) octets) 0 w.sent)
 
 -- whether the octets are accepted, by this opener of octets, and not as their sender sealed them

@@ -108,8 +108,8 @@ holds holder (Some key) derived =
     record { holder = holder; key = key } ∷ map (λ d. record { holder = holder; key = d.out }) derived
 
 -- the world with what a step gave out: the record, its uses, the derivations and the holders
-abbrev pub kept : {K C S : Type 0} → Machine K C S → World K C S → Holder → Reply K C → World K C S
-kept m w holder reply = record w {
+abbrev pub world_with : {K C S : Type 0} → Machine K C S → World K C S → Holder → Reply K C → World K C S
+world_with m w holder reply = record w {
   events = w.events + 1;
   sent = with_one (m.keep reply.sent) w.sent;
   uses = w.uses ++ uses_in reply.sent;
@@ -146,12 +146,12 @@ line_of m w actor reply = record {
 -- a step of an actor, told and kept
 abbrev pub phone_after : {K C S : Type 0} → Machine K C S → World K C S → Phone K C × Reply K C → World K C S × Line K
 phone_after m w d = (
-  record (kept m w AtPhone d.1) { phone = d.0; took = with_one d.1.took w.took },
+  record (world_with m w AtPhone d.1) { phone = d.0; took = with_one d.1.took w.took },
   line_of m w Who.Phone d.1,
 )
 
 abbrev pub core_after : {K C S : Type 0} → Machine K C S → World K C S → Core K C × Reply K C → World K C S × Line K
-core_after m w d = (record (kept m w AtCore d.1) { core = d.0 }, line_of m w Who.Core d.1)
+core_after m w d = (record (world_with m w AtCore d.1) { core = d.0 }, line_of m w Who.Core d.1)
 
 abbrev pub put_if : {K C : Type 0} → Bool → Station K C → Station K C → Station K C
 put_if true new old = new
@@ -164,7 +164,7 @@ put_station id new (s ∷ ss) = put_if (s.id == id) new s ∷ put_station id new
 
 abbrev pub station_after : {K C S : Type 0} → Machine K C S → World K C S → ℕ → Station K C × Reply K C → World K C S × Line K
 station_after m w id d = (
-  record (kept m w (AtStation id) d.1) {
+  record (world_with m w (AtStation id) d.1) {
     stations = put_station id d.0 w.stations;
     made = with_one d.1.made w.made;
     tried = with_one d.1.tried w.tried;
@@ -246,13 +246,13 @@ newest_if true i sent = slice_get sent i
 newest_if false i sent = None
 
 -- a record by its number: from the front, or with -1 for the newest
-abbrev pub chosen : {S : Type 0} → ℤ → List S → Option S
-chosen (pos i) sent = slice_get sent i
-chosen (negsuc i) sent = newest_if (nat_lt i (length sent)) (length sent - 1 - i) sent
+abbrev pub record_at : {S : Type 0} → ℤ → List S → Option S
+record_at (pos i) sent = slice_get sent i
+record_at (negsuc i) sent = newest_if (nat_lt i (length sent)) (length sent - 1 - i) sent
 
-abbrev pub delivered : {K C S : Type 0} → Machine K C S → World K C S → Option S → World K C S × Line K
-delivered m w None = by_world m w NoRecord
-delivered m w (Some x) = arrives m w (m.address x) (m.octets x) (Some x)
+abbrev pub delivery : {K C S : Type 0} → Machine K C S → World K C S → Option S → World K C S × Line K
+delivery m w None = by_world m w NoRecord
+delivery m w (Some x) = arrives m w (m.address x) (m.octets x) (Some x)
 
 abbrev pub same_class : Class → Class → Bool
 same_class Class.Nas Class.Nas = true
@@ -281,6 +281,6 @@ happens m w (Event.Auth ksi octets caps) =
 happens m w (Event.Phone act) = phone_turn m w (PhoneActs act) None
 happens m w (Event.Station id act) = station_turn m w id (StationActs act) None
 happens m w (Event.Core act) = core_turn m w (CoreActs act) None
-happens m w (Event.Deliver i) = delivered m w (chosen i w.sent)
+happens m w (Event.Deliver i) = delivery m w (record_at i w.sent)
 happens m w (Event.Inject to octets) =
     injected m w to octets (position_from (is_sent m (class_of to) octets) 0 w.sent)

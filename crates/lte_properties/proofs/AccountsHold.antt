@@ -22,7 +22,7 @@ use Rattle.lte_machine.specs.StationStep.{key_read, station_key, station_step, s
 use Rattle.lte_machine.specs.CoreState.{Core, CoreInput, CoreActs, CoreNasPdu, CoreRecord}
 use Rattle.lte_machine.specs.CoreStep.{core_step, core_opens, core_pdu_in, core_received}
 use Rattle.lte_machine.specs.Wire.{KeyUse, Outgoing, uses_of, address_of}
-use Rattle.lte_machine.specs.World.{Machine, World, Holder, AtPhone, AtCore, AtStation, holds, with_one, uses_in, phone_after, core_after, station_after, by_world, phone_turn, core_turn, turn_of, station_of_id, auth_unless, known_root, next_root, content_in, arrives, chosen, delivered, class_of, is_sent, injected, happens}
+use Rattle.lte_machine.specs.World.{Machine, World, Holder, AtPhone, AtCore, AtStation, holds, with_one, uses_in, phone_after, core_after, station_after, by_world, phone_turn, core_turn, turn_of, station_of_id, auth_unless, known_root, next_root, content_in, arrives, record_at, delivery, class_of, is_sent, injected, happens}
 use Rattle.lte_machine.specs.Machines.{machine_by}
 use Rattle.lte_machine.specs.Ranges.{AllOf}
 use Rattle.lte_machine.specs.Run.{run}
@@ -64,7 +64,7 @@ module _ (same : Term → Term → Bool) (root : ℕ → List ℕ → Term) (oct
     arrives_uses (Address.StationS1 station) pdu came = turn_uses station (StationRecord OnS1 (content_in m came)) came (station_of_id station w.stations)
     arrives_uses (Address.StationX2 station) pdu came = turn_uses station (StationRecord OnX2 (content_in m came)) came (station_of_id station w.stations)
 
-    delivered_uses : (o : Option (Outgoing Term ℕ)) → UsesAreThoseSent (delivered m w o).0
+    delivered_uses : (o : Option (Outgoing Term ℕ)) → UsesAreThoseSent (delivery m w o).0
     delivered_uses None = h
     delivered_uses (Some x) = arrives_uses (address_of x) (octets x) (Some x)
 
@@ -81,7 +81,7 @@ module _ (same : Term → Term → Bool) (root : ℕ → List ℕ → Term) (oct
     happens_uses (Event.Phone act) = phone_uses (PhoneActs act) None
     happens_uses (Event.Station id act) = turn_uses id (StationActs act) None (station_of_id id w.stations)
     happens_uses (Event.Core act) = core_uses (CoreActs act) None
-    happens_uses (Event.Deliver i) = delivered_uses (chosen i w.sent)
+    happens_uses (Event.Deliver i) = delivered_uses (record_at i w.sent)
     happens_uses (Event.Inject to pdu) = injected_uses to pdu (position_from (is_sent m (class_of to) pdu) 0 w.sent)
 
   pub uses_are_sent : (w : World Term ℕ (Outgoing Term ℕ)) (es : List Event) → UsesAreThoseSent w → UsesAreThoseSent (run m w es)
@@ -148,7 +148,7 @@ module _ {K C S : Type 0} (m : Machine K C S) (w : World K C S) where
   no_key (Address.StationS1 station) = refl
   no_key (Address.StationX2 station) = refl
 
-  delivered_gains : (o : Option S) → Gains m w (key_of_record m o) (delivered m w o)
+  delivered_gains : (o : Option S) → Gains m w (key_of_record m o) (delivery m w o)
   delivered_gains None = none_gains None NoRecord
   delivered_gains (Some x) = arrives_gains (m.address x) (m.octets x) (Some x)
 
@@ -165,7 +165,7 @@ module _ {K C S : Type 0} (m : Machine K C S) (w : World K C S) where
   happens_gains (Event.Phone act) = phone_turns (PhoneActs act) None
   happens_gains (Event.Station id act) = turn_gains id (StationActs act) None (station_of_id id w.stations)
   happens_gains (Event.Core act) = core_turns (CoreActs act) None
-  happens_gains (Event.Deliver i) = delivered_gains (chosen i w.sent)
+  happens_gains (Event.Deliver i) = delivered_gains (record_at i w.sent)
   happens_gains (Event.Inject to pdu) = injected_gains to pdu (position_from (is_sent m (class_of to) pdu) 0 w.sent)
 
 pub holders_gain : {K C S : Type 0} (m : Machine K C S) (w : World K C S) (es : List Event) → HoldersGain m w es

@@ -12,7 +12,7 @@ use Rattle.lte_machine.specs.Ladder.{RowOrigin, OfRoot, Of, row_key}
 use Rattle.lte_machine.specs.Ranges.{AllOf}
 use Rattle.lte_machine.specs.StationStep.{key_read}
 use Rattle.lte_machine.specs.Wire.{Outgoing, uses_of}
-use Rattle.lte_machine.specs.World.{Machine, World, Line, Holder, AtPhone, AtCore, AtStation, Holding, chosen, happens}
+use Rattle.lte_machine.specs.World.{Machine, World, Line, Holder, AtPhone, AtCore, AtStation, Holding, record_at, happens}
 
 -- the uses are what the records sent were ciphered and sealed with, in order
 abbrev pub UsesAreThoseSent : World Term ℕ (Outgoing Term ℕ) → Type 0
@@ -39,7 +39,7 @@ key_of_record m (Some x) = key_at (m.address x) (m.content x)
 
 -- the key that an event brings to an actor, also where the actor then refuses the record
 abbrev pub key_delivered : {K C S : Type 0} → Machine K C S → World K C S → Event → Option K
-key_delivered m w (Event.Deliver i) = key_of_record m (chosen i w.sent)
+key_delivered m w (Event.Deliver i) = key_of_record m (record_at i w.sent)
 key_delivered m w other = None
 
 abbrev pub with_read : {K : Type 0} → Option K → List K → List K

@@ -10,7 +10,7 @@ use Rattle.lte_machine.specs.Ladder.{OfRoot}
 use Rattle.lte_machine.specs.Machines.{Kept}
 use Rattle.lte_machine.specs.Run.{Running, Reported}
 use Rattle.lte_machine.specs.Wire.{Outgoing}
-use Rattle.lte_machine.specs.World.{World, Line, AtStation, chosen}
+use Rattle.lte_machine.specs.World.{World, Line, AtStation, record_at}
 use Rattle.lte_properties.specs.Packets.{IsPacket, IsReady, InWindow, next_for, count_of, window_of}
 use Rattle.lte_machine.specs.Distinct.{Member}
 
@@ -31,7 +31,7 @@ pub record BringsPacket (setup : Setup) (events : List Event) (k : ℕ) (sent : 
   pub after : World Term ℕ (Outgoing Term ℕ)
   pub line : Line Term
   pub step : IsStep setup events k world (Event.Deliver number) after line
-  pub record_sent : chosen number world.sent ≡ Some packet
+  pub record_sent : record_at number world.sent ≡ Some packet
   pub is_packet : IsPacket packet sent
   pub ready : IsReady world packet
   pub in_window : InWindow (next_for world packet) (count_of packet) (window_of packet)

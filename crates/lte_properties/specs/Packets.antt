@@ -14,7 +14,7 @@ use Rattle.lte_machine.specs.Wire.{KeyUse, Outgoing, SealedNas, SealedRrc, UserP
 use Rattle.lte_machine.specs.PhoneState.{NasContext, Radio, Connected}
 use Rattle.lte_machine.specs.StationState.{Station, Context}
 use Rattle.lte_machine.specs.CoreState.{CoreContext}
-use Rattle.lte_machine.specs.World.{Machine, World, station_of_id, chosen, happens}
+use Rattle.lte_machine.specs.World.{Machine, World, station_of_id, record_at, happens}
 
 -- a record that carries these data: a user packet, an RRC text of data, a NAS text of data
 abbrev pub IsPacket : Outgoing Term ℕ → List ℕ → Type 0
@@ -137,6 +137,6 @@ OpensTo m w e sent = ((happens m w e).1.answer ≡ Done) × ((happens m w e).1.o
 -- receiver's COUNT window, it opens to the data that were sent
 abbrev pub OpensToSent : Machine Term ℕ (Outgoing Term ℕ) → World Term ℕ (Outgoing Term ℕ) → Type 0
 OpensToSent m w =
-    (i : ℤ) (x : Outgoing Term ℕ) (sent : List ℕ) → chosen i w.sent ≡ Some x → IsPacket x sent
+    (i : ℤ) (x : Outgoing Term ℕ) (sent : List ℕ) → record_at i w.sent ≡ Some x → IsPacket x sent
     → IsReady w x → InWindow (next_for w x) (count_of x) (window_of x)
     → OpensTo m w (Event.Deliver i) sent

@@ -17,7 +17,8 @@ pub enum Status {
     WriteFault,
     /// A peer failed, or the port of a served actor.
     PeerFault,
-    /// Two derivations gave one value.
+    /// A coincidence: a derivation or a KASME has the octets of another key, two phones have one key, or a MAC let
+    /// pass what was sealed otherwise or by nobody.
     Coincidence,
     /// A peer's reply differs from the local actor's.
     Differs,

@@ -24,7 +24,7 @@ use Rattle.lte_machine.specs.Run.{RunState, Running, Stopped, after, turn, repla
 use Rattle.lte_machine.specs.Step.{StepResult, Continues, Stops, by_ladder, by_chance, opening_chance, attempted, next}
 use Rattle.lte_machine.specs.Tuples.{Chance}
 use Rattle.lte_machine.specs.World as world
-use Rattle.lte_machine.specs.World.{Machine, World, auth_unless, known_root, next_root, station_of_id, turn_of, content_in, arrives, delivered, chosen, injected, is_sent, class_of, happens}
+use Rattle.lte_machine.specs.World.{Machine, World, auth_unless, known_root, next_root, station_of_id, turn_of, content_in, arrives, delivery, record_at, injected, is_sent, class_of, happens}
 use Rattle.lte_machine.proofs.AnnexB.{annex_b_ciphers}
 use Rattle.lte_machine.proofs.KnownLists.{all_append}
 use Rattle.lte_machine.proofs.WholeRun.{run_is_value}
@@ -82,7 +82,7 @@ module _ (w : World (List ℕ) ℕ Kept) where
   arrives_one (Address.StationS1 station) pdu came = turn_one station (StationRecord OnS1 (content_in octets came)) came (station_of_id station w.stations)
   arrives_one (Address.StationX2 station) pdu came = turn_one station (StationRecord OnX2 (content_in octets came)) came (station_of_id station w.stations)
 
-  delivered_one : (o : Option Kept) → One (delivered octets w o).0
+  delivered_one : (o : Option Kept) → One (delivery octets w o).0
   delivered_one None = refl
   delivered_one (Some x) = arrives_one x.to x.octets (Some x)
 
@@ -95,7 +95,7 @@ module _ (w : World (List ℕ) ℕ Kept) where
   happens_one (Event.Phone act) = refl
   happens_one (Event.Station id act) = turn_one id (StationActs act) None (station_of_id id w.stations)
   happens_one (Event.Core act) = refl
-  happens_one (Event.Deliver i) = delivered_one (chosen i w.sent)
+  happens_one (Event.Deliver i) = delivered_one (record_at i w.sent)
   happens_one (Event.Inject to pdu) = injected_one to pdu (position_from (is_sent octets (class_of to) pdu) 0 w.sent)
 
   ladder_goes : (c : Option (Clash (List ℕ))) (h : World (List ℕ) ℕ Kept × world.Line (List ℕ)) (u : World (List ℕ) ℕ Kept) (l : world.Line (List ℕ)) → by_ladder c h ≡ Continues u l → h.0 ≡ u

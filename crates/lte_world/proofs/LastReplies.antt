@@ -19,7 +19,7 @@ use Rattle.lte_machine.specs.Opening.{open_octets}
 use Rattle.lte_machine.specs.Ranges.{AllOf}
 use Rattle.lte_machine.specs.Run.{Running, first_world}
 use Rattle.lte_machine.specs.StationState.{Station}
-use Rattle.lte_machine.specs.World.{World, station_of_id, known_root, chosen, is_sent, class_of}
+use Rattle.lte_machine.specs.World.{World, station_of_id, known_root, record_at, is_sent, class_of}
 use Rattle.lte_machine.proofs.EventByEvent.{prefix_goes_on}
 use Rattle.lte_world.specs.Replies.{station_replies, input_at, replies_in, auth_replies, delivered_replies, injected_replies, replies_of, Tells, RepliedLast, IsOfSetup}
 use Rattle.lte_world.specs.Systems.{octets, Actors}
@@ -104,7 +104,7 @@ module _ (setup : Setup) (w : World (List ℕ) ℕ Kept) (stand : (id : ℕ) →
   event_there (Event.Phone act) = (tt, tt)
   event_there (Event.Station id act) = input_there (ActorIn.Station id (StationIn.Act act))
   event_there (Event.Core act) = (tt, tt)
-  event_there (Event.Deliver i) = delivered_there (chosen i w.sent)
+  event_there (Event.Deliver i) = delivered_there (record_at i w.sent)
   event_there (Event.Inject to pdu) = injected_there to pdu (position_from (is_sent octets (class_of to) pdu) 0 w.sent)
 
 pub replies_there : (setup : Setup) (journal : List Event) (replies : List (ActorIn × ActorOut)) (u : World (List ℕ) ℕ Kept) → octet_run setup journal ≡ Running u → RepliedLast setup journal replies

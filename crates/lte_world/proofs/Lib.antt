@@ -11,7 +11,6 @@ pub mod Refusing
 pub mod Enrolling
 pub mod Authenticating
 pub mod Starting
-pub mod TwoStations
 pub mod Getting
 pub mod Replying
 pub mod LastReplies

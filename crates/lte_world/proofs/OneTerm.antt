@@ -29,7 +29,7 @@ use Rattle.lte_machine.specs.StationKeys.{station_does}
 use Rattle.lte_machine.specs.StationState.{Station, Context, StationInput, StationActs, AirPdu, StationRecord, OnS1, OnX2}
 use Rattle.lte_machine.specs.StationStep.{station_opens, station_pdu_in, station_row_of, station_key}
 use Rattle.lte_machine.specs.Wire.{KeyUse, Outgoing, address_of}
-use Rattle.lte_machine.specs.World.{Machine, World, Line, with_one, put_if, put_station, phone_turn, core_turn, station_of_id, turn_of, auth_unless, known_root, next_root, content_in, arrives, chosen, delivered, class_of, is_sent, injected, happens}
+use Rattle.lte_machine.specs.World.{Machine, World, Line, with_one, put_if, put_station, phone_turn, core_turn, station_of_id, turn_of, auth_unless, known_root, next_root, content_in, arrives, record_at, delivery, class_of, is_sent, injected, happens}
 use Rattle.ho_prep.specs.Prep.{Prep}
 use Rattle.lte_machine.proofs.EventByEvent.{step_takes, step_happens}
 use Rattle.lte_machine.proofs.LadderRun.{ladder_always, all_reported}
@@ -112,7 +112,7 @@ module _ (same : Term → Term → Bool) (root : ℕ → List ℕ → Term) (oct
     arrives_stands (Address.StationS1 station) pdu came = turn_stands station (StationRecord OnS1 (content_in m came)) came (station_of_id station w.stations) refl
     arrives_stands (Address.StationX2 station) pdu came = turn_stands station (StationRecord OnX2 (content_in m came)) came (station_of_id station w.stations) refl
 
-    delivered_stands : (o : Option (Outgoing Term ℕ)) → Both w (delivered m w o)
+    delivered_stands : (o : Option (Outgoing Term ℕ)) → Both w (delivery m w o)
     delivered_stands None = (inl refl, inl refl)
     delivered_stands (Some x) = arrives_stands (address_of x) (octets x) (Some x)
 
@@ -129,7 +129,7 @@ module _ (same : Term → Term → Bool) (root : ℕ → List ℕ → Term) (oct
     happens_stands (Event.Phone act) = phone_stands (PhoneActs act) None
     happens_stands (Event.Station id act) = turn_stands id (StationActs act) None (station_of_id id w.stations) refl
     happens_stands (Event.Core act) = core_stands (CoreActs act) None
-    happens_stands (Event.Deliver i) = delivered_stands (chosen i w.sent)
+    happens_stands (Event.Deliver i) = delivered_stands (record_at i w.sent)
     happens_stands (Event.Inject to pdu) = injected_stands to pdu (position_from (is_sent m (class_of to) pdu) 0 w.sent)
 
 -- IN A RUN

@@ -20,7 +20,7 @@ use Rattle.lte_machine.specs.Ciphers.{annex_b}
 use Rattle.lte_machine.specs.Machines.{Kept}
 use Rattle.lte_machine.specs.Ranges.{TakesInjected}
 use Rattle.lte_machine.specs.Step.{by_ladder, opens_none, delivery_attempts, injection_attempts}
-use Rattle.lte_machine.specs.World.{World, by_world, newest_if, chosen, delivered, injected, is_sent, class_of}
+use Rattle.lte_machine.specs.World.{World, by_world, newest_if, record_at, delivery, injected, is_sent, class_of}
 use Rattle.run_stores.specs.Additions.{CanKeep}
 use Rattle.run_stores.specs.Records.{view_of}
 use Rattle.run_stores.proofs.Found.{first_is}
@@ -41,13 +41,13 @@ newest_map : {A B : Type 0} (f : A → B) (b : Bool) (k : ℕ) (xs : List A) →
 newest_map f true k xs = slice_get-map f xs k
 newest_map f false k xs = refl
 
-chosen_map : {A B : Type 0} (f : A → B) (i : ℤ) (xs : List A) → chosen i (map f xs) ≡ option_map f (chosen i xs)
+chosen_map : {A B : Type 0} (f : A → B) (i : ℤ) (xs : List A) → record_at i (map f xs) ≡ option_map f (record_at i xs)
 chosen_map f (pos k) xs = slice_get-map f xs k
 chosen_map f (negsuc k) xs =
     ap (λ n. newest_if (nat_lt k n) (n - 1 - k) (map f xs)) (length-map xs f) ∙ newest_map f (nat_lt k (length xs)) (length xs - 1 - k) xs
 
-pub chosen_in : (w : World (List ℕ) ℕ Kept) (a : Actors) → Are w a → (i : ℤ) → chosen i a.stores.records ≡ option_map view_of (chosen i w.sent)
-chosen_in w a are i = ap (chosen i) are.stores.records ∙ chosen_map view_of i w.sent
+pub chosen_in : (w : World (List ℕ) ℕ Kept) (a : Actors) → Are w a → (i : ℤ) → record_at i a.stores.records ≡ option_map view_of (record_at i w.sent)
+chosen_in w a are i = ap (record_at i) are.stores.records ∙ chosen_map view_of i w.sent
 
 pub no_view : (o : Option Kept) → option_map view_of o ≡ None → o ≡ None
 no_view None e = refl
@@ -73,15 +73,15 @@ reads_none (Address.StationX2 station) pdu h = absurd h
 
 module _ (a b : Actors) (step : ℕ) where
   -- none is delivered
-  pub none_delivered : (i : ℤ) (line : Line) → None ≡ chosen i a.stores.records → line ≡ line_of_reply step Who.World None (reply_of NoRecord) → Happens a a (Event.Deliver i) step (Ok line)
+  pub none_delivered : (i : ℤ) (line : Line) → None ≡ record_at i a.stores.records → line ≡ line_of_reply step Who.World None (reply_of NoRecord) → Happens a a (Event.Deliver i) step (Ok line)
   unfolding Happens
   none_delivered i line none is w are ev can =
-      let nothing : chosen i w.sent ≡ None = no_view (chosen i w.sent) (sym (none ∙ chosen_in w a are i)) in
-      subst (λ o. CameOut (comes w (delivery_attempts octets w o) (delivered octets w o)) a (Ok line)) (sym nothing) (by_world_out w a step NoRecord line are ev is)
+      let nothing : record_at i w.sent ≡ None = no_view (record_at i w.sent) (sym (none ∙ chosen_in w a are i)) in
+      subst (λ o. CameOut (comes w (delivery_attempts octets w o) (delivery octets w o)) a (Ok line)) (sym nothing) (by_world_out w a step NoRecord line are ev is)
 
   -- one is
   by_record : (i : ℤ) (result : Result Line Proof) (view : BagView) → Arrives a b view.to view.octets view.tuple step result → (w : World (List ℕ) ℕ Kept) → Are w a → w.events ≡ step →
-      (o : Option Kept) → Some view ≡ option_map view_of o → CanKeep (delivered octets w o).0 → CameOut (comes w (delivery_attempts octets w o) (delivered octets w o)) b result
+      (o : Option Kept) → Some view ≡ option_map view_of o → CanKeep (delivery octets w o).0 → CameOut (comes w (delivery_attempts octets w o) (delivery octets w o)) b result
   unfolding Arrives
   by_record i result view h w are ev None e can = absurd cc
   by_record i result view h w are ev (Some x) e can =
@@ -89,18 +89,18 @@ module _ (a b : Actors) (step : ℕ) where
       let arrives : Arrives a b x.to x.octets (option_map use_out x.tuple) step result = subst (λ v. Arrives a b v.to v.octets v.tuple step result) is h in
       arrives w (Some x) are refl ev (reads_sent x x.to) can
 
-  pub one_delivered : (i : ℤ) (result : Result Line Proof) (view : BagView) → Some view ≡ chosen i a.stores.records → Arrives a b view.to view.octets view.tuple step result → Happens a b (Event.Deliver i) step result
+  pub one_delivered : (i : ℤ) (result : Result Line Proof) (view : BagView) → Some view ≡ record_at i a.stores.records → Arrives a b view.to view.octets view.tuple step result → Happens a b (Event.Deliver i) step result
   unfolding Happens
-  one_delivered i result view found h w are ev can = by_record i result view h w are ev (chosen i w.sent) (found ∙ chosen_in w a are i) can
+  one_delivered i result view found h w are ev can = by_record i result view h w are ev (record_at i w.sent) (found ∙ chosen_in w a are i) can
 
-  can_by : (w : World (List ℕ) ℕ Kept) (view : BagView) → Are w a → (o : Option Kept) → Some view ≡ option_map view_of o → CanKeep (delivered octets w o).0 → ArrivalCan a view.to view.octets
+  can_by : (w : World (List ℕ) ℕ Kept) (view : BagView) → Are w a → (o : Option Kept) → Some view ≡ option_map view_of o → CanKeep (delivery octets w o).0 → ArrivalCan a view.to view.octets
   can_by w view are None e can = absurd cc
   can_by w view are (Some x) e can =
       let is : view ≡ view_of x = cc in
       subst (λ v. ArrivalCan a v.to v.octets) (sym is) (record { before = w; came = Some x; are = are; reads = reads_sent x x.to; can = can })
 
-  pub delivery_can : (i : ℤ) (view : BagView) → Some view ≡ chosen i a.stores.records → EventCan a (Event.Deliver i) → ArrivalCan a view.to view.octets
-  delivery_can i view found p = can_by p.before view p.are (chosen i p.before.sent) (found ∙ chosen_in p.before a p.are i) p.can
+  pub delivery_can : (i : ℤ) (view : BagView) → Some view ≡ record_at i a.stores.records → EventCan a (Event.Deliver i) → ArrivalCan a view.to view.octets
+  delivery_can i view found p = can_by p.before view p.are (record_at i p.before.sent) (found ∙ chosen_in p.before a p.are i) p.can
 
   -- OCTETS
 

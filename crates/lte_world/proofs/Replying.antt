@@ -24,7 +24,7 @@ use Rattle.lte_machine.specs.Machines.{Kept}
 use Rattle.lte_machine.specs.CoreState.{Core}
 use Rattle.lte_machine.specs.PhoneState.{Phone}
 use Rattle.lte_machine.specs.StationState.{Station}
-use Rattle.lte_machine.specs.World.{World, station_of_id, chosen, class_of}
+use Rattle.lte_machine.specs.World.{World, station_of_id, record_at, class_of}
 use Rattle.run_stores.specs.Records.{view_of}
 use Rattle.lte_world.specs.declared.network.Enrolled.{Enrolled}
 use Rattle.lte_world.specs.Enrolling.{with_root, EnrolledBy, EnrolledAs}
@@ -71,10 +71,10 @@ module _ (a now : Actors) (view : a ≡ now) (told : List (ActorIn × ActorOut))
   core_tells act put same is w are = in_world (ActorIn.Core (CoreIn.Act act)) (is ∙ ap (λ x. replies_by now.phone now.core now.stations (ActorIn.Core (CoreIn.Act x))) same) w are
 
   -- a record
-  pub none_tells : (i : ℤ) → None ≡ chosen i now.stores.records → told ≡ [] → Tells now (Event.Deliver i) told
+  pub none_tells : (i : ℤ) → None ≡ record_at i now.stores.records → told ≡ [] → Tells now (Event.Deliver i) told
   unfolding replies_of
   none_tells i none is w are =
-      is ∙ ap (delivered_replies w) (sym (no_view (chosen i w.sent) (sym (none ∙ chosen_in w now are i))))
+      is ∙ ap (delivered_replies w) (sym (no_view (record_at i w.sent) (sym (none ∙ chosen_in w now are i))))
 
   record_tells : (w : World (List ℕ) ℕ Kept) (sent : BagView) → Are w now → told ≡ replies_by now.phone now.core now.stations (input_at sent.to sent.octets) → (o : Option Kept) → Some sent ≡ option_map view_of o → told ≡ delivered_replies w o
   record_tells w sent are is None e = absurd cc
@@ -82,9 +82,9 @@ module _ (a now : Actors) (view : a ≡ now) (told : List (ActorIn × ActorOut))
       let same : sent ≡ view_of x = cc in
       in_world (input_at x.to x.octets) (is ∙ ap (λ (v : BagView). replies_by now.phone now.core now.stations (input_at v.to v.octets)) same) w are
 
-  pub one_tells : (i : ℤ) (sent : BagView) → Some sent ≡ chosen i now.stores.records → told ≡ replies_by now.phone now.core now.stations (input_at sent.to sent.octets) → Tells now (Event.Deliver i) told
+  pub one_tells : (i : ℤ) (sent : BagView) → Some sent ≡ record_at i now.stores.records → told ≡ replies_by now.phone now.core now.stations (input_at sent.to sent.octets) → Tells now (Event.Deliver i) told
   unfolding replies_of
-  one_tells i sent found is w are = record_tells w sent are is (chosen i w.sent) (found ∙ chosen_in w now are i)
+  one_tells i sent found is w are = record_tells w sent are is (record_at i w.sent) (found ∙ chosen_in w now are i)
 
   -- octets
   pub sent_tells : (to : Address) (pdu : List ℕ) (number : ℕ) → Some number ≡ first_sent now.stores.records (class_of to) pdu → told ≡ [] → Tells now (Event.Inject to pdu) told

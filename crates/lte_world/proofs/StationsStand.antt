@@ -18,7 +18,7 @@ use Rattle.lte_machine.specs.Opening.{open_octets}
 use Rattle.lte_machine.specs.Run.{Running, run, first_world, stations_of}
 use Rattle.lte_machine.specs.StationState.{Station, StationInput, StationActs, AirPdu, StationRecord, OnS1, OnX2}
 use Rattle.lte_machine.specs.StationStep.{station_step, station_opens, station_pdu_in}
-use Rattle.lte_machine.specs.World.{World, put_if, put_station, station_of_id, turn_of, auth_unless, known_root, arrives, content_in, chosen, delivered, class_of, is_sent, injected, happens}
+use Rattle.lte_machine.specs.World.{World, put_if, put_station, station_of_id, turn_of, auth_unless, known_root, arrives, content_in, record_at, delivery, class_of, is_sent, injected, happens}
 use Rattle.lte_machine.proofs.StillRun.{still_is_run}
 use Rattle.lte_world.specs.Systems.{octets}
 use Rattle.lte_world.proofs.StationIds.{station_step_id}
@@ -74,7 +74,7 @@ module _ (w : World (List ℕ) ℕ Kept) where
   arrives_ids (Address.StationS1 station) pdu came = turn_ids station (StationRecord OnS1 (content_in octets came)) came (station_of_id station w.stations) refl
   arrives_ids (Address.StationX2 station) pdu came = turn_ids station (StationRecord OnX2 (content_in octets came)) came (station_of_id station w.stations) refl
 
-  delivered_ids : (o : Option Kept) → Same (delivered octets w o).0
+  delivered_ids : (o : Option Kept) → Same (delivery octets w o).0
   delivered_ids None = refl
   delivered_ids (Some x) = arrives_ids x.to x.octets (Some x)
 
@@ -87,7 +87,7 @@ module _ (w : World (List ℕ) ℕ Kept) where
   happens_ids (Event.Phone act) = refl
   happens_ids (Event.Station id act) = turn_ids id (StationActs act) None (station_of_id id w.stations) refl
   happens_ids (Event.Core act) = refl
-  happens_ids (Event.Deliver i) = delivered_ids (chosen i w.sent)
+  happens_ids (Event.Deliver i) = delivered_ids (record_at i w.sent)
   happens_ids (Event.Inject to pdu) = injected_ids to pdu (position_from (is_sent octets (class_of to) pdu) 0 w.sent)
 
 run_ids : (w : World (List ℕ) ℕ Kept) (es : List Event) → ids (run octets w es).stations ≡ ids w.stations

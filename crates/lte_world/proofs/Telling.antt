@@ -17,7 +17,7 @@ use Rattle.lte_machine.specs.Run.{RunState, Running, Stopped, event_report, repo
 use Rattle.lte_machine.specs.StationState.{Station, StationInput, StationActs, AirPdu, StationRecord, OnS1, OnX2}
 use Rattle.lte_machine.specs.Step.{StepResult, Continues, Stops, next}
 use Rattle.lte_machine.specs.World as world
-use Rattle.lte_machine.specs.World.{World, auth_unless, known_root, station_of_id, turn_of, content_in, arrives, delivered, chosen, injected, is_sent, class_of, happens}
+use Rattle.lte_machine.specs.World.{World, auth_unless, known_root, station_of_id, turn_of, content_in, arrives, delivery, record_at, injected, is_sent, class_of, happens}
 use Rattle.lte_machine.proofs.EventByEvent.{step_is}
 use Rattle.lte_world.specs.declared.faults.WorldFault.{WorldFault}
 use Rattle.lte_world.specs.InOctets.{answers_of, CommandsShare, PacketsOpen}
@@ -49,7 +49,7 @@ module _ (w : World (List ℕ) ℕ Kept) where
   arrives_at (Address.StationS1 station) pdu came = turn_at station (StationRecord OnS1 (content_in octets came)) came (station_of_id station w.stations)
   arrives_at (Address.StationX2 station) pdu came = turn_at station (StationRecord OnX2 (content_in octets came)) came (station_of_id station w.stations)
 
-  delivered_at : (o : Option Kept) → AtStep (delivered octets w o)
+  delivered_at : (o : Option Kept) → AtStep (delivery octets w o)
   delivered_at None = refl
   delivered_at (Some x) = arrives_at x.to x.octets (Some x)
 
@@ -62,7 +62,7 @@ module _ (w : World (List ℕ) ℕ Kept) where
   happens_at (Event.Phone act) = refl
   happens_at (Event.Station id act) = turn_at id (StationActs act) None (station_of_id id w.stations)
   happens_at (Event.Core act) = refl
-  happens_at (Event.Deliver i) = delivered_at (chosen i w.sent)
+  happens_at (Event.Deliver i) = delivered_at (record_at i w.sent)
   happens_at (Event.Inject to pdu) = injected_at to pdu (position_from (is_sent octets (class_of to) pdu) 0 w.sent)
 
   next_at : (e : Event) (u : World (List ℕ) ℕ Kept) (l : world.Line (List ℕ)) → next (open_octets annex_b) octets w e ≡ Continues u l → l.step ≡ w.events

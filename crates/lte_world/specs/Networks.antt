@@ -16,7 +16,7 @@ use Rattle.lte_machine.specs.Tuples.{Rows}
 use Rattle.key_terms.specs.declared.row.Holder.{Holder}
 use Rattle.lte_machine.specs.Ranges.{AllOf}
 use Rattle.lte_machine.specs.World as world
-use Rattle.lte_machine.specs.World.{World, Holding, kept, line_of}
+use Rattle.lte_machine.specs.World.{World, Holding, world_with, line_of}
 use Rattle.run_stores.specs.Rows.{holder_of}
 use Rattle.run_stores.specs.Additions.{AllCanAdd}
 use Rattle.run_stores.specs.Joins.{HasRow, Keeps}

@@ -19,7 +19,7 @@ use Rattle.lte_machine.specs.Machines.{Kept}
 use Rattle.lte_machine.specs.PhoneState.{Phone}
 use Rattle.lte_machine.specs.Run.{Running}
 use Rattle.lte_machine.specs.StationState.{Station}
-use Rattle.lte_machine.specs.World.{World, station_of_id, known_root, chosen, is_sent, class_of}
+use Rattle.lte_machine.specs.World.{World, station_of_id, known_root, record_at, is_sent, class_of}
 use Rattle.lte_world.specs.Systems.{octets, Actors, Are}
 
 -- the reply of a station, if it stands
@@ -69,7 +69,7 @@ module _ (w : World (List ℕ) ℕ Kept) where
   replies_of (Event.Phone act) = replies_in (ActorIn.Phone (PhoneIn.Act act))
   replies_of (Event.Station id act) = replies_in (ActorIn.Station id (StationIn.Act act))
   replies_of (Event.Core act) = replies_in (ActorIn.Core (CoreIn.Act act))
-  replies_of (Event.Deliver i) = delivered_replies (chosen i w.sent)
+  replies_of (Event.Deliver i) = delivered_replies (record_at i w.sent)
   replies_of (Event.Inject to pdu) = injected_replies to pdu (position_from (is_sent octets (class_of to) pdu) 0 w.sent)
 
 -- these are the replies to an event in each world that has these actors

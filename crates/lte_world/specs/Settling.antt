@@ -17,7 +17,7 @@ use Rattle.lte_machine.specs.Machines.{Kept, machine_in_octets}
 use Rattle.lte_machine.specs.Reply.{Reply}
 use Rattle.lte_machine.specs.Tuples.{Chance, Rows, tuple_chance}
 use Rattle.lte_machine.specs.World as world
-use Rattle.lte_machine.specs.World.{World, kept, line_of}
+use Rattle.lte_machine.specs.World.{World, world_with, line_of}
 use Rattle.run_stores.specs.Additions.{CanKeep}
 use Rattle.run_stores.specs.Proofs.{proof_of}
 use Rattle.run_stores.specs.Rows.{holder_of}
@@ -40,7 +40,7 @@ number_of before (Some x) = Some (before, world.class_of x.to)
 
 -- a world after a reply of one of its actors, whose holder is this
 abbrev pub after : World (List ℕ) ℕ Kept → world.Holder → Reply (List ℕ) ℕ → World (List ℕ) ℕ Kept
-after w holder r = kept (machine_in_octets annex_b) w holder r
+after w holder r = world_with (machine_in_octets annex_b) w holder r
 
 -- these stores are those of a world, and can take what this reply gives out
 pub record Settles (stores : Stores) (out : ActorOut) : Type 0 where

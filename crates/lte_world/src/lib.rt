@@ -9,8 +9,6 @@ mod shelf;
 mod show;
 mod start;
 mod system;
-#[cfg(test)]
-mod tests;
 mod world;
 
 pub use faults::WorldFault;

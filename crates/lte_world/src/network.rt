@@ -8,7 +8,7 @@ ghost use Rattle.lte_machine.specs.Tuples as tuples;
 ghost use Rattle.lte_machine.specs.World.{class_of as class_at};
 ghost use Rattle.lte_world.specs.Systems.{HasRoom};
 ghost use Rattle.net_bag.specs.Bag.{first_sent};
-ghost use Rattle.lte_machine.specs.World.{chosen};
+ghost use Rattle.lte_machine.specs.World.{record_at};
 ghost use Rattle.lte_world.specs.Enrolling.{EnrolledAs};
 ghost use Rattle.lte_world.specs.Settling.{Settles, SettledAs, chance_told, sent_in, number_of, at_place};
 ghost use Rattle.std.specs.Prelude.{List};
@@ -111,8 +111,8 @@ impl Network {
     }
 
     // A record that was sent, by its number, or from the newest back where that is negative.
-    pub fn chosen(&self, i: &i64) -> Option<BagView>
-        ensures { result ≡ chosen i.now self.now.records }
+    pub fn record_at(&self, i: &i64) -> Option<BagView>
+        ensures { result ≡ record_at i.now self.now.records }
     {
         let place = place_of(i, self.bag.len())?;
         self.bag.get(place)
@@ -173,7 +173,7 @@ fn keep(bag: &mut Bag, out: &ActorOut) -> Option<(u32, Class)>
 
 // The number of a record among so many, from the newest back where it is negative.
 fn place_of(i: &i64, len: u32) -> Option<u32>
-    ensures { (records : List BagView) → length records ≡ len → at_place records result ≡ chosen i.now records }
+    ensures { (records : List BagView) → length records ≡ len → at_place records result ≡ record_at i.now records }
 {
     if *i >= 0 {
         return u32::try_from(*i).ok();

@@ -208,7 +208,7 @@ impl System {
         ensures happens { Happens self.old self.new (Deliver i.now) step result }
         ensures told { OnOk result (Tells self.old (Deliver i.now) told.new) }
     {
-        let Some(sent) = self.network.chosen(i) else {
+        let Some(sent) = self.network.record_at(i) else {
             return Ok(refused(Answer::NoRecord, step));
         };
         self.arrive(&sent.to, &sent.octets, sent.tuple, step, told)

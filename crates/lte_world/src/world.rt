@@ -1,5 +1,6 @@
 ghost use Rattle.std.specs.Prelude.{◌≡◌, ◌≢◌, ◌<◌, ◌≤◌, [], ◌∷◌, ◌++◌, true, false, length, Some, None, IsTrue, IsOkUnless, OnOk, OnErr, IfOk};
 ghost use Rattle.lte_events.specs.Conditions.{has_station};
+ghost use Rattle.lte_events.specs.declared.events.Event.{Event as AnEvent};
 ghost use Rattle.lte_machine.specs.BothRuns.{written_run};
 ghost use Rattle.lte_machine.specs.Carried.{run_value};
 ghost use Rattle.lte_machine.specs.Ciphers.{annex_b};
@@ -24,7 +25,8 @@ use std::marker::Model;
 ///
 /// A contract sees what it started with, the events that it took, the coincidence that ended it if one did, and
 /// whether there is room for one event more. All else is what the run of the written machine in octets says of
-/// these events.
+/// these events, up to a coincidence: behind one nothing is said of `ladder`, `records`, `uses`, the KeNBs and
+/// `replies`.
 #[derive(Drop)]
 pub struct World {
     setup: Setup,
@@ -55,6 +57,7 @@ impl Model for World {
 
 impl World {
     /// A system that begins with this setup, in which nothing has happened. It makes the list of the stations.
+    /// `Memory` where memory runs out.
     pub fn new(alloc: Global, setup: &Setup) -> Result<World, WorldFault>
         requires { CanBegin setup.now }
         ensures memory { IsOkUnless result WorldFault.Memory }
@@ -118,12 +121,14 @@ impl World {
         }
     }
 
-    /// Makes room for one event. Where memory runs out nothing changes.
+    /// Makes room for one event. Where memory runs out nothing changes, and what is told of any event later is what it
+    /// would have been without this call.
     pub fn reserve(&mut self) -> Result<(), WorldFault>
         ensures memory { IsOkUnless result WorldFault.Memory }
         ensures room { OnOk result (IsTrue self.new.ready) }
         ensures same { OnOk result (self.new ≡ record self.old { ready = true }) }
         ensures err { OnErr result (self.new ≡ self.old) }
+        ensures told { (event : AnEvent) → told_of self.new event ≡ told_of self.old event }
     {
         self.journal.reserve(1).map_err(|_| WorldFault::Memory)?;
         self.system.reserve()?;
@@ -152,7 +157,7 @@ impl World {
         self.system.records()
     }
 
-    /// The uses of keys in all that was sent, in order. No two are equal.
+    /// The uses of keys in all that was sent, in order. Where no coincidence ended the world no two are equal.
     pub fn uses(&self) -> &[Use]
         ensures uses { InRun (λ w. result.now ≡ world_uses w) (run_of self.now) }
         ensures differ { self.now.over ≡ None → NoTwoEqual result.now }

@@ -9,7 +9,5 @@ mod mme;
 mod nas;
 mod records;
 mod sends;
-#[cfg(test)]
-mod tests;
 
 pub use mme::Core;

@@ -66,8 +66,8 @@ impl Core {
 
     /// One step: what comes, and the reply. The KSI of an authentication is 0 to 6.
     ///
-    /// The step is that of the written machine, each answer with its cause in the tables of its rows, and it
-    /// takes no memory. A refused step leaves the core as it was.
+    /// The step is that of the written machine, and it takes no memory. Each answer stands with its cause, in the
+    /// order in which they are tried, in `CoreChoice` of `lte_machine`. A refused step leaves the core as it was.
     pub fn step(&mut self, input: &CoreIn) -> ActorOut
         requires { IsInput input.now }
         ensures step { (self.new, result) ≡ core_call self.old input.now }

@@ -5,8 +5,6 @@
 
 mod receiving;
 mod sending;
-#[cfg(test)]
-mod tests;
 
 pub use receiving::RxCount;
 pub use sending::{CountSpent, LIMIT, TxCount};

@@ -7,8 +7,6 @@ mod keys;
 mod laws;
 mod opening;
 mod sealing;
-#[cfg(test)]
-mod tests;
 
 pub use ciphers::{cipher, mac, mac_behind};
 pub use keys::NasKeys;

@@ -9,16 +9,12 @@ mod core_context;
 mod core_judging;
 mod core_nas;
 mod core_partial;
-#[cfg(test)]
-mod core_tests;
 mod judging;
 mod opening;
 mod partial;
 mod phone;
 mod protection;
 mod reply;
-#[cfg(test)]
-mod tests;
 
 pub use core_nas::CoreNas;
 pub use phone::PhoneNas;

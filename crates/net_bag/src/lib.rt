@@ -6,8 +6,6 @@ mod chains;
 mod classes;
 mod records;
 mod search;
-#[cfg(test)]
-mod tests;
 mod view;
 
 pub use bag::{Bag, BagMemory};

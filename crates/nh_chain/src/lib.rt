@@ -1,4 +1,4 @@
-//! The chain of NH keys of TS 33.401 7.2.8 as types that cannot be misused: only a chain that has
+//! The chain of NH keys of TS 33.401 7.2.8 as types that guard against slips: only a chain that has
 //! KASME makes an NH, a pair of NH and NCC is used once, and a station's key derives vertically where
 //! a pair is stored.
 #![tactic(auto)]
@@ -8,8 +8,6 @@ mod core_chain;
 mod pair;
 mod phone_chain;
 mod station_key;
-#[cfg(test)]
-mod tests;
 
 pub use core_chain::CoreChain;
 pub use pair::{NhPair, Spent};

@@ -8,8 +8,6 @@ mod keys;
 mod laws;
 mod pdus;
 mod srbs;
-#[cfg(test)]
-mod tests;
 
 pub use counting::LIMIT;
 pub use drbs::Drb;

@@ -40,7 +40,8 @@ fn copied(cells: &Cells) -> Cells
     }
 }
 
-/// Sets up all peers of a setup, in order, to the first whose reply is not the wanted one.
+/// Sets up all peers of a setup, in order, to the first whose reply is not the wanted one: `Differs`.
+/// `PeerFault` where a call on a peer failed.
 pub fn set_up_all<P: Peers>(peers: &mut P, setup: &Setup) -> Result<(), DriveFault>
     requires running { AllRun (length (seeds_of setup.now)) (P.told peers.old) }
     requires seeds { All IsSetup (seeds_of setup.now) }

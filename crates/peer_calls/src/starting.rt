@@ -32,7 +32,7 @@ fn role_at(setup: &Setup, peer: u8) -> Role
 }
 
 /// Starts all peers of a setup, in order, to the first that is not started. It answers how many were
-/// started.
+/// started. `Memory` where memory ran out, `PeerFault` where a start failed.
 pub fn start_all<P: Peers>(peers: &mut P, setup: &Setup) -> (u8, Result<(), DriveFault>)
     requires none { IfSome (P.told peers.old) (λ t. t.roles ≡ []) }
     ensures went { (written : Option (List ℕ)) → Went (starts (roles_of setup.now)) result.1

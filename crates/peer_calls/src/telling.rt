@@ -37,7 +37,8 @@ fn peer_of(setup: &Setup, input: &ActorIn) -> u8
     }
 }
 
-/// Tells the peers the inputs of an event, in order, to the first whose reply is not the wanted one.
+/// Tells the peers the inputs of an event, in order, to the first whose reply is not the wanted one: `Differs`.
+/// `PeerFault` where a call on a peer failed.
 pub fn tell_all<P: Peers>(
     peers: &mut P,
     setup: &Setup,

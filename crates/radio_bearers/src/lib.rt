@@ -4,8 +4,6 @@
 
 mod answers;
 mod bearers;
-#[cfg(test)]
-mod tests;
 
 pub use answers::{answer_of, kind_of, packet_text, verified_use};
 pub use bearers::{Bearers, is_srb, is_srb1};

@@ -7,8 +7,6 @@ mod bounded;
 mod faults;
 mod fields;
 mod headers;
-#[cfg(test)]
-mod tests;
 mod uses;
 mod ways;
 

@@ -1,4 +1,4 @@
-pub mod Kept
+pub mod Details
 pub mod Line
 pub mod Ladder
 pub mod Chance

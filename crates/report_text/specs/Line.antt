@@ -11,7 +11,7 @@ use Rattle.lte_events.specs.declared.lines.Who.{Who}
 use Rattle.lte_events.specs.declared.lines.Who.TheVariants.{Both, World, Phone, Core, Station}
 use Rattle.lte_events.specs.declared.replies.KeyNote.{KeyNote}
 use Rattle.lte_events.specs.Answer.{name_of}
-use Rattle.report_text.specs.Kept.{kept_text}
+use Rattle.report_text.specs.Details.{details_text}
 
 -- who acted
 abbrev pub who_text : Who → List ℕ
@@ -62,5 +62,5 @@ alarm_text false = []
 unfoldable pub line_text : Line → List ℕ
 line_text line =
     decimal line.step ++ (codes " " ++ (who_text line.who ++ (codes " " ++ (name_of line.answer
-    ++ (kept_text line.answer ++ (sent_text line.sent ++ (opened_text line.opened ++ (note_text line.note
+    ++ (details_text line.answer ++ (sent_text line.sent ++ (opened_text line.opened ++ (note_text line.note
     ++ (alarm_text line.alarm ++ codes "\n")))))))))

@@ -8,7 +8,8 @@ use hmac_kdf::KdfInput;
 use key_terms::{Ladder, LadderRow, Origin, Row};
 use std::alloc::{AllocError, Global};
 
-/// The lines of a report for the rows of a ladder, in ASCII, each with the LF that ends it.
+/// The lines of a report for the rows of a ladder, in ASCII, each with the LF that ends it. The one error is want
+/// of memory.
 pub fn ladder_text(alloc: Global, ladder: &Ladder) -> Result<Vec<u8>, TextMemory>
     ensures { IfOk result (λ text. text.items ≡ ladder_text ladder.now.rows) }
 {
@@ -19,7 +20,8 @@ pub fn ladder_text(alloc: Global, ladder: &Ladder) -> Result<Vec<u8>, TextMemory
     Ok(text)
 }
 
-/// What a row of a ladder is, in ASCII: a root, or a derivation with the row of its key.
+/// What a row of a ladder is, in ASCII: a root, or a derivation with the row of its key. The row stands. The one
+/// error is want of memory.
 pub fn form(alloc: Global, ladder: &Ladder, row: Row) -> Result<Vec<u8>, TextMemory>
     requires { row.0 < length ladder.now.rows }
     ensures { IfOk result (λ text. text.items ≡ form_at ladder.now.rows row.0) }
@@ -28,7 +30,8 @@ pub fn form(alloc: Global, ladder: &Ladder, row: Row) -> Result<Vec<u8>, TextMem
     Ok(text.into_bytes())
 }
 
-/// The line of a report for one row of a ladder, in ASCII, with the LF that ends it. The row stands.
+/// The line of a report for one row of a ladder, in ASCII, with the LF that ends it. The row stands. The one error
+/// is want of memory.
 pub fn row_line(alloc: Global, ladder: &Ladder, row: Row) -> Result<Vec<u8>, TextMemory>
     requires { row.0 < length ladder.now.rows }
     ensures { IfOk result (λ text. (r : LadderRow) → slice_get ladder.now.rows row.0 ≡ Some r → text.items ≡ row_text ladder.now.rows row.0 r) }

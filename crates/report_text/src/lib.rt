@@ -3,14 +3,12 @@
 #![tactic(auto)]
 
 mod chances;
+mod details;
 mod ends;
-mod kept;
 mod ladders;
 mod lines;
 mod memory;
 mod summaries;
-#[cfg(test)]
-mod tests;
 
 pub use chances::chance;
 pub use ends::end;

@@ -3,12 +3,12 @@ ghost use Rattle.std.specs.String.{string_bytes};
 ghost use Rattle.report_text.specs.Line.{who_text, class_name, sent_text, opened_text, way_name, key_note_text, note_text, alarm_text, line_text};
 
 use crate::TextMemory;
-use crate::kept::kept_text;
+use crate::details::details_text;
 use lte_events::{Class, KeyNote, Line, Who};
 use rec_base::{UserText, Way};
 use std::alloc::{AllocError, Global};
 
-/// The line of a report for an event, in ASCII, with the LF that ends it.
+/// The line of a report for an event, in ASCII, with the LF that ends it. The one error is want of memory.
 pub fn line(alloc: Global, line: &Line) -> Result<Vec<u8>, TextMemory>
     ensures { IfOk result (λ text. text.items ≡ line_text line.now) }
 {
@@ -23,12 +23,12 @@ fn whole(alloc: Global, line: &Line) -> Result<String, AllocError>
     let step = line.step;
     let who = who_text(alloc, line.who)?;
     let answer = line.answer.name();
-    let kept = kept_text(alloc, &line.answer)?;
+    let details = details_text(alloc, &line.answer)?;
     let sent = sent_text(alloc, line.sent)?;
     let opened = opened_text(alloc, &line.opened)?;
     let note = note_text(alloc, &line.note)?;
     let alarm = alarm_text(line.alarm);
-    format!(in alloc; "{step} {who} {answer}{kept}{sent}{opened}{note}{alarm}\n")
+    format!(in alloc; "{step} {who} {answer}{details}{sent}{opened}{note}{alarm}\n")
 }
 
 // Who acted.

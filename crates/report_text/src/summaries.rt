@@ -133,7 +133,8 @@ impl Figure {
     }
 }
 
-/// The line of a summary for one of its figures, in ASCII, with the LF that ends it.
+/// The line of a summary for one of its figures, in ASCII, with the LF that ends it. The one error is want of
+/// memory.
 pub fn summary_line(
     alloc: Global,
     tally: &Tally,

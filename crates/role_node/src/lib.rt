@@ -3,8 +3,6 @@
 
 mod actor;
 mod serving;
-#[cfg(test)]
-mod tests;
 
 pub use actor::Actor;
 pub use serving::{ServeEnd, serve};

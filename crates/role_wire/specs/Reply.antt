@@ -24,23 +24,23 @@ fault_octets RecFault.BadKind = 3 ∷ 0 ∷ []
 fault_octets (RecFault.BadField place) = 4 ∷ place ∷ []
 
 -- the values that an answer keeps
-abbrev pub kept_octets : Answer → List ℕ
-kept_octets (Answer.WrongKsi held got) = held ∷ got ∷ []
-kept_octets (Answer.CapsMismatch own got) = own.eea ∷ own.eia ∷ got.eea ∷ got.eia ∷ []
-kept_octets (Answer.AlgUnsupported algs) = algs_octet algs ∷ []
-kept_octets (Answer.MacFails count wanted got) = octets_of 4 count ++ wanted ++ got
-kept_octets (Answer.BadRecord fault) = fault_octets fault
-kept_octets (Answer.BadHeader octet) = octet ∷ []
-kept_octets (Answer.WrongKind kind) = kind ∷ []
-kept_octets (Answer.Stale outstanding got) = octets_of 4 outstanding ++ octets_of 4 got
-kept_octets (Answer.OldConnection held got) = octets_of 4 held ++ octets_of 4 got
-kept_octets (Answer.AttemptOpen number) = octets_of 4 number
-kept_octets (Answer.Repeated seen got) = octets_of 4 seen ++ octets_of 4 got
-kept_octets _ = []
+abbrev pub details_octets : Answer → List ℕ
+details_octets (Answer.WrongKsi held got) = held ∷ got ∷ []
+details_octets (Answer.CapsMismatch own got) = own.eea ∷ own.eia ∷ got.eea ∷ got.eia ∷ []
+details_octets (Answer.AlgUnsupported algs) = algs_octet algs ∷ []
+details_octets (Answer.MacFails count wanted got) = octets_of 4 count ++ wanted ++ got
+details_octets (Answer.BadRecord fault) = fault_octets fault
+details_octets (Answer.BadHeader octet) = octet ∷ []
+details_octets (Answer.WrongKind kind) = kind ∷ []
+details_octets (Answer.Stale outstanding got) = octets_of 4 outstanding ++ octets_of 4 got
+details_octets (Answer.OldConnection held got) = octets_of 4 held ++ octets_of 4 got
+details_octets (Answer.AttemptOpen number) = octets_of 4 number
+details_octets (Answer.Repeated seen got) = octets_of 4 seen ++ octets_of 4 got
+details_octets _ = []
 
 -- the answer, and these values behind their length
 abbrev pub answer_octets : Answer → List ℕ
-answer_octets answer = number_of answer ∷ length (kept_octets answer) ∷ kept_octets answer
+answer_octets answer = number_of answer ∷ length (details_octets answer) ∷ details_octets answer
 
 -- where a record goes
 abbrev pub address_octets : Address → List ℕ

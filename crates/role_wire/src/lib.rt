@@ -9,8 +9,6 @@ mod laws;
 mod reading;
 mod replies;
 mod setups;
-#[cfg(test)]
-mod tests;
 mod writing;
 
 pub use frames::{Frame, FrameFault, FrameIn, GREATEST_BODY, RoleSetup};

@@ -13,7 +13,7 @@ use rec_base::u16_at;
 
 /// Reads the next frame for a role: the first of a session is a Setup, and no later one is.
 ///
-/// Otherwise, and exactly then where the source tells its octets: `Ended` where the input ends before
+/// Otherwise, and exactly then where the source tells its octets and no read failed: `Ended` where the input ends before
 /// the frame; `Truncated` where it ends inside the two octets of the length, or inside a body whose
 /// length is at most 4,096; `TooLong` where the length is above 4,096, and nothing behind it is then
 /// read; `BadBody` where the body is none for the role, with the offset of its first bad octet, counted

@@ -4,7 +4,7 @@ ghost use Rattle.rec_base.specs.BigEndian.{octets_of};
 ghost use Rattle.rec_base.specs.Bearer.{octet_of};
 ghost use Rattle.lte_events.specs.Reply.{reply_of};
 ghost use Rattle.lte_events.specs.declared.answers.Answer.TheVariants.{Done};
-ghost use Rattle.role_wire.specs.Reply.{fault_octets, kept_octets, answer_octets, address_octets, sent_octets, opened_octets, derived_octets, way_octet, note_octets, reply_spelling};
+ghost use Rattle.role_wire.specs.Reply.{fault_octets, details_octets, answer_octets, address_octets, sent_octets, opened_octets, derived_octets, way_octet, note_octets, reply_spelling};
 
 use crate::Frame;
 use crate::writing::{Body, framed};
@@ -42,15 +42,15 @@ fn answer_body(answer: &Answer) -> Body
     ensures octets { result ≡ 0x80 ∷ answer_octets answer.now }
     ensures count { length result ≤ 15 }
 {
-    let kept = kept_of(answer);
-    let mut out = list_of(&[0x80, answer.number(), kept.as_slice().len() as u8]);
-    out.append(kept.as_slice());
+    let details = details_of(answer);
+    let mut out = list_of(&[0x80, answer.number(), details.as_slice().len() as u8]);
+    out.append(details.as_slice());
     out
 }
 
 // The values that an answer keeps.
-fn kept_of(answer: &Answer) -> Bounded<12>
-    ensures { result ≡ kept_octets answer.now }
+fn details_of(answer: &Answer) -> Bounded<12>
+    ensures { result ≡ details_octets answer.now }
 {
     match answer {
         Answer::WrongKsi(held, got) => list_of(&[*held, *got]),

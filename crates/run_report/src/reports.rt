@@ -20,7 +20,8 @@ use std::alloc::Global;
 
 /// Lets these events happen to a system, and writes the report of them: a line for each event by one
 /// `write_all`, and behind the last how many events, records and rows there were, and the rows. A coincidence
-/// ends the report, and the answer is whether there was one.
+/// ends the report, and the answer is whether there was one. `Memory` where memory runs out, and `WriteFault`
+/// where the output fails; a prefix is then written.
 pub fn write_run<W: Sink>(
     alloc: Global,
     setup: &Setup,
@@ -54,7 +55,8 @@ pub fn write_run<W: Sink>(
     }
 }
 
-/// Lets one event happen, and writes what is told of it. The answer is whether it is a coincidence.
+/// Lets one event happen, and writes what is told of it. The answer is whether it is a coincidence. Its errors
+/// are those of `write_run`.
 pub fn write_event<W: Sink>(
     alloc: Global,
     world: &mut World,
@@ -94,7 +96,7 @@ pub fn write_event<W: Sink>(
     }
 }
 
-/// Writes what shows a coincidence at this step.
+/// Writes what shows a coincidence at this step. Its errors are those of `write_run`.
 pub fn write_chance<W: Sink>(
     alloc: Global,
     step: u32,
@@ -124,7 +126,8 @@ fn has_counts(proof: Proof)
     }
 }
 
-/// Writes how many events, records and rows there were, and the rows of the ladder.
+/// Writes how many events, records and rows there were, and the rows of the ladder. Its errors are those of
+/// `write_run`.
 pub fn write_end<W: Sink>(alloc: Global, world: &World, out: &mut W) -> Result<(), Unwritten>
     requires out_ready { IsTrue (W.told out.old).ready }
     requires goes_on { GoesOn (run_of world.now) }

@@ -27,7 +27,8 @@ pub(crate) enum Course {
 }
 
 /// Lets these events happen to a system, and writes the summary of them, each of its lines by one `write_all`.
-/// Where there is a coincidence its line is written alone, and the answer is whether there was one.
+/// Where there is a coincidence its line is written alone, and the answer is whether there was one. `Memory`
+/// where memory runs out, and `WriteFault` where the output fails; a prefix is then written.
 pub fn write_summary<W: Sink>(
     alloc: Global,
     setup: &Setup,

@@ -22,7 +22,7 @@ use Rattle.lte_machine.specs.StationStep.{key_read, station_key, station_opens, 
 use Rattle.lte_machine.specs.CoreState.{CoreInput, CoreActs, CoreNasPdu, CoreRecord}
 use Rattle.lte_machine.specs.CoreChoice.{core_row}
 use Rattle.lte_machine.specs.CoreStep.{plain_core, core_front_of, core_root, core_opens, core_pdu_in, core_step}
-use Rattle.lte_machine.specs.World.{Machine, World, phone_turn, core_turn, station_of_id, turn_of, station_turn, auth_unless, known_root, next_root, content_in, arrives, chosen, delivered, class_of, is_sent, injected, happens}
+use Rattle.lte_machine.specs.World.{Machine, World, phone_turn, core_turn, station_of_id, turn_of, station_turn, auth_unless, known_root, next_root, content_in, arrives, record_at, delivery, class_of, is_sent, injected, happens}
 use Rattle.lte_machine.specs.Machines.{machine_by}
 use Rattle.lte_machine.specs.Distinct.{keys_of, Member}
 use Rattle.lte_machine.specs.Known.{PairKnown, StationKnown, SentKnown, IsReported}
@@ -191,7 +191,7 @@ module _ (root : ℕ → List ℕ → Term) (octets : Outgoing Term ℕ → List
   arrives_can (Address.StationS1 station) pdu came c = station_turn_can station (StationRecord OnS1 (content_in m came)) came (read_known came c) (read_ranged came c)
   arrives_can (Address.StationX2 station) pdu came c = station_turn_can station (StationRecord OnX2 (content_in m came)) came (read_known came c) (read_ranged came c)
 
-  delivered_can : (o : Option (Outgoing Term ℕ)) → CameGood o → Can (delivered m w o).0
+  delivered_can : (o : Option (Outgoing Term ℕ)) → CameGood o → Can (delivery m w o).0
   delivered_can None c well = can
   delivered_can (Some x) c well = arrives_can (address_of x) (octets x) (Some x) c well
 
@@ -209,5 +209,5 @@ module _ (root : ℕ → List ℕ → Term) (octets : Outgoing Term ℕ → List
   happens_can (Event.Station id act) is = station_turn_can id (StationActs act) None tt is
   happens_can (Event.Core act) is = core_turn_can (CoreActs act) None tt
   happens_can (Event.Deliver i) is =
-      delivered_can (chosen i w.sent) (all_chosen (λ x. SentKnown P x × RecordRanged x) i w.sent (both w.sent g.keys.sent f.2))
+      delivered_can (record_at i w.sent) (all_chosen (λ x. SentKnown P x × RecordRanged x) i w.sent (both w.sent g.keys.sent f.2))
   happens_can (Event.Inject to pdu) is = injected_can to pdu (position_from (is_sent m (class_of to) pdu) 0 w.sent)

@@ -5,8 +5,6 @@
 mod commanded;
 mod opened;
 mod ready;
-#[cfg(test)]
-mod tests;
 
 pub use commanded::S1Commanded;
 pub use opened::S1Open;

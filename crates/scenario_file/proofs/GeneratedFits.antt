@@ -18,7 +18,7 @@ use Rattle.lte_events.specs.declared.events.Event.TheVariants as event
 use Rattle.scenario_file.specs.declared.journey.Journey.{Journey}
 use Rattle.scenario_file.specs.declared.turns.Turn.{Turn}
 use Rattle.scenario_file.specs.declared.turns.Turn.TheVariants.{Uplink, Downlink, OverX2, OverS1, Within}
-use Rattle.scenario_file.specs.Draws.{cell_of, generated_caps, station_setup, site_of, generated_setup, next, drawn, draws_on, text_of, target_of, chosen, moved, turn_of, after, arrivals, handover, steps_of, opening, journey_at, steps_up_to, generated}
+use Rattle.scenario_file.specs.Draws.{cell_of, generated_caps, station_setup, site_of, generated_setup, next, drawn, draws_on, text_of, target_of, turn_for, moved, turn_of, after, arrivals, handover, steps_of, opening, journey_at, steps_up_to, generated}
 use Rattle.scenario_file.proofs.Ranges.{bytes_are_octets}
 
 -- THE SETUP
@@ -77,8 +77,8 @@ good_if : (b : Bool) (x y : Turn) → GoodTurn x → GoodTurn y → GoodTurn (if
 good_if true x y good other = good
 good_if false x y other good = good
 
-good_choice : (choice : ℕ) (j : Journey) → j.serving < 4 → GoodTurn (chosen choice j)
-unfolding chosen
+good_choice : (choice : ℕ) (j : Journey) → j.serving < 4 → GoodTurn (turn_for choice j)
+unfolding turn_for
 good_choice choice j serving =
     let target : target_of j < 4 = omega arith in
     good_if (choice == 0) _ _ (good_text j)

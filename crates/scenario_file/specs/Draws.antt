@@ -68,9 +68,9 @@ text_of j = octets_of 8 (next j.state)
 abbrev pub target_of : Journey → ℕ
 target_of j = (j.serving + 1 + drawn 3 (next j.state)) % 4
 
--- what a draw of six chooses. Where an answer was left undelivered at the last change of station, it is not at this one.
-unfoldable pub chosen : ℕ → Journey → Turn
-chosen choice j =
+-- the turn for a draw of six. Where an answer was left undelivered at the last change of station, it is not at this one.
+unfoldable pub turn_for : ℕ → Journey → Turn
+turn_for choice j =
     if choice == 0 then Uplink (text_of j)
     else (if choice == 1 then Downlink j.serving (text_of j)
     else (if choice == 2 then OverX2 j.serving (target_of j) true
@@ -87,7 +87,7 @@ moved j (OverS1 from to) = record { state = next j.state; serving = to; unanswer
 moved j (Within s) = j
 
 unfoldable pub turn_of : Journey → Turn
-turn_of j = chosen (drawn 6 (next j.state)) (draws_on j)
+turn_of j = turn_for (drawn 6 (next j.state)) (draws_on j)
 
 unfoldable pub after : Journey → Journey
 after j = moved (draws_on j) (turn_of j)

@@ -1,6 +1,6 @@
 // The draws of a generated scenario.
 ghost use Rattle.std.specs.Prelude.{◌≡◌, ◌<◌, ◌≤◌};
-ghost use Rattle.scenario_file.specs.Draws.{next, drawn, draws_on, text_of, target_of, chosen, moved, turn_of, after};
+ghost use Rattle.scenario_file.specs.Draws.{next, drawn, draws_on, text_of, target_of, turn_for, moved, turn_of, after};
 
 use crate::turns::Turn;
 
@@ -31,9 +31,9 @@ impl Journey {
         self.choose(choice)
     }
 
-    #[tactic(auto, unfolding(crate::specs::Draws::chosen))]
+    #[tactic(auto, unfolding(crate::specs::Draws::turn_for))]
     fn choose(&mut self, choice: u64) -> Turn
-        ensures turn { result ≡ chosen choice self.old }
+        ensures turn { result ≡ turn_for choice self.old }
         ensures journey { self.new ≡ moved self.old result }
     {
         match choice {

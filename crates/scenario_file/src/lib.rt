@@ -15,8 +15,6 @@ mod refused;
 mod setup;
 mod steps;
 mod systems;
-#[cfg(test)]
-mod tests;
 mod turns;
 mod values;
 mod whole;

@@ -39,7 +39,8 @@ pub struct TwoScenario {
     pub events: Vec<Event>,
 }
 
-/// The scenario that a text says, in TOML, or its first fault.
+/// The scenario that a text says, in TOML, or its first fault. `Memory` where memory ran out, which says nothing of
+/// the text.
 #[tactic(auto, unfolding(crate::specs::Reading::reading_of))]
 pub fn read(alloc: Global, octets: &[u8]) -> Result<Scenario, ScenarioFault>
     ensures scenario { IfOk result (λ s. reading_of octets.now ≡ Ok (s.setup, s.events.items)) }
@@ -58,7 +59,7 @@ pub fn read(alloc: Global, octets: &[u8]) -> Result<Scenario, ScenarioFault>
     })
 }
 
-/// The scenario of a fleet that a text says, in TOML, or its first fault.
+/// The scenario of a fleet that a text says, in TOML, or its first fault, or `Memory`.
 #[tactic(auto, unfolding(crate::specs::Reading::fleet_reading_of))]
 pub fn read_fleet(alloc: Global, octets: &[u8]) -> Result<FleetScenario, ScenarioFault>
     ensures scenario { IfOk result (λ s. fleet_reading_of octets.now ≡ Ok (s.setup, s.phones, s.events.items)) }
@@ -81,7 +82,7 @@ pub fn read_fleet(alloc: Global, octets: &[u8]) -> Result<FleetScenario, Scenari
     })
 }
 
-/// The scenario of two cores that a text says, in TOML, or its first fault.
+/// The scenario of two cores that a text says, in TOML, or its first fault, or `Memory`.
 #[tactic(auto, unfolding(crate::specs::Reading::two_reading_of))]
 pub fn read_two(alloc: Global, octets: &[u8]) -> Result<TwoScenario, ScenarioFault>
     ensures scenario { IfOk result (λ s. two_reading_of octets.now ≡ Ok (s.setup, s.core_of, s.events.items)) }

@@ -7,7 +7,7 @@ use std::alloc::{AllocError, Global};
 
 impl ScenarioFault {
     /// The line for a text that is no scenario, in ASCII, with the LF that ends it: its first fault, and the
-    /// place of it.
+    /// place of it. The one error is want of memory.
     #[tactic(auto, unfolding(crate::specs::Refused::refused_text))]
     pub fn line(&self, alloc: Global) -> Result<String, AllocError>
         ensures { IfOk result (λ text. string_bytes text ≡ refused_text self.now) }

@@ -12,8 +12,6 @@ mod radio;
 mod signals;
 mod starting;
 mod step;
-#[cfg(test)]
-mod tests;
 mod waiting;
 
 pub use phone::Phone;

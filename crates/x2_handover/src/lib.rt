@@ -7,8 +7,6 @@ mod commanded;
 mod opened;
 mod orders;
 mod ready;
-#[cfg(test)]
-mod tests;
 
 pub use commanded::X2Commanded;
 pub use opened::X2Open;

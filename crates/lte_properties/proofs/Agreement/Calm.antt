@@ -23,7 +23,7 @@ use Rattle.lte_machine.specs.StationState.{Station, Context, StationInput, Stati
 use Rattle.lte_machine.specs.StationKeys.{station_does}
 use Rattle.lte_machine.specs.CoreState.{Core, CoreInput, CoreActs, CoreNasPdu, CoreRecord}
 use Rattle.lte_machine.specs.CoreStep.{core_front_of}
-use Rattle.lte_machine.specs.World.{Machine, station_of_id, content_in, newest_if, chosen, class_of, is_sent}
+use Rattle.lte_machine.specs.World.{Machine, station_of_id, content_in, newest_if, record_at, class_of, is_sent}
 use Rattle.lte_machine.specs.Step.{Attempted, phone_attempts, core_attempts, attempts_at, station_attempts, arrival_attempts, delivery_attempts, injection_attempts}
 use Rattle.ho_prep.specs.Prep.{at_air}
 use Rattle.lte_properties.specs.ChainHolds.{machine_by}
@@ -340,7 +340,7 @@ module _ (same : Term → Term → Bool) (root : ℕ → List ℕ → Term) (oct
   injection_calm c w h never to pdu None honest = arrival_calm c w h never to pdu None (λ station air bearer e. tt) honest
   injection_calm c w h never to pdu (Some number) honest = tt
 
-  chosen_sent : (c : Conns) (w : TheWorld) → WorldOk cells c w → (i : ℤ) → OfSome (SentOk (ghost c w)) (chosen i w.sent)
+  chosen_sent : (c : Conns) (w : TheWorld) → WorldOk cells c w → (i : ℤ) → OfSome (SentOk (ghost c w)) (record_at i w.sent)
   chosen_sent c w h (pos i) = all_get (SentOk (ghost c w)) w.sent i h.sent
   chosen_sent c w h (negsuc i) = by_test (nat_lt i (length w.sent))
     where
@@ -354,5 +354,5 @@ module _ (same : Term → Term → Bool) (root : ℕ → List ℕ → Term) (oct
   calm_at c w (Event.Phone act) h never honest = tt
   calm_at c w (Event.Station id act) h never honest = station_calm_at id w (StationActs act) None
   calm_at c w (Event.Core act) h never honest = core_calm_at w (CoreActs act) None
-  calm_at c w (Event.Deliver i) h never honest = delivery_calm c w h never (chosen i w.sent) (chosen_sent c w h i) honest
+  calm_at c w (Event.Deliver i) h never honest = delivery_calm c w h never (record_at i w.sent) (chosen_sent c w h i) honest
   calm_at c w (Event.Inject to pdu) h never honest = injection_calm c w h never to pdu (position_from (is_sent m (class_of to) pdu) 0 w.sent) honest

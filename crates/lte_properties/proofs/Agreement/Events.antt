@@ -22,7 +22,7 @@ use Rattle.lte_machine.specs.PhoneState.{PhoneActs, PhoneNasPdu, PhoneAirPdu}
 use Rattle.lte_machine.specs.PhoneChoice.{unciphered_text}
 use Rattle.lte_machine.specs.StationState.{Station, AirPdu}
 use Rattle.lte_machine.specs.CoreState.{CoreActs, CoreNasPdu, CoreRecord}
-use Rattle.lte_machine.specs.World.{Machine, phone_turn, core_turn, station_of_id, station_turn, authenticated, auth_unless, known_root, next_root, arrives, chosen, delivered, class_of, is_sent, injected, happens}
+use Rattle.lte_machine.specs.World.{Machine, phone_turn, core_turn, station_of_id, station_turn, authenticated, auth_unless, known_root, next_root, arrives, record_at, delivery, class_of, is_sent, injected, happens}
 use Rattle.lte_machine.specs.Step.{Attempted, phone_attempts, core_attempts, station_attempts, arrival_attempts, delivery_attempts, injection_attempts}
 use Rattle.lte_properties.specs.ChainBelow.{AllOf}
 use Rattle.lte_properties.specs.ChainAbove.{StationAbove, InFlight}
@@ -120,7 +120,7 @@ module _ (same : Term → Term → Bool) (root : ℕ → List ℕ → Term) (oct
   delivered_goes : (c : Conns) (w : TheWorld) (o : Option (Outgoing Term ℕ)) → WorldOk cells c w → Settled w → AllOf StationAbove w.stations
       → OfSome (SentOk (ghost c w)) o → OfSome (λ x. AllOf (λ s. InFlight s x) w.stations) o
       → IsHonestAt (delivery_attempts m w o) → IsCalmAt (delivery_attempts m w o)
-      → Goes cells c w (delivered m w o).0
+      → Goes cells c w (delivery m w o).0
   delivered_goes c w None h settled above k flight honest calm = by_world_goes same root octets sender opener tell cells cells_ok c w NoRecord h
   delivered_goes c w (Some (SealedNas Up header i e text)) h settled above k flight honest calm = core_nas c w _ _ h (k, tell.header Up header i e text) honest
   delivered_goes c w (Some (SealedNas Down header i e text)) h settled above k flight honest calm = phone_nas c w _ _ h
@@ -180,9 +180,9 @@ module _ (same : Term → Term → Bool) (root : ℕ → List ℕ → Term) (oct
       core_turn_goes same root octets sender opener tell cells cells_ok c w (CoreActs act) None h
       (core_act_walks same cells (ghost c w) w.core h.core act)
   happens_goes c w (Event.Deliver i) is h settled above flight honest calm =
-      delivered_goes c w (chosen i w.sent) h settled above (all_chosen (SentOk (ghost c w)) i w.sent h.sent)
-      (flight_turned w.stations (chosen i w.sent)
-      (all_map (λ s. AllOf (InFlight s) w.sent) (λ s. OfSome (InFlight s) (chosen i w.sent)) (λ s f. all_chosen (InFlight s) i w.sent f) w.stations flight))
+      delivered_goes c w (record_at i w.sent) h settled above (all_chosen (SentOk (ghost c w)) i w.sent h.sent)
+      (flight_turned w.stations (record_at i w.sent)
+      (all_map (λ s. AllOf (InFlight s) w.sent) (λ s. OfSome (InFlight s) (record_at i w.sent)) (λ s f. all_chosen (InFlight s) i w.sent f) w.stations flight))
       honest calm
   happens_goes c w (Event.Inject to pdu) is h settled above flight honest calm =
       injected_goes c w to pdu (position_from (is_sent m (class_of to) pdu) 0 w.sent) h settled above honest calm

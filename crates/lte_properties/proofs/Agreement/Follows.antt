@@ -22,7 +22,7 @@ use Rattle.lte_machine.specs.PhoneKeys.{PhoneDone, auth_does, rejected_under, co
 use Rattle.lte_machine.specs.PhoneStep.{plain_phone, front_of, phone_root, phone_opens, phone_pdu_in}
 use Rattle.lte_machine.specs.StationState.{Station, StationInput, StationActs, AirPdu, StationRecord, OnS1, OnX2}
 use Rattle.lte_machine.specs.CoreState.{CoreInput, CoreActs, CoreNasPdu, CoreRecord}
-use Rattle.lte_machine.specs.World.{Machine, World, with_one, phone_turn, core_turn, station_of_id, turn_of, auth_unless, known_root, next_root, content_in, arrives, chosen, delivered, class_of, is_sent, injected, happens}
+use Rattle.lte_machine.specs.World.{Machine, World, with_one, phone_turn, core_turn, station_of_id, turn_of, auth_unless, known_root, next_root, content_in, arrives, record_at, delivery, class_of, is_sent, injected, happens}
 use Rattle.lte_machine.specs.Run.{first_world}
 use Rattle.lte_properties.specs.ChainHolds.{machine_by, run}
 use Rattle.lte_properties.specs.Agreement.{Joins, Follow, TookLast}
@@ -209,7 +209,7 @@ module _ (same : Term → Term → Bool) (root : ℕ → List ℕ → Term) (oct
     arrives_goes (Address.StationS1 station) pdu came = turn_goes station (StationRecord OnS1 (content_in m came)) came (station_of_id station w.stations)
     arrives_goes (Address.StationX2 station) pdu came = turn_goes station (StationRecord OnX2 (content_in m came)) came (station_of_id station w.stations)
 
-    delivered_goes : (o : Option (Outgoing Term ℕ)) → InTurn (delivered m w o).0
+    delivered_goes : (o : Option (Outgoing Term ℕ)) → InTurn (delivery m w o).0
     delivered_goes None = h
     delivered_goes (Some x) = arrives_goes (address_of x) (octets x) (Some x)
 
@@ -226,7 +226,7 @@ module _ (same : Term → Term → Bool) (root : ℕ → List ℕ → Term) (oct
     happens_in_turn (Event.Phone act) = phone_goes (PhoneActs act) None
     happens_in_turn (Event.Station id act) = turn_goes id (StationActs act) None (station_of_id id w.stations)
     happens_in_turn (Event.Core act) = core_goes (CoreActs act) None
-    happens_in_turn (Event.Deliver i) = delivered_goes (chosen i w.sent)
+    happens_in_turn (Event.Deliver i) = delivered_goes (record_at i w.sent)
     happens_in_turn (Event.Inject to pdu) = injected_goes to pdu (position_from (is_sent m (class_of to) pdu) 0 w.sent)
 
   run_in_turn : (w : World Term ℕ (Outgoing Term ℕ)) (es : List Event) → InTurn w → InTurn (run m w es)

@@ -25,7 +25,7 @@ use Rattle.lte_machine.specs.StationRows.{Wanted, RecordRow, RecordRefused, Cont
 use Rattle.lte_machine.specs.StationKeys.{completed_by_s1, completed_within, completed_by_x2, air_does, started_by_x2, started_by_s1, started_within, commands, commands_change, asks_again, sends_packet, sends_rrc, act_does, station_does}
 use Rattle.lte_machine.specs.StationRecords.{context_given, pair_taken, prepared_by_s1, prepared_by_x2, key_renewed, record_does}
 use Rattle.lte_machine.specs.StationStep.{station_opens, station_pdu_in, station_row_of, station_key, station_step}
-use Rattle.lte_machine.specs.World.{Machine, put_if, put_station, station_after, station_of_id, turn_of, auth_unless, known_root, next_root, content_in, arrives, chosen, delivered, class_of, is_sent, injected, happens}
+use Rattle.lte_machine.specs.World.{Machine, put_if, put_station, station_after, station_of_id, turn_of, auth_unless, known_root, next_root, content_in, arrives, record_at, delivery, class_of, is_sent, injected, happens}
 use Rattle.lte_properties.specs.ChainBelow.{AllOf}
 use Rattle.lte_properties.specs.ChainHolds.{machine_by, run}
 use Rattle.lte_properties.specs.Agreement.{HadTaken, OfStation, HasContext, TellsWay, TellsNote, CompletedLines}
@@ -229,7 +229,7 @@ module _ (same : Term → Term → Bool) (root : ℕ → List ℕ → Term) (oct
     arrives_shows (Address.StationS1 station) pdu came = turn_shows station (StationRecord OnS1 (content_in m came)) came (station_of_id station w.stations) refl
     arrives_shows (Address.StationX2 station) pdu came = turn_shows station (StationRecord OnX2 (content_in m came)) came (station_of_id station w.stations) refl
 
-    delivered_shows : (o : Option (Outgoing Term ℕ)) → let h = delivered m w o in NoteShown h.0 h.1.who h.1.note
+    delivered_shows : (o : Option (Outgoing Term ℕ)) → let h = delivery m w o in NoteShown h.0 h.1.who h.1.note
     delivered_shows None = tt
     delivered_shows (Some x) = arrives_shows (address_of x) (octets x) (Some x)
 
@@ -246,7 +246,7 @@ module _ (same : Term → Term → Bool) (root : ℕ → List ℕ → Term) (oct
     happens_shows (Event.Phone act) = tt
     happens_shows (Event.Station id act) = turn_shows id (StationActs act) None (station_of_id id w.stations) refl
     happens_shows (Event.Core act) = tt
-    happens_shows (Event.Deliver i) = delivered_shows (chosen i w.sent)
+    happens_shows (Event.Deliver i) = delivered_shows (record_at i w.sent)
     happens_shows (Event.Inject to pdu) = injected_shows to pdu (position_from (is_sent m (class_of to) pdu) 0 w.sent)
 
 -- in a world with the invariant, the phone had taken the key of an active context

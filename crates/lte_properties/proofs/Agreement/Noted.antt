@@ -20,7 +20,7 @@ use Rattle.lte_machine.specs.StationState.{Station, Context, Renewal, StationInp
 use Rattle.x2_handover.specs.declared.orders.Order.{Order}
 use Rattle.lte_machine.specs.StationStep.{station_opens, station_pdu_in, station_row_of, station_key}
 use Rattle.lte_machine.specs.CoreState.{CoreInput, CoreActs, CoreNasPdu, CoreRecord}
-use Rattle.lte_machine.specs.World.{Machine, phone_turn, core_turn, station_of_id, turn_of, auth_unless, known_root, next_root, content_in, arrives, chosen, delivered, class_of, is_sent, injected, happens, with_one}
+use Rattle.lte_machine.specs.World.{Machine, phone_turn, core_turn, station_of_id, turn_of, auth_unless, known_root, next_root, content_in, arrives, record_at, delivery, class_of, is_sent, injected, happens, with_one}
 use Rattle.lte_machine.specs.PhoneChoice.{phone_row}
 use Rattle.lte_machine.specs.PhoneStep.{plain_phone, front_of, phone_root, phone_opens, phone_pdu_in}
 use Rattle.lte_machine.specs.StationRows.{Wanted, RecordRow, RecordRefused, ContextGiven, ContextReleased, PairTaken, PreparedByS1, PreparedByX2, AckedByS1, AckedByX2, PreparationCancelled, SourceReleased, KeyRenewed, AirRow, AirRefused, SecurityStarted, RrcOpened, PacketOpened, CompletedByS1, CompletedWithin, CompletedByX2, ActRow, ActRefused, StartedByX2, StartedByS1, StartedWithin, HandoverCommanded, ChangeCommanded, CancelledByX2, CancelledByS1, CancelledWithin, PathSwitchAsked, PacketSent, RrcSent, BearerSkipped, StationRow, OfRecord, OfAir, OfAct}
@@ -244,7 +244,7 @@ module _ (same : Term → Term → Bool) (root : ℕ → List ℕ → Term) (oct
     arrives_told (Address.StationS1 station) pdu came = turn_told station (StationRecord OnS1 (content_in m came)) came (station_of_id station w.stations) refl
     arrives_told (Address.StationX2 station) pdu came = turn_told station (StationRecord OnX2 (content_in m came)) came (station_of_id station w.stations) refl
 
-    delivered_told : (o : Option (Outgoing Term ℕ)) → BothTold w (delivered m w o)
+    delivered_told : (o : Option (Outgoing Term ℕ)) → BothTold w (delivery m w o)
     delivered_told None = (inl (refl, tt), inl (refl, λ f. absurd (world_is_none f)))
     delivered_told (Some x) = arrives_told (address_of x) (octets x) (Some x)
 
@@ -261,7 +261,7 @@ module _ (same : Term → Term → Bool) (root : ℕ → List ℕ → Term) (oct
     happens_told (Event.Phone act) = phone_told (PhoneActs act) None
     happens_told (Event.Station id act) = turn_told id (StationActs act) None (station_of_id id w.stations) refl
     happens_told (Event.Core act) = core_told (CoreActs act) None
-    happens_told (Event.Deliver i) = delivered_told (chosen i w.sent)
+    happens_told (Event.Deliver i) = delivered_told (record_at i w.sent)
     happens_told (Event.Inject to pdu) = injected_told to pdu (position_from (is_sent m (class_of to) pdu) 0 w.sent)
 
   -- in every run

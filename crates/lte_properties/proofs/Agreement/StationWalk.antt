@@ -20,7 +20,7 @@ use Rattle.lte_machine.specs.Wire.{Between}
 use Rattle.lte_machine.specs.Reply.{Origin, unseen}
 use Rattle.lte_machine.specs.StationState.{Station, Context, Attempt, OverX2, OverS1, Within, Renewing, X2Open, X2Ready, X2Commanded, S1Open, S1Ready, S1Commanded, map_context, map_attempt}
 use Rattle.lte_machine.specs.StationRows.{Wanted, RecordRow, PairTaken, PreparedByS1, PreparedByX2, AckedByS1, AckedByX2, KeyRenewed}
-use Rattle.lte_machine.specs.StationChoice.{PlainStation, runs_out, is_own, initial_chosen, initial_row, release_row, answer_row_by, answer_row, wanted_chosen, is_full, wanted_row, s1_acked_row, s1_ack_row, x2_acked_row, x2_ack_row, cancel_row, x2_released_row, x2_release_row, renewed_alone, modification_row, s1_row, x2_row}
+use Rattle.lte_machine.specs.StationChoice.{PlainStation, runs_out, is_own, initial_choice, initial_row, release_row, answer_row_by, answer_row, wanted_choice, is_full, wanted_row, s1_acked_row, s1_ack_row, x2_acked_row, x2_ack_row, cancel_row, x2_released_row, x2_release_row, renewed_alone, modification_row, s1_row, x2_row}
 use Rattle.lte_machine.specs.StationStep.{plain_station}
 use Rattle.lte_properties.specs.ChainAbove.{AnswerOk, InFlight}
 use Rattle.lte_properties.proofs.Agreement.Ghost.{Ghost, PairOk, AckIs, HasNcc, AnyMade, BetweenOk}
@@ -65,7 +65,7 @@ module _ (same : Term → Term → Bool) (g : Ghost) (s : Station Term ℕ) wher
       by_test (Needs key) (nat_le conn s.last) _ _ (λ b. tt)
       (λ b. by_test (Needs key) (is_own plain cell) _ _ (λ b. chosen (choice_of s.priority caps)) (λ b. tt))
     where
-      chosen : (answer : Result Algs Unmatched) → Needs key (initial_chosen plain conn cell caps answer)
+      chosen : (answer : Result Algs Unmatched) → Needs key (initial_choice plain conn cell caps answer)
       chosen (Err none) = tt
       chosen (Ok algs) = by_test (Needs key) (runs_out 1 s.next) _ _ (λ b. tt) (λ b. context_needs conn cell caps key h b)
 
@@ -79,7 +79,7 @@ module _ (same : Term → Term → Bool) (g : Ghost) (s : Station Term ℕ) wher
       (λ b. by_test (Needs key) (nat_le from.attempt (slice_index s.seen from.source)) _ _ (λ b. tt)
       (λ news. by_test (Needs key) ((conn == s.last) && is_full plain) _ _ (λ b. tt) (λ b. chosen (is_news _ _ news) (choice_of s.priority caps)))))
     where
-      chosen : IsNews s.seen from → (answer : Result Algs Unmatched) → Needs key (wanted_chosen plain conn from cell caps row answer)
+      chosen : IsNews s.seen from → (answer : Result Algs Unmatched) → Needs key (wanted_choice plain conn from cell caps row answer)
       chosen news (Err none) = tt
       chosen news (Ok algs) = by_test (Needs key) (runs_out 1 s.next) _ _ (λ b. tt) (λ b. h algs news b)
 

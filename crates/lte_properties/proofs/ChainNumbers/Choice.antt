@@ -12,7 +12,7 @@ use Rattle.ho_prep.specs.Prep.{has_attempt}
 use Rattle.lte_machine.specs.Reply.{Origin, unseen}
 use Rattle.lte_machine.specs.StationState.{Station, Context, OverX2, OverS1, Within, X2Open, X2Ready, X2Commanded, S1Open, S1Ready, S1Commanded, Interface, OnS1, OnX2, map_context, Renewing, Attempt, map_attempt}
 use Rattle.lte_machine.specs.StationRows.{Wanted, RecordRow, PairTaken, PreparedByS1, PreparedByX2}
-use Rattle.lte_machine.specs.StationChoice.{PlainContext, PlainAttempt, initial_chosen, initial_row, release_row, answer_row_by, answer_row, wanted_chosen, is_full, wanted_row, acked_open, s1_acked_row, s1_ack_row, x2_acked_row, x2_ack_row, cancel_row, x2_released_row, x2_release_row, s1_row, x2_row, record_row, is_own, runs_out, modification_row, renewed_alone}
+use Rattle.lte_machine.specs.StationChoice.{PlainContext, PlainAttempt, initial_choice, initial_row, release_row, answer_row_by, answer_row, wanted_choice, is_full, wanted_row, acked_open, s1_acked_row, s1_ack_row, x2_acked_row, x2_ack_row, cancel_row, x2_released_row, x2_release_row, s1_row, x2_row, record_row, is_own, runs_out, modification_row, renewed_alone}
 use Rattle.lte_machine.specs.StationStep.{plain_station}
 use Rattle.lte_properties.proofs.ChainNumbers.RowFacts.{TakenFor, RecordFits, RenewedFor}
 use Rattle.lte_machine.specs.Bearers.{is_spent}
@@ -55,7 +55,7 @@ origin_in c = c.origin
 module _ {K C : Type 0} (r : Reading K C) (s : Station K C) where
   -- a new context is of a newer connection
   initial_chosen_fits : (conn : ℕ) (cell : Place) (caps : Caps) (chosen : Result Algs Unmatched) → s.last < conn →
-      RecordFits s (InitialContext conn cell caps) (initial_chosen (plain_station r s) conn cell caps chosen)
+      RecordFits s (InitialContext conn cell caps) (initial_choice (plain_station r s) conn cell caps chosen)
   initial_chosen_fits conn cell caps (Err none) newer = tt
   initial_chosen_fits conn cell caps (Ok algs) newer =
       by_test (RecordFits s (InitialContext conn cell caps)) (runs_out 1 s.next) _ _ (λ e. tt) (λ e. (refl, newer, refl))
@@ -88,7 +88,7 @@ module _ {K C : Type 0} (r : Reading K C) (s : Station K C) where
   -- a handover request is of no older connection, and of a new attempt
   wanted_chosen_fits : (fields : Fields) (conn : ℕ) (from : Origin) (cell : Place) (caps : Caps) (row : Wanted → RecordRow) (chosen : Result Algs Unmatched) →
       ((algs : Algs) → RecordFits s fields (row (record { conn = conn; from = from; cell = cell; caps = caps; algs = algs; air = s.next }))) →
-      RecordFits s fields (wanted_chosen (plain_station r s) conn from cell caps row chosen)
+      RecordFits s fields (wanted_choice (plain_station r s) conn from cell caps row chosen)
   wanted_chosen_fits fields conn from cell caps row (Err none) f = tt
   wanted_chosen_fits fields conn from cell caps row (Ok algs) f =
       by_test (RecordFits s fields) (runs_out 1 s.next) _ _ (λ e. tt) (λ e. f algs)

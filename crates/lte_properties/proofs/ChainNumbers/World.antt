@@ -33,7 +33,7 @@ use Rattle.lte_machine.specs.CoreState.{Core, CoreInput, CoreAuth, CoreActs, Cor
 use Rattle.lte_machine.specs.CoreRows.{CoreRecordRow, RecordRefused, PathSwitched, HandoverAsked, HandoverOrdered, HandoverNotified, HandoverCancelled, CoreRow, OfRecord, OfAuth, CoreNasRow, NasRefused, PlainReject, SmcComplete, SmcChange, ServiceAsked, NasOpened, SealedReject}
 use Rattle.lte_machine.specs.CoreChoice.{core_record_row, core_row}
 use Rattle.lte_machine.specs.CoreStep.{plain_core, core_root, core_front_of, core_opens, core_pdu_in, core_step}
-use Rattle.lte_machine.specs.World.{Machine, World, with_one, phone_after, core_after, station_after, by_world, phone_turn, core_turn, station_of_id, turn_of, station_turn, authenticated, auth_unless, known_root, next_root, content_in, arrives, chosen, delivered, class_of, is_sent, injected, happens}
+use Rattle.lte_machine.specs.World.{Machine, World, with_one, phone_after, core_after, station_after, by_world, phone_turn, core_turn, station_of_id, turn_of, station_turn, authenticated, auth_unless, known_root, next_root, content_in, arrives, record_at, delivery, class_of, is_sent, injected, happens}
 use Rattle.lte_machine.specs.Machines.{content_of, sender_of, machine_over, opening_by_octets}
 use Rattle.lte_machine.specs.Run.{stations_of, first_world}
 use Rattle.lte_properties.specs.ChainBelow.{AllOf, AtMost, ContextBelow, PrepBelow, StationBelow, conn_of, RecordBelow}
@@ -350,7 +350,7 @@ module _ (same : Term → Term → Bool) (root : ℕ → List ℕ → Term) (oct
 
   -- a record of those that were sent
   delivered_holds : (top : ℕ → ℕ) (w : TheWorld) (o : Option (Outgoing Term ℕ)) → OfSome (RecordBelow top) o → AllOf (λ s. OfSome (InFlight s) o) w.stations → Holds top w →
-      Now top (delivered m w o).0
+      Now top (delivery m w o).0
   delivered_holds top w None b f h = by_world_holds top w NoRecord h
   delivered_holds top w (Some x) b f h = arrives_holds top w (address_of x) (octets x) (Some x) (refl, b, f) h
 
@@ -366,8 +366,8 @@ module _ (same : Term → Term → Bool) (root : ℕ → List ℕ → Term) (oct
   happens_holds top w (Event.Station id act) h = station_acts_holds top w id act None h
   happens_holds top w (Event.Core act) h = core_acts_holds top w act None h
   happens_holds top w (Event.Deliver i) h =
-      delivered_holds top w (chosen i w.sent) (all_chosen (RecordBelow top) i w.sent h.sent)
-      (all_map (λ s. AllOf (InFlight s) w.sent) (λ s. OfSome (InFlight s) (chosen i w.sent)) (λ s f. all_chosen (InFlight s) i w.sent f) w.stations h.flight) h
+      delivered_holds top w (record_at i w.sent) (all_chosen (RecordBelow top) i w.sent h.sent)
+      (all_map (λ s. AllOf (InFlight s) w.sent) (λ s. OfSome (InFlight s) (record_at i w.sent)) (λ s f. all_chosen (InFlight s) i w.sent f) w.stations h.flight) h
   happens_holds top w (Event.Inject to pdu) h =
       injected_holds top w to pdu (position_from (is_sent m (class_of to) pdu) 0 w.sent) h
 

@@ -18,7 +18,7 @@ use Rattle.lte_machine.specs.StationState.{Station, StationInput, StationActs, A
 use Rattle.lte_machine.specs.StationStep.{station_step, station_opens, station_pdu_in}
 use Rattle.lte_machine.specs.CoreState.{CoreInput, CoreActs, CoreNasPdu, CoreRecord}
 use Rattle.lte_machine.specs.CoreStep.{core_step, core_opens, core_pdu_in}
-use Rattle.lte_machine.specs.World.{Machine, World, with_one, phone_turn, core_turn, turn_of, station_of_id, content_in, arrives, chosen, delivered, injected, is_sent, class_of, auth_unless, known_root, next_root, happens}
+use Rattle.lte_machine.specs.World.{Machine, World, with_one, phone_turn, core_turn, turn_of, station_of_id, content_in, arrives, record_at, delivery, injected, is_sent, class_of, auth_unless, known_root, next_root, happens}
 use Rattle.lte_machine.specs.Run.{first_world}
 use Rattle.lte_properties.specs.ChainBelow.{AllOf}
 use Rattle.lte_properties.specs.ChainHolds.{machine_by, run}
@@ -122,7 +122,7 @@ module _ (same : Term → Term → Bool) (itself : IsReflexive same) (octets : O
     arrives_order (at.StationX2 id) pdu came = turn_order id (StationRecord OnX2 (content_in m came)) came (station_of_id id w.stations)
 
     -- a delivery
-    delivered_order : (o : Option (Outgoing Term ℕ)) → PhoneFresh (delivered m w o).0
+    delivered_order : (o : Option (Outgoing Term ℕ)) → PhoneFresh (delivery m w o).0
     delivered_order None = record { roots = h.roots; taken = h.taken; counted = h.counted; phone = h.phone; took = h.took; order = h.order }
     delivered_order (Some x) = arrives_order (address_of x) (octets x) (Some x)
 
@@ -150,7 +150,7 @@ module _ (same : Term → Term → Bool) (itself : IsReflexive same) (octets : O
     happens_order (Event.Phone act) = phone_turn_order (PhoneActs act) None tt
     happens_order (Event.Station id act) = turn_order id (StationActs act) None (station_of_id id w.stations)
     happens_order (Event.Core act) = core_turn_order (CoreActs act) None
-    happens_order (Event.Deliver i) = delivered_order (chosen i w.sent)
+    happens_order (Event.Deliver i) = delivered_order (record_at i w.sent)
     happens_order (Event.Inject to pdu) = injected_order to pdu (position_from (is_sent m (class_of to) pdu) 0 w.sent)
 
   -- a run

@@ -29,7 +29,7 @@ use Rattle.lte_machine.specs.StationStep.{station_step, station_opens, plain_sta
 use Rattle.lte_machine.specs.StationKeys.{air_expects, starting_expects, signalling_expects, user_expects, prepared_expects}
 use Rattle.lte_machine.specs.CoreState.{Core, CoreInput, CoreAuth, CoreActs, CoreNasPdu, CoreRecord}
 use Rattle.lte_machine.specs.CoreStep.{core_step, core_opens}
-use Rattle.lte_machine.specs.World.{Machine, World, by_world, phone_turn, core_turn, turn_of, station_of_id, content_in, arrives, newest_if, chosen, delivered, injected, is_sent, class_of, auth_unless, known_root, next_root, happens}
+use Rattle.lte_machine.specs.World.{Machine, World, by_world, phone_turn, core_turn, turn_of, station_of_id, content_in, arrives, newest_if, record_at, delivery, injected, is_sent, class_of, auth_unless, known_root, next_root, happens}
 use Rattle.lte_machine.specs.Machines.{sender_of}
 use Rattle.lte_machine.specs.Step.{attempts_at, arrival_attempts, delivery_attempts, injection_attempts}
 use Rattle.lte_properties.specs.ChainBelow.{AllOf}
@@ -334,12 +334,12 @@ module _ (same : Term → Term → Bool) (itself : IsReflexive same) (octets : O
     newest_stands P false i sent h = tt
 
     -- so is the one that is chosen
-    chosen_stands : (P : Outgoing Term ℕ → Type 0) (i : ℤ) (sent : List (Outgoing Term ℕ)) → AllOf P sent → OfSome P (chosen i sent)
+    chosen_stands : (P : Outgoing Term ℕ → Type 0) (i : ℤ) (sent : List (Outgoing Term ℕ)) → AllOf P sent → OfSome P (record_at i sent)
     chosen_stands P (pos i) sent h = all_get P sent i h
     chosen_stands P (negsuc i) sent h = newest_stands P (nat_lt i (length sent)) (length sent - 1 - i) sent h
 
     -- a delivery
-    delivered_fresh : (h : Fresh w) (o : Option (Outgoing Term ℕ)) → OfSome (RecordStands h.taken h.given) o → SealedAsAccepted m (delivery_attempts m w o) → Fresh (delivered m w o).0
+    delivered_fresh : (h : Fresh w) (o : Option (Outgoing Term ℕ)) → OfSome (RecordStands h.taken h.given) o → SealedAsAccepted m (delivery_attempts m w o) → Fresh (delivery m w o).0
     delivered_fresh h None k honest = by_world_fresh NoRecord h
     delivered_fresh h (Some x) k honest = arrives_fresh h (address_of x) (octets x) (Some x) (refl, k) honest
 
@@ -379,7 +379,7 @@ module _ (same : Term → Term → Bool) (itself : IsReflexive same) (octets : O
     happens_fresh (Event.Phone act) honest h = phone_turn_fresh (PhoneActs act) None tt h
     happens_fresh (Event.Station id act) honest h = act_turn h id act None (station_of_id id w.stations) (found h id)
     happens_fresh (Event.Core act) honest h = core_turn_fresh (CoreActs act) None tt h
-    happens_fresh (Event.Deliver i) honest h = delivered_fresh h (chosen i w.sent) (chosen_stands (RecordStands h.taken h.given) i w.sent h.sent) honest
+    happens_fresh (Event.Deliver i) honest h = delivered_fresh h (record_at i w.sent) (chosen_stands (RecordStands h.taken h.given) i w.sent h.sent) honest
     happens_fresh (Event.Inject to pdu) honest h = injected_fresh h to pdu (position_from (is_sent m (class_of to) pdu) 0 w.sent) honest
 
   -- RUNS

@@ -29,7 +29,7 @@ use Rattle.lte_machine.specs.CoreState.{CoreInput, CoreActs, CoreNasPdu, CoreRec
 use Rattle.lte_machine.specs.CoreStep.{core_step, core_opens, core_pdu_in}
 use Rattle.lte_machine.specs.Machines.{content_of}
 use Rattle.lte_machine.specs.Run.{first_world, stations_of}
-use Rattle.lte_machine.specs.World.{Machine, World, Holder, AtPhone, AtCore, AtStation, Holding, holds, station_after, station_of_id, turn_of, station_turn, phone_turn, core_turn, auth_unless, known_root, next_root, content_in, arrives, chosen, delivered, class_of, is_sent, injected, happens}
+use Rattle.lte_machine.specs.World.{Machine, World, Holder, AtPhone, AtCore, AtStation, Holding, holds, station_after, station_of_id, turn_of, station_turn, phone_turn, core_turn, auth_unless, known_root, next_root, content_in, arrives, record_at, delivery, class_of, is_sent, injected, happens}
 use Rattle.lte_machine.proofs.Rows.{member_either}
 use Rattle.lte_machine.proofs.KnownLists.{AllOut, station_more}
 use Rattle.lte_machine.proofs.KnownLadder.{outs_more}
@@ -203,8 +203,8 @@ module _ (same : Term → Term → Bool) (root : ℕ → List ℕ → Term) (oct
       root_held key both e t (inr f) = absurd f
   auth_held w ksi key caps (Some row) h = unchanged w (auth_unless m w ksi key caps (Some row)).0 refl refl refl h
 
-  delivered_held : (w : TheWorld) (o : Option (Outgoing Term ℕ)) → HeldAll w → HeldAll (delivered m w o).0
-  delivered_held w None h = unchanged w (delivered m w None).0 refl refl refl h
+  delivered_held : (w : TheWorld) (o : Option (Outgoing Term ℕ)) → HeldAll w → HeldAll (delivery m w o).0
+  delivered_held w None h = unchanged w (delivery m w None).0 refl refl refl h
   delivered_held w (Some x) h = arrives_held w (address_of x) (octets x) (Some x) h
 
   injected_held : (w : TheWorld) (to : Address) (pdu : List ℕ) (o : Option ℕ) → HeldAll w → HeldAll (injected m w to pdu o).0
@@ -217,7 +217,7 @@ module _ (same : Term → Term → Bool) (root : ℕ → List ℕ → Term) (oct
   happens_held w (Event.Station id act) h =
       station_held w id (StationActs act) None (λ s outcome. step_numbered same s (StationActs act) outcome (act_row_draws (plain_station (term_reading_by same) s) act)) h
   happens_held w (Event.Core act) h = core_held w (CoreActs act) None h
-  happens_held w (Event.Deliver i) h = delivered_held w (chosen i w.sent) h
+  happens_held w (Event.Deliver i) h = delivered_held w (record_at i w.sent) h
   happens_held w (Event.Inject to pdu) h = injected_held w to pdu (position_from (is_sent m (class_of to) pdu) 0 w.sent) h
 
   pub run_held : (w : TheWorld) (es : List Event) → HeldAll w → HeldAll (run m w es)

@@ -27,7 +27,7 @@ use Rattle.lte_machine.specs.StationChoice.{record_row}
 use Rattle.lte_machine.specs.StationKeys.{completed_by_s1, completed_within, completed_by_x2, started_by_x2, started_by_s1, started_within, commands, asks_again, sends_packet, sends_rrc, air_does, act_does, station_does, commands_change}
 use Rattle.lte_machine.specs.StationRecords.{context_given, pair_taken, prepared_by_s1, prepared_by_x2, record_does, key_renewed}
 use Rattle.lte_machine.specs.StationStep.{plain_station, station_opens, station_pdu_in, station_row_of, station_key, station_step}
-use Rattle.lte_machine.specs.World.{Machine, World, with_one, station_after, station_of_id, turn_of, station_turn, auth_unless, known_root, next_root, content_in, arrives, chosen, delivered, class_of, is_sent, injected, happens}
+use Rattle.lte_machine.specs.World.{Machine, World, with_one, station_after, station_of_id, turn_of, station_turn, auth_unless, known_root, next_root, content_in, arrives, record_at, delivery, class_of, is_sent, injected, happens}
 use Rattle.lte_machine.specs.Machines.{content_of}
 use Rattle.lte_machine.specs.Run.{stations_of, first_world}
 use Rattle.lte_properties.specs.ChainBelow.{AllOf}
@@ -295,7 +295,7 @@ module _ (same : Term → Term → Bool) (root : ℕ → List ℕ → Term) (oct
   auth_apart w ksi key caps None h = record { drawn = h.drawn; differ = h.differ }
   auth_apart w ksi key caps (Some row) h = record { drawn = h.drawn; differ = h.differ }
 
-  delivered_apart : (w : TheWorld) (o : Option (Outgoing Term ℕ)) → Apart w → Apart (delivered m w o).0
+  delivered_apart : (w : TheWorld) (o : Option (Outgoing Term ℕ)) → Apart w → Apart (delivery m w o).0
   delivered_apart w None h = record { drawn = h.drawn; differ = h.differ }
   delivered_apart w (Some x) h = arrives_apart w (address_of x) (octets x) (Some x) h
 
@@ -309,7 +309,7 @@ module _ (same : Term → Term → Bool) (root : ℕ → List ℕ → Term) (oct
   happens_apart w (Event.Station id act) h =
       station_apart w id (StationActs act) None (λ s outcome. step_numbered same s (StationActs act) outcome (act_row_draws (plain_station (term_reading_by same) s) act)) h
   happens_apart w (Event.Core act) h = record { drawn = h.drawn; differ = h.differ }
-  happens_apart w (Event.Deliver i) h = delivered_apart w (chosen i w.sent) h
+  happens_apart w (Event.Deliver i) h = delivered_apart w (record_at i w.sent) h
   happens_apart w (Event.Inject to pdu) h = injected_apart w to pdu (position_from (is_sent m (class_of to) pdu) 0 w.sent) h
 
   pub run_apart : (w : TheWorld) (es : List Event) → Apart w → Apart (run m w es)

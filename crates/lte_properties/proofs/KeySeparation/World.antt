@@ -34,7 +34,7 @@ use Rattle.lte_machine.specs.CoreRows.{CoreNasRow, NasRefused, PlainReject, SmcC
 use Rattle.lte_machine.specs.CoreRows as core_rows
 use Rattle.lte_machine.specs.CoreChoice.{core_header, core_nas_front, core_nas_row, core_record_row, core_act_row}
 use Rattle.lte_machine.specs.CoreStep.{plain_core, core_opens, core_pdu_in, core_received, core_step}
-use Rattle.lte_machine.specs.World.{Machine, World, AtPhone, AtCore, AtStation, with_one, phone_after, core_after, station_after, by_world, phone_turn, core_turn, station_of_id, turn_of, station_turn, authenticated, auth_unless, known_root, next_root, content_in, arrives, chosen, delivered, class_of, is_sent, injected, happens}
+use Rattle.lte_machine.specs.World.{Machine, World, AtPhone, AtCore, AtStation, with_one, phone_after, core_after, station_after, by_world, phone_turn, core_turn, station_of_id, turn_of, station_turn, authenticated, auth_unless, known_root, next_root, content_in, arrives, record_at, delivery, class_of, is_sent, injected, happens}
 use Rattle.lte_machine.specs.Machines.{content_of}
 use Rattle.lte_machine.specs.Run.{stations_of, first_world}
 use Rattle.lte_properties.specs.ChainBelow.{AllOf}
@@ -280,7 +280,7 @@ module _ (sites : List Site) (same : Term → Term → Bool) (octets : Outgoing 
   arrives_holds w (Address.StationX2 station) pdu came c h = station_record_holds w OnX2 station came c h
 
   -- a record of those that were sent
-  delivered_holds : (w : TheWorld) (o : Option (Outgoing Term ℕ)) → OfSome (FlyOk (GivenTo w.sent) sites w.tried) o → Holders sites w → Holders sites (delivered m w o).0
+  delivered_holds : (w : TheWorld) (o : Option (Outgoing Term ℕ)) → OfSome (FlyOk (GivenTo w.sent) sites w.tried) o → Holders sites w → Holders sites (delivery m w o).0
   delivered_holds w None f h = by_world_holds w NoRecord h
   delivered_holds w (Some x) f h = arrives_holds w (address_of x) (octets x) (Some x) (refl, f) h
 
@@ -294,7 +294,7 @@ module _ (sites : List Site) (same : Term → Term → Bool) (octets : Outgoing 
   happens_holds w (Event.Phone act) h = phone_turn_holds w (PhoneActs act) None tt h
   happens_holds w (Event.Station id act) h = station_acts_holds w id act None h
   happens_holds w (Event.Core act) h = core_acts_holds w act None h
-  happens_holds w (Event.Deliver i) h = delivered_holds w (chosen i w.sent) (all_chosen (FlyOk (GivenTo w.sent) sites w.tried) i w.sent h.flying) h
+  happens_holds w (Event.Deliver i) h = delivered_holds w (record_at i w.sent) (all_chosen (FlyOk (GivenTo w.sent) sites w.tried) i w.sent h.flying) h
   happens_holds w (Event.Inject to pdu) h = injected_holds w to pdu (position_from (is_sent m (class_of to) pdu) 0 w.sent) h
 
   -- every run keeps it

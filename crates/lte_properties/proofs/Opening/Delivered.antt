@@ -26,7 +26,7 @@ use Rattle.lte_machine.specs.PhoneState.{NasContext, Link, Radio, Idle, Connecti
 use Rattle.lte_machine.specs.StationState.{Station, Context, AirPdu}
 use Rattle.lte_machine.specs.CoreState.{CoreContext}
 use Rattle.nas_guard.specs.Keys.{Keys}
-use Rattle.lte_machine.specs.World.{Machine, World, Line, arrives, delivered, station_of_id, turn_of}
+use Rattle.lte_machine.specs.World.{Machine, World, Line, arrives, delivery, station_of_id, turn_of}
 use Rattle.lte_properties.specs.ChainBelow.{AllOf}
 use Rattle.lte_properties.specs.ChainHolds.{machine_by}
 use Rattle.lte_properties.specs.Packets.{IsPacket, UsesRootOf, OpensToSent}
@@ -211,7 +211,7 @@ module _ (same : Term → Term → Bool) (root : ℕ → List ℕ → Term) (sen
 
   -- ANY PACKET
 
-  delivered_opens : (w : W) (x : Outgoing Term ℕ) (sent : List ℕ) → IsPacket x sent → ReadyFor w x → Fits w x sent → LineOf (delivered m w (Some x)).1 sent
+  delivered_opens : (w : W) (x : Outgoing Term ℕ) (sent : List ℕ) → IsPacket x sent → ReadyFor w x → Fits w x sent → LineOf (delivery m w (Some x)).1 sent
   delivered_opens w (UserPacket Down station air drb e text) sent packet ready fits = packet_to_phone w station air drb e text sent w.phone.radio refl packet fits ready
   delivered_opens w (UserPacket Up station air drb e text) sent packet ready fits = packet_to_station w station air drb e text sent (station_of_id station w.stations) refl packet fits ready
   delivered_opens w (SealedRrc Down station air srb u e text) sent packet ready fits = rrc_to_phone w station air srb u e text sent w.phone.radio refl packet fits ready
@@ -226,4 +226,4 @@ module _ (same : Term → Term → Bool) (root : ℕ → List ℕ → Term) (sen
   opens_where_fits w all i x sent is packet ready window =
       let fits = subst (OfSome (λ y. (sent : List ℕ) → IsPacket y sent → Fits w y sent)) is (all_chosen (λ y. (sent : List ℕ) → IsPacket y sent → Fits w y sent) i w.sent all) in
       let opens = delivered_opens w x sent packet (ready_for w x ready window) (fits sent packet) in
-      (ap (λ o. (delivered m w o).1.answer) is ∙ opens.0, ap (λ o. (delivered m w o).1.opened) is ∙ opens.1)
+      (ap (λ o. (delivery m w o).1.answer) is ∙ opens.0, ap (λ o. (delivery m w o).1.opened) is ∙ opens.1)

@@ -7,7 +7,7 @@ use Rattle.key_model.specs.Term.{Term}
 use Rattle.lte_machine.specs.Wire.{Outgoing}
 use Rattle.lte_machine.specs.Opening.{open_octets}
 use Rattle.lte_machine.specs.Run.{RunState, Running, Stopped, replay}
-use Rattle.lte_machine.specs.World.{World, chosen}
+use Rattle.lte_machine.specs.World.{World, record_at}
 use Rattle.lte_machine.proofs.Scenario.{computing, machine, opening, start, toy}
 use Rattle.lte_properties.specs.Packets.{IsReady, InWindow, next_for, count_of, window_of}
 use Rattle.lte_properties.proofs.ChainNumbers.Lists.{OfSome}
@@ -17,7 +17,7 @@ Comes w x = IsReady w x × InWindow (next_for w x) (count_of x) (window_of x)
 
 -- the newest record after these events comes so
 abbrev NewestComes : RunState Term ℕ (Outgoing Term ℕ) → Type 0
-NewestComes (Running w) = OfSome (Comes w) (chosen (negsuc 0) w.sent)
+NewestComes (Running w) = OfSome (Comes w) (record_at (negsuc 0) w.sent)
 NewestComes (Stopped chance) = ⊥
 
 abbrev Ready : List Event → Type 0

@@ -14,7 +14,7 @@ use Rattle.lte_machine.specs.Opening.{Opening, OpensNothing, OpensNas, OpensSrb,
 use Rattle.nas_guard.specs.Open.{mac_in}
 use Rattle.lte_machine.specs.Ladder.{OfRoot, ladder_of}
 use Rattle.lte_machine.specs.StationState.{Station, StationInput, StationActs, AirPdu, StationRecord, OnS1, OnX2}
-use Rattle.lte_machine.specs.World.{Machine, World, Line, station_of_id, turn_of, auth_unless, known_root, next_root, content_in, arrives, chosen, delivered, class_of, is_sent, injected, happens}
+use Rattle.lte_machine.specs.World.{Machine, World, Line, station_of_id, turn_of, auth_unless, known_root, next_root, content_in, arrives, record_at, delivery, class_of, is_sent, injected, happens}
 use Rattle.lte_machine.specs.Step.{attempted, attempts_at, arrival_attempts, delivery_attempts, injection_attempts}
 use Rattle.lte_machine.specs.Machines.{machine_over, sender_of}
 use Rattle.lte_machine.specs.Run.{Running, replay}
@@ -54,7 +54,7 @@ module _ (m : Machine Term ℕ (Outgoing Term ℕ)) (w : World Term ℕ (Outgoin
   auth_grows ksi root caps None t h = still_in w.history (OfRoot root ∷ []) t h
   auth_grows ksi root caps (Some row) t h = h
 
-  delivered_grows : (o : Option (Outgoing Term ℕ)) → Grows (delivered m w o)
+  delivered_grows : (o : Option (Outgoing Term ℕ)) → Grows (delivery m w o)
   delivered_grows None t h = h
   delivered_grows (Some x) t h = arrives_grows (m.address x) (m.octets x) (Some x) t h
 
@@ -68,7 +68,7 @@ module _ (m : Machine Term ℕ (Outgoing Term ℕ)) (w : World Term ℕ (Outgoin
   happens_grows (Event.Phone act) t h = still_in w.history _ t h
   happens_grows (Event.Station id act) t h = turn_grows id (StationActs act) None (station_of_id id w.stations) t h
   happens_grows (Event.Core act) t h = still_in w.history _ t h
-  happens_grows (Event.Deliver i) t h = delivered_grows (chosen i w.sent) t h
+  happens_grows (Event.Deliver i) t h = delivered_grows (record_at i w.sent) t h
   happens_grows (Event.Inject to pdu) t h = injected_grows to pdu (position_from (is_sent m (class_of to) pdu) 0 w.sent) t h
 
   -- WHAT COMES WAS SENT UNDER REPORTED KEYS
@@ -102,7 +102,7 @@ module _ (m : Machine Term ℕ (Outgoing Term ℕ)) (w : World Term ℕ (Outgoin
   event_came g (Event.Phone act) = tt
   event_came g (Event.Station id act) = station_came (StationActs act) None (station_of_id id w.stations) tt
   event_came g (Event.Core act) = tt
-  event_came g (Event.Deliver i) = delivery_came (chosen i w.sent) (all_chosen (SentKnown (IsReported w)) i w.sent g.keys.sent)
+  event_came g (Event.Deliver i) = delivery_came (record_at i w.sent) (all_chosen (SentKnown (IsReported w)) i w.sent g.keys.sent)
   event_came g (Event.Inject to pdu) = injection_came to pdu (position_from (is_sent m (class_of to) pdu) 0 w.sent)
 
 came_more : (P Q : Term → Type 0) → ((t : Term) → P t → Q t) → (o : Option (Outgoing Term ℕ)) → OfSome (SentKnown P) o → OfSome (SentKnown Q) o

@@ -24,7 +24,7 @@ use Rattle.lte_machine.specs.StationState.{StationActs}
 use Rattle.lte_machine.specs.StationStep.{plain_station}
 use Rattle.lte_machine.specs.CoreState.{CoreActs}
 use Rattle.lte_machine.specs.Run.{first_world}
-use Rattle.lte_machine.specs.World.{Machine, authenticated, auth_unless, known_root, next_root, chosen, delivered, class_of, is_sent, injected, happens}
+use Rattle.lte_machine.specs.World.{Machine, authenticated, auth_unless, known_root, next_root, record_at, delivery, class_of, is_sent, injected, happens}
 use Rattle.lte_machine.specs.Step.{delivery_attempts, injection_attempts}
 use Rattle.lte_machine.specs.Machines.{machine_over, sender_of}
 use Rattle.lte_machine.specs.Distinct.{keys_of}
@@ -94,8 +94,8 @@ module _ (same : Term → Term → Bool) (sender : Option (Outgoing Term ℕ) �
   came_to g w (Between to fields key) h = came_between g w to (between fields key) fields key
 
   delivered_keeps : (g : Choices) (k d : Conns) (w : TheWorld) (o : Option (Outgoing Term ℕ)) → WorldOk cells k w → PacketsOk g k w → OfSome (SentOk g (next_root w)) o
-      → ((delivered m w o).1.answer ≡ Done → let a = delivery_attempts m w o in SenderIs (keys_of (delivered m w o).0.history) a.opening (sender_of a.came) (opener a.opening a.octets a.came))
-      → Later (ghost k w) (ghost d (delivered m w o).0) → Keeps d (delivered m w o).0
+      → ((delivery m w o).1.answer ≡ Done → let a = delivery_attempts m w o in SenderIs (keys_of (delivery m w o).0.history) a.opening (sender_of a.came) (opener a.opening a.octets a.came))
+      → Later (ghost k w) (ghost d (delivery m w o).0) → Keeps d (delivery m w o).0
   delivered_keeps g k d w None ok h sent one later = by_world_keeps same sender opener c good between cells g k d w NoRecord h later
   delivered_keeps g k d w (Some x) ok h sent one later =
       arrives_keeps same sender opener c good between cells g k d w (address_of x) (octets_of c between x) (Some x) ok h (came_to g w x sent) one later
@@ -155,7 +155,7 @@ module _ (same : Term → Term → Bool) (sender : Option (Outgoing Term ℕ) �
   happens_keeps g k d w (Event.Core act) is ok h one later =
       core_turn_keeps same sender opener c good between cells g k d w (CoreActs act) None h tt (core_act_needs same w.core act is) later
   happens_keeps g k d w (Event.Deliver i) is ok h one later =
-      delivered_keeps g k d w (chosen i w.sent) ok h (all_chosen (SentOk g (next_root w)) i w.sent h.nas) one later
+      delivered_keeps g k d w (record_at i w.sent) ok h (all_chosen (SentOk g (next_root w)) i w.sent h.nas) one later
   happens_keeps g k d w (Event.Inject to pdu) is ok h one later =
       injected_keeps g k d w to pdu (position_from (is_sent m (class_of to) pdu) 0 w.sent) ok h one later
 

@@ -1,0 +1,56 @@
+// Sessions over memory. The frames and replies of a run of the ordinary scenario were computed by another
+// implementation; all others were written down from the table of frames (`docs/FRAMES.md`) and the rows of the
+// written machine.
+ghost use Rattle.role_wire.specs.Ranges.{IsRole};
+
+mod ends;
+mod kinds;
+mod ordinary;
+
+use edge_io::{MemPort, MemSink, MemSource, Port, Role};
+use role_node::{ServeEnd, serve};
+use std::process::Abort;
+use std::test::Fail;
+
+// A session of a role over a port that has these octets, and of whose reads and writes those with these numbers
+// fail: how it ended, and what was written.
+fn session<R: Abort + AllocGlobal>(
+    rt: &R,
+    role: Role,
+    octets: &[u8],
+    bad_read: Option<u64>,
+    bad_write: Option<u64>,
+) -> Result<(ServeEnd, Vec<u8>), Fail>
+    requires { IsRole role }
+{
+    let alloc = rt.alloc();
+    let source = MemSource::new(octets.to_vec(alloc)?, listed(rt, bad_read)?);
+    let sink = MemSink::new(alloc, 65_536, listed(rt, bad_write)?)?;
+    let mut port = MemPort::new(source, sink);
+    port.open().expect(rt, "a port over memory opens");
+    let end = serve(role, &mut port);
+    Ok((end, port.sink().octets().to_vec(alloc)?))
+}
+
+// The number of the one call that fails, if there is one.
+fn listed<R: Abort + AllocGlobal>(rt: &R, number: Option<u64>) -> Result<Vec<u64>, Fail> {
+    let mut numbers = Vec::new(rt.alloc());
+    if let Some(number) = number {
+        numbers.push(number)?;
+    }
+    Ok(numbers)
+}
+
+// The octets that texts in hex spell, one after another.
+fn octets_of<R: Abort + AllocGlobal>(rt: &R, texts: &[&str]) -> Result<Vec<u8>, Fail> {
+    let mut octets = Vec::new(rt.alloc());
+    for text in texts {
+        octets.extend_from_slice(hex::decode(rt.alloc(), text)?.as_slice())?;
+    }
+    Ok(octets)
+}
+
+// So many octets at the front.
+fn front(octets: &[u8], size: usize) -> &[u8] {
+    &octets[..size.min(octets.len())]
+}

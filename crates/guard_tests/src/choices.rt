@@ -1,0 +1,17 @@
+use alg_choice::{Algs, Caps, Eea, NoAlgorithm, Priority, choose};
+
+#[test]
+fn first_supported_of_the_list_is_chosen(rt: HostRuntime) {
+    let priority = Priority::new(Eea::Eea2, Some(Eea::Eea0));
+    assert_eq!(rt; priority.first(), Eea::Eea2);
+    assert_eq!(rt; priority.second(), Some(Eea::Eea0));
+    let table = [
+        (0xa0, 0x20, Ok(Algs { eea: Eea::Eea2 })),
+        (0x80, 0x20, Ok(Algs { eea: Eea::Eea0 })),
+        (0xa0, 0x00, Err(NoAlgorithm)),
+        (0x40, 0x20, Err(NoAlgorithm)),
+    ];
+    for (eea, eia, wanted) in table {
+        assert_eq!(rt; choose(&priority, &Caps { eea, eia }), wanted);
+    }
+}

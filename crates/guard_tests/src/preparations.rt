@@ -1,0 +1,58 @@
+ghost use Rattle.std.specs.Prelude.{◌≤◌};
+
+use ho_prep::{Prep, Preps};
+use std::process::Abort;
+
+// A preparation of this connection for attempt 10 + air of station 3, at an air address.
+fn prep(conn: u32, air: u8) -> Prep
+    requires conn { 1 ≤ conn }
+    requires air { 1 ≤ air }
+{
+    Prep {
+        conn,
+        source: 3,
+        attempt: 10 + u32::from(air),
+        air: u32::from(air),
+        ..Prep::default()
+    }
+}
+
+// Preparations of these connections, at air addresses 1, 2 and so on.
+fn preps_of(rt: &impl Abort, conns: &[u32]) -> Preps {
+    let mut preps = Preps::new();
+    let mut air = 0;
+    for conn in conns {
+        assert!(rt; air < 8 && *conn > 0);
+        air += 1;
+        preps
+            .add(prep(*conn, air))
+            .map_err(|_| ())
+            .expect(rt, "there is room");
+    }
+    preps
+}
+
+#[test]
+fn the_ninth_preparation_comes_back(rt: HostRuntime) {
+    let mut preps = preps_of(&rt, &[1; 8]);
+    assert_eq!(rt; preps.len(), 8);
+    let back = preps.add(prep(1, 9)).err().expect(&rt, "eight stand");
+    assert_eq!(rt; back.air, 9);
+    assert_eq!(rt; preps.len(), 8);
+    preps.clear();
+    assert_eq!(rt; preps.len(), 0);
+}
+
+#[test]
+fn a_preparation_is_found_and_taken_by_its_air_address(rt: HostRuntime) {
+    let mut preps = preps_of(&rt, &[1, 1, 1]);
+    assert_eq!(rt; preps.at_air(2).expect(&rt, "it stands").attempt, 12);
+    assert!(rt; preps.at_air(4).is_none());
+    assert_eq!(rt; preps.take_air(2).expect(&rt, "it stands").attempt, 12);
+    assert!(rt; preps.take_air(2).is_none());
+    assert_eq!(rt; preps.len(), 2);
+    assert!(rt; preps.remove(3, 13));
+    assert!(rt; !preps.remove(3, 13));
+    assert!(rt; !preps.remove(2, 11));
+    assert_eq!(rt; preps.len(), 1);
+}

@@ -1,0 +1,20 @@
+//! Tests of keys: their derivations, the terms and chains that they are values of, the ladder, the bag of records, and
+//! the texts and audits that are written of them.
+#![tactic(auto)]
+
+#[cfg(test)]
+mod annex_a;
+#[cfg(test)]
+mod audits;
+#[cfg(test)]
+mod bags;
+#[cfg(test)]
+mod chains;
+#[cfg(test)]
+mod derivations;
+#[cfg(test)]
+mod ladders;
+#[cfg(test)]
+mod terms;
+#[cfg(test)]
+mod texts;

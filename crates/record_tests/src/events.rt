@@ -1,0 +1,75 @@
+use alg_choice::{Algs, Caps, Eea, Priority};
+use annex_a_keys::Cell;
+use lte_events::{Answer, Cells, CellsFault, Few, StationSetup};
+use rec_base::RecFault;
+use std::process::Abort;
+
+#[test]
+fn answers_have_their_number_and_name(rt: HostRuntime) {
+    let own = Caps {
+        eea: 0xa0,
+        eia: 0x20,
+    };
+    let algs = Algs { eea: Eea::Eea2 };
+    let table = [
+        (Answer::Done, 0, "done"),
+        (Answer::WrongKsi(1, 2), 2, "WrongKsi"),
+        (Answer::CapsMismatch(own, own), 3, "CapsMismatch"),
+        (Answer::AlgUnsupported(algs), 4, "AlgUnsupported"),
+        (Answer::MacFails(7, [0; 4], [1; 4]), 5, "MacFails"),
+        (Answer::BadRecord(RecFault::BadField(3)), 9, "BadRecord"),
+        (Answer::WrongKind(2), 13, "WrongKind"),
+        (Answer::NotConnected, 20, "NotConnected"),
+        (Answer::OldConnection(3, 2), 32, "OldConnection"),
+        (Answer::RepeatedRoot(4), 52, "RepeatedRoot"),
+    ];
+    for (answer, number, name) in table {
+        assert_eq!(rt; answer.number(), number);
+        assert_eq!(rt; answer.name(), name);
+    }
+}
+
+// The cell with this PCI at EARFCN-DL 100.
+fn cell(rt: &impl Abort, pci: u16) -> Cell {
+    Cell::new(pci, 100).expect(rt, "a cell in range")
+}
+
+#[test]
+fn cells_are_found_in_the_order_added(rt: HostRuntime) {
+    let mut cells = Cells::new();
+    assert_eq!(rt; cells.station_of(&cell(&rt, 0)), None);
+    for pci in 0..32 {
+        assert_eq!(rt; cells.add((pci / 4) as u8, cell(&rt, pci)), Ok(()));
+    }
+    assert_eq!(rt; cells.len(), 32);
+    assert_eq!(rt; cells.at(5), (1, cell(&rt, 5)));
+    assert_eq!(rt; cells.station_of(&cell(&rt, 31)), Some(7));
+    assert_eq!(rt; cells.add(0, cell(&rt, 5)), Err(CellsFault::SameCell));
+    assert_eq!(rt; cells.add(0, cell(&rt, 32)), Err(CellsFault::Full));
+    assert_eq!(rt; cells.station_of(&cell(&rt, 32)), None);
+    assert_eq!(rt; cells.len(), 32);
+}
+
+// A station of this number.
+fn station(id: u8) -> StationSetup {
+    StationSetup {
+        id,
+        priority: Priority::new(Eea::Eea2, None),
+        first: 1,
+    }
+}
+
+#[test]
+fn full_list_hands_the_item_back(rt: HostRuntime) {
+    let mut stations: Few<StationSetup, 2> = Few::new();
+    assert_eq!(rt; stations.try_push(station(3)), Ok(()));
+    assert_eq!(rt; stations.try_push(station(5)), Ok(()));
+    assert_eq!(rt; stations.try_push(station(0)), Err(station(0)));
+    assert_eq!(rt; stations.as_slice(), [station(3), station(5)].as_slice());
+    assert_eq!(rt; stations.clone().unwrap(), stations);
+    let mut more: Few<StationSetup, 3> = Few::new();
+    more.push(station(1));
+    more.append(stations.as_slice());
+    let ids = [station(1), station(3), station(5)];
+    assert_eq!(rt; more.as_slice(), ids.as_slice());
+}

@@ -1,0 +1,74 @@
+// Frames as octets. The octets that come from a run of the ordinary scenario were computed by another
+// implementation; all others were written down from the table of frames (`docs/FRAMES.md`).
+ghost use Rattle.role_wire.specs.Ranges.{IsRole};
+
+mod bad;
+mod good;
+mod replies;
+mod sources;
+
+use annex_a_keys::Cell;
+use edge_io::{Role, SliceSource};
+use rec_base::Bounded;
+use role_wire::{FrameFault, FrameIn, input_frame, read_frame};
+use std::process::Abort;
+use std::test::Fail;
+
+// A frame is read as this, and written again with the same octets.
+fn expect_frame<R: Abort + AllocGlobal>(
+    rt: &R,
+    role: Role,
+    first: bool,
+    text: &str,
+    want: &FrameIn,
+) -> Result<(), Fail>
+    requires { IsRole role }
+{
+    let octets = hex::decode(rt.alloc(), text)?;
+    let mut src = SliceSource::new(octets.as_slice());
+    match read_frame(&mut src, role, first) {
+        Ok(frame) => {
+            assert_eq!(rt; frame, *want, "{text}");
+            assert_eq!(rt; input_frame(&frame).as_slice(), octets.as_slice(), "{text}");
+        }
+        Err(fault) => panic!(rt; "{text} is refused: {fault:?}"),
+    }
+    Ok(())
+}
+
+// A frame is refused by this fault.
+fn expect_fault<R: Abort + AllocGlobal>(
+    rt: &R,
+    role: Role,
+    first: bool,
+    text: &str,
+    want: FrameFault,
+) -> Result<(), Fail>
+    requires { IsRole role }
+{
+    let octets = hex::decode(rt.alloc(), text)?;
+    let mut src = SliceSource::new(octets.as_slice());
+    match read_frame(&mut src, role, first) {
+        Ok(_) => panic!(rt; "{text} is read"),
+        Err(fault) => assert_eq!(rt; fault, want, "{text}"),
+    }
+    Ok(())
+}
+
+// The octets that a text in hex spells.
+fn octets_of<R: Abort + AllocGlobal, const N: usize>(
+    rt: &R,
+    text: &str,
+) -> Result<Bounded<N>, Fail> {
+    let octets = hex::decode(rt.alloc(), text)?;
+    let mut out = Bounded::new();
+    for octet in octets.as_slice() {
+        assert!(rt; out.try_push(*octet).is_ok(), "{text}");
+    }
+    Ok(out)
+}
+
+// The cell with this PCI and EARFCN-DL.
+fn cell(rt: &impl Abort, pci: u16, earfcn: u32) -> Cell {
+    Cell::new(pci, earfcn).expect(rt, "a cell in range")
+}

@@ -1,0 +1,85 @@
+// What a frame takes of a source, and how its end and its faults are answered.
+use alg_choice::Caps;
+use edge_io::{MemSource, Role, SliceSource, read_fill};
+use role_wire::{FrameFault, FrameIn, RoleSetup, read_frame};
+use std::test::Fail;
+
+// Two Setup frames of the phone.
+static TWICE: [u8; 10] = [0, 3, 0, 0xa0, 0x20, 0, 3, 0, 0xa0, 0x20];
+
+const SETUP: FrameIn = FrameIn::Setup(RoleSetup::Phone(Caps {
+    eea: 0xa0,
+    eia: 0x20,
+}));
+
+#[test]
+fn an_input_ends_at_a_frames_edge_or_inside_a_frame(rt: HostRuntime) {
+    for size in 0..11 {
+        let mut src = SliceSource::new(&TWICE[..size]);
+        let first = read_frame(&mut src, Role::Phone, true);
+        let second = read_frame(&mut src, Role::Phone, true);
+        let want = match size {
+            0 => (Err(FrameFault::Ended), Err(FrameFault::Ended)),
+            1..=4 => (Err(FrameFault::Truncated), Err(FrameFault::Ended)),
+            5 => (Ok(SETUP), Err(FrameFault::Ended)),
+            6..=9 => (Ok(SETUP), Err(FrameFault::Truncated)),
+            _ => (Ok(SETUP), Ok(SETUP)),
+        };
+        assert_eq!(rt; (first, second), want, "{size} octets");
+    }
+}
+
+#[test]
+fn a_length_ends_at_4096(rt: HostRuntime) {
+    let mut octets = [0u8; 4099];
+    octets[0] = 0x10;
+    octets[2] = 0x02;
+    let mut src = SliceSource::new(&octets);
+    assert_eq!(rt;
+        read_frame(&mut src, Role::Core, false),
+        Err(FrameFault::BadBody(1537))
+    );
+    octets[1] = 1;
+    let mut src = SliceSource::new(&octets);
+    assert_eq!(rt;
+        read_frame(&mut src, Role::Core, false),
+        Err(FrameFault::TooLong(4097))
+    );
+    // Nothing behind the length was read.
+    let mut rest = [0u8; 4099];
+    assert_eq!(rt; read_fill(&mut src, &mut rest), Ok(4097));
+}
+
+#[test]
+fn a_fault_in_mid_frame_is_answered(rt: HostRuntime) -> Result<(), Fail> {
+    for failing in 0..4 {
+        let mut numbers = Vec::new(rt.alloc());
+        numbers.push(failing)?;
+        let mut src = MemSource::new(TWICE[..5].to_vec(rt.alloc())?, numbers);
+        let want = if failing < 2 {
+            Err(FrameFault::ReadFault)
+        } else {
+            Ok(SETUP)
+        };
+        assert_eq!(rt;
+            read_frame(&mut src, Role::Phone, true),
+            want,
+            "call {failing}"
+        );
+    }
+    Ok(())
+}
+
+#[test]
+fn faults_have_their_number(rt: HostRuntime) {
+    let faults = [
+        FrameFault::Ended,
+        FrameFault::Truncated,
+        FrameFault::TooLong(4097),
+        FrameFault::BadBody(3),
+        FrameFault::ReadFault,
+    ];
+    for (i, fault) in faults.iter().enumerate() {
+        assert_eq!(rt; fault.number() as usize, i + 1);
+    }
+}

@@ -1,0 +1,52 @@
+use alg_choice::{Algs, Caps, Eea};
+use nas_rec::NasRecord;
+use rec_base::RecFault;
+
+#[test]
+fn records_are_read_as_spelled_and_written_back(rt: HostRuntime) {
+    let algs = Algs { eea: Eea::Eea2 };
+    let caps = Caps {
+        eea: 0xa0,
+        eia: 0x20,
+    };
+    let octets = [0x01, 6, 0x22, 0xa0, 0x20];
+    let command = NasRecord::SecurityModeCommand { ksi: 6, algs, caps };
+    assert_eq!(rt; command.write().as_slice(), octets.as_slice());
+    assert_eq!(rt; NasRecord::read(&octets), Ok(command));
+    let reject = NasRecord::SecurityModeReject { cause: 23 };
+    assert_eq!(rt; reject.write().as_slice(), [0x03, 0x17].as_slice());
+    assert_eq!(rt; NasRecord::read(&[0x03, 0x17]), Ok(reject));
+    assert_eq!(rt;
+        NasRecord::read(&[0x02]),
+        Ok(NasRecord::SecurityModeComplete)
+    );
+    assert_eq!(rt; NasRecord::read(&[0x04]), Ok(NasRecord::ServiceRequest));
+    assert_eq!(rt;
+        NasRecord::ServiceRequest.write().as_slice(),
+        [0x04].as_slice()
+    );
+}
+
+#[test]
+fn fault_is_the_first_in_order(rt: HostRuntime) {
+    let table: [(&[u8], RecFault); 15] = [
+        (&[], RecFault::Short),
+        (&[0x00], RecFault::BadKind),
+        (&[0x06, 0, 0], RecFault::BadKind),
+        (&[0x01, 7, 0, 0], RecFault::Short),
+        (&[0x01, 7, 0, 0, 0, 0], RecFault::Long),
+        (&[0x01, 7, 0, 0, 0], RecFault::BadField(1)),
+        (&[0x01, 6, 0x12, 0, 0], RecFault::BadField(2)),
+        (&[0x01, 6, 0x20, 0, 0], RecFault::BadField(2)),
+        (&[0x02, 0], RecFault::Long),
+        (&[0x03], RecFault::Short),
+        (&[0x03, 23, 0], RecFault::Long),
+        (&[0x03, 22], RecFault::BadField(1)),
+        (&[0x03, 25], RecFault::BadField(1)),
+        (&[0x03, 0x23], RecFault::BadField(1)),
+        (&[0x04, 0], RecFault::Long),
+    ];
+    for (octets, fault) in table {
+        assert_eq!(rt; NasRecord::read(octets).err(), Some(fault));
+    }
+}

@@ -1,0 +1,120 @@
+use alg_choice::{Algs, Eea};
+use annex_a_keys::Cell;
+use rec_base::RecFault;
+use rrc_rec::RrcRecord;
+
+#[test]
+fn records_are_read_as_spelled_and_written_back(rt: HostRuntime) {
+    let algs = Algs { eea: Eea::Eea2 };
+    let octets = [0x01, 0x22, 0, 0, 0, 0, 1];
+    let command = RrcRecord::SecurityModeCommand {
+        algs,
+        station: 0,
+        air: 1,
+    };
+    assert_eq!(rt; command.write().as_slice(), octets.as_slice());
+    assert_eq!(rt; RrcRecord::read(&octets), Ok(command));
+    let octets = [
+        0x03, 0x00, 0x0b, 0x00, 0x00, 0x00, 0x65, 0x00, 0x22, 0x01, 0, 0, 0, 1,
+    ];
+    if let Ok(cell) = Cell::new(11, 101) {
+        let order = RrcRecord::Reconfiguration {
+            cell,
+            ncc: 0,
+            algs,
+            station: 1,
+            air: 1,
+        };
+        assert_eq!(rt; order.write().as_slice(), octets.as_slice());
+        assert_eq!(rt; RrcRecord::read(&octets), Ok(order));
+    }
+    assert_eq!(rt;
+        RrcRecord::read(&[0x02]),
+        Ok(RrcRecord::SecurityModeComplete)
+    );
+    assert_eq!(rt;
+        RrcRecord::read(&[0x04]),
+        Ok(RrcRecord::ReconfigurationComplete)
+    );
+    assert_eq!(rt;
+        RrcRecord::ReconfigurationComplete.write().as_slice(),
+        [0x04].as_slice()
+    );
+}
+
+#[test]
+fn fault_is_the_first_in_order(rt: HostRuntime) {
+    let table: [(&[u8], RecFault); 26] = [
+        (&[], RecFault::Short),
+        (&[0x07], RecFault::BadKind),
+        (&[0x07, 0, 0], RecFault::BadKind),
+        (&[0x01, 0x12, 8, 0, 0, 0], RecFault::Short),
+        (&[0x01, 0x12, 8, 0, 0, 0, 0, 0], RecFault::Long),
+        (&[0x01, 0x22, 0, 0, 0, 0, 1, 0], RecFault::Long),
+        (&[0x01, 0x12, 0, 0, 0, 0, 1], RecFault::BadField(1)),
+        (&[0x01, 0x12, 8, 0, 0, 0, 0], RecFault::BadField(1)),
+        (&[0x01, 0x22, 8, 0, 0, 0, 1], RecFault::BadField(2)),
+        (&[0x01, 0x22, 0, 0, 0, 0, 0], RecFault::BadField(3)),
+        (&[0x02, 0], RecFault::Long),
+        (&[0x04, 0], RecFault::Long),
+        (
+            &[0x03, 1, 0xf8, 0, 4, 0, 0, 8, 0, 8, 0, 0, 0],
+            RecFault::Short,
+        ),
+        (
+            &[0x03, 1, 0xf8, 0, 4, 0, 0, 8, 0, 8, 0, 0, 0, 0],
+            RecFault::BadField(1),
+        ),
+        (
+            &[0x03, 1, 0xf7, 0, 4, 0, 0, 8, 0, 8, 0, 0, 0, 0],
+            RecFault::BadField(3),
+        ),
+        (
+            &[0x03, 1, 0xf7, 0, 3, 0xff, 0xff, 8, 0, 8, 0, 0, 0, 0],
+            RecFault::BadField(7),
+        ),
+        (
+            &[0x03, 1, 0xf7, 0, 3, 0xff, 0xff, 7, 0, 8, 0, 0, 0, 0],
+            RecFault::BadField(8),
+        ),
+        (
+            &[0x03, 1, 0xf7, 0, 3, 0xff, 0xff, 7, 2, 8, 0, 0, 0, 0],
+            RecFault::BadField(9),
+        ),
+        (
+            &[0x03, 1, 0xf7, 0, 3, 0xff, 0xff, 7, 2, 7, 0, 0, 0, 0],
+            RecFault::BadField(10),
+        ),
+        (
+            &[0x06, 1, 0xf8, 0, 4, 0, 0, 0x12, 8, 0, 0, 0],
+            RecFault::Short,
+        ),
+        (
+            &[0x06, 1, 0xf7, 0, 3, 0xff, 0xff, 2, 7, 0, 0, 0, 1, 0],
+            RecFault::Long,
+        ),
+        (
+            &[0x06, 1, 0xf8, 0, 4, 0, 0, 0x12, 8, 0, 0, 0, 0],
+            RecFault::BadField(1),
+        ),
+        (
+            &[0x06, 1, 0xf7, 0, 4, 0, 0, 0x12, 8, 0, 0, 0, 0],
+            RecFault::BadField(3),
+        ),
+        (
+            &[0x06, 1, 0xf7, 0, 3, 0xff, 0xff, 0x12, 8, 0, 0, 0, 0],
+            RecFault::BadField(7),
+        ),
+        (
+            &[0x06, 1, 0xf7, 0, 3, 0xff, 0xff, 2, 8, 0, 0, 0, 0],
+            RecFault::BadField(8),
+        ),
+        (
+            &[0x06, 1, 0xf7, 0, 3, 0xff, 0xff, 2, 7, 0, 0, 0, 0],
+            RecFault::BadField(9),
+        ),
+    ];
+    for (octets, fault) in table {
+        assert_eq!(rt; RrcRecord::read(octets).err(), Some(fault));
+    }
+}

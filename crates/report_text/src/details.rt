@@ -1,0 +1,114 @@
+// The values that an answer keeps.
+ghost use Rattle.std.specs.Prelude.{◌≡◌, IfOk};
+ghost use Rattle.std.specs.String.{string_bytes};
+ghost use Rattle.report_text.specs.Details.{algs_digits, fault_number, fault_place, caps_text, mac_text, details_text};
+
+use alg_choice::{Algs, Caps, Eea};
+use lte_events::Answer;
+use rec_base::RecFault;
+use std::alloc::{AllocError, Global};
+
+pub(crate) fn details_text(alloc: Global, answer: &Answer) -> Result<String, AllocError>
+    ensures { IfOk result (λ text. string_bytes text ≡ details_text answer.now) }
+{
+    match *answer {
+        Answer::WrongKsi(held, got) => format!(in alloc; " held={held} got={got}"),
+        Answer::CapsMismatch(own, got) => caps_text(alloc, own, got),
+        Answer::AlgUnsupported(algs) => {
+            let algs = algs_digits(algs);
+            format!(in alloc; " algs={algs}")
+        }
+        Answer::MacFails(count, wanted, got) => mac_text(alloc, count, wanted, got),
+        Answer::BadRecord(fault) => {
+            let number = fault_number(fault);
+            let place = fault_place(fault);
+            format!(in alloc; " fault={number} place={place}")
+        }
+        Answer::BadHeader(octet) => {
+            let hex = hex::encode(alloc, &[octet])?;
+            format!(in alloc; " octet={hex}")
+        }
+        Answer::WrongKind(kind) => {
+            let hex = hex::encode(alloc, &[kind])?;
+            format!(in alloc; " kind={hex}")
+        }
+        Answer::Stale(outstanding, got) => {
+            format!(in alloc; " outstanding={outstanding} got={got}")
+        }
+        Answer::OldConnection(held, got) => format!(in alloc; " held={held} got={got}"),
+        Answer::AttemptOpen(number) => format!(in alloc; " number={number}"),
+        Answer::Repeated(seen, got) => format!(in alloc; " seen={seen} got={got}"),
+        Answer::Sent(record) => format!(in alloc; " record={record}"),
+        Answer::RepeatedRoot(row) => format!(in alloc; " row={row}"),
+        Answer::Done
+        | Answer::NoContext
+        | Answer::CountSpent
+        | Answer::SmcOpen
+        | Answer::NoAlgorithm
+        | Answer::Short
+        | Answer::NotConnected
+        | Answer::NotAddressed
+        | Answer::NothingToResend
+        | Answer::AlreadyConnected
+        | Answer::NoUe
+        | Answer::NotActive
+        | Answer::UnknownCell
+        | Answer::NoPathSwitch
+        | Answer::NoAttempt
+        | Answer::CommandSent
+        | Answer::PrepFull
+        | Answer::NotReady
+        | Answer::NumberSpent
+        | Answer::NoTrigger
+        | Answer::NoSmc
+        | Answer::NoRecord => Ok(String::new(alloc)),
+    }
+}
+
+#[tactic(auto, unfolding(crate::specs::Details::caps_text))]
+fn caps_text(alloc: Global, own: Caps, got: Caps) -> Result<String, AllocError>
+    ensures { IfOk result (λ text. string_bytes text ≡ caps_text own got) }
+{
+    let own = hex::encode(alloc, &[own.eea, own.eia])?;
+    let got = hex::encode(alloc, &[got.eea, got.eia])?;
+    format!(in alloc; " own={own} got={got}")
+}
+
+#[tactic(auto, unfolding(crate::specs::Details::mac_text))]
+fn mac_text(alloc: Global, count: u32, wanted: [u8; 4], got: [u8; 4]) -> Result<String, AllocError>
+    ensures { IfOk result (λ text. string_bytes text ≡ mac_text count wanted got) }
+{
+    let wanted = hex::encode(alloc, &wanted)?;
+    let got = hex::encode(alloc, &got)?;
+    format!(in alloc; " count={count} wanted={wanted} got={got}")
+}
+
+// The octet of the algorithms in a record.
+fn algs_digits(algs: Algs) -> &'static str
+    ensures { result.now ≡ algs_digits algs }
+{
+    match algs.eea {
+        Eea::Eea0 => "02",
+        Eea::Eea2 => "22",
+    }
+}
+
+fn fault_number(fault: RecFault) -> u8
+    ensures { result ≡ fault_number fault }
+{
+    match fault {
+        RecFault::Short => 1,
+        RecFault::Long => 2,
+        RecFault::BadKind => 3,
+        RecFault::BadField(_) => 4,
+    }
+}
+
+fn fault_place(fault: RecFault) -> u8
+    ensures { result ≡ fault_place fault }
+{
+    match fault {
+        RecFault::BadField(place) => place,
+        RecFault::Short | RecFault::Long | RecFault::BadKind => 0,
+    }
+}

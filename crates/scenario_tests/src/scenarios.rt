@@ -1,0 +1,519 @@
+mod generated;
+mod systems;
+
+use crate::scenarios::Refusal::{Missing, Unknown, Wrong};
+use alg_choice::{Caps, Eea, Priority};
+use annex_a_keys::Cell;
+use lte_events::{Address, CoreAct, Event, HoKind, PhoneAct, StationAct, StationSetup};
+use rec_base::{Bearer, Bounded};
+use scenario_file::Field::{
+    Air, Bearer as BearerField, Caps as CapsField, Cell as CellField, Cells, Core, Do, First, From,
+    Id, Kasme, Ksi, N, Octets as OctetsField, Phone, Priority as PriorityField, Record, Station,
+    Step, Text, To, Who,
+};
+use scenario_file::{Field, Scenario, ScenarioFault, read};
+use std::alloc::Global;
+use std::process::Abort;
+use std::test::Fail;
+
+// A fault, before it is said in which step.
+#[derive(Clone, Copy)]
+enum Refusal {
+    Missing(Field),
+    Wrong(Field),
+    Unknown,
+}
+
+impl Refusal {
+    // The fault in this step, or in a table before the steps.
+    fn at(self, step: Option<u32>) -> ScenarioFault {
+        match self {
+            Missing(field) => ScenarioFault::Missing(step, field),
+            Wrong(field) => ScenarioFault::Wrong(step, field),
+            Unknown => ScenarioFault::Unknown(step),
+        }
+    }
+}
+
+// A phone with EEA0, 128-EEA2 and 128-EIA2, and one station with one cell.
+const PHONE: &str = "phone={caps='a020'}\n";
+
+const STATION: &str = "station=[{id=1,cells=[[10,100]]}]\n";
+
+// The fault of a text, or `None` where it is a scenario.
+fn fault_of(alloc: Global, text: &str) -> Option<ScenarioFault> {
+    read(alloc, text.as_bytes()).err()
+}
+
+#[test]
+fn setup_is_refused_by_its_first_fault(rt: HostRuntime) -> Result<(), Fail> {
+    let whole = [
+        ("", Missing(Phone)),
+        ("phone=1", Wrong(Phone)),
+        ("phone=1\nx=1", Unknown),
+        ("[phone]", Missing(CapsField)),
+        ("[phone]\nx=1", Unknown),
+        ("[phone]\ncaps=1", Wrong(CapsField)),
+        ("[phone]\ncaps='a02'", Wrong(CapsField)),
+        ("[phone]\ncaps='a02000'", Wrong(CapsField)),
+        ("[phone]\ncaps='a02g'", Wrong(CapsField)),
+        ("[phone]\ncaps='A020'", Missing(Station)),
+    ];
+    for (text, refusal) in whole {
+        assert_eq!(rt;
+            fault_of(rt.alloc(), text),
+            Some(refusal.at(None)),
+            "{text}"
+        );
+    }
+    Ok(())
+}
+
+#[test]
+fn core_is_refused_by_its_first_fault(rt: HostRuntime) -> Result<(), Fail> {
+    let behind_phone = [
+        ("core=1", Wrong(Core)),
+        ("[core]\nx=1\npriority=1", Unknown),
+        ("[core]\npriority=2", Wrong(PriorityField)),
+        ("[core]\npriority=[]", Wrong(PriorityField)),
+        ("[core]\npriority=[1]", Wrong(PriorityField)),
+        ("[core]\npriority=['2']", Wrong(PriorityField)),
+        ("[core]\npriority=[0,0]", Wrong(PriorityField)),
+        ("[core]\npriority=[2,0,2]", Wrong(PriorityField)),
+        ("[core]\npriority=[1]\nfirst=0", Wrong(PriorityField)),
+        ("[core]\nfirst=0", Wrong(First)),
+        ("[core]\nfirst=-1", Wrong(First)),
+        ("[core]\nfirst=4294967296", Wrong(First)),
+        ("[core]\nfirst=1.0", Wrong(First)),
+        ("[core]\nfirst=4294967295\npriority=[0]", Missing(Station)),
+    ];
+    for (text, refusal) in behind_phone {
+        let text = format!(in rt.alloc(); "{PHONE}{text}")?;
+        assert_eq!(rt;
+            fault_of(rt.alloc(), &text),
+            Some(refusal.at(None)),
+            "{text}"
+        );
+    }
+    Ok(())
+}
+
+#[test]
+fn stations_are_refused_by_their_first_fault(rt: HostRuntime) -> Result<(), Fail> {
+    let behind_phone = [
+        ("station=[]", Missing(Station)),
+        ("station=1", Wrong(Station)),
+        ("[station]", Wrong(Station)),
+        ("station=[{id=9},1]", Wrong(Station)),
+        ("station=[{},{},{},{},{},{},{},{},{}]", Wrong(Station)),
+        ("station=[{},{id=8,x=1}]", Missing(Id)),
+        ("station=[{id=8,x=1}]", Unknown),
+        ("station=[{id=8,priority=1}]", Wrong(Id)),
+        ("station=[{id=-1}]", Wrong(Id)),
+        (
+            "station=[{id=0,priority=[2,2],first=0}]",
+            Wrong(PriorityField),
+        ),
+        ("station=[{id=0,first=0}]", Wrong(First)),
+        ("station=[{id=0}]", Missing(Cells)),
+        ("station=[{id=0,cells=1}]", Wrong(Cells)),
+        ("station=[{id=0,cells=[]}]", Wrong(Cells)),
+        (
+            "station=[{id=0,cells=[[0,0],[1,0],[2,0],[3,0],[4,0]]}]",
+            Wrong(Cells),
+        ),
+        ("station=[{id=0,cells=[[504,0]]}]", Wrong(Cells)),
+        ("station=[{id=0,cells=[[0,262144]]}]", Wrong(Cells)),
+        ("station=[{id=0,cells=[[0,-1]]}]", Wrong(Cells)),
+        ("station=[{id=0,cells=[[0]]}]", Wrong(Cells)),
+        ("station=[{id=0,cells=[[0,0,0]]}]", Wrong(Cells)),
+        ("station=[{id=0,cells=[['0',0]]}]", Wrong(Cells)),
+        ("station=[{id=0,cells=[[0,0],[0,0]]}]", Wrong(Cells)),
+        ("station=[{id=0,cells=[[0,0]]},{id=0}]", Wrong(Id)),
+        (
+            "station=[{id=0,cells=[[0,0]]},{id=1,cells=[[0,0]]}]",
+            Wrong(Cells),
+        ),
+        ("step=1\nstation=[{id=0}]", Missing(Cells)),
+        ("step=1\nstation=[{id=0,cells=[[0,0]]}]", Wrong(Step)),
+        ("step=[1]\nstation=[{id=0,cells=[[0,0]]}]", Wrong(Step)),
+        ("step={}\nstation=[{id=0,cells=[[0,0]]}]", Wrong(Step)),
+    ];
+    for (text, refusal) in behind_phone {
+        let text = format!(in rt.alloc(); "{PHONE}{text}")?;
+        assert_eq!(rt;
+            fault_of(rt.alloc(), &text),
+            Some(refusal.at(None)),
+            "{text}"
+        );
+    }
+    Ok(())
+}
+
+// Asserts the fault of each step, which stands alone.
+fn assert_refused(rt: &impl Abort, alloc: Global, steps: &[(&str, Refusal)]) -> Result<(), Fail> {
+    for (step, refusal) in steps {
+        let text = format!(in alloc; "{PHONE}{STATION}step=[{{{step}}}]")?;
+        assert_eq!(rt; fault_of(alloc, &text), Some(refusal.at(Some(0))), "{step}");
+    }
+    Ok(())
+}
+
+#[test]
+fn a_step_is_refused_by_its_first_fault(rt: HostRuntime) -> Result<(), Fail> {
+    let steps = [
+        ("", Missing(Do)),
+        ("x=1", Missing(Do)),
+        ("do=1", Wrong(Do)),
+        ("do='Auth',x=1", Wrong(Do)),
+        ("do='auth',ksi=7,x=1", Unknown),
+        ("do='auth'", Missing(Ksi)),
+        ("do='auth',ksi=7", Wrong(Ksi)),
+        ("do='auth',ksi=0", Missing(Kasme)),
+        ("do='auth',ksi=0,kasme='00',caps=1", Wrong(Kasme)),
+        (
+            "do='auth',ksi=6,kasme='00000000000000000000000000000000000000000000000000000000000000aB',caps='a02'",
+            Wrong(CapsField),
+        ),
+        ("do='smc',station=1", Unknown),
+        ("do='connect'", Missing(CellField)),
+        ("do='connect',cell=[10]", Wrong(CellField)),
+        ("do='connect',cell=10,station=1", Unknown),
+        ("do='x2',cell=1", Missing(Station)),
+        ("do='s1',station=0", Wrong(Station)),
+        ("do='intra',station=1", Missing(CellField)),
+        ("do='command'", Missing(Station)),
+        ("do='cancel',station='1'", Wrong(Station)),
+        ("do='ask',station=1,cell=[10,100]", Unknown),
+        ("do='deliver'", Missing(Record)),
+        ("do='deliver',record='-1'", Wrong(Record)),
+    ];
+    assert_refused(&rt, rt.alloc(), &steps)
+}
+
+#[test]
+fn fields_that_depend_on_others_are_refused_in_their_order(rt: HostRuntime) -> Result<(), Fail> {
+    let steps = [
+        ("do='user'", Missing(From)),
+        ("do='user',from='core',station=1", Wrong(From)),
+        ("do='user',from='phone',station=1", Unknown),
+        ("do='user',from='station',bearer='srb1'", Missing(Station)),
+        (
+            "do='user',from='station',station=1,bearer='srb1'",
+            Wrong(BearerField),
+        ),
+        ("do='user',from='phone',bearer='drb5'", Wrong(BearerField)),
+        ("do='user',from='phone',bearer='drb1'", Missing(Text)),
+        ("do='user',from='phone',bearer='drb1',text='0'", Wrong(Text)),
+        (
+            "do='rrc',from='phone',bearer='drb1',text='zz'",
+            Wrong(BearerField),
+        ),
+        ("do='nas',station=1", Unknown),
+        ("do='nas',from='station'", Wrong(From)),
+        ("do='nas',from='core',text=0", Wrong(Text)),
+        ("do='skip',station=1", Missing(Who)),
+        ("do='skip',who='core',station=1", Unknown),
+        ("do='skip',who='core',bearer='srb1'", Wrong(BearerField)),
+        (
+            "do='skip',who='station',station=1,bearer='nas'",
+            Wrong(BearerField),
+        ),
+        ("do='skip',who='phone',bearer='nas'", Missing(N)),
+        ("do='skip',who='phone',bearer='drb4',n=4294967296", Wrong(N)),
+        ("do='inject',station=1,air=1", Missing(To)),
+        ("do='inject',to='all',station=1", Wrong(To)),
+        ("do='inject',to='phone',station=1", Missing(BearerField)),
+        (
+            "do='inject',to='core',bearer='drb1',station=1",
+            Wrong(BearerField),
+        ),
+        ("do='inject',to='phone',bearer='nas',station=1", Unknown),
+        ("do='inject',to='core',bearer='nas',air=1", Unknown),
+        ("do='inject',to='phone',bearer='srb2'", Missing(Station)),
+        (
+            "do='inject',to='station',bearer='srb2',station=2",
+            Wrong(Station),
+        ),
+        (
+            "do='inject',to='station',bearer='srb2',station=1",
+            Missing(Air),
+        ),
+        (
+            "do='inject',to='station',bearer='srb2',station=1,air=-1",
+            Wrong(Air),
+        ),
+        (
+            "do='inject',to='core',bearer='nas',octets='0'",
+            Wrong(OctetsField),
+        ),
+    ];
+    assert_refused(&rt, rt.alloc(), &steps)
+}
+
+// A step of `do` with a text of so many octets.
+fn with_octets(alloc: Global, step: &str, count: usize) -> Result<String, Fail> {
+    let zeros = "00".repeat(alloc, count)?;
+    Ok(format!(in alloc; "{PHONE}{STATION}step=[{{{step}='{zeros}'}}]")?)
+}
+
+#[test]
+fn texts_have_their_greatest_lengths(rt: HostRuntime) -> Result<(), Fail> {
+    let longest = [
+        ("do='user',from='phone',bearer='drb1',text", 1500, Text),
+        ("do='rrc',from='phone',bearer='srb1',text", 200, Text),
+        ("do='nas',from='phone',text", 200, Text),
+        (
+            "do='inject',to='core',bearer='nas',octets",
+            1536,
+            OctetsField,
+        ),
+    ];
+    for (step, count, field) in longest {
+        let text = with_octets(rt.alloc(), step, count)?;
+        assert_eq!(rt; fault_of(rt.alloc(), &text), None, "{step}");
+        let text = with_octets(rt.alloc(), step, count + 1)?;
+        assert_eq!(rt;
+            fault_of(rt.alloc(), &text),
+            Some(ScenarioFault::Wrong(Some(0), field)),
+            "{step}"
+        );
+    }
+    Ok(())
+}
+
+#[test]
+fn texts_that_are_no_documents(rt: HostRuntime) -> Result<(), Fail> {
+    for text in [
+        "phone",
+        "phone=1\nphone=2",
+        "caps='a020",
+        "n=9223372036854775808",
+    ] {
+        assert_eq!(rt;
+            fault_of(rt.alloc(), text),
+            Some(ScenarioFault::NotToml),
+            "{text}"
+        );
+    }
+    let fault = read(rt.alloc(), &[0xff]).err();
+    assert_eq!(rt; fault, Some(ScenarioFault::NotToml));
+    Ok(())
+}
+
+// A document of so many steps, and a last one with no word that stands for an act.
+fn with_steps(alloc: Global, before: usize) -> Result<String, Fail> {
+    let steps = "[[step]]\ndo='idle'\n".repeat(alloc, before)?;
+    Ok(format!(in alloc; "{PHONE}{STATION}{steps}[[step]]\ndo='idl'\n")?)
+}
+
+#[test]
+fn two_hundred_thousand_steps_are_read(rt: HostRuntime) -> Result<(), Fail> {
+    let text = with_steps(rt.alloc(), 199_999)?;
+    let last = ScenarioFault::Wrong(Some(199_999), Do);
+    assert_eq!(rt; fault_of(rt.alloc(), &text), Some(last));
+    let text = with_steps(rt.alloc(), 200_000)?;
+    assert_eq!(rt; fault_of(rt.alloc(), &text), Some(ScenarioFault::TooMany));
+    Ok(())
+}
+
+// A list of these octets.
+fn bounded<R: Abort, const MOST: usize>(rt: &R, octets: &[u8]) -> Bounded<MOST> {
+    let mut list = Bounded::new();
+    for octet in octets {
+        list.try_push(*octet).expect(rt, "room for an octet");
+    }
+    list
+}
+
+// The scenario of some steps behind a setup.
+fn scenario_of(alloc: Global, steps: &str) -> Result<Scenario, Fail> {
+    let text = format!(in alloc; "{PHONE}{STATION}{steps}")?;
+    Ok(read(alloc, text.as_str().as_bytes())?)
+}
+
+#[test]
+fn a_setup_is_what_its_tables_say(rt: HostRuntime) -> Result<(), Fail> {
+    let text = "[[station]]\nid=7\ncells=[[503,65535],[0,0]]\n[[station]]\nid=0\npriority=[0]\n\
+        first=4294967295\ncells=[[0,1]]\n[core]\npriority=[0,2]\nfirst=9\n[phone]\ncaps='Ff01'\n";
+    let scenario = read(rt.alloc(), text.as_bytes())?;
+    assert_eq!(rt; scenario.events.len(), 0);
+    let setup = scenario.setup;
+    assert_eq!(rt;
+        setup.caps,
+        Caps {
+            eea: 0xff,
+            eia: 0x01
+        }
+    );
+    assert_eq!(rt;
+        setup.core_priority,
+        Priority::new(Eea::Eea0, Some(Eea::Eea2))
+    );
+    assert_eq!(rt; setup.core_first, 9);
+    let stations = [
+        StationSetup {
+            id: 7,
+            priority: Priority::new(Eea::Eea2, Some(Eea::Eea0)),
+            first: 1,
+        },
+        StationSetup {
+            id: 0,
+            priority: Priority::new(Eea::Eea0, None),
+            first: u32::MAX,
+        },
+    ];
+    assert_eq!(rt; setup.stations.as_slice(), stations.as_slice());
+    assert_eq!(rt; setup.cells.len(), 3);
+    for (pci, earfcn, station) in [(503, 65535, 7), (0, 0, 7), (0, 1, 0)] {
+        let cell = Cell::new(pci, earfcn).expect(&rt, "a cell in range");
+        assert_eq!(rt; setup.cells.station_of(&cell), Some(station));
+    }
+    Ok(())
+}
+
+#[test]
+fn acts_are_the_events_of_their_steps(rt: HostRuntime) -> Result<(), Fail> {
+    let cell = Cell::new(11, 101).expect(&rt, "a cell in range");
+    let table = [
+        ("do='smc'", Event::Core(CoreAct::StartSmc)),
+        ("do='release'", Event::Core(CoreAct::Release)),
+        ("do='service'", Event::Phone(PhoneAct::ServiceRequest)),
+        ("do='resend'", Event::Phone(PhoneAct::ResendComplete)),
+        ("do='idle'", Event::Phone(PhoneAct::GoIdle)),
+        (
+            "do='connect',cell=[11,101]",
+            Event::Core(CoreAct::Connect(cell)),
+        ),
+        (
+            "do='x2',station=1,cell=[11,101]",
+            Event::Station(1, StationAct::Start(HoKind::X2, cell)),
+        ),
+        (
+            "do='s1',station=1,cell=[11,101]",
+            Event::Station(1, StationAct::Start(HoKind::S1, cell)),
+        ),
+        (
+            "do='intra',station=1,cell=[11,101]",
+            Event::Station(1, StationAct::Start(HoKind::Intra, cell)),
+        ),
+        (
+            "do='command',station=1",
+            Event::Station(1, StationAct::Command),
+        ),
+        (
+            "do='cancel',station=1",
+            Event::Station(1, StationAct::Cancel),
+        ),
+        ("do='ask',station=1", Event::Station(1, StationAct::Ask)),
+        (
+            "do='deliver',record=-9223372036854775808",
+            Event::Deliver(i64::MIN),
+        ),
+        (
+            "do='skip',who='phone',bearer='nas',n=0",
+            Event::Phone(PhoneAct::Skip(None, 0)),
+        ),
+        (
+            "do='skip',who='phone',bearer='drb4',n=1",
+            Event::Phone(PhoneAct::Skip(Some(Bearer::Drb4), 1)),
+        ),
+        (
+            "do='skip',who='station',station=1,bearer='srb2',n=2",
+            Event::Station(1, StationAct::Skip(Bearer::Srb2, 2)),
+        ),
+        (
+            "do='skip',who='core',bearer='nas',n=4294967295",
+            Event::Core(CoreAct::Skip(u32::MAX)),
+        ),
+    ];
+    for (step, event) in table {
+        let steps = format!(in rt.alloc(); "step=[{{{step}}}]")?;
+        let scenario = scenario_of(rt.alloc(), &steps)?;
+        assert_eq!(rt; scenario.events.len(), 1);
+        assert_eq!(rt; scenario.events.first(), Some(&event), "{step}");
+    }
+    Ok(())
+}
+
+#[test]
+fn texts_and_octets_are_the_events_of_their_steps(rt: HostRuntime) -> Result<(), Fail> {
+    let table = [
+        (
+            "do='user',from='phone',bearer='drb1',text=''",
+            Event::Phone(PhoneAct::SendUser(Bearer::Drb1, bounded(&rt, b""))),
+        ),
+        (
+            "do='user',from='station',station=1,bearer='drb3',text='6f6B'",
+            Event::Station(1, StationAct::SendUser(Bearer::Drb3, bounded(&rt, b"ok"))),
+        ),
+        (
+            "do='rrc',from='phone',bearer='srb2',text='68'",
+            Event::Phone(PhoneAct::SendRrc(Bearer::Srb2, bounded(&rt, b"h"))),
+        ),
+        (
+            "do='rrc',from='station',station=1,bearer='srb1',text=''",
+            Event::Station(1, StationAct::SendRrc(Bearer::Srb1, bounded(&rt, b""))),
+        ),
+        (
+            "do='nas',from='phone',text='6869'",
+            Event::Phone(PhoneAct::SendNas(bounded(&rt, b"hi"))),
+        ),
+        (
+            "do='nas',from='core',text='6869'",
+            Event::Core(CoreAct::SendNas(bounded(&rt, b"hi"))),
+        ),
+        (
+            "do='inject',to='phone',bearer='nas',octets='27'",
+            Event::Inject(Address::PhoneNas, bounded(&rt, b"'")),
+        ),
+        (
+            "do='inject',to='core',bearer='nas',octets='27'",
+            Event::Inject(Address::CoreNas, bounded(&rt, b"'")),
+        ),
+        (
+            "do='inject',to='phone',bearer='srb1',station=1,air=0,octets='27'",
+            Event::Inject(Address::Phone(1, 0, Bearer::Srb1), bounded(&rt, b"'")),
+        ),
+        (
+            "do='inject',to='station',bearer='drb2',station=1,air=4294967295,octets='27'",
+            Event::Inject(
+                Address::StationAir(1, u32::MAX, Bearer::Drb2),
+                bounded(&rt, b"'"),
+            ),
+        ),
+    ];
+    for (step, event) in table {
+        let steps = format!(in rt.alloc(); "step=[{{{step}}}]")?;
+        let scenario = scenario_of(rt.alloc(), &steps)?;
+        assert_eq!(rt; scenario.events.len(), 1);
+        assert_eq!(rt; scenario.events.first(), Some(&event), "{step}");
+    }
+    Ok(())
+}
+
+#[test]
+fn an_authentication_takes_the_capabilities_of_the_phone(rt: HostRuntime) -> Result<(), Fail> {
+    let key = "000102030405060708090a0b0c0d0e0f101112131415161718191A1B1C1D1E1F";
+    let octets = [
+        0, 1, 2, 3, 4, 5, 6, 7, 8, 9, 10, 11, 12, 13, 14, 15, 16, 17, 18, 19, 20, 21, 22, 23, 24,
+        25, 26, 27, 28, 29, 30, 31,
+    ];
+    let steps = format!(in rt.alloc();
+        "[[step]]\ndo='auth'\nksi=6\nkasme='{key}'\n[[step]]\ncaps='0102'\nkasme='{key}'\nksi=0\ndo='auth'\n"
+    )?;
+    let scenario = scenario_of(rt.alloc(), &steps)?;
+    let events = [
+        Event::Auth(
+            6,
+            octets,
+            Caps {
+                eea: 0xa0,
+                eia: 0x20,
+            },
+        ),
+        Event::Auth(0, octets, Caps { eea: 1, eia: 2 }),
+    ];
+    assert_eq!(rt; scenario.events.as_slice(), events.as_slice());
+    Ok(())
+}

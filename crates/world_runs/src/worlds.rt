@@ -1,0 +1,5 @@
+// Runs of a phone, two stations and the core, event by event. What they answer was computed by another
+// implementation.
+mod chances;
+mod runs;
+mod system;
