@@ -1,7 +1,7 @@
 mod generated;
 mod systems;
 
-use crate::scenarios::Refusal::{Missing, Unknown, Wrong};
+use crate::refusals::Refusal::{self, Missing, Unknown, Wrong};
 use alg_choice::{Caps, Eea, Priority};
 use annex_a_keys::Cell;
 use lte_events::{Address, CoreAct, Event, HoKind, PhoneAct, StationAct, StationSetup};
@@ -15,25 +15,6 @@ use scenario_file::{Field, Scenario, ScenarioFault, read};
 use std::alloc::Global;
 use std::process::Abort;
 use std::test::Fail;
-
-// A fault, before it is said in which step.
-#[derive(Clone, Copy)]
-enum Refusal {
-    Missing(Field),
-    Wrong(Field),
-    Unknown,
-}
-
-impl Refusal {
-    // The fault in this step, or in a table before the steps.
-    fn at(self, step: Option<u32>) -> ScenarioFault {
-        match self {
-            Missing(field) => ScenarioFault::Missing(step, field),
-            Wrong(field) => ScenarioFault::Wrong(step, field),
-            Unknown => ScenarioFault::Unknown(step),
-        }
-    }
-}
 
 // A phone with EEA0, 128-EEA2 and 128-EIA2, and one station with one cell.
 const PHONE: &str = "phone={caps='a020'}\n";
