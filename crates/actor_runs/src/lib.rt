@@ -4,9 +4,13 @@
 #![tactic(auto)]
 
 #[cfg(test)]
+mod core_nas;
+#[cfg(test)]
 mod cores;
 #[cfg(test)]
 mod edges;
+#[cfg(test)]
+mod phone_nas;
 #[cfg(test)]
 mod phones;
 #[cfg(test)]

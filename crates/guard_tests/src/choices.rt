@@ -1,4 +1,4 @@
-use alg_choice::{Algs, Caps, Eea, NoAlgorithm, Priority, choose};
+use alg_choice::{Algs, Caps, Eea, NoAlgorithm, Priority, choose, supports};
 
 #[test]
 fn first_supported_of_the_list_is_chosen(rt: HostRuntime) {
@@ -13,5 +13,19 @@ fn first_supported_of_the_list_is_chosen(rt: HostRuntime) {
     ];
     for (eea, eia, wanted) in table {
         assert_eq!(rt; choose(&priority, &Caps { eea, eia }), wanted);
+    }
+}
+
+#[test]
+fn both_algorithms_must_be_supported(rt: HostRuntime) {
+    let algs = Algs { eea: Eea::Eea2 };
+    let table = [
+        (0xa0, 0x20, true),
+        (0x20, 0x20, true),
+        (0x80, 0x20, false),
+        (0xa0, 0xc0, false),
+    ];
+    for (eea, eia, wanted) in table {
+        assert_eq!(rt; supports(&Caps { eea, eia }, &algs), wanted);
     }
 }

@@ -113,6 +113,24 @@ fn refusals_come_in_order(rt: HostRuntime) {
 }
 
 #[test]
+fn accepted_record_does_not_open_again(rt: HostRuntime) -> Result<(), Fail> {
+    let keys = keys(Eea::Eea2);
+    let mut rx = receiver_at(0x000100);
+    let record = [0x27, 0x41, 0xbf, 0x51, 0xa3, 0x00, 0x76, 0x7e];
+    let opened = open(&keys, &rx, Dir::Up, &record)?;
+    assert_eq!(rt; opened.count, 0x000100);
+    assert_eq!(rt; opened.text.as_slice(), b"hi".as_slice());
+    rx.accept(0x000100);
+    let again = OpenFault::MacFails {
+        count: 512,
+        wanted: [0xe8, 0xcf, 0x66, 0x78],
+        got: [0x41, 0xbf, 0x51, 0xa3],
+    };
+    assert_eq!(rt; open(&keys, &rx, Dir::Up, &record), Err(again));
+    Ok(())
+}
+
+#[test]
 fn last_count_is_sealed_once(rt: HostRuntime) -> Result<(), Fail> {
     let keys = keys(Eea::Eea0);
     let mut tx = TxCount::new();
@@ -121,4 +139,13 @@ fn last_count_is_sealed_once(rt: HostRuntime) -> Result<(), Fail> {
     assert_eq!(rt; count, LIMIT - 1);
     assert!(rt; seal(&keys, &mut tx, 1, Dir::Up, TEXT).is_err());
     Ok(())
+}
+
+#[test]
+fn whole_keys_are_kept(rt: HostRuntime) {
+    let keys = keys(Eea::Eea2);
+    assert_eq!(rt; keys.key(AlgType::NasEnc)[0], 0x7c);
+    assert_eq!(rt; keys.key(AlgType::NasEnc)[31], 0xb9);
+    assert_eq!(rt; keys.key(AlgType::NasInt)[0], 0xa6);
+    assert_eq!(rt; keys.key(AlgType::NasInt)[31], 0x8a);
 }

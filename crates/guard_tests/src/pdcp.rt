@@ -202,6 +202,23 @@ fn drb_pdus_are_those_of_another_implementation(rt: HostRuntime) -> Result<(), F
 }
 
 #[test]
+fn receiver_takes_the_least_count(rt: HostRuntime) -> Result<(), Fail> {
+    let keys = keys(Eea::Eea2);
+    for (next, count) in [(31, 32), (32, 63)] {
+        let mut sender = Srb::new(Bearer::Srb1);
+        sender.skip(count);
+        let sent = sender.send(&keys, Dir::Up, true, TEXT)?;
+        let receiver = srb_expecting(Bearer::Srb1, next);
+        let opened = receiver.open(&keys, Dir::Up, true, sent.pdu.as_slice())?;
+        assert_eq!(rt; opened.count, count);
+    }
+    let mut drb = drb_expecting(Bearer::Drb1, 1);
+    let opened = drb.receive(&keys, Dir::Up, &[0x8f, 0xff])?;
+    assert_eq!(rt; opened.count, 8191);
+    Ok(())
+}
+
+#[test]
 fn drb_out_of_the_window_opens_to_another_text(rt: HostRuntime) -> Result<(), Fail> {
     let keys = keys(Eea::Eea2);
     for (skipped, count, text) in [

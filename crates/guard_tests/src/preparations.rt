@@ -56,3 +56,13 @@ fn a_preparation_is_found_and_taken_by_its_air_address(rt: HostRuntime) {
     assert!(rt; !preps.remove(2, 11));
     assert_eq!(rt; preps.len(), 1);
 }
+
+#[test]
+fn preparations_of_lower_connections_are_dropped(rt: HostRuntime) {
+    let mut preps = preps_of(&rt, &[4, 5, 4, 6]);
+    preps.drop_below(5);
+    assert_eq!(rt; preps.len(), 2);
+    assert!(rt; preps.at_air(1).is_none());
+    assert!(rt; preps.at_air(2).is_some());
+    assert!(rt; preps.at_air(4).is_some());
+}

@@ -99,6 +99,45 @@ fn changed(kind: usize, place: usize, field: &[u8]) -> Octets {
 }
 
 #[test]
+fn path_switch_request_is_read(rt: HostRuntime) {
+    let octets = [
+        0x22, 0, 0, 0, 1, 1, 0, 0, 0, 2, 0, 0x0b, 0, 0, 0, 0x65, 0xa0, 0x20,
+    ];
+    let request = CoreRecord::PathSwitchRequest {
+        conn: 1,
+        station: 1,
+        number: 2,
+        cell: Cell::new(11, 101).expect(&rt, "in range"),
+        caps: Caps {
+            eea: 0xa0,
+            eia: 0x20,
+        },
+    };
+    assert_eq!(rt; request.write().as_slice(), octets.as_slice());
+    assert_eq!(rt; CoreRecord::read(&octets), Ok(request));
+}
+
+#[test]
+fn derived_key_stands_behind_its_ncc(rt: HostRuntime) {
+    let cell = Cell::new(11, 101).expect(&rt, "in range");
+    let star = Kenb::of_octets(KEY).star(&cell).0;
+    let request = CoreRecord::X2Request {
+        conn: 1,
+        source: 7,
+        attempt: 2,
+        cell,
+        caps: Caps {
+            eea: 0xa0,
+            eia: 0x20,
+        },
+        ncc: 3,
+        star,
+    };
+    let octets = changed(10, 19, &star.octets());
+    assert_eq!(rt; request.write().as_slice(), octets.as_slice());
+}
+
+#[test]
 fn each_kind_is_read_as_spelled_and_written_back(rt: HostRuntime) {
     let cell = Cell::new(11, 101).expect(&rt, "in range");
     let caps = Caps {
@@ -211,6 +250,37 @@ fn each_kind_is_read_as_spelled_and_written_back(rt: HostRuntime) {
             assert_eq!(rt; &read, record, "kind {kind}");
             assert_eq!(rt; read.write().as_slice(), octets.as_slice(), "kind {kind}");
         }
+    }
+}
+
+#[test]
+fn fault_is_the_first_in_order(rt: HostRuntime) {
+    let table: [(&[u8], RecFault); 5] = [
+        (&[], RecFault::Short),
+        (&[0x1f], RecFault::BadKind),
+        (&[0x2a, 0], RecFault::BadKind),
+        (&[0x35], RecFault::BadKind),
+        (&[0x22], RecFault::Short),
+    ];
+    for (octets, fault) in table {
+        assert_eq!(rt; CoreRecord::read(octets).err(), Some(fault));
+    }
+    for kind in 0..15 {
+        let whole = spelling(kind);
+        if let [short @ .., _] = whole.as_slice() {
+            assert_eq!(rt;
+                CoreRecord::read(short).err(),
+                Some(RecFault::Short),
+                "kind {kind}"
+            );
+        }
+        let mut long = whole;
+        push_all(&mut long, &[0]);
+        assert_eq!(rt;
+            CoreRecord::read(long.as_slice()).err(),
+            Some(RecFault::Long),
+            "kind {kind}"
+        );
     }
 }
 

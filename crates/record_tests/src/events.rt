@@ -1,7 +1,10 @@
 use alg_choice::{Algs, Caps, Eea, Priority};
 use annex_a_keys::Cell;
-use lte_events::{Answer, Cells, CellsFault, Few, StationSetup};
-use rec_base::RecFault;
+use lte_events::{
+    ActorOut, Address, Answer, Cells, CellsFault, CoreAct, Event, Few, HoKind, PhoneAct,
+    StationAct, StationSetup,
+};
+use rec_base::{Bearer, Octets, RecFault, UserText};
 use std::process::Abort;
 
 #[test]
@@ -50,6 +53,16 @@ fn cells_are_found_in_the_order_added(rt: HostRuntime) {
     assert_eq!(rt; cells.len(), 32);
 }
 
+#[test]
+fn one_cell_per_pci_and_earfcn(rt: HostRuntime) {
+    let mut cells = Cells::new();
+    for (pci, earfcn) in [(10, 100), (10, 101), (11, 100)] {
+        let cell = Cell::new(pci, earfcn).expect(&rt, "a cell in range");
+        assert_eq!(rt; cells.add(0, cell), Ok(()));
+        assert_eq!(rt; cells.add(1, cell), Err(CellsFault::SameCell));
+    }
+}
+
 // A station of this number.
 fn station(id: u8) -> StationSetup {
     StationSetup {
@@ -72,4 +85,30 @@ fn full_list_hands_the_item_back(rt: HostRuntime) {
     more.append(stations.as_slice());
     let ids = [station(1), station(3), station(5)];
     assert_eq!(rt; more.as_slice(), ids.as_slice());
+}
+
+#[test]
+fn events_differ_by_who_acts_and_how(rt: HostRuntime) {
+    let target = cell(&rt, 11);
+    let mut text = UserText::new();
+    text.append(b"hi");
+    let events = [
+        Event::Phone(PhoneAct::SendUser(Bearer::Drb1, text)),
+        Event::Station(0, StationAct::Start(HoKind::X2, target)),
+        Event::Station(0, StationAct::Start(HoKind::S1, target)),
+        Event::Core(CoreAct::Connect(target)),
+        Event::Inject(Address::StationAir(0, 1, Bearer::Srb1), Octets::new()),
+        Event::Deliver(-1),
+    ];
+    for (i, event) in events.iter().enumerate() {
+        assert_eq!(rt; events.iter().position(|other| *other == *event), Some(i));
+        assert_eq!(rt; event.clone().unwrap(), *event);
+    }
+}
+
+#[test]
+fn empty_reply_is_done(rt: HostRuntime) {
+    let reply = ActorOut::of(Answer::Done);
+    assert_eq!(rt; reply, ActorOut::default());
+    assert_eq!(rt; reply.derived.as_slice().len(), 0);
 }

@@ -1,6 +1,6 @@
 use alg_choice::{Algs, Caps, Eea};
 use nas_rec::NasRecord;
-use rec_base::RecFault;
+use rec_base::{RecFault, ShortText};
 
 #[test]
 fn records_are_read_as_spelled_and_written_back(rt: HostRuntime) {
@@ -25,6 +25,25 @@ fn records_are_read_as_spelled_and_written_back(rt: HostRuntime) {
         NasRecord::ServiceRequest.write().as_slice(),
         [0x04].as_slice()
     );
+}
+
+#[test]
+fn text_has_up_to_200_octets(rt: HostRuntime) {
+    assert_eq!(rt;
+        NasRecord::read(&[0x05]),
+        Ok(NasRecord::NasData(ShortText::new()))
+    );
+    let mut text = ShortText::new();
+    let mut octets = [7u8; 202];
+    octets[0] = 0x05;
+    for _ in 0..200 {
+        assert_eq!(rt; text.try_push(7), Ok(()));
+    }
+    assert_eq!(rt;
+        NasRecord::read(&octets[..201]),
+        Ok(NasRecord::NasData(text))
+    );
+    assert_eq!(rt; NasRecord::read(&octets).err(), Some(RecFault::Long));
 }
 
 #[test]

@@ -1,4 +1,6 @@
-use rec_base::{Bearer, Dir, ShortText, header};
+use rec_base::{
+    Bearer, Dir, ShortText, UserText, greatest_lengths, header, key_at, u8_at, u16_at, u32_at,
+};
 
 #[test]
 fn bearers_have_their_octet_and_number(rt: HostRuntime) {
@@ -19,6 +21,19 @@ fn bearers_have_their_octet_and_number(rt: HostRuntime) {
 }
 
 #[test]
+fn fields_have_the_highest_octet_first(rt: HostRuntime) {
+    let mut octets = [0u8; 40];
+    octets[1..7].copy_from_slice(&[1, 2, 3, 4, 5, 6]);
+    octets[39] = 7;
+    assert_eq!(rt; u8_at(&octets, 1), 1);
+    assert_eq!(rt; u16_at(&octets, 2), 0x0203);
+    assert_eq!(rt; u32_at(&octets, 3), 0x0304_0506);
+    let key = key_at(&octets, 8);
+    assert_eq!(rt; key[31], 7);
+    assert_eq!(rt; key[0], 0);
+}
+
+#[test]
 fn header_holds_count_bearer_and_direction(rt: HostRuntime) {
     assert_eq!(rt;
         header(0x398a_59b4, 21, Dir::Down),
@@ -35,4 +50,10 @@ fn full_list_hands_the_octet_back(rt: HostRuntime) {
     assert_eq!(rt; text.try_push(200), Err(200));
     assert_eq!(rt; text.as_slice().len(), 200);
     assert!(rt; text != ShortText::new());
+}
+
+#[test]
+fn lists_have_their_greatest_lengths(rt: HostRuntime) {
+    assert_eq!(rt; greatest_lengths(), (1536, 1500, 200));
+    assert_eq!(rt; UserText::capacity(), 1500);
 }

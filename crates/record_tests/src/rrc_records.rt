@@ -1,6 +1,6 @@
 use alg_choice::{Algs, Eea};
 use annex_a_keys::Cell;
-use rec_base::RecFault;
+use rec_base::{RecFault, ShortText};
 use rrc_rec::RrcRecord;
 
 #[test]
@@ -40,6 +40,40 @@ fn records_are_read_as_spelled_and_written_back(rt: HostRuntime) {
         RrcRecord::ReconfigurationComplete.write().as_slice(),
         [0x04].as_slice()
     );
+}
+
+#[test]
+fn key_change_in_the_greatest_cell_is_read_as_spelled_and_written_back(rt: HostRuntime) {
+    let octets = [
+        0x06, 0x01, 0xf7, 0x00, 0x03, 0xff, 0xff, 0x02, 0x07, 0, 0, 1, 2,
+    ];
+    let change = RrcRecord::KeyChange {
+        cell: Cell::new(503, 262_143).expect(&rt, "in range"),
+        algs: Algs { eea: Eea::Eea0 },
+        station: 7,
+        air: 258,
+    };
+    assert_eq!(rt; change.write().as_slice(), octets.as_slice());
+    assert_eq!(rt; RrcRecord::read(&octets), Ok(change));
+}
+
+#[test]
+fn text_has_up_to_200_octets(rt: HostRuntime) {
+    assert_eq!(rt;
+        RrcRecord::read(&[0x05]),
+        Ok(RrcRecord::RrcData(ShortText::new()))
+    );
+    let mut text = ShortText::new();
+    let mut octets = [7u8; 202];
+    octets[0] = 0x05;
+    for _ in 0..200 {
+        assert_eq!(rt; text.try_push(7), Ok(()));
+    }
+    assert_eq!(rt;
+        RrcRecord::read(&octets[..201]),
+        Ok(RrcRecord::RrcData(text))
+    );
+    assert_eq!(rt; RrcRecord::read(&octets).err(), Some(RecFault::Long));
 }
 
 #[test]

@@ -30,6 +30,20 @@ fn an_input_ends_at_a_frames_edge_or_inside_a_frame(rt: HostRuntime) {
 }
 
 #[test]
+fn a_second_setup_is_no_frame(rt: HostRuntime) {
+    let mut src = SliceSource::new(&TWICE);
+    assert_eq!(rt; read_frame(&mut src, Role::Phone, true), Ok(SETUP));
+    assert_eq!(rt;
+        read_frame(&mut src, Role::Phone, false),
+        Err(FrameFault::BadBody(0))
+    );
+    assert_eq!(rt;
+        read_frame(&mut src, Role::Phone, false),
+        Err(FrameFault::Ended)
+    );
+}
+
+#[test]
 fn a_length_ends_at_4096(rt: HostRuntime) {
     let mut octets = [0u8; 4099];
     octets[0] = 0x10;
@@ -48,6 +62,29 @@ fn a_length_ends_at_4096(rt: HostRuntime) {
     // Nothing behind the length was read.
     let mut rest = [0u8; 4099];
     assert_eq!(rt; read_fill(&mut src, &mut rest), Ok(4097));
+}
+
+#[test]
+fn texts_end_at_their_greatest_size(rt: HostRuntime) {
+    let table = [
+        (Role::Phone, 0x02, 1, 1536),
+        (Role::Phone, 0x15, 1, 200),
+        (Role::Phone, 0x13, 2, 1500),
+        (Role::Core, 0x04, 1, 1536),
+        (Role::Station(3), 0x05, 1, 1536),
+    ];
+    for (role, kind, place, most) in table {
+        let mut octets = [0x81u8; 1600];
+        octets[2] = kind;
+        for (more, want) in [(0, None), (1, Some((place + most) as u16))] {
+            let size = place + most + more;
+            octets[0] = (size / 256) as u8;
+            octets[1] = (size % 256) as u8;
+            let mut src = SliceSource::new(&octets[..size + 2]);
+            let fault = read_frame(&mut src, role, false).err();
+            assert_eq!(rt; fault, want.map(FrameFault::BadBody), "{kind}");
+        }
+    }
 }
 
 #[test]
