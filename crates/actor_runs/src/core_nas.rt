@@ -9,6 +9,7 @@ use nas_count::LIMIT;
 use nas_smc::{CoreNas, NasOut};
 use rec_base::{RecFault, ShortText};
 use std::process::Abort;
+use test_values::same;
 
 const OWN: Caps = Caps {
     eea: 0xa0,
@@ -58,10 +59,10 @@ fn text(octets: &[u8]) -> ShortText
 
 // An answer, and the octets sent, or none.
 fn expect(rt: &impl Abort, out: &NasOut, answer: Answer, sent: &[u8]) {
-    assert_eq!(rt; out.answer, answer);
+    same(rt, out.answer, answer);
     match &out.pdu {
-        Some(pdu) => assert_eq!(rt; pdu.as_slice(), sent),
-        None => assert_eq!(rt; sent.len(), 0),
+        Some(pdu) => same(rt, pdu.as_slice(), sent),
+        None => same(rt, sent.len(), 0),
     }
 }
 
@@ -72,15 +73,15 @@ fn complete_of_any_count_ends_the_procedure(rt: HostRuntime) {
     let out = nas.start_smc();
     expect(&rt, &out, Answer::Done, &COMMAND);
     let derived = out.derived.as_slice();
-    assert_eq!(rt; derived.len(), 2);
+    same(&rt, derived.len(), 2);
     expect(&rt, &nas.start_smc(), Answer::SmcOpen, &[]);
-    assert_eq!(rt; nas.root(), None);
+    same(&rt, nas.root(), None);
     let out = nas.on_pdu(&COMPLETE);
     expect(&rt, &out, Answer::Done, &[]);
-    assert_eq!(rt; out.trigger, Some(5));
+    same(&rt, out.trigger, Some(5));
     assert!(rt; out.accepted.is_some());
-    assert_eq!(rt; nas.root(), Some(kasme(0)));
-    assert_eq!(rt; nas.caps(), Some(OWN));
+    same(&rt, nas.root(), Some(kasme(0)));
+    same(&rt, nas.caps(), Some(OWN));
     expect(&rt, &nas.start_smc(), Answer::NoContext, &[]);
 }
 
@@ -92,7 +93,7 @@ fn texts_go_under_rising_counts(rt: HostRuntime) {
     expect(&rt, &sent, Answer::Done, &octets);
     let request = nas.on_pdu(&[0x17, 0xb6, 0xa8, 0xe4, 0xda, 0x06, 0x04]);
     expect(&rt, &request, Answer::Done, &[]);
-    assert_eq!(rt; request.trigger, Some(6));
+    same(&rt, request.trigger, Some(6));
     expect(&rt, &nas.skip(LIMIT), Answer::Done, &[]);
     expect(&rt, &nas.send(&text(b"hi")), Answer::CountSpent, &[]);
 }
@@ -118,7 +119,7 @@ fn reject_ends_the_procedure_as_the_context_allows(rt: HostRuntime) {
         &[],
     );
     expect(&rt, &nas.on_pdu(&sealed), Answer::Done, &[]);
-    assert_eq!(rt; nas.start_smc().answer, Answer::Done);
+    same(&rt, nas.start_smc().answer, Answer::Done);
 }
 
 #[test]

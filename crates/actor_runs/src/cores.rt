@@ -8,6 +8,7 @@ use lte_events::{ActorOut, Address, Answer, Cells, CoreAct, CoreIn};
 use mme_context::Core;
 use rec_base::{Octets, Way};
 use std::process::Abort;
+use test_values::same;
 
 const OWN: Caps = Caps {
     eea: 0xa0,
@@ -116,19 +117,19 @@ fn cell(rt: &impl Abort, pci: u16, earfcn: u32) -> Cell {
 
 // Nothing but this answer, with no record.
 fn expect_answer(rt: &impl Abort, out: &ActorOut, answer: Answer) {
-    assert_eq!(rt; out.answer, answer);
+    same(rt, out.answer, answer);
     assert!(rt; out.sent.is_none());
 }
 
 // The record was sent there.
 fn expect_sent(rt: &impl Abort, out: &ActorOut, to: Address, octets: &[u8]) {
-    assert_eq!(rt; out.answer, Answer::Done);
+    same(rt, out.answer, Answer::Done);
     let Some(sent) = &out.sent else {
         assert!(rt; false, "nothing was sent");
         return;
     };
-    assert_eq!(rt; sent.to, to);
-    assert_eq!(rt; sent.octets.as_slice(), octets);
+    same(rt, sent.to, to);
+    same(rt, sent.octets.as_slice(), octets);
 }
 
 // A key is told, with its NCC, and it is the one derivation.
@@ -137,11 +138,11 @@ fn expect_key(rt: &impl Abort, out: &ActorOut, ncc: u8, way: Way, key: [u8; 32])
         assert!(rt; false, "no key is told");
         return;
     };
-    assert_eq!(rt; note.ncc, ncc);
-    assert_eq!(rt; note.way, way);
-    assert_eq!(rt; note.key, key);
+    same(rt, note.ncc, ncc);
+    same(rt, note.way, way);
+    same(rt, note.key, key);
     let derived = out.derived.as_slice();
-    assert_eq!(rt; derived.len(), 1);
+    same(rt, derived.len(), 1);
 }
 
 // A core with stations 0 and 1, whose first connection has this number.
@@ -163,7 +164,7 @@ fn renew(rt: &impl Abort, core: &mut Core, ksi: u8, first: u8, complete: &[u8]) 
     let auth = core.step(&CoreIn::Auth(ksi, kasme(first), OWN));
     expect_answer(rt, &auth, Answer::Done);
     let command = core.step(&CoreIn::Act(CoreAct::StartSmc));
-    assert_eq!(rt; command.answer, Answer::Done);
+    same(rt, command.answer, Answer::Done);
     core.step(&CoreIn::Nas(octets(complete)))
 }
 
@@ -188,7 +189,7 @@ fn connection_and_path_switch(rt: HostRuntime) {
     ];
     expect_sent(&rt, &command, Address::PhoneNas, &sent);
     let derived = command.derived.as_slice();
-    assert_eq!(rt; derived.len(), 2);
+    same(&rt, derived.len(), 2);
     let complete = core.step(&CoreIn::Nas(octets(&COMPLETE)));
     expect_answer(&rt, &complete, Answer::Done);
     assert!(rt; complete.accepted.is_some());

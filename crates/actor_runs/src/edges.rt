@@ -7,6 +7,7 @@ use lte_events::{Answer, CoreIn, PhoneAct, PhoneIn, StationIn};
 use mme_context::Core;
 use rec_base::{Bearer, Octets, ShortText};
 use std::process::Abort;
+use test_values::same;
 use ue_context::Phone;
 
 fn octets(of: &[u8]) -> Octets
@@ -21,14 +22,14 @@ fn phone_hears(rt: &impl Abort, phone: &mut Phone, pdu: &[u8], answer: Answer)
     requires { length pdu.now ≤ 1536 }
 {
     let out = phone.step(&PhoneIn::Nas(octets(pdu)));
-    assert_eq!(rt; out.answer, answer);
+    same(rt, out.answer, answer);
 }
 
 fn core_hears(rt: &impl Abort, core: &mut Core, pdu: &[u8], answer: Answer)
     requires { length pdu.now ≤ 1536 }
 {
     let out = core.step(&CoreIn::Nas(octets(pdu)));
-    assert_eq!(rt; out.answer, answer);
+    same(rt, out.answer, answer);
 }
 
 // At station 0.
@@ -43,7 +44,7 @@ fn phone_gets(
     requires { length pdu.now ≤ 1536 }
 {
     let out = phone.step(&PhoneIn::Air(0, air, bearer, octets(pdu)));
-    assert_eq!(rt; out.answer, answer);
+    same(rt, out.answer, answer);
 }
 
 #[test]
@@ -79,7 +80,7 @@ fn octets_that_nobody_sent_are_refused(rt: HostRuntime) {
     );
     for (air, answer) in [(9, Answer::NotAddressed), (1, Answer::Short)] {
         let input = StationIn::Air(air, Bearer::Srb1, octets(&[0]));
-        assert_eq!(rt; system.home.step(&input).answer, answer);
+        same(&rt, system.home.step(&input).answer, answer);
     }
 }
 
@@ -89,15 +90,15 @@ fn the_last_nas_counts_are_taken_and_no_more(rt: HostRuntime) {
     system.follow(&rt, &ORDINARY[..4]);
     let skip = PhoneAct::Skip(None, 16_777_214);
     let out = system.phone.step(&PhoneIn::Act(skip));
-    assert_eq!(rt; out.answer, Answer::Done);
+    same(&rt, out.answer, Answer::Done);
     let send = PhoneIn::Act(PhoneAct::SendNas(ShortText::new()));
     let out = system.phone.step(&send);
-    assert_eq!(rt; out.answer, Answer::Done);
+    same(&rt, out.answer, Answer::Done);
     let Some(sent) = out.sent else {
         assert!(rt; false, "nothing was sent");
         return;
     };
     let heard = system.core.step(&CoreIn::Nas(sent.octets)).answer;
     assert!(rt; matches!(heard, Answer::MacFails(255, _, _)));
-    assert_eq!(rt; system.phone.step(&send).answer, Answer::CountSpent);
+    same(&rt, system.phone.step(&send).answer, Answer::CountSpent);
 }

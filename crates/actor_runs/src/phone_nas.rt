@@ -9,6 +9,7 @@ use nas_count::LIMIT;
 use nas_smc::{NasOut, PhoneNas};
 use rec_base::{RecFault, ShortText};
 use std::process::Abort;
+use test_values::same;
 
 const OWN: Caps = Caps {
     eea: 0xa0,
@@ -55,17 +56,17 @@ fn text(octets: &[u8]) -> ShortText
 
 // An answer, and the octets sent, or none.
 fn expect(rt: &impl Abort, out: &NasOut, answer: Answer, sent: &[u8]) {
-    assert_eq!(rt; out.answer, answer);
+    same(rt, out.answer, answer);
     match &out.pdu {
-        Some(pdu) => assert_eq!(rt; pdu.as_slice(), sent),
-        None => assert_eq!(rt; sent.len(), 0),
+        Some(pdu) => same(rt, pdu.as_slice(), sent),
+        None => same(rt, sent.len(), 0),
     }
 }
 
 #[test]
 fn command_is_completed_under_its_keys(rt: HostRuntime) {
     let mut nas = authenticated();
-    assert_eq!(rt; nas.root(), None);
+    same(&rt, nas.root(), None);
     let out = nas.on_pdu(&COMMAND);
     expect(
         &rt,
@@ -73,12 +74,12 @@ fn command_is_completed_under_its_keys(rt: HostRuntime) {
         Answer::Done,
         &[0x47, 0x4e, 0xb2, 0xc8, 0xe7, 0x00, 0x14],
     );
-    assert_eq!(rt; out.trigger, Some(0));
+    same(&rt, out.trigger, Some(0));
     let derived = out.derived.as_slice();
-    assert_eq!(rt; derived.len(), 2);
-    assert_eq!(rt; out.used.as_slice().len(), 2);
+    same(&rt, derived.len(), 2);
+    same(&rt, out.used.as_slice().len(), 2);
     assert!(rt; out.accepted.is_some());
-    assert_eq!(rt; nas.root(), Some(kasme(0)));
+    same(&rt, nas.root(), Some(kasme(0)));
     expect(&rt, &nas.on_pdu(&COMMAND), Answer::NoContext, &[]);
 }
 
@@ -92,13 +93,13 @@ fn messages_go_under_rising_counts(rt: HostRuntime) {
         Answer::Done,
         &[0x17, 0x8b, 0xdd, 0xa1, 0xfc, 0x01, 0x04],
     );
-    assert_eq!(rt; request.trigger, Some(1));
+    same(&rt, request.trigger, Some(1));
     let sent = nas.send(&text(b"hi"));
     let octets = [0x27, 0x10, 0xf2, 0xab, 0x94, 0x02, 0xab, 0x3f, 0x62];
     expect(&rt, &sent, Answer::Done, &octets);
-    assert_eq!(rt; sent.trigger, None);
+    same(&rt, sent.trigger, None);
     let received = nas.on_pdu(&[0x27, 0x15, 0x43, 0x51, 0x7e, 0x01, 0xa9, 0x9d, 0x2f]);
-    assert_eq!(rt; received.opened, Some(text(b"hi")));
+    same(&rt, received.opened, Some(text(b"hi")));
     expect(&rt, &nas.skip(LIMIT), Answer::Done, &[]);
     expect(&rt, &nas.send(&text(b"hi")), Answer::CountSpent, &[]);
     expect(&rt, &nas.service_request(), Answer::CountSpent, &[]);

@@ -9,6 +9,7 @@ use annex_a_keys::Kasme;
 use lte_events::{ActorOut, Address, Answer, KeyNote, PhoneAct, PhoneIn};
 use rec_base::{Bearer, Octets, UserText, Way};
 use std::process::Abort;
+use test_values::same;
 use ue_context::Phone;
 
 const COMMAND: [u8; 11] = [
@@ -101,19 +102,19 @@ fn connected() -> Phone {
 
 // Done, and the record was sent there.
 fn expect_sent(rt: &impl Abort, out: &ActorOut, to: Address, octets: &[u8]) {
-    assert_eq!(rt; out.answer, Answer::Done);
+    same(rt, out.answer, Answer::Done);
     let Some(sent) = &out.sent else {
         assert!(rt; false, "nothing was sent");
         return;
     };
-    assert_eq!(rt; sent.to, to);
-    assert_eq!(rt; sent.octets.as_slice(), octets);
+    same(rt, sent.to, to);
+    same(rt, sent.octets.as_slice(), octets);
 }
 
 #[test]
 fn a_phone_goes_by_x2_and_comes_back(rt: HostRuntime) {
     let mut phone = waiting();
-    assert_eq!(rt; phone.kenb(), None);
+    same(&rt, phone.kenb(), None);
     let out = phone.step(&signal(0, 1, &SECURITY));
     let complete = [0x00, 0x02, 0x8b, 0x94, 0xa0, 0x5e];
     expect_sent(
@@ -122,15 +123,16 @@ fn a_phone_goes_by_x2_and_comes_back(rt: HostRuntime) {
         Address::StationAir(0, 1, Bearer::Srb1),
         &complete,
     );
-    assert_eq!(rt;
+    same(
+        &rt,
         out.note,
         Some(KeyNote {
             ncc: 0,
             way: Way::Initial,
-            key: KENB
-        })
+            key: KENB,
+        }),
     );
-    assert_eq!(rt; phone.kenb(), Some(KENB));
+    same(&rt, phone.kenb(), Some(KENB));
     let mut text = UserText::new();
     text.append(&[0x68, 0x69]);
     let act = PhoneAct::SendUser(Bearer::Drb1, text);
@@ -145,8 +147,8 @@ fn a_phone_goes_by_x2_and_comes_back(rt: HostRuntime) {
         Address::StationAir(1, 1, Bearer::Srb1),
         &complete,
     );
-    assert_eq!(rt; out.derived.as_slice().len(), 4);
-    assert_eq!(rt; phone.kenb(), Some(AT_TARGET));
+    same(&rt, out.derived.as_slice().len(), 4);
+    same(&rt, phone.kenb(), Some(AT_TARGET));
     let out = phone.step(&PhoneIn::Act(PhoneAct::ResendComplete));
     let again = [0x01, 0x31, 0xc7, 0xe2, 0x25, 0x31];
     expect_sent(&rt, &out, Address::StationAir(1, 1, Bearer::Srb1), &again);
@@ -158,22 +160,23 @@ fn a_phone_goes_by_x2_and_comes_back(rt: HostRuntime) {
         Address::StationAir(0, 3, Bearer::Srb1),
         &complete,
     );
-    assert_eq!(rt;
+    same(
+        &rt,
         out.note,
         Some(KeyNote {
             ncc: 1,
             way: Way::Vertical,
-            key: AT_HOME
-        })
+            key: AT_HOME,
+        }),
     );
     let packet = octets(&[0x80, 0x00, 0xa3, 0xa7]);
     let out = phone.step(&PhoneIn::Air(0, 3, Bearer::Drb1, packet));
     let mut text = UserText::new();
     text.append(&[0x6f, 0x6b]);
-    assert_eq!(rt; out.opened, Some(text));
+    same(&rt, out.opened, Some(text));
     let out = phone.step(&PhoneIn::Act(PhoneAct::GoIdle));
-    assert_eq!(rt; out.answer, Answer::Done);
-    assert_eq!(rt; phone.kenb(), None);
+    same(&rt, out.answer, Answer::Done);
+    same(&rt, phone.kenb(), None);
     let out = phone.step(&PhoneIn::Act(PhoneAct::ServiceRequest));
     let request = [0x17, 0x8b, 0xdd, 0xa1, 0xfc, 0x01, 0x04];
     expect_sent(&rt, &out, Address::CoreNas, &request);
@@ -260,9 +263,9 @@ fn nh_steps_are_those_to_the_ncc(rt: HostRuntime) {
         } else {
             Way::Vertical
         };
-        assert_eq!(rt; out.note, Some(KeyNote { ncc, way, key }));
-        assert_eq!(rt; out.derived.as_slice().len(), steps + 4);
-        assert_eq!(rt; phone.kenb(), Some(key));
+        same(&rt, out.note, Some(KeyNote { ncc, way, key }));
+        same(&rt, out.derived.as_slice().len(), steps + 4);
+        same(&rt, phone.kenb(), Some(key));
     }
 }
 
@@ -273,27 +276,27 @@ fn forged_and_late_records_change_nothing(rt: HostRuntime) {
     forged[11] = 0x35;
     let out = phone.step(&signal(0, 1, &forged));
     let wrong = Answer::MacFails(0, [0x9d, 0xa9, 0x92, 0x34], [0x9d, 0xa9, 0x92, 0x35]);
-    assert_eq!(rt; out.answer, wrong);
+    same(&rt, out.answer, wrong);
     let out = phone.step(&signal(0, 2, &SECURITY));
-    assert_eq!(rt; out.answer, Answer::NotAddressed);
+    same(&rt, out.answer, Answer::NotAddressed);
     assert!(rt; out.accepted.is_some());
-    assert_eq!(rt; phone.kenb(), None);
+    same(&rt, phone.kenb(), None);
     let out = phone.step(&signal(0, 1, &SECURITY));
-    assert_eq!(rt; out.answer, Answer::Done);
+    same(&rt, out.answer, Answer::Done);
     let out = phone.step(&signal(0, 1, &SECURITY));
     let late = Answer::MacFails(32, [0x12, 0xdc, 0x48, 0x12], [0x6e, 0x7c, 0x04, 0x2f]);
-    assert_eq!(rt; out.answer, late);
+    same(&rt, out.answer, late);
     let _ = phone.step(&signal(0, 1, &ORDER));
     let out = phone.step(&signal(0, 1, &ORDER));
-    assert_eq!(rt; out.answer, Answer::NotAddressed);
-    assert_eq!(rt; phone.kenb(), Some(AT_TARGET));
+    same(&rt, out.answer, Answer::NotAddressed);
+    same(&rt, phone.kenb(), Some(AT_TARGET));
 }
 
 #[test]
 fn key_change_begins_a_new_chain(rt: HostRuntime) {
     let mut phone = connected();
     let out = phone.step(&signal(0, 1, &RENEWAL));
-    assert_eq!(rt; out.answer, Answer::NoTrigger);
+    same(&rt, out.answer, Answer::NoTrigger);
     let _ = phone.step(&PhoneIn::Auth(1, kasme(32)));
     let command = [
         0x37, 0xe9, 0x02, 0xea, 0x62, 0x00, 0x01, 0x01, 0x22, 0xa0, 0x20,
@@ -301,8 +304,8 @@ fn key_change_begins_a_new_chain(rt: HostRuntime) {
     let out = phone.step(&PhoneIn::Nas(octets(&command)));
     let complete = [0x47, 0x64, 0x16, 0x7f, 0xe2, 0x00, 0x49];
     expect_sent(&rt, &out, Address::CoreNas, &complete);
-    assert_eq!(rt; out.derived.as_slice().len(), 2);
-    assert_eq!(rt; phone.kenb(), Some(KENB));
+    same(&rt, out.derived.as_slice().len(), 2);
+    same(&rt, phone.kenb(), Some(KENB));
     let out = phone.step(&signal(0, 1, &RENEWAL));
     let complete = [0x00, 0x3b, 0xe9, 0xb2, 0xbb, 0xd3];
     expect_sent(
@@ -311,14 +314,15 @@ fn key_change_begins_a_new_chain(rt: HostRuntime) {
         Address::StationAir(0, 3, Bearer::Srb1),
         &complete,
     );
-    assert_eq!(rt;
+    same(
+        &rt,
         out.note,
         Some(KeyNote {
             ncc: 0,
             way: Way::Initial,
-            key: RENEWED
-        })
+            key: RENEWED,
+        }),
     );
-    assert_eq!(rt; out.derived.as_slice().len(), 5);
-    assert_eq!(rt; phone.kenb(), Some(RENEWED));
+    same(&rt, out.derived.as_slice().len(), 5);
+    same(&rt, phone.kenb(), Some(RENEWED));
 }

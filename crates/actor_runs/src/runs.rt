@@ -2,6 +2,7 @@
 use crate::system::{At, Round, Row, Step, System};
 use lte_events::{Answer, HoKind};
 use rec_base::Way;
+use test_values::same;
 
 // A connection, a handover over X2 to the next station, and one back.
 pub(crate) static ORDINARY: [Row; 27] = [
@@ -411,17 +412,17 @@ static OTHER_ROOT: [Row; 22] = [
 fn keys_agree_from_the_first_connection_on(rt: HostRuntime) {
     let mut system = System::new(&rt, rt.alloc());
     system.follow(&rt, &ORDINARY[..6]);
-    assert_eq!(rt; system.phone.kenb(), None);
+    same(&rt, system.phone.kenb(), None);
     for last in 7..11 {
         system.follow(&rt, &ORDINARY[last - 1..last]);
         assert!(rt; system.phone.kenb().is_some());
-        assert_eq!(rt; system.phone.kenb(), system.home.kenb());
+        same(&rt, system.phone.kenb(), system.home.kenb());
     }
     system.follow(&rt, &ORDINARY[10..19]);
-    assert_eq!(rt; system.phone.kenb(), system.next.kenb());
-    assert_eq!(rt; system.home.kenb(), None);
+    same(&rt, system.phone.kenb(), system.next.kenb());
+    same(&rt, system.home.kenb(), None);
     system.follow(&rt, &ORDINARY[19..]);
-    assert_eq!(rt; system.phone.kenb(), system.home.kenb());
+    same(&rt, system.phone.kenb(), system.home.kenb());
 }
 
 #[test]

@@ -9,6 +9,7 @@ use enb_context::Station;
 use lte_events::{ActorOut, Address, Answer, Cells, HoKind, StationAct, StationIn};
 use rec_base::{Bearer, Octets, UserText};
 use std::process::Abort;
+use test_values::same;
 
 const CONTEXT: [u8; 45] = [
     0x20, 0x00, 0x00, 0x00, 0x01, 0x00, 0x0a, 0x00, 0x00, 0x00, 0x64, 0xa0, 0x20, 0xe6, 0x26, 0x73,
@@ -101,7 +102,7 @@ fn srb1(air: u32, pdu: &[u8]) -> StationIn
 fn expect(rt: &impl Abort, station: &mut Station, input: &StationIn, answer: Answer)
     requires { IsInput input.now }
 {
-    assert_eq!(rt; station.step(input).answer, answer);
+    same(rt, station.step(input).answer, answer);
 }
 
 // Station 0 has the context of a phone at its first air address.
@@ -118,23 +119,23 @@ fn connected(rt: &impl Abort, first: u32) -> Station
 
 // The record was sent there.
 fn expect_sent(rt: &impl Abort, out: &ActorOut, to: Address, octets: &[u8]) {
-    assert_eq!(rt; out.answer, Answer::Done);
+    same(rt, out.answer, Answer::Done);
     let Some(sent) = &out.sent else {
         assert!(rt; false, "nothing was sent");
         return;
     };
-    assert_eq!(rt; sent.to, to);
-    assert_eq!(rt; sent.octets.as_slice(), octets);
+    same(rt, sent.to, to);
+    same(rt, sent.octets.as_slice(), octets);
 }
 
 #[test]
 fn a_phone_goes_by_x2_and_comes_back(rt: HostRuntime) {
     let mut station = station(&rt, 0, 1);
-    assert_eq!(rt; station.kenb(), None);
+    same(&rt, station.kenb(), None);
     let out = station.step(&StationIn::S1(octets(&CONTEXT)));
     expect_sent(&rt, &out, Address::Phone(0, 1, Bearer::Srb1), &SECURITY);
     let out = station.step(&srb1(1, &STARTED));
-    assert_eq!(rt; out.answer, Answer::Done);
+    same(&rt, out.answer, Answer::Done);
     let packet = octets(&[0x80, 0x00, 0xc9, 0xb9]);
     let out = station.step(&StationIn::Air(1, Bearer::Drb1, packet));
     assert!(rt; out.opened.is_some());
@@ -142,13 +143,13 @@ fn a_phone_goes_by_x2_and_comes_back(rt: HostRuntime) {
     let out = station.step(&StationIn::Act(act));
     expect_sent(&rt, &out, Address::StationX2(1), &REQUEST);
     let out = station.step(&StationIn::X2(octets(&ACK)));
-    assert_eq!(rt; out.answer, Answer::Done);
+    same(&rt, out.answer, Answer::Done);
     let out = station.step(&StationIn::Act(StationAct::Command));
     expect_sent(&rt, &out, Address::Phone(0, 1, Bearer::Srb1), &ORDER);
     let release = octets(&[0x33, 0x00, 0x00, 0x00, 0x01, 0x00, 0x00, 0x00, 0x02]);
     let out = station.step(&StationIn::X2(release));
-    assert_eq!(rt; out.answer, Answer::Done);
-    assert_eq!(rt; station.kenb(), None);
+    same(&rt, out.answer, Answer::Done);
+    same(&rt, station.kenb(), None);
     let out = station.step(&StationIn::X2(octets(&RETURN)));
     expect_sent(&rt, &out, Address::StationX2(1), &RETURN_ACK);
     let complete = octets(&[0x00, 0x02, 0xb4, 0x0e, 0x5a, 0x90]);

@@ -13,6 +13,7 @@ use mme_context::Core;
 use rec_base::{Bearer, Octets, UserText, Way, u32_at};
 use std::alloc::Global;
 use std::process::Abort;
+use test_values::same;
 use ue_context::Phone;
 
 // One of the two stations.
@@ -129,13 +130,13 @@ impl System {
     pub(crate) fn follow(&mut self, rt: &impl Abort, rows: &[Row]) {
         for (step, answer, sent, note) in rows {
             let out = self.step(rt, *step);
-            assert_eq!(rt; out.answer, *answer);
+            same(rt, out.answer, *answer);
             expect_note(rt, &out.note, note);
             let number = self.sent.len();
             match out.sent {
-                None => assert_eq!(rt; *sent, None),
+                None => same(rt, *sent, None),
                 Some(record) => {
-                    assert_eq!(rt; *sent, Some(number));
+                    same(rt, *sent, Some(number));
                     assert!(rt; self.sent.push(record).is_ok());
                 }
             }
@@ -228,7 +229,7 @@ fn expect_note(rt: &impl Abort, note: &Option<KeyNote>, want: &Option<(u8, Way, 
         assert!(rt; false, "a key was told");
         return;
     };
-    assert_eq!(rt; note.ncc, *ncc);
-    assert_eq!(rt; note.way, *way);
-    assert_eq!(rt; first_four(&note.key), *key);
+    same(rt, note.ncc, *ncc);
+    same(rt, note.way, *way);
+    same(rt, first_four(&note.key), *key);
 }

@@ -9,6 +9,7 @@ use edge_io::{
 };
 use std::io::{self, ErrorKind, Read};
 use std::test::Fail;
+use test_values::{same, same_at};
 
 #[test]
 fn listed_reads_fail(rt: HostRuntime) -> Result<(), Fail> {
@@ -24,7 +25,7 @@ fn listed_reads_fail(rt: HostRuntime) -> Result<(), Fail> {
         let mut src = MemSource::new(b"abcde".to_vec(rt.alloc())?, listed(&rt, failing)?);
         let mut buf = [0u8; 2];
         for answer in want {
-            assert_eq!(rt; src.read(&mut buf), answer, "failing {failing:?}");
+            same_at(&rt, failing, src.read(&mut buf), answer);
         }
     }
     Ok(())
@@ -41,13 +42,9 @@ fn listed_writes_fail_and_so_does_a_full_sink(rt: HostRuntime) -> Result<(), Fai
     for (failing, want, octets) in table {
         let mut sink = MemSink::new(rt.alloc(), 5, listed(&rt, failing)?)?;
         for (piece, answer) in [b"ab", b"ac", b"ad", b"ae"].iter().zip(want.iter()) {
-            assert_eq!(rt;
-                sink.write(piece.as_slice()),
-                *answer,
-                "failing {failing:?}"
-            );
+            same_at(&rt, failing, sink.write(piece.as_slice()), *answer);
         }
-        assert_eq!(rt; sink.octets(), octets.as_bytes());
+        same(&rt, sink.octets(), octets.as_bytes());
     }
     Ok(())
 }
@@ -66,8 +63,8 @@ fn read_all_ends_at_the_limit(rt: HostRuntime) -> Result<(), Fail> {
         let mut src = MemSource::new(b"abcde".to_vec(rt.alloc())?, listed(&rt, failing)?);
         let answer = read_all(rt.alloc(), &mut src, limit);
         match (answer, want) {
-            (Ok(octets), Ok(text)) => assert_eq!(rt; octets.as_slice(), text.as_bytes()),
-            (Err(fault), Err(wanted)) => assert_eq!(rt; fault, wanted),
+            (Ok(octets), Ok(text)) => same(&rt, octets.as_slice(), text.as_bytes()),
+            (Err(fault), Err(wanted)) => same(&rt, fault, wanted),
             _ => panic!(rt; "limit {limit}, failing {failing:?}"),
         }
     }
@@ -85,12 +82,8 @@ fn a_fault_in_mid_stream_leaves_a_prefix(rt: HostRuntime) -> Result<(), Fail> {
     ];
     for (room, failing, want, octets) in table {
         let mut sink = MemSink::new(rt.alloc(), room, listed(&rt, failing)?)?;
-        assert_eq!(rt;
-            write_all(&mut sink, b"abcdef"),
-            want,
-            "room {room}, failing {failing:?}"
-        );
-        assert_eq!(rt; sink.octets(), octets.as_bytes());
+        same_at(&rt, (room, failing), write_all(&mut sink, b"abcdef"), want);
+        same(&rt, sink.octets(), octets.as_bytes());
     }
     Ok(())
 }
@@ -99,18 +92,18 @@ fn a_fault_in_mid_stream_leaves_a_prefix(rt: HostRuntime) -> Result<(), Fail> {
 fn read_fill_stops_at_the_end(rt: HostRuntime) {
     let mut src = SliceSource::new(b"abcde");
     let mut buf = [0u8; 3];
-    assert_eq!(rt; read_fill(&mut src, &mut buf), Ok(3));
-    assert_eq!(rt; buf.as_slice(), b"abc".as_slice());
-    assert_eq!(rt; read_fill(&mut src, &mut buf), Ok(2));
-    assert_eq!(rt; buf.as_slice(), b"dec".as_slice());
-    assert_eq!(rt; read_fill(&mut src, &mut buf), Ok(0));
+    same(&rt, read_fill(&mut src, &mut buf), Ok(3));
+    same(&rt, buf.as_slice(), b"abc".as_slice());
+    same(&rt, read_fill(&mut src, &mut buf), Ok(2));
+    same(&rt, buf.as_slice(), b"dec".as_slice());
+    same(&rt, read_fill(&mut src, &mut buf), Ok(0));
 }
 
 #[test]
 fn a_drop_sink_takes_all(rt: HostRuntime) {
     let mut sink = DropSink::new();
-    assert_eq!(rt; sink.write(b"abc"), Ok(3));
-    assert_eq!(rt; write_all(&mut sink, b"abcdef"), Ok(()));
+    same(&rt, sink.write(b"abc"), Ok(3));
+    same(&rt, write_all(&mut sink, b"abcdef"), Ok(()));
 }
 
 #[test]
@@ -119,10 +112,10 @@ fn a_port_is_read_and_written(rt: HostRuntime) -> Result<(), Fail> {
     let sink = MemSink::new(rt.alloc(), 4, Vec::new(rt.alloc()))?;
     let mut port = MemPort::new(source, sink);
     let mut buf = [0u8; 8];
-    assert_eq!(rt; port.open(), Ok(()));
-    assert_eq!(rt; read_fill(&mut port, &mut buf), Ok(4));
-    assert_eq!(rt; write_all(&mut port, b"pong"), Ok(()));
-    assert_eq!(rt; port.sink().octets(), b"pong".as_slice());
+    same(&rt, port.open(), Ok(()));
+    same(&rt, read_fill(&mut port, &mut buf), Ok(4));
+    same(&rt, write_all(&mut port, b"pong"), Ok(()));
+    same(&rt, port.sink().octets(), b"pong".as_slice());
     Ok(())
 }
 
@@ -139,12 +132,8 @@ fn listed_peer_calls_fail(rt: HostRuntime) -> Result<(), Fail> {
     for (room, failing, want, got) in table {
         let mut peers = one_peer(&rt, room, failing)?;
         let mut buf = [b'.'; 2];
-        assert_eq!(rt;
-            exchange(&mut peers, &mut buf),
-            want,
-            "room {room}, failing {failing:?}"
-        );
-        assert_eq!(rt; buf.as_slice(), got.as_bytes());
+        same_at(&rt, (room, failing), exchange(&mut peers, &mut buf), want);
+        same(&rt, buf.as_slice(), got.as_bytes());
     }
     Ok(())
 }
@@ -163,14 +152,15 @@ fn exchange<P: Peers>(peers: &mut P, buf: &mut [u8]) -> Result<(), Failed> {
 #[test]
 fn a_peer_keeps_what_it_was_sent(rt: HostRuntime) -> Result<(), Fail> {
     let mut peers = one_peer(&rt, 3, None)?;
-    assert_eq!(rt; peers.start(Role::Phone), Ok(0));
-    assert_eq!(rt;
+    same(&rt, peers.start(Role::Phone), Ok(0));
+    same_at(
+        &rt,
+        "past the last peer",
         peers.start(Role::Station(1)),
         Err(StartFault::Failed),
-        "past the last peer"
     );
-    assert_eq!(rt; peers.send(0, b"ab"), Ok(()));
-    assert_eq!(rt; peers.sent(0), b"ab".as_slice());
+    same(&rt, peers.send(0, b"ab"), Ok(()));
+    same(&rt, peers.sent(0), b"ab".as_slice());
     Ok(())
 }
 
@@ -178,10 +168,10 @@ fn a_peer_keeps_what_it_was_sent(rt: HostRuntime) -> Result<(), Fail> {
 fn adapters_hand_on_what_they_get(rt: HostRuntime) -> Result<(), Fail> {
     let mut src = ReaderSource::new(b"abc".as_slice());
     let octets = read_all(rt.alloc(), &mut src, 3)?;
-    assert_eq!(rt; octets.as_slice(), b"abc".as_slice());
+    same(&rt, octets.as_slice(), b"abc".as_slice());
     let mut sink = WriterSink::new(Vec::new(rt.alloc()));
-    assert_eq!(rt; write_all(&mut sink, b"abc"), Ok(()));
-    assert_eq!(rt; sink.writer.as_slice(), b"abc".as_slice());
+    same(&rt, write_all(&mut sink, b"abc"), Ok(()));
+    same(&rt, sink.writer.as_slice(), b"abc".as_slice());
     Ok(())
 }
 
@@ -209,7 +199,7 @@ impl Read for Interrupted {
 fn an_interrupted_read_is_made_again(rt: HostRuntime) -> Result<(), Fail> {
     let mut src = ReaderSource::new(Interrupted { calls: 0 });
     let octets = read_all(rt.alloc(), &mut src, 9)?;
-    assert_eq!(rt; octets.as_slice(), b"a".as_slice());
+    same(&rt, octets.as_slice(), b"a".as_slice());
     Ok(())
 }
 

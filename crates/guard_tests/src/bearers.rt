@@ -5,6 +5,7 @@ use pdcp_guard::{AsKeys, PdcpFault};
 use radio_bearers::{Bearers, is_srb, is_srb1};
 use rec_base::{Bearer, Dir, UserText};
 use std::process::Abort;
+use test_values::same;
 
 const KENB: [u8; 32] = [
     0xe6, 0x26, 0x73, 0x59, 0xde, 0x01, 0x2d, 0x9b, 0xda, 0x17, 0x3d, 0x1b, 0x6f, 0xae, 0x57, 0xde,
@@ -18,7 +19,7 @@ fn keys() -> AsKeys {
 
 // These octets.
 fn expect(rt: &impl Abort, got: &[u8], wanted: &[u8]) {
-    assert_eq!(rt; got, wanted);
+    same(rt, got, wanted);
 }
 
 #[test]
@@ -39,7 +40,7 @@ fn each_bearer_has_counts_of_its_own(rt: HostRuntime) {
     let packet = phone
         .send_drb(Bearer::Drb1, &keys, Dir::Up, &text)
         .expect(&rt, "a COUNT is left");
-    assert_eq!(rt; packet.count, 0);
+    same(&rt, packet.count, 0);
     expect(&rt, packet.pdu.as_slice(), &[0x80, 0x00, 0xc9, 0xb9]);
     let opened = station
         .open_srb(Bearer::Srb1, &keys, Dir::Up, false, complete.pdu.as_slice())
@@ -53,7 +54,7 @@ fn each_bearer_has_counts_of_its_own(rt: HostRuntime) {
     phone.skip(Bearer::Srb1, u32::MAX);
     assert!(rt; phone.is_spent());
     let spent = phone.send_srb(Bearer::Srb1, &keys, Dir::Up, true, &[0x02]);
-    assert_eq!(rt; spent.err(), Some(PdcpFault::CountSpent));
+    same(&rt, spent.err(), Some(PdcpFault::CountSpent));
     assert!(rt;
         phone
             .send_srb(Bearer::Srb2, &keys, Dir::Up, true, &[0x02])

@@ -1,10 +1,11 @@
 use alg_choice::{Algs, Caps, Eea, NoAlgorithm, Priority, choose, supports};
+use test_values::same;
 
 #[test]
 fn first_supported_of_the_list_is_chosen(rt: HostRuntime) {
     let priority = Priority::new(Eea::Eea2, Some(Eea::Eea0));
-    assert_eq!(rt; priority.first(), Eea::Eea2);
-    assert_eq!(rt; priority.second(), Some(Eea::Eea0));
+    same(&rt, priority.first(), Eea::Eea2);
+    same(&rt, priority.second(), Some(Eea::Eea0));
     let table = [
         (0xa0, 0x20, Ok(Algs { eea: Eea::Eea2 })),
         (0x80, 0x20, Ok(Algs { eea: Eea::Eea0 })),
@@ -12,7 +13,7 @@ fn first_supported_of_the_list_is_chosen(rt: HostRuntime) {
         (0x40, 0x20, Err(NoAlgorithm)),
     ];
     for (eea, eia, wanted) in table {
-        assert_eq!(rt; choose(&priority, &Caps { eea, eia }), wanted);
+        same(&rt, choose(&priority, &Caps { eea, eia }), wanted);
     }
 }
 
@@ -26,6 +27,6 @@ fn both_algorithms_must_be_supported(rt: HostRuntime) {
         (0xa0, 0xc0, false),
     ];
     for (eea, eia, wanted) in table {
-        assert_eq!(rt; supports(&Caps { eea, eia }, &algs), wanted);
+        same(&rt, supports(&Caps { eea, eia }, &algs), wanted);
     }
 }

@@ -10,6 +10,7 @@ use nas_guard::{NasKeys, OpenFault, open, seal};
 use rec_base::Dir;
 use std::process::Abort;
 use std::test::Fail;
+use test_values::same;
 
 const TEXT: &[u8; 33] = b"a NAS text of more than one block";
 
@@ -61,12 +62,12 @@ fn expect_both_ways(
     let mut tx = TxCount::new();
     tx.skip(count);
     let (pdu, used) = seal(&keys, &mut tx, header, dir, text)?;
-    assert_eq!(rt; pdu.as_slice(), octets);
-    assert_eq!(rt; used, count);
+    same(rt, pdu.as_slice(), octets);
+    same(rt, used, count);
     let opened = open(&keys, &receiver_at(count), dir, octets)?;
-    assert_eq!(rt; opened.header, header);
-    assert_eq!(rt; opened.count, count);
-    assert_eq!(rt; opened.text.as_slice(), text);
+    same(rt, opened.header, header);
+    same(rt, opened.count, count);
+    same(rt, opened.text.as_slice(), text);
     Ok(())
 }
 
@@ -100,16 +101,25 @@ fn refusals_come_in_order(rt: HostRuntime) {
     let keys = keys(Eea::Eea2);
     let rx = receiver_at(0xffff01);
     let mut pdu = [0x00, 0, 0, 0, 0, 0x00];
-    assert_eq!(rt; open(&keys, &rx, Dir::Up, &pdu[..5]), Err(OpenFault::Short));
+    same(
+        &rt,
+        open(&keys, &rx, Dir::Up, &pdu[..5]),
+        Err(OpenFault::Short),
+    );
     for first in [0x00, 0x07, 0x57, 0x28] {
         pdu[0] = first;
-        assert_eq!(rt;
+        same(
+            &rt,
             open(&keys, &rx, Dir::Up, &pdu),
-            Err(OpenFault::BadHeader(first))
+            Err(OpenFault::BadHeader(first)),
         );
     }
     pdu[0] = 0x27;
-    assert_eq!(rt; open(&keys, &rx, Dir::Up, &pdu), Err(OpenFault::CountSpent));
+    same(
+        &rt,
+        open(&keys, &rx, Dir::Up, &pdu),
+        Err(OpenFault::CountSpent),
+    );
 }
 
 #[test]
@@ -118,15 +128,15 @@ fn accepted_record_does_not_open_again(rt: HostRuntime) -> Result<(), Fail> {
     let mut rx = receiver_at(0x000100);
     let record = [0x27, 0x41, 0xbf, 0x51, 0xa3, 0x00, 0x76, 0x7e];
     let opened = open(&keys, &rx, Dir::Up, &record)?;
-    assert_eq!(rt; opened.count, 0x000100);
-    assert_eq!(rt; opened.text.as_slice(), b"hi".as_slice());
+    same(&rt, opened.count, 0x000100);
+    same(&rt, opened.text.as_slice(), b"hi".as_slice());
     rx.accept(0x000100);
     let again = OpenFault::MacFails {
         count: 512,
         wanted: [0xe8, 0xcf, 0x66, 0x78],
         got: [0x41, 0xbf, 0x51, 0xa3],
     };
-    assert_eq!(rt; open(&keys, &rx, Dir::Up, &record), Err(again));
+    same(&rt, open(&keys, &rx, Dir::Up, &record), Err(again));
     Ok(())
 }
 
@@ -136,7 +146,7 @@ fn last_count_is_sealed_once(rt: HostRuntime) -> Result<(), Fail> {
     let mut tx = TxCount::new();
     tx.skip(LIMIT - 1);
     let (_, count) = seal(&keys, &mut tx, 1, Dir::Up, TEXT)?;
-    assert_eq!(rt; count, LIMIT - 1);
+    same(&rt, count, LIMIT - 1);
     assert!(rt; seal(&keys, &mut tx, 1, Dir::Up, TEXT).is_err());
     Ok(())
 }
@@ -144,8 +154,8 @@ fn last_count_is_sealed_once(rt: HostRuntime) -> Result<(), Fail> {
 #[test]
 fn whole_keys_are_kept(rt: HostRuntime) {
     let keys = keys(Eea::Eea2);
-    assert_eq!(rt; keys.key(AlgType::NasEnc)[0], 0x7c);
-    assert_eq!(rt; keys.key(AlgType::NasEnc)[31], 0xb9);
-    assert_eq!(rt; keys.key(AlgType::NasInt)[0], 0xa6);
-    assert_eq!(rt; keys.key(AlgType::NasInt)[31], 0x8a);
+    same(&rt, keys.key(AlgType::NasEnc)[0], 0x7c);
+    same(&rt, keys.key(AlgType::NasEnc)[31], 0xb9);
+    same(&rt, keys.key(AlgType::NasInt)[0], 0xa6);
+    same(&rt, keys.key(AlgType::NasInt)[31], 0x8a);
 }

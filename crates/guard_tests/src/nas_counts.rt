@@ -1,4 +1,5 @@
 use nas_count::{CountSpent, LIMIT, RxCount, TxCount};
+use test_values::same;
 
 #[test]
 fn estimate_is_the_least_count_with_the_sequence_number(rt: HostRuntime) {
@@ -13,7 +14,7 @@ fn estimate_is_the_least_count_with_the_sequence_number(rt: HostRuntime) {
         if next > 0 {
             rx.accept(next - 1);
         }
-        assert_eq!(rt; rx.estimate(sn), wanted);
+        same(&rt, rx.estimate(sn), wanted);
     }
 }
 
@@ -21,19 +22,19 @@ fn estimate_is_the_least_count_with_the_sequence_number(rt: HostRuntime) {
 fn accepted_count_is_not_estimated_again(rt: HostRuntime) {
     let mut rx = RxCount::new();
     rx.accept(0x0000ff);
-    assert_eq!(rt; rx.estimate(0), Ok(0x000100));
+    same(&rt, rx.estimate(0), Ok(0x000100));
     rx.accept(0x000100);
-    assert_eq!(rt; rx.estimate(0), Ok(0x000200));
+    same(&rt, rx.estimate(0), Ok(0x000200));
 }
 
 #[test]
 fn each_count_is_taken_once(rt: HostRuntime) {
     let mut tx = TxCount::new();
-    assert_eq!(rt; tx.take(), Ok(0));
-    assert_eq!(rt; tx.take(), Ok(1));
+    same(&rt, tx.take(), Ok(0));
+    same(&rt, tx.take(), Ok(1));
     tx.skip(LIMIT - 3);
-    assert_eq!(rt; tx.take(), Ok(LIMIT - 1));
-    assert_eq!(rt; tx.take(), Err(CountSpent));
+    same(&rt, tx.take(), Ok(LIMIT - 1));
+    same(&rt, tx.take(), Err(CountSpent));
     tx.skip(u32::MAX);
-    assert_eq!(rt; tx.take(), Err(CountSpent));
+    same(&rt, tx.take(), Err(CountSpent));
 }

@@ -10,6 +10,7 @@ use pdcp_guard::{AsKeys, Drb, PdcpFault, Srb};
 use rec_base::{Bearer, Dir, UserText};
 use std::process::Abort;
 use std::test::Fail;
+use test_values::same;
 
 const TEXT: &[u8; 34] = b"an RRC text of more than one block";
 
@@ -89,11 +90,11 @@ fn expect_srb(
     let mut sender = Srb::new(bearer);
     sender.skip(count);
     let sent = sender.send(&keys, dir, cipher, text)?;
-    assert_eq!(rt; sent.pdu.as_slice(), octets);
-    assert_eq!(rt; sent.count, count);
+    same(rt, sent.pdu.as_slice(), octets);
+    same(rt, sent.count, count);
     let opened = srb_expecting(bearer, count).open(&keys, dir, cipher, octets)?;
-    assert_eq!(rt; opened.count, count);
-    assert_eq!(rt; opened.text.as_slice(), text);
+    same(rt, opened.count, count);
+    same(rt, opened.text.as_slice(), text);
     Ok(())
 }
 
@@ -114,11 +115,11 @@ fn expect_drb(
     let mut sender = Drb::new(bearer);
     sender.skip(count);
     let sent = sender.send(&keys, dir, &packet(text))?;
-    assert_eq!(rt; sent.pdu.as_slice(), octets);
-    assert_eq!(rt; sent.count, count);
+    same(rt, sent.pdu.as_slice(), octets);
+    same(rt, sent.count, count);
     let opened = drb_expecting(bearer, count / 4096).receive(&keys, dir, octets)?;
-    assert_eq!(rt; opened.count, count);
-    assert_eq!(rt; opened.text.as_slice(), text);
+    same(rt, opened.count, count);
+    same(rt, opened.text.as_slice(), text);
     Ok(())
 }
 
@@ -210,11 +211,11 @@ fn receiver_takes_the_least_count(rt: HostRuntime) -> Result<(), Fail> {
         let sent = sender.send(&keys, Dir::Up, true, TEXT)?;
         let receiver = srb_expecting(Bearer::Srb1, next);
         let opened = receiver.open(&keys, Dir::Up, true, sent.pdu.as_slice())?;
-        assert_eq!(rt; opened.count, count);
+        same(&rt, opened.count, count);
     }
     let mut drb = drb_expecting(Bearer::Drb1, 1);
     let opened = drb.receive(&keys, Dir::Up, &[0x8f, 0xff])?;
-    assert_eq!(rt; opened.count, 8191);
+    same(&rt, opened.count, 8191);
     Ok(())
 }
 
@@ -230,8 +231,8 @@ fn drb_out_of_the_window_opens_to_another_text(rt: HostRuntime) -> Result<(), Fa
         let sent = sender.send(&keys, Dir::Up, &packet(b"hello"))?;
         let mut receiver = Drb::new(Bearer::Drb1);
         let opened = receiver.receive(&keys, Dir::Up, sent.pdu.as_slice())?;
-        assert_eq!(rt; opened.count, count);
-        assert_eq!(rt; opened.text.as_slice(), text.as_slice());
+        same(&rt, opened.count, count);
+        same(&rt, opened.text.as_slice(), text.as_slice());
     }
     Ok(())
 }
@@ -244,25 +245,26 @@ fn srb_out_of_the_window_is_refused(rt: HostRuntime) -> Result<(), Fail> {
     sender.skip(31);
     let last = sender.send(&keys, Dir::Up, true, b"hi")?;
     let opened = receiver.open(&keys, Dir::Up, true, last.pdu.as_slice())?;
-    assert_eq!(rt; opened.count, 31);
-    assert_eq!(rt; opened.text.as_slice(), b"hi".as_slice());
+    same(&rt, opened.count, 31);
+    same(&rt, opened.text.as_slice(), b"hi".as_slice());
     let beyond = sender.send(&keys, Dir::Up, true, b"hi")?;
     let fault = PdcpFault::MacFails {
         count: 0,
         wanted: [0x89, 0xc6, 0xa1, 0x8f],
         got: [0xfb, 0xac, 0x7e, 0x71],
     };
-    assert_eq!(rt;
+    same(
+        &rt,
         receiver.open(&keys, Dir::Up, true, beyond.pdu.as_slice()),
-        Err(fault)
+        Err(fault),
     );
     // The same COUNT, 0, is still expected.
     let again = receiver.open(&keys, Dir::Up, true, last.pdu.as_slice())?;
-    assert_eq!(rt; again, opened);
+    same(&rt, again, opened);
     let first = Srb::new(Bearer::Srb2).send(&keys, Dir::Up, true, b"hi")?;
     let expected = receiver.open(&keys, Dir::Up, true, first.pdu.as_slice())?;
-    assert_eq!(rt; expected.count, 0);
-    assert_eq!(rt; expected.text.as_slice(), b"hi".as_slice());
+    same(&rt, expected.count, 0);
+    same(&rt, expected.text.as_slice(), b"hi".as_slice());
     Ok(())
 }
 
@@ -272,13 +274,21 @@ fn last_count_is_sent_once(rt: HostRuntime) -> Result<(), Fail> {
     let mut drb = Drb::new(Bearer::Drb1);
     drb.skip(u32::MAX);
     let last = drb.send(&keys, Dir::Up, &packet(b"last"))?;
-    assert_eq!(rt; last.count, u32::MAX);
+    same(&rt, last.count, u32::MAX);
     let text = packet(b"more");
-    assert_eq!(rt; drb.send(&keys, Dir::Up, &text), Err(PdcpFault::CountSpent));
+    same(
+        &rt,
+        drb.send(&keys, Dir::Up, &text),
+        Err(PdcpFault::CountSpent),
+    );
     drb.skip(1);
-    assert_eq!(rt; drb.send(&keys, Dir::Up, &text), Err(PdcpFault::CountSpent));
+    same(
+        &rt,
+        drb.send(&keys, Dir::Up, &text),
+        Err(PdcpFault::CountSpent),
+    );
     let first = Drb::new(Bearer::Drb1).send(&keys, Dir::Up, &text)?;
-    assert_eq!(rt; first.count, 0);
+    same(&rt, first.count, 0);
     let mut srb = Srb::new(Bearer::Srb1);
     srb.skip(u32::MAX);
     assert!(rt; !srb.spent());
@@ -292,34 +302,40 @@ fn refusals_come_in_order(rt: HostRuntime) {
     let keys = keys(Eea::Eea2);
     let srb = srb_expecting(Bearer::Srb1, 0xffff_ffe1);
     let short = Err(PdcpFault::Short);
-    assert_eq!(rt; srb.open(&keys, Dir::Up, true, &[0x80, 0, 0, 0]), short);
+    same(&rt, srb.open(&keys, Dir::Up, true, &[0x80, 0, 0, 0]), short);
     let reserved = [0x20, 0, 0, 0, 0];
-    assert_eq!(rt;
+    same(
+        &rt,
         srb.open(&keys, Dir::Up, true, &reserved),
-        Err(PdcpFault::BadHeader(0x20))
+        Err(PdcpFault::BadHeader(0x20)),
     );
-    assert_eq!(rt;
+    same(
+        &rt,
         srb.open(&keys, Dir::Up, true, &[0; 5]),
-        Err(PdcpFault::CountSpent)
+        Err(PdcpFault::CountSpent),
     );
     let mut drb = Drb::new(Bearer::Drb1);
-    assert_eq!(rt; drb.receive(&keys, Dir::Up, &[0x00]), Err(PdcpFault::Short));
+    same(
+        &rt,
+        drb.receive(&keys, Dir::Up, &[0x00]),
+        Err(PdcpFault::Short),
+    );
     for first in [0x00, 0x90, 0xc0] {
         let fault = Err(PdcpFault::BadHeader(first));
-        assert_eq!(rt; drb.receive(&keys, Dir::Up, &[first, 0]), fault);
+        same(&rt, drb.receive(&keys, Dir::Up, &[first, 0]), fault);
     }
 }
 
 #[test]
 fn keys_are_those_of_another_implementation(rt: HostRuntime) {
     let (keys, derived) = AsKeys::derive(&kenb(), Algs { eea: Eea::Eea0 });
-    assert_eq!(rt; keys.algs(), Algs { eea: Eea::Eea0 });
+    same(&rt, keys.algs(), Algs { eea: Eea::Eea0 });
     for (kind, first, last) in [(AlgType::RrcEnc, 0x3e, 0xf2), (AlgType::UpEnc, 0x2f, 0x82)] {
-        assert_eq!(rt; keys.key(kind)[0], first);
-        assert_eq!(rt; keys.key(kind)[31], last);
+        same(&rt, keys.key(kind)[0], first);
+        same(&rt, keys.key(kind)[31], last);
     }
-    assert_eq!(rt; derived.len(), 3);
-    assert_eq!(rt; derived[1].out, keys.key(AlgType::RrcInt));
-    assert_eq!(rt; derived[1].out[0], 0xa2);
-    assert_eq!(rt; derived[1].out[31], 0x40);
+    same(&rt, derived.len(), 3);
+    same(&rt, derived[1].out, keys.key(AlgType::RrcInt));
+    same(&rt, derived[1].out[0], 0xa2);
+    same(&rt, derived[1].out[31], 0x40);
 }

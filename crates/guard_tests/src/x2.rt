@@ -2,6 +2,7 @@ use alg_choice::{Algs, Eea};
 use annex_a_keys::{Cell, Kasme};
 use nh_chain::{CoreChain, StationKey};
 use std::process::Abort;
+use test_values::same;
 use x2_handover::X2Open;
 
 fn cell(rt: &impl Abort) -> Cell {
@@ -20,18 +21,18 @@ fn vertical_attempt(rt: &impl Abort) -> (StationKey, X2Open) {
 #[test]
 fn an_order_holds_what_was_opened_and_acknowledged(rt: HostRuntime) {
     let (_key, attempt) = vertical_attempt(&rt);
-    assert_eq!(rt; (attempt.number(), attempt.station()), (9, 2));
-    assert_eq!(rt; attempt.cell(), cell(&rt));
+    same(&rt, (attempt.number(), attempt.station()), (9, 2));
+    same(&rt, attempt.cell(), cell(&rt));
     let ready = attempt.acked(Algs { eea: Eea::Eea2 }, 77);
-    assert_eq!(rt; (ready.number(), ready.station()), (9, 2));
-    assert_eq!(rt; ready.cell(), cell(&rt));
+    same(&rt, (ready.number(), ready.station()), (9, 2));
+    same(&rt, ready.cell(), cell(&rt));
     let (commanded, order) = ready.command();
-    assert_eq!(rt; order.cell, cell(&rt));
-    assert_eq!(rt; (order.ncc, order.station, order.air), (1, 2, 77));
-    assert_eq!(rt; order.algs, Algs { eea: Eea::Eea2 });
-    assert_eq!(rt; commanded.again(), order);
-    assert_eq!(rt; (commanded.number(), commanded.station()), (9, 2));
-    assert_eq!(rt; commanded.cell(), cell(&rt));
+    same(&rt, order.cell, cell(&rt));
+    same(&rt, (order.ncc, order.station, order.air), (1, 2, 77));
+    same(&rt, order.algs, Algs { eea: Eea::Eea2 });
+    same(&rt, commanded.again(), order);
+    same(&rt, (commanded.number(), commanded.station()), (9, 2));
+    same(&rt, commanded.cell(), cell(&rt));
 }
 
 #[test]
@@ -39,8 +40,8 @@ fn a_cancelled_attempt_gives_its_pair_back(rt: HostRuntime) {
     let (mut key, attempt) = vertical_attempt(&rt);
     key.restore(attempt.cancel().expect(&rt, "a pair was used"));
     let (star, spent, ncc, _) = key.open(&cell(&rt));
-    assert_eq!(rt; ncc, 1);
+    same(&rt, ncc, 1);
     let ready = X2Open::new(10, 2, cell(&rt), star, ncc, spent).acked(Algs { eea: Eea::Eea0 }, 78);
     key.restore(ready.cancel().expect(&rt, "a pair was used"));
-    assert_eq!(rt; key.open(&cell(&rt)).2, 1);
+    same(&rt, key.open(&cell(&rt)).2, 1);
 }

@@ -1,4 +1,5 @@
 use annex_a_keys::{AlgType, Cell, CellFault, Kasme, Kenb, Nh, Star};
+use test_values::{same, same_at};
 
 // The 32 octets whose halves are these.
 fn octets(first: u128, last: u128) -> [u8; 32] {
@@ -25,19 +26,19 @@ fn kenb_and_next_hops_of_a_kasme(rt: HostRuntime) {
         0xe6267359de012d9bda173d1b6fae57de,
         0xc0e04e01cfcf57cb33a7573f142b8b95,
     );
-    assert_eq!(rt; kenb.octets(), want);
-    assert_eq!(rt; made.key, kasme().octets());
-    assert_eq!(rt; made.out, want);
+    same(&rt, kenb.octets(), want);
+    same(&rt, made.key, kasme().octets());
+    same(&rt, made.out, want);
     let want = octets(
         0x09aba1730b0aaeee84feac6bc03f66b9,
         0xaa90d45309b719114a90be777b24b74c,
     );
-    assert_eq!(rt; first.octets(), want);
+    same(&rt, first.octets(), want);
     let want = octets(
         0x9b6efffa0cccff877e89572bfcaa77a6,
         0x2fe98e062bbf11dbd7658136df926c93,
     );
-    assert_eq!(rt; second.octets(), want);
+    same(&rt, second.octets(), want);
 }
 
 #[test]
@@ -45,28 +46,30 @@ fn handover_keys_of_a_kenb_and_a_next_hop(rt: HostRuntime) {
     let kenb = kasme().kenb(0).0;
     let nh = kasme().nh_first(&kenb).0;
     let cell = Cell::new(300, 1300).expect(&rt, "in range");
-    assert_eq!(rt; (cell.pci(), cell.earfcn()), (300, 1300));
+    same(&rt, (cell.pci(), cell.earfcn()), (300, 1300));
     let want = octets(
         0xd8f53810f49dffc9617fa3ff55cb67cd,
         0x4d02d2572e816e15732aaaf91a82cbe6,
     );
-    assert_eq!(rt; kenb.star(&cell).0.octets(), want);
-    assert_eq!(rt;
+    same(&rt, kenb.star(&cell).0.octets(), want);
+    same(
+        &rt,
         Kenb::of_octets(kenb.octets())
             .star(&cell)
             .0
             .install()
             .octets(),
-        want
+        want,
     );
     let want = octets(
         0x518bec46c1a25953de9b0d3db44a06c8,
         0x48ca1cb14b3c0f2c75c4e1cd77c2bbda,
     );
-    assert_eq!(rt; nh.star(&cell).0.octets(), want);
-    assert_eq!(rt;
+    same(&rt, nh.star(&cell).0.octets(), want);
+    same(
+        &rt,
         Nh::of_octets(nh.octets()).star(&cell).0,
-        Star::of_octets(want)
+        Star::of_octets(want),
     );
 }
 
@@ -77,12 +80,13 @@ fn algorithm_keys_of_a_kasme_and_a_kenb(rt: HostRuntime) {
         0xa66b7492bdd63f0e8896a95429302525,
         0xb5a0e5f9ee4f887e391e3a640e3a688a,
     );
-    assert_eq!(rt; key.octets(), want);
+    same(&rt, key.octets(), want);
     let key = kasme().kenb(0).0.alg(AlgType::RrcEnc, 2).0;
-    assert_eq!(rt; AlgType::RrcEnc.distinguisher(), 3);
-    assert_eq!(rt;
+    same(&rt, AlgType::RrcEnc.distinguisher(), 3);
+    same(
+        &rt,
         key.key128(),
-        0xae14c26e3ba014f8e4279841fb8ade28_u128.to_be_bytes()
+        0xae14c26e3ba014f8e4279841fb8ade28_u128.to_be_bytes(),
     );
 }
 
@@ -96,6 +100,6 @@ fn cells_out_of_range_are_refused(rt: HostRuntime) {
         (504, 262144, Some(CellFault::PciTooLarge)),
     ];
     for (pci, earfcn, fault) in table {
-        assert_eq!(rt; Cell::new(pci, earfcn).err(), fault, "at {pci} {earfcn}");
+        same_at(&rt, (pci, earfcn), Cell::new(pci, earfcn).err(), fault);
     }
 }

@@ -4,6 +4,7 @@ use key_terms::{Holder, Ladder, Origin, Row};
 use std::alloc::Global;
 use std::process::Abort;
 use std::test::Fail;
+use test_values::same;
 
 // A root of octets 00 to 1f.
 const KASME: [u8; 32] = [
@@ -39,26 +40,26 @@ checked
 // The ladder of those two handovers.
 fn ladder_of(rt: &impl Abort, alloc: Global) -> Ladder {
     let mut ladder = Ladder::new(alloc);
-    assert_eq!(rt; ladder.reserve(5), Ok(()));
+    same(rt, ladder.reserve(5), Ok(()));
     let root = Kasme::of_octets(KASME);
-    assert_eq!(rt; ladder.root(KASME), Ok(Row(0)));
+    same(rt, ladder.root(KASME), Ok(Row(0)));
     let (kenb, made) = root.kenb(0);
     let key = ladder.find(&made.key).expect(rt, "a root");
-    assert_eq!(rt; ladder.row(key).origin, Origin::Root);
-    assert_eq!(rt; ladder.add(&made), Ok(Row(1)));
+    same(rt, ladder.row(key).origin, Origin::Root);
+    same(rt, ladder.add(&made), Ok(Row(1)));
     let cell = Cell::new(11, 101).expect(rt, "a cell in range");
     let (_, made) = kenb.star(&cell);
     ladder.find(&made.key).expect(rt, "a KeNB");
-    assert_eq!(rt; ladder.add(&made), Ok(Row(2)));
+    same(rt, ladder.add(&made), Ok(Row(2)));
     let (nh, made) = root.nh_first(&kenb);
     let key = ladder.find(&made.key).expect(rt, "a root");
-    assert_eq!(rt; ladder.row(key).origin, Origin::Root);
+    same(rt, ladder.row(key).origin, Origin::Root);
     ladder.find(&kenb.octets()).expect(rt, "a SYNC-input");
-    assert_eq!(rt; ladder.add(&made), Ok(Row(3)));
+    same(rt, ladder.add(&made), Ok(Row(3)));
     let cell = Cell::new(10, 100).expect(rt, "a cell in range");
     let (_, made) = nh.star(&cell);
     ladder.find(&made.key).expect(rt, "an NH");
-    assert_eq!(rt; ladder.add(&made), Ok(Row(4)));
+    same(rt, ladder.add(&made), Ok(Row(4)));
     for (station, row) in HELD {
         assert!(rt; station <= 7 && (row as usize) < ladder.len());
         ladder.hold(Holder::Station(station), Row(row));
@@ -71,12 +72,12 @@ fn stations_derive_what_comes_from_the_rows_that_they_hold(rt: HostRuntime) -> R
     let mut ladder = ladder_of(&rt, rt.alloc());
     let audit = audit_of(rt.alloc(), &ladder)?;
     let text = audit_text(rt.alloc(), &ladder, &audit)?;
-    assert_eq!(rt; text.as_slice(), AUDIT.as_bytes());
+    same(&rt, text.as_slice(), AUDIT.as_bytes());
     assert!(rt; ladder.len() == 5);
     ladder.hold(Holder::Station(5), Row(0));
     let audit = audit_of(rt.alloc(), &ladder)?;
     let text = audit_text(rt.alloc(), &ladder, &audit)?;
-    assert_eq!(rt; text.as_slice(), WITH_ROOT.as_bytes());
+    same(&rt, text.as_slice(), WITH_ROOT.as_bytes());
     Ok(())
 }
 

@@ -4,12 +4,13 @@ use lte_events::{Address, Class, Record};
 use net_bag::{Bag, BagMemory};
 use rec_base::{Bearer, Dir, Octets, Use};
 use std::process::Abort;
+use test_values::same;
 
 // A record with these octets, at most 1,536.
 fn record_of(rt: &impl Abort, to: Address, octets: &[u8]) -> Record {
     let mut all = Octets::new();
     for octet in octets {
-        assert_eq!(rt; all.try_push(*octet), Ok(()));
+        same(rt, all.try_push(*octet), Ok(()));
     }
     Record { to, octets: all }
 }
@@ -18,7 +19,7 @@ fn record_of(rt: &impl Abort, to: Address, octets: &[u8]) -> Record {
 fn put(rt: &impl Abort, bag: &mut Bag, to: Address, octets: &[u8], tuple: Option<&Use>) -> u32 {
     let rec = record_of(rt, to, octets);
     assert!(rt; bag.len() < 1_000_000);
-    assert_eq!(rt; bag.reserve(), Ok(()));
+    same(rt, bag.reserve(), Ok(()));
     bag.put(&rec, tuple)
 }
 
@@ -32,19 +33,29 @@ fn the_first_record_of_a_class_is_found(rt: HostRuntime) {
         bearer: 1,
         dir: Dir::Down,
     };
-    assert_eq!(rt;
+    same(
+        &rt,
         put(&rt, &mut bag, Address::CoreNas, &[0x27, 1, 2], Some(&tuple)),
-        0
+        0,
     );
-    assert_eq!(rt; put(&rt, &mut bag, air, &[0x27, 1, 2], None), 1);
-    assert_eq!(rt;
+    same(&rt, put(&rt, &mut bag, air, &[0x27, 1, 2], None), 1);
+    same(
+        &rt,
         put(&rt, &mut bag, Address::PhoneNas, &[0x37, 1, 2], None),
-        2
+        2,
     );
-    assert_eq!(rt; put(&rt, &mut bag, Address::CoreS1, &[], None), 3);
-    assert_eq!(rt; put(&rt, &mut bag, Address::StationS1(1), &[5], None), 4);
-    assert_eq!(rt; put(&rt, &mut bag, Address::StationX2(1), &[5], None), 5);
-    assert_eq!(rt; bag.len(), 6);
+    same(&rt, put(&rt, &mut bag, Address::CoreS1, &[], None), 3);
+    same(
+        &rt,
+        put(&rt, &mut bag, Address::StationS1(1), &[5], None),
+        4,
+    );
+    same(
+        &rt,
+        put(&rt, &mut bag, Address::StationX2(1), &[5], None),
+        5,
+    );
+    same(&rt, bag.len(), 6);
     // class, octets, the first record that has them
     let table: [(Class, &[u8], Option<u32>); 9] = [
         (Class::Nas, &[0x27, 1, 2], Some(0)),
@@ -59,18 +70,18 @@ fn the_first_record_of_a_class_is_found(rt: HostRuntime) {
     ];
     // all but the last record are in the index
     for (class, octets, number) in table {
-        assert_eq!(rt; bag.find(class, octets), number);
+        same(&rt, bag.find(class, octets), number);
     }
     // and now the last one is too
-    assert_eq!(rt; bag.reserve(), Ok(()));
+    same(&rt, bag.reserve(), Ok(()));
     for (class, octets, number) in table {
-        assert_eq!(rt; bag.find(class, octets), number);
+        same(&rt, bag.find(class, octets), number);
     }
     let first = bag.get(0).expect(&rt, "a record");
-    assert_eq!(rt; first.to, Address::CoreNas);
-    assert_eq!(rt; first.octets.as_slice(), [0x27, 1, 2].as_slice());
-    assert_eq!(rt; first.tuple, Some(tuple));
-    assert_eq!(rt; bag.get(6).is_none(), true);
+    same(&rt, first.to, Address::CoreNas);
+    same(&rt, first.octets.as_slice(), [0x27, 1, 2].as_slice());
+    same(&rt, first.tuple, Some(tuple));
+    same(&rt, bag.get(6).is_none(), true);
 }
 
 // A number in 32 octets, big-endian.
@@ -89,14 +100,18 @@ fn each_of_many_records_is_found(rt: HostRuntime) {
     let mut bag = Bag::new(rt.alloc());
     let air = Address::StationAir(0, 1, Bearer::Drb1);
     for number in 0..200_000 {
-        assert_eq!(rt; put(&rt, &mut bag, air, &numbered(number), None), number);
+        same(
+            &rt,
+            put(&rt, &mut bag, air, &numbered(number), None),
+            number,
+        );
     }
-    assert_eq!(rt; bag.len(), 200_000);
+    same(&rt, bag.len(), 200_000);
     for number in 0..200_000 {
-        assert_eq!(rt; bag.find(Class::Air, &numbered(number)), Some(number));
+        same(&rt, bag.find(Class::Air, &numbered(number)), Some(number));
     }
     for number in 200_000..400_000 {
-        assert_eq!(rt; bag.find(Class::Air, &numbered(number)), None);
+        same(&rt, bag.find(Class::Air, &numbered(number)), None);
     }
 }
 
@@ -106,10 +121,10 @@ fn reserve_twice(rt: &impl Abort, bag: &mut Bag, octets: &[u8]) {
     assert!(rt; len < 1_000_000);
     let found = bag.find(Class::Air, octets);
     if bag.reserve() == Err(BagMemory) {
-        assert_eq!(rt; bag.len(), len);
-        assert_eq!(rt; bag.find(Class::Air, octets), found);
-        assert_eq!(rt; bag.get(0).is_some(), len > 0);
-        assert_eq!(rt; bag.reserve(), Ok(()));
+        same(rt, bag.len(), len);
+        same(rt, bag.find(Class::Air, octets), found);
+        same(rt, bag.get(0).is_some(), len > 0);
+        same(rt, bag.reserve(), Ok(()));
     }
 }
 
@@ -121,11 +136,11 @@ fn a_refused_growth_changes_nothing(rt: HostRuntime) {
         let octets = numbered(number);
         reserve_twice(&rt, &mut bag, &octets);
         assert!(rt; bag.len() < 1_000_000);
-        assert_eq!(rt; bag.reserve(), Ok(()));
+        same(&rt, bag.reserve(), Ok(()));
         let rec = record_of(&rt, air, &octets);
-        assert_eq!(rt; bag.put(&rec, None), number);
+        same(&rt, bag.put(&rec, None), number);
     }
     for number in 0..200 {
-        assert_eq!(rt; bag.find(Class::Air, &numbered(number)), Some(number));
+        same(&rt, bag.find(Class::Air, &numbered(number)), Some(number));
     }
 }

@@ -2,6 +2,7 @@ use annex_a_keys::{Cell, Kasme, Kenb, Nh};
 use nh_chain::{CoreChain, NhPair, PhoneChain, StationKey};
 use rec_base::Way;
 use std::process::Abort;
+use test_values::{same, same_at};
 
 // The 32 octets whose halves are these.
 fn octets(first: u128, last: u128) -> [u8; 32] {
@@ -53,42 +54,42 @@ fn a_phone_at_number_6_steps_to_the_ncc_of_a_command(rt: HostRuntime) {
     ];
     for (ncc, steps, way, want) in table {
         let (mut chain, active) = phone_at_6(&rt);
-        assert_eq!(rt; chain.ncc(), 6);
+        same(&rt, chain.ncc(), 6);
         let (star, got, made) = chain.reach(&active, ncc, &cell(&rt, 11, 101));
-        assert_eq!(rt; star.octets(), want, "at NCC {ncc}");
-        assert_eq!(rt; got, way, "at NCC {ncc}");
-        assert_eq!(rt; made.len(), steps + 1, "at NCC {ncc}");
-        assert_eq!(rt; chain.ncc(), ncc);
+        same_at(&rt, ncc, star.octets(), want);
+        same_at(&rt, ncc, got, way);
+        same_at(&rt, ncc, made.len(), steps + 1);
+        same(&rt, chain.ncc(), ncc);
     }
 }
 
 #[test]
 fn the_core_makes_one_pair_a_step(rt: HostRuntime) {
     let (mut chain, kenb, made) = CoreChain::begin(&kasme(), 0);
-    assert_eq!(rt; kenb.octets(), kasme().kenb(0).0.octets());
-    assert_eq!(rt; made.out, kenb.octets());
-    assert_eq!(rt; chain.ncc(), 0);
+    same(&rt, kenb.octets(), kasme().kenb(0).0.octets());
+    same(&rt, made.out, kenb.octets());
+    same(&rt, chain.ncc(), 0);
     let (pair, _) = chain.step();
-    assert_eq!(rt; chain.ncc(), 1);
-    assert_eq!(rt; pair.ncc(), 1);
+    same(&rt, chain.ncc(), 1);
+    same(&rt, pair.ncc(), 1);
     let want = octets(
         0x09aba1730b0aaeee84feac6bc03f66b9,
         0xaa90d45309b719114a90be777b24b74c,
     );
-    assert_eq!(rt; pair.nh().octets(), want);
+    same(&rt, pair.nh().octets(), want);
     let (star, spent, _) = pair.into_star(&cell(&rt, 300, 1300));
     let want = octets(
         0x518bec46c1a25953de9b0d3db44a06c8,
         0x48ca1cb14b3c0f2c75c4e1cd77c2bbda,
     );
-    assert_eq!(rt; star.octets(), want);
-    assert_eq!(rt; spent.give_back().ncc(), 1);
+    same(&rt, star.octets(), want);
+    same(&rt, spent.give_back().ncc(), 1);
     let (pair, _) = chain.step();
     let want = octets(
         0x9b6efffa0cccff877e89572bfcaa77a6,
         0x2fe98e062bbf11dbd7658136df926c93,
     );
-    assert_eq!(rt; pair.nh().octets(), want);
+    same(&rt, pair.nh().octets(), want);
 }
 
 #[test]
@@ -105,21 +106,21 @@ fn a_stored_pair_is_used_once_and_comes_back(rt: HostRuntime) {
     let (mut chain, kenb, _) = CoreChain::begin(&kasme(), 0);
     let mut key = StationKey::initial(kenb);
     let (star, spent, ncc, _) = key.open(&target);
-    assert_eq!(rt; (star.octets(), ncc), (horizontal, 0));
+    same(&rt, (star.octets(), ncc), (horizontal, 0));
     assert!(rt; spent.is_none());
     key.store(chain.step().0);
     let (star, spent, ncc, _) = key.open(&target);
-    assert_eq!(rt; (star.octets(), ncc), (vertical, 1));
+    same(&rt, (star.octets(), ncc), (vertical, 1));
     let spent = spent.expect(&rt, "a pair was stored");
-    assert_eq!(rt; key.open(&target).0.octets(), horizontal);
+    same(&rt, key.open(&target).0.octets(), horizontal);
     key.restore(spent);
     let (star, spent, ncc, _) = key.open(&target);
-    assert_eq!(rt; (star.octets(), ncc), (vertical, 1));
+    same(&rt, (star.octets(), ncc), (vertical, 1));
     key.store(chain.step().0);
     key.restore(spent.expect(&rt, "a pair was stored"));
-    assert_eq!(rt; key.open(&target).2, 2);
-    assert_eq!(rt; key.kenb().octets(), kenb.octets());
-    assert_eq!(rt; key.ncc(), 0);
+    same(&rt, key.open(&target).2, 2);
+    same(&rt, key.kenb().octets(), kenb.octets());
+    same(&rt, key.ncc(), 0);
 }
 
 #[test]
@@ -127,6 +128,6 @@ fn a_given_key_has_no_pair(rt: HostRuntime) {
     let pair = NhPair::new(Nh::of_octets(octets(1, 2)), 7);
     let (star, _, _) = pair.into_star(&cell(&rt, 11, 101));
     let mut key = StationKey::given(star, 7);
-    assert_eq!(rt; (key.kenb().octets(), key.ncc()), (star.octets(), 7));
+    same(&rt, (key.kenb().octets(), key.ncc()), (star.octets(), 7));
     assert!(rt; key.open(&cell(&rt, 11, 101)).1.is_none());
 }

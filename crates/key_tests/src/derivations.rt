@@ -1,4 +1,5 @@
 use hmac_kdf::{KdfInput, hmac, kdf};
+use test_values::same_at;
 
 // The 32 octets whose halves are these.
 fn octets(first: u128, last: u128) -> [u8; 32] {
@@ -38,7 +39,7 @@ fn texts_of_rfc_4231_have_their_hmac(rt: HostRuntime) {
         ),
     ];
     for (key, text, first, last) in table {
-        assert_eq!(rt; hmac(key, text), octets(first, last), "of {text:?}");
+        same_at(&rt, text, hmac(key, text), octets(first, last));
     }
 }
 
@@ -97,6 +98,6 @@ fn each_input_has_its_key(rt: HostRuntime) {
         ),
     ];
     for (key, input, first, last) in table {
-        assert_eq!(rt; kdf(&key, &input), octets(first, last), "of {input:?}");
+        same_at(&rt, input, kdf(&key, &input), octets(first, last));
     }
 }

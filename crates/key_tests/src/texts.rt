@@ -9,6 +9,7 @@ use report_text::{Figure, Tally, chance, ladder_text, line, summary_line};
 use std::alloc::Global;
 use std::process::Abort;
 use std::test::Fail;
+use test_values::{same, same_at};
 
 // The line of an event in which one acted and answered, and nothing else.
 fn line_of(step: u32, who: Who, answer: Answer) -> Line {
@@ -27,7 +28,7 @@ fn line_of(step: u32, who: Who, answer: Answer) -> Line {
 fn assert_line(rt: &impl Abort, alloc: Global, of: &Line, wanted: &str) -> Result<(), Fail> {
     let text = line(alloc, of)?;
     let wanted = format!(in alloc; "{wanted}\n")?;
-    assert_eq!(rt; text.as_slice(), wanted.as_bytes(), "{wanted}");
+    same_at(rt, wanted.as_str(), text.as_slice(), wanted.as_bytes());
     Ok(())
 }
 
@@ -177,30 +178,30 @@ fn ladder_with_room(rt: &impl Abort, alloc: Global) -> Ladder
     ensures { 8 ≤ result.spare }
 {
     let mut ladder = Ladder::new(alloc);
-    assert_eq!(rt; ladder.reserve(8), Ok(()));
+    same(rt, ladder.reserve(8), Ok(()));
     ladder
 }
 
 #[test]
 fn rows_of_the_ladder_have_a_line_each(rt: HostRuntime) -> Result<(), Fail> {
     let mut ladder = ladder_with_room(&rt, rt.alloc());
-    assert_eq!(rt; ladder.root(KASME), Ok(Row(0)));
+    same(&rt, ladder.root(KASME), Ok(Row(0)));
     let (kenb, made) = Kasme::of_octets(KASME).kenb(0);
     let key = ladder.find(&made.key).expect(&rt, "a root");
-    assert_eq!(rt; ladder.row(key).origin, Origin::Root);
-    assert_eq!(rt; ladder.add(&made), Ok(Row(1)));
+    same(&rt, ladder.row(key).origin, Origin::Root);
+    same(&rt, ladder.add(&made), Ok(Row(1)));
     let (_, made) = Kasme::of_octets(KASME).nh_first(&kenb);
     let key = ladder.find(&made.key).expect(&rt, "a root");
-    assert_eq!(rt; ladder.row(key).origin, Origin::Root);
+    same(&rt, ladder.row(key).origin, Origin::Root);
     ladder.find(&kenb.octets()).expect(&rt, "a SYNC-input");
-    assert_eq!(rt; ladder.add(&made), Ok(Row(2)));
+    same(&rt, ladder.add(&made), Ok(Row(2)));
     let cell = Cell::new(11, 101).expect(&rt, "a cell in range");
     let (_, made) = kenb.star(&cell);
     ladder.find(&made.key).expect(&rt, "a KeNB");
-    assert_eq!(rt; ladder.add(&made), Ok(Row(3)));
+    same(&rt, ladder.add(&made), Ok(Row(3)));
     let (_, made) = kenb.alg(AlgType::RrcEnc, 2);
     ladder.find(&made.key).expect(&rt, "a KeNB");
-    assert_eq!(rt; ladder.add(&made), Ok(Row(4)));
+    same(&rt, ladder.add(&made), Ok(Row(4)));
     let wanted = "\
 row 0 root 000102030405060708090a0b0c0d0e0f101112131415161718191a1b1c1d1e1f -
 row 1 kenb(0,0) e6267359de012d9bda173d1b6fae57dec0e04e01cfcf57cb33a7573f142b8b95 -
@@ -209,17 +210,17 @@ row 3 star(1,11,101) 4f92e8cee01ca1f84e022ac503175c61f6792a8fe01fa36a8e154c3910b
 row 4 alg(1,3,2) 9bf10551417d3b3128705dd54a20f8f1ae14c26e3ba014f8e4279841fb8ade28 -
 ";
     let text = ladder_text(rt.alloc(), &ladder)?;
-    assert_eq!(rt; text.as_slice(), wanted.as_bytes());
+    same(&rt, text.as_slice(), wanted.as_bytes());
     Ok(())
 }
 
 #[test]
 fn holders_stand_in_their_order(rt: HostRuntime) -> Result<(), Fail> {
     let mut ladder = ladder_with_room(&rt, rt.alloc());
-    assert_eq!(rt; ladder.root([1; 32]), Ok(Row(0)));
-    assert_eq!(rt; ladder.root([2; 32]), Ok(Row(1)));
-    assert_eq!(rt; ladder.root([3; 32]), Ok(Row(2)));
-    assert_eq!(rt; ladder.len(), 3);
+    same(&rt, ladder.root([1; 32]), Ok(Row(0)));
+    same(&rt, ladder.root([2; 32]), Ok(Row(1)));
+    same(&rt, ladder.root([3; 32]), Ok(Row(2)));
+    same(&rt, ladder.len(), 3);
     ladder.hold(Holder::Phone, Row(0));
     ladder.hold(Holder::Station(7), Row(1));
     ladder.hold(Holder::Core, Row(1));
@@ -234,7 +235,7 @@ row 1 root 0202020202020202020202020202020202020202020202020202020202020202 C,S7
 row 2 root 0303030303030303030303030303030303030303030303030303030303030303 P,C,S0,S3,S5
 ";
     let text = ladder_text(rt.alloc(), &ladder)?;
-    assert_eq!(rt; text.as_slice(), wanted.as_bytes());
+    same(&rt, text.as_slice(), wanted.as_bytes());
     Ok(())
 }
 
@@ -245,9 +246,9 @@ fn coincidences_print_what_shows_them(rt: HostRuntime) -> Result<(), Fail> {
     let text = chance(rt.alloc(), 5, &Proof::Rows(Row(2), made))?;
     let wanted =
         "5 coincidence rows 2 000102030405060708090a0b0c0d0e0f101112131415161718191a1b1c1d1e1f 1301f700020100000003\n";
-    assert_eq!(rt; text.as_slice(), wanted.as_bytes());
+    same(&rt, text.as_slice(), wanted.as_bytes());
     let text = chance(rt.alloc(), 0, &Proof::RootIsRow(Row(7), KASME))?;
-    assert_eq!(rt; text.as_slice(), b"0 coincidence root 7\n".as_slice());
+    same(&rt, text.as_slice(), b"0 coincidence root 7\n".as_slice());
     let up = Use {
         key: KASME,
         count: 4294967295,
@@ -263,11 +264,11 @@ fn coincidences_print_what_shows_them(rt: HostRuntime) -> Result<(), Fail> {
     let text = chance(rt.alloc(), 10, &Proof::Tuples(None, down))?;
     let wanted =
         "10 coincidence tuples nobody e0e1e2e3e4e5e6e7e8e9eaebecedeeeff0f1f2f3f4f5f6f7f8f9fafbfcfdfeff/1/0/down\n";
-    assert_eq!(rt; text.as_slice(), wanted.as_bytes());
+    same(&rt, text.as_slice(), wanted.as_bytes());
     let text = chance(rt.alloc(), 10, &Proof::Tuples(Some(up), down))?;
     let wanted =
         "10 coincidence tuples 000102030405060708090a0b0c0d0e0f101112131415161718191a1b1c1d1e1f/4294967295/5/up e0e1e2e3e4e5e6e7e8e9eaebecedeeeff0f1f2f3f4f5f6f7f8f9fafbfcfdfeff/1/0/down\n";
-    assert_eq!(rt; text.as_slice(), wanted.as_bytes());
+    same(&rt, text.as_slice(), wanted.as_bytes());
     Ok(())
 }
 
@@ -321,7 +322,7 @@ fn a_summary_counts_what_its_lines_tell(rt: HostRuntime) -> Result<(), Fail> {
     ];
     for (figure, wanted) in Figure::all().iter().zip(wanted) {
         let text = summary_line(rt.alloc(), &tally, 12, *figure)?;
-        assert_eq!(rt; text.as_slice(), wanted.as_bytes());
+        same(&rt, text.as_slice(), wanted.as_bytes());
     }
     Ok(())
 }

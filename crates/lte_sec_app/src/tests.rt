@@ -10,6 +10,7 @@ use crate::status::Status;
 use edge_io::{MemPeers, MemPort, MemSink, MemSource};
 use std::alloc::{AllocError, Global};
 use std::test::Fail;
+use test_values::{same, same_at};
 
 // A run over memory, in which the read and the write of these numbers fail: its status and what it
 // wrote.
@@ -57,8 +58,8 @@ fn other_words_are_bad(rt: HostRuntime) -> Result<(), Fail> {
     ];
     for words in words {
         let (ended, written) = run_over(rt.alloc(), words, Vec::new(rt.alloc()), None, None)?;
-        assert_eq!(rt; ended, Status::BadWords);
-        assert_eq!(rt; written.len(), 0);
+        same(&rt, ended, Status::BadWords);
+        same(&rt, written.len(), 0);
     }
     Ok(())
 }
@@ -68,8 +69,8 @@ fn a_text_past_the_limit_is_too_long(rt: HostRuntime) -> Result<(), Fail> {
     for word in ["ladder", "run", "drive"] {
         let text = vec![in rt.alloc(); b'0'; LIMIT + 1]?;
         let (ended, written) = run_over(rt.alloc(), &[word], text, None, None)?;
-        assert_eq!(rt; ended, Status::TooLong, "{word}");
-        assert_eq!(rt; written.len(), 0, "{word}");
+        same_at(&rt, word, ended, Status::TooLong);
+        same_at(&rt, word, written.len(), 0);
     }
     Ok(())
 }

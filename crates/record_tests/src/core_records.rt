@@ -2,6 +2,7 @@ use alg_choice::{Algs, Caps, Eea};
 use annex_a_keys::{Cell, Kenb, Nh, Star};
 use rec_base::{Octets, RecFault};
 use s1x2_rec::CoreRecord;
+use test_values::{same, same_at};
 
 // A key of 32 octets.
 const KEY: [u8; 32] = [
@@ -113,8 +114,8 @@ fn path_switch_request_is_read(rt: HostRuntime) {
             eia: 0x20,
         },
     };
-    assert_eq!(rt; request.write().as_slice(), octets.as_slice());
-    assert_eq!(rt; CoreRecord::read(&octets), Ok(request));
+    same(&rt, request.write().as_slice(), octets.as_slice());
+    same(&rt, CoreRecord::read(&octets), Ok(request));
 }
 
 #[test]
@@ -134,7 +135,7 @@ fn derived_key_stands_behind_its_ncc(rt: HostRuntime) {
         star,
     };
     let octets = changed(10, 19, &star.octets());
-    assert_eq!(rt; request.write().as_slice(), octets.as_slice());
+    same(&rt, request.write().as_slice(), octets.as_slice());
 }
 
 #[test]
@@ -247,8 +248,8 @@ fn each_kind_is_read_as_spelled_and_written_back(rt: HostRuntime) {
         let read = CoreRecord::read(octets.as_slice());
         assert!(rt; read.is_ok(), "kind {kind}");
         if let Ok(read) = read {
-            assert_eq!(rt; &read, record, "kind {kind}");
-            assert_eq!(rt; read.write().as_slice(), octets.as_slice(), "kind {kind}");
+            same_at(&rt, kind, &read, record);
+            same_at(&rt, kind, read.write().as_slice(), octets.as_slice());
         }
     }
 }
@@ -263,23 +264,25 @@ fn fault_is_the_first_in_order(rt: HostRuntime) {
         (&[0x22], RecFault::Short),
     ];
     for (octets, fault) in table {
-        assert_eq!(rt; CoreRecord::read(octets).err(), Some(fault));
+        same(&rt, CoreRecord::read(octets).err(), Some(fault));
     }
     for kind in 0..15 {
         let whole = spelling(kind);
         if let [short @ .., _] = whole.as_slice() {
-            assert_eq!(rt;
+            same_at(
+                &rt,
+                kind,
                 CoreRecord::read(short).err(),
                 Some(RecFault::Short),
-                "kind {kind}"
             );
         }
         let mut long = whole;
         push_all(&mut long, &[0]);
-        assert_eq!(rt;
+        same_at(
+            &rt,
+            kind,
             CoreRecord::read(long.as_slice()).err(),
             Some(RecFault::Long),
-            "kind {kind}"
         );
     }
 }
@@ -356,17 +359,19 @@ fn field_out_of_range_is_named_by_its_offset(rt: HostRuntime) {
     ];
     for (kind, place, field) in table {
         let octets = changed(kind, place as usize, field);
-        assert_eq!(rt;
+        same_at(
+            &rt,
+            (kind, place),
             CoreRecord::read(octets.as_slice()).err(),
             Some(RecFault::BadField(place)),
-            "kind {kind} place {place}"
         );
     }
     // Two fields out of range: the first is named.
     let octets = changed(2, 5, &[8, 0, 0, 0, 0, 1, 0xf8]);
-    assert_eq!(rt;
+    same(
+        &rt,
         CoreRecord::read(octets.as_slice()).err(),
-        Some(RecFault::BadField(5))
+        Some(RecFault::BadField(5)),
     );
 }
 
@@ -382,6 +387,6 @@ fn cell_with_an_earfcn_of_17_bits_is_read(rt: HostRuntime) {
         },
         kenb: Kenb::of_octets(KEY),
     };
-    assert_eq!(rt; context.write().as_slice(), octets.as_slice());
-    assert_eq!(rt; CoreRecord::read(octets.as_slice()), Ok(context));
+    same(&rt, context.write().as_slice(), octets.as_slice());
+    same(&rt, CoreRecord::read(octets.as_slice()), Ok(context));
 }

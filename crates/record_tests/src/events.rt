@@ -6,6 +6,7 @@ use lte_events::{
 };
 use rec_base::{Bearer, Octets, RecFault, UserText};
 use std::process::Abort;
+use test_values::same;
 
 #[test]
 fn answers_have_their_number_and_name(rt: HostRuntime) {
@@ -27,8 +28,8 @@ fn answers_have_their_number_and_name(rt: HostRuntime) {
         (Answer::RepeatedRoot(4), 52, "RepeatedRoot"),
     ];
     for (answer, number, name) in table {
-        assert_eq!(rt; answer.number(), number);
-        assert_eq!(rt; answer.name(), name);
+        same(&rt, answer.number(), number);
+        same(&rt, answer.name(), name);
     }
 }
 
@@ -40,17 +41,17 @@ fn cell(rt: &impl Abort, pci: u16) -> Cell {
 #[test]
 fn cells_are_found_in_the_order_added(rt: HostRuntime) {
     let mut cells = Cells::new();
-    assert_eq!(rt; cells.station_of(&cell(&rt, 0)), None);
+    same(&rt, cells.station_of(&cell(&rt, 0)), None);
     for pci in 0..32 {
-        assert_eq!(rt; cells.add((pci / 4) as u8, cell(&rt, pci)), Ok(()));
+        same(&rt, cells.add((pci / 4) as u8, cell(&rt, pci)), Ok(()));
     }
-    assert_eq!(rt; cells.len(), 32);
-    assert_eq!(rt; cells.at(5), (1, cell(&rt, 5)));
-    assert_eq!(rt; cells.station_of(&cell(&rt, 31)), Some(7));
-    assert_eq!(rt; cells.add(0, cell(&rt, 5)), Err(CellsFault::SameCell));
-    assert_eq!(rt; cells.add(0, cell(&rt, 32)), Err(CellsFault::Full));
-    assert_eq!(rt; cells.station_of(&cell(&rt, 32)), None);
-    assert_eq!(rt; cells.len(), 32);
+    same(&rt, cells.len(), 32);
+    same(&rt, cells.at(5), (1, cell(&rt, 5)));
+    same(&rt, cells.station_of(&cell(&rt, 31)), Some(7));
+    same(&rt, cells.add(0, cell(&rt, 5)), Err(CellsFault::SameCell));
+    same(&rt, cells.add(0, cell(&rt, 32)), Err(CellsFault::Full));
+    same(&rt, cells.station_of(&cell(&rt, 32)), None);
+    same(&rt, cells.len(), 32);
 }
 
 #[test]
@@ -58,8 +59,8 @@ fn one_cell_per_pci_and_earfcn(rt: HostRuntime) {
     let mut cells = Cells::new();
     for (pci, earfcn) in [(10, 100), (10, 101), (11, 100)] {
         let cell = Cell::new(pci, earfcn).expect(&rt, "a cell in range");
-        assert_eq!(rt; cells.add(0, cell), Ok(()));
-        assert_eq!(rt; cells.add(1, cell), Err(CellsFault::SameCell));
+        same(&rt, cells.add(0, cell), Ok(()));
+        same(&rt, cells.add(1, cell), Err(CellsFault::SameCell));
     }
 }
 
@@ -75,16 +76,20 @@ fn station(id: u8) -> StationSetup {
 #[test]
 fn full_list_hands_the_item_back(rt: HostRuntime) {
     let mut stations: Few<StationSetup, 2> = Few::new();
-    assert_eq!(rt; stations.try_push(station(3)), Ok(()));
-    assert_eq!(rt; stations.try_push(station(5)), Ok(()));
-    assert_eq!(rt; stations.try_push(station(0)), Err(station(0)));
-    assert_eq!(rt; stations.as_slice(), [station(3), station(5)].as_slice());
-    assert_eq!(rt; stations.clone().unwrap(), stations);
+    same(&rt, stations.try_push(station(3)), Ok(()));
+    same(&rt, stations.try_push(station(5)), Ok(()));
+    same(&rt, stations.try_push(station(0)), Err(station(0)));
+    same(
+        &rt,
+        stations.as_slice(),
+        [station(3), station(5)].as_slice(),
+    );
+    same(&rt, &stations.clone().unwrap(), &stations);
     let mut more: Few<StationSetup, 3> = Few::new();
     more.push(station(1));
     more.append(stations.as_slice());
     let ids = [station(1), station(3), station(5)];
-    assert_eq!(rt; more.as_slice(), ids.as_slice());
+    same(&rt, more.as_slice(), ids.as_slice());
 }
 
 #[test]
@@ -101,14 +106,18 @@ fn events_differ_by_who_acts_and_how(rt: HostRuntime) {
         Event::Deliver(-1),
     ];
     for (i, event) in events.iter().enumerate() {
-        assert_eq!(rt; events.iter().position(|other| *other == *event), Some(i));
-        assert_eq!(rt; event.clone().unwrap(), *event);
+        same(
+            &rt,
+            events.iter().position(|other| *other == *event),
+            Some(i),
+        );
+        same(&rt, &event.clone().unwrap(), event);
     }
 }
 
 #[test]
 fn empty_reply_is_done(rt: HostRuntime) {
     let reply = ActorOut::of(Answer::Done);
-    assert_eq!(rt; reply, ActorOut::default());
-    assert_eq!(rt; reply.derived.as_slice().len(), 0);
+    same(&rt, &reply, &ActorOut::default());
+    same(&rt, reply.derived.as_slice().len(), 0);
 }

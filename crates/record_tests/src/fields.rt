@@ -1,5 +1,6 @@
 use rec_base::{Octets, RecFault};
 use rec_fields::{cell_at, list_of, put_cell};
+use test_values::same;
 
 #[test]
 fn cell_is_two_fields(rt: HostRuntime) {
@@ -7,14 +8,15 @@ fn cell_is_two_fields(rt: HostRuntime) {
     let cell = cell_at(&octets, 1);
     assert!(rt; cell.is_ok());
     if let Ok(cell) = cell {
-        assert_eq!(rt; (cell.pci(), cell.earfcn()), (503, 262143));
+        same(&rt, (cell.pci(), cell.earfcn()), (503, 262143));
         let mut out: Octets = list_of(&[7]);
         put_cell(&mut out, &cell);
-        assert_eq!(rt;
+        same(
+            &rt,
             out.as_slice(),
-            [7, 0x01, 0xf7, 0, 3, 0xff, 0xff].as_slice()
+            [7, 0x01, 0xf7, 0, 3, 0xff, 0xff].as_slice(),
         );
     }
-    assert_eq!(rt; cell_at(&octets, 7), Err(RecFault::BadField(7)));
-    assert_eq!(rt; cell_at(&octets, 2), Err(RecFault::BadField(2)));
+    same(&rt, cell_at(&octets, 7), Err(RecFault::BadField(7)));
+    same(&rt, cell_at(&octets, 2), Err(RecFault::BadField(2)));
 }

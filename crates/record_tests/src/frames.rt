@@ -13,6 +13,7 @@ use rec_base::Bounded;
 use role_wire::{FrameFault, FrameIn, input_frame, read_frame};
 use std::process::Abort;
 use std::test::Fail;
+use test_values::same_at;
 
 // A frame is read as this, and written again with the same octets.
 fn expect_frame<R: Abort + AllocGlobal>(
@@ -28,8 +29,8 @@ fn expect_frame<R: Abort + AllocGlobal>(
     let mut src = SliceSource::new(octets.as_slice());
     match read_frame(&mut src, role, first) {
         Ok(frame) => {
-            assert_eq!(rt; frame, *want, "{text}");
-            assert_eq!(rt; input_frame(&frame).as_slice(), octets.as_slice(), "{text}");
+            same_at(rt, text, &frame, want);
+            same_at(rt, text, input_frame(&frame).as_slice(), octets.as_slice());
         }
         Err(fault) => panic!(rt; "{text} is refused: {fault:?}"),
     }
@@ -50,7 +51,7 @@ fn expect_fault<R: Abort + AllocGlobal>(
     let mut src = SliceSource::new(octets.as_slice());
     match read_frame(&mut src, role, first) {
         Ok(_) => panic!(rt; "{text} is read"),
-        Err(fault) => assert_eq!(rt; fault, want, "{text}"),
+        Err(fault) => same_at(rt, text, fault, want),
     }
     Ok(())
 }

@@ -1,6 +1,7 @@
 use alg_choice::{Algs, Caps, Eea};
 use nas_rec::NasRecord;
 use rec_base::{RecFault, ShortText};
+use test_values::same;
 
 #[test]
 fn records_are_read_as_spelled_and_written_back(rt: HostRuntime) {
@@ -11,39 +12,43 @@ fn records_are_read_as_spelled_and_written_back(rt: HostRuntime) {
     };
     let octets = [0x01, 6, 0x22, 0xa0, 0x20];
     let command = NasRecord::SecurityModeCommand { ksi: 6, algs, caps };
-    assert_eq!(rt; command.write().as_slice(), octets.as_slice());
-    assert_eq!(rt; NasRecord::read(&octets), Ok(command));
+    same(&rt, command.write().as_slice(), octets.as_slice());
+    same(&rt, NasRecord::read(&octets), Ok(command));
     let reject = NasRecord::SecurityModeReject { cause: 23 };
-    assert_eq!(rt; reject.write().as_slice(), [0x03, 0x17].as_slice());
-    assert_eq!(rt; NasRecord::read(&[0x03, 0x17]), Ok(reject));
-    assert_eq!(rt;
+    same(&rt, reject.write().as_slice(), [0x03, 0x17].as_slice());
+    same(&rt, NasRecord::read(&[0x03, 0x17]), Ok(reject));
+    same(
+        &rt,
         NasRecord::read(&[0x02]),
-        Ok(NasRecord::SecurityModeComplete)
+        Ok(NasRecord::SecurityModeComplete),
     );
-    assert_eq!(rt; NasRecord::read(&[0x04]), Ok(NasRecord::ServiceRequest));
-    assert_eq!(rt;
+    same(&rt, NasRecord::read(&[0x04]), Ok(NasRecord::ServiceRequest));
+    same(
+        &rt,
         NasRecord::ServiceRequest.write().as_slice(),
-        [0x04].as_slice()
+        [0x04].as_slice(),
     );
 }
 
 #[test]
 fn text_has_up_to_200_octets(rt: HostRuntime) {
-    assert_eq!(rt;
+    same(
+        &rt,
         NasRecord::read(&[0x05]),
-        Ok(NasRecord::NasData(ShortText::new()))
+        Ok(NasRecord::NasData(ShortText::new())),
     );
     let mut text = ShortText::new();
     let mut octets = [7u8; 202];
     octets[0] = 0x05;
     for _ in 0..200 {
-        assert_eq!(rt; text.try_push(7), Ok(()));
+        same(&rt, text.try_push(7), Ok(()));
     }
-    assert_eq!(rt;
+    same(
+        &rt,
         NasRecord::read(&octets[..201]),
-        Ok(NasRecord::NasData(text))
+        Ok(NasRecord::NasData(text)),
     );
-    assert_eq!(rt; NasRecord::read(&octets).err(), Some(RecFault::Long));
+    same(&rt, NasRecord::read(&octets).err(), Some(RecFault::Long));
 }
 
 #[test]
@@ -66,6 +71,6 @@ fn fault_is_the_first_in_order(rt: HostRuntime) {
         (&[0x04, 0], RecFault::Long),
     ];
     for (octets, fault) in table {
-        assert_eq!(rt; NasRecord::read(octets).err(), Some(fault));
+        same(&rt, NasRecord::read(octets).err(), Some(fault));
     }
 }

@@ -2,6 +2,7 @@ use alg_choice::{Algs, Eea};
 use annex_a_keys::Cell;
 use rec_base::{RecFault, ShortText};
 use rrc_rec::RrcRecord;
+use test_values::same;
 
 #[test]
 fn records_are_read_as_spelled_and_written_back(rt: HostRuntime) {
@@ -12,8 +13,8 @@ fn records_are_read_as_spelled_and_written_back(rt: HostRuntime) {
         station: 0,
         air: 1,
     };
-    assert_eq!(rt; command.write().as_slice(), octets.as_slice());
-    assert_eq!(rt; RrcRecord::read(&octets), Ok(command));
+    same(&rt, command.write().as_slice(), octets.as_slice());
+    same(&rt, RrcRecord::read(&octets), Ok(command));
     let octets = [
         0x03, 0x00, 0x0b, 0x00, 0x00, 0x00, 0x65, 0x00, 0x22, 0x01, 0, 0, 0, 1,
     ];
@@ -25,20 +26,23 @@ fn records_are_read_as_spelled_and_written_back(rt: HostRuntime) {
             station: 1,
             air: 1,
         };
-        assert_eq!(rt; order.write().as_slice(), octets.as_slice());
-        assert_eq!(rt; RrcRecord::read(&octets), Ok(order));
+        same(&rt, order.write().as_slice(), octets.as_slice());
+        same(&rt, RrcRecord::read(&octets), Ok(order));
     }
-    assert_eq!(rt;
+    same(
+        &rt,
         RrcRecord::read(&[0x02]),
-        Ok(RrcRecord::SecurityModeComplete)
+        Ok(RrcRecord::SecurityModeComplete),
     );
-    assert_eq!(rt;
+    same(
+        &rt,
         RrcRecord::read(&[0x04]),
-        Ok(RrcRecord::ReconfigurationComplete)
+        Ok(RrcRecord::ReconfigurationComplete),
     );
-    assert_eq!(rt;
+    same(
+        &rt,
         RrcRecord::ReconfigurationComplete.write().as_slice(),
-        [0x04].as_slice()
+        [0x04].as_slice(),
     );
 }
 
@@ -53,27 +57,29 @@ fn key_change_in_the_greatest_cell_is_read_as_spelled_and_written_back(rt: HostR
         station: 7,
         air: 258,
     };
-    assert_eq!(rt; change.write().as_slice(), octets.as_slice());
-    assert_eq!(rt; RrcRecord::read(&octets), Ok(change));
+    same(&rt, change.write().as_slice(), octets.as_slice());
+    same(&rt, RrcRecord::read(&octets), Ok(change));
 }
 
 #[test]
 fn text_has_up_to_200_octets(rt: HostRuntime) {
-    assert_eq!(rt;
+    same(
+        &rt,
         RrcRecord::read(&[0x05]),
-        Ok(RrcRecord::RrcData(ShortText::new()))
+        Ok(RrcRecord::RrcData(ShortText::new())),
     );
     let mut text = ShortText::new();
     let mut octets = [7u8; 202];
     octets[0] = 0x05;
     for _ in 0..200 {
-        assert_eq!(rt; text.try_push(7), Ok(()));
+        same(&rt, text.try_push(7), Ok(()));
     }
-    assert_eq!(rt;
+    same(
+        &rt,
         RrcRecord::read(&octets[..201]),
-        Ok(RrcRecord::RrcData(text))
+        Ok(RrcRecord::RrcData(text)),
     );
-    assert_eq!(rt; RrcRecord::read(&octets).err(), Some(RecFault::Long));
+    same(&rt, RrcRecord::read(&octets).err(), Some(RecFault::Long));
 }
 
 #[test]
@@ -149,6 +155,6 @@ fn fault_is_the_first_in_order(rt: HostRuntime) {
         ),
     ];
     for (octets, fault) in table {
-        assert_eq!(rt; RrcRecord::read(octets).err(), Some(fault));
+        same(&rt, RrcRecord::read(octets).err(), Some(fault));
     }
 }

@@ -15,6 +15,7 @@ use scenario_file::{Field, Scenario, ScenarioFault, read};
 use std::alloc::Global;
 use std::process::Abort;
 use std::test::Fail;
+use test_values::{same, same_at};
 
 // A phone with EEA0, 128-EEA2 and 128-EIA2, and one station with one cell.
 const PHONE: &str = "phone={caps='a020'}\n";
@@ -41,10 +42,11 @@ fn setup_is_refused_by_its_first_fault(rt: HostRuntime) -> Result<(), Fail> {
         ("[phone]\ncaps='A020'", Missing(Station)),
     ];
     for (text, refusal) in whole {
-        assert_eq!(rt;
+        same_at(
+            &rt,
+            text,
             fault_of(rt.alloc(), text),
             Some(refusal.at(None)),
-            "{text}"
         );
     }
     Ok(())
@@ -70,10 +72,11 @@ fn core_is_refused_by_its_first_fault(rt: HostRuntime) -> Result<(), Fail> {
     ];
     for (text, refusal) in behind_phone {
         let text = format!(in rt.alloc(); "{PHONE}{text}")?;
-        assert_eq!(rt;
+        same_at(
+            &rt,
+            text.as_str(),
             fault_of(rt.alloc(), &text),
             Some(refusal.at(None)),
-            "{text}"
         );
     }
     Ok(())
@@ -122,10 +125,11 @@ fn stations_are_refused_by_their_first_fault(rt: HostRuntime) -> Result<(), Fail
     ];
     for (text, refusal) in behind_phone {
         let text = format!(in rt.alloc(); "{PHONE}{text}")?;
-        assert_eq!(rt;
+        same_at(
+            &rt,
+            text.as_str(),
             fault_of(rt.alloc(), &text),
             Some(refusal.at(None)),
-            "{text}"
         );
     }
     Ok(())
@@ -135,7 +139,7 @@ fn stations_are_refused_by_their_first_fault(rt: HostRuntime) -> Result<(), Fail
 fn assert_refused(rt: &impl Abort, alloc: Global, steps: &[(&str, Refusal)]) -> Result<(), Fail> {
     for (step, refusal) in steps {
         let text = format!(in alloc; "{PHONE}{STATION}step=[{{{step}}}]")?;
-        assert_eq!(rt; fault_of(alloc, &text), Some(refusal.at(Some(0))), "{step}");
+        same_at(rt, step, fault_of(alloc, &text), Some(refusal.at(Some(0))));
     }
     Ok(())
 }
@@ -252,12 +256,13 @@ fn texts_have_their_greatest_lengths(rt: HostRuntime) -> Result<(), Fail> {
     ];
     for (step, count, field) in longest {
         let text = with_octets(rt.alloc(), step, count)?;
-        assert_eq!(rt; fault_of(rt.alloc(), &text), None, "{step}");
+        same_at(&rt, step, fault_of(rt.alloc(), &text), None);
         let text = with_octets(rt.alloc(), step, count + 1)?;
-        assert_eq!(rt;
+        same_at(
+            &rt,
+            step,
             fault_of(rt.alloc(), &text),
             Some(ScenarioFault::Wrong(Some(0), field)),
-            "{step}"
         );
     }
     Ok(())
@@ -271,14 +276,15 @@ fn texts_that_are_no_documents(rt: HostRuntime) -> Result<(), Fail> {
         "caps='a020",
         "n=9223372036854775808",
     ] {
-        assert_eq!(rt;
+        same_at(
+            &rt,
+            text,
             fault_of(rt.alloc(), text),
             Some(ScenarioFault::NotToml),
-            "{text}"
         );
     }
     let fault = read(rt.alloc(), &[0xff]).err();
-    assert_eq!(rt; fault, Some(ScenarioFault::NotToml));
+    same(&rt, fault, Some(ScenarioFault::NotToml));
     Ok(())
 }
 
@@ -292,9 +298,13 @@ fn with_steps(alloc: Global, before: usize) -> Result<String, Fail> {
 fn two_hundred_thousand_steps_are_read(rt: HostRuntime) -> Result<(), Fail> {
     let text = with_steps(rt.alloc(), 199_999)?;
     let last = ScenarioFault::Wrong(Some(199_999), Do);
-    assert_eq!(rt; fault_of(rt.alloc(), &text), Some(last));
+    same(&rt, fault_of(rt.alloc(), &text), Some(last));
     let text = with_steps(rt.alloc(), 200_000)?;
-    assert_eq!(rt; fault_of(rt.alloc(), &text), Some(ScenarioFault::TooMany));
+    same(
+        &rt,
+        fault_of(rt.alloc(), &text),
+        Some(ScenarioFault::TooMany),
+    );
     Ok(())
 }
 
@@ -318,20 +328,22 @@ fn a_setup_is_what_its_tables_say(rt: HostRuntime) -> Result<(), Fail> {
     let text = "[[station]]\nid=7\ncells=[[503,65535],[0,0]]\n[[station]]\nid=0\npriority=[0]\n\
         first=4294967295\ncells=[[0,1]]\n[core]\npriority=[0,2]\nfirst=9\n[phone]\ncaps='Ff01'\n";
     let scenario = read(rt.alloc(), text.as_bytes())?;
-    assert_eq!(rt; scenario.events.len(), 0);
+    same(&rt, scenario.events.len(), 0);
     let setup = scenario.setup;
-    assert_eq!(rt;
+    same(
+        &rt,
         setup.caps,
         Caps {
             eea: 0xff,
-            eia: 0x01
-        }
+            eia: 0x01,
+        },
     );
-    assert_eq!(rt;
+    same(
+        &rt,
         setup.core_priority,
-        Priority::new(Eea::Eea0, Some(Eea::Eea2))
+        Priority::new(Eea::Eea0, Some(Eea::Eea2)),
     );
-    assert_eq!(rt; setup.core_first, 9);
+    same(&rt, setup.core_first, 9);
     let stations = [
         StationSetup {
             id: 7,
@@ -344,11 +356,11 @@ fn a_setup_is_what_its_tables_say(rt: HostRuntime) -> Result<(), Fail> {
             first: u32::MAX,
         },
     ];
-    assert_eq!(rt; setup.stations.as_slice(), stations.as_slice());
-    assert_eq!(rt; setup.cells.len(), 3);
+    same(&rt, setup.stations.as_slice(), stations.as_slice());
+    same(&rt, setup.cells.len(), 3);
     for (pci, earfcn, station) in [(503, 65535, 7), (0, 0, 7), (0, 1, 0)] {
         let cell = Cell::new(pci, earfcn).expect(&rt, "a cell in range");
-        assert_eq!(rt; setup.cells.station_of(&cell), Some(station));
+        same(&rt, setup.cells.station_of(&cell), Some(station));
     }
     Ok(())
 }
@@ -411,8 +423,8 @@ fn acts_are_the_events_of_their_steps(rt: HostRuntime) -> Result<(), Fail> {
     for (step, event) in table {
         let steps = format!(in rt.alloc(); "step=[{{{step}}}]")?;
         let scenario = scenario_of(rt.alloc(), &steps)?;
-        assert_eq!(rt; scenario.events.len(), 1);
-        assert_eq!(rt; scenario.events.first(), Some(&event), "{step}");
+        same(&rt, scenario.events.len(), 1);
+        same_at(&rt, step, scenario.events.first(), Some(&event));
     }
     Ok(())
 }
@@ -467,8 +479,8 @@ fn texts_and_octets_are_the_events_of_their_steps(rt: HostRuntime) -> Result<(),
     for (step, event) in table {
         let steps = format!(in rt.alloc(); "step=[{{{step}}}]")?;
         let scenario = scenario_of(rt.alloc(), &steps)?;
-        assert_eq!(rt; scenario.events.len(), 1);
-        assert_eq!(rt; scenario.events.first(), Some(&event), "{step}");
+        same(&rt, scenario.events.len(), 1);
+        same_at(&rt, step, scenario.events.first(), Some(&event));
     }
     Ok(())
 }
@@ -495,6 +507,6 @@ fn an_authentication_takes_the_capabilities_of_the_phone(rt: HostRuntime) -> Res
         ),
         Event::Auth(0, octets, Caps { eea: 1, eia: 2 }),
     ];
-    assert_eq!(rt; scenario.events.as_slice(), events.as_slice());
+    same(&rt, scenario.events.as_slice(), events.as_slice());
     Ok(())
 }

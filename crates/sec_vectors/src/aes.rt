@@ -5,6 +5,7 @@ use aes_core::Aes128;
 use hex::{FromHex, FromHexError};
 use std::process::Abort;
 use std::test::Fail;
+use test_values::same_at;
 
 const ZERO: &str = "00000000000000000000000000000000";
 
@@ -14,10 +15,11 @@ fn octets(text: &str) -> Result<[u8; 16], FromHexError> {
 
 fn expect_block(rt: &impl Abort, key: &str, block: &str, expected: &str) -> Result<(), Fail> {
     let aes = Aes128::new(&octets(key)?);
-    assert_eq!(rt;
+    same_at(
+        rt,
+        (block, key),
         aes.encrypt(octets(block)?),
         octets(expected)?,
-        "{block} under {key}"
     );
     Ok(())
 }

@@ -4,6 +4,7 @@ use aes_core::Aes128;
 use cmac_eia2::{Cmac, cmac_of};
 use hex::FromHex;
 use std::test::Fail;
+use test_values::{same, same_at};
 
 #[test]
 fn texts_of_sp_800_38b_have_their_cmac(rt: HostRuntime) -> Result<(), Fail> {
@@ -32,7 +33,7 @@ fn texts_of_sp_800_38b_have_their_cmac(rt: HostRuntime) -> Result<(), Fail> {
     ] {
         let octets = hex::decode(rt.alloc(), text)?;
         let cmac = <[u8; 16] as FromHex>::from_hex(cmac)?;
-        assert_eq!(rt; cmac_of(&aes, &octets), cmac, "of {text}");
+        same_at(&rt, text, cmac_of(&aes, &octets), cmac);
     }
     Ok(())
 }
@@ -59,11 +60,11 @@ fn pieces_have_the_cmac_of_the_text(rt: HostRuntime) -> Result<(), Fail> {
     let none = <[u8; 16] as FromHex>::from_hex("bb1d6929e95937287fa37d129b756746")?;
     let block = <[u8; 16] as FromHex>::from_hex("070a16b46b4d4144f79bdd9dd04a287c")?;
     let whole = <[u8; 16] as FromHex>::from_hex("dfa66747de9ae63030ca32611497c827")?;
-    assert_eq!(rt; Cmac::start(&aes).end(), none);
+    same(&rt, Cmac::start(&aes).end(), none);
     let octets = text.as_slice();
     for cut in 0..=octets.len() {
         let (first, second) = octets.split_at(cut);
-        assert_eq!(rt; of_two(&aes, first, second), whole, "cut at {cut}");
+        same_at(&rt, cut, of_two(&aes, first, second), whole);
     }
     let Some((first, _)) = octets.split_first_chunk::<16>() else {
         return Err(Fail::from("shorter than a block"));
@@ -72,12 +73,12 @@ fn pieces_have_the_cmac_of_the_text(rt: HostRuntime) -> Result<(), Fail> {
     for octet in first {
         octet_by_octet.feed(&[*octet]);
     }
-    assert_eq!(rt; octet_by_octet.end(), block);
-    assert_eq!(rt; of_two(&aes, &first[..15], &first[15..]), block);
+    same(&rt, octet_by_octet.end(), block);
+    same(&rt, of_two(&aes, &first[..15], &first[15..]), block);
     let mut between_empty_pieces = Cmac::start(&aes);
     between_empty_pieces.feed(&[]);
     between_empty_pieces.feed(first);
     between_empty_pieces.feed(&[]);
-    assert_eq!(rt; between_empty_pieces.end(), block);
+    same(&rt, between_empty_pieces.end(), block);
     Ok(())
 }

@@ -6,6 +6,7 @@ use ctr_eea2::eea2;
 use hex::FromHex;
 use rec_base::Dir;
 use std::test::Fail;
+use test_values::same;
 
 #[derive(Clone, Copy)]
 struct TestSet {
@@ -165,7 +166,7 @@ fn first_counter_block_is_header_and_zeros(rt: HostRuntime) -> Result<(), Fail> 
     let block = <[u8; 16] as FromHex>::from_hex("398a59b4ac0000000000000000000000")?;
     let mut text = [0; 16];
     eea2(&key, 0x398a_59b4, 21, Dir::Down, &mut text);
-    assert_eq!(rt; text, Aes128::new(&key).encrypt(block));
+    same(&rt, text, Aes128::new(&key).encrypt(block));
     Ok(())
 }
 

@@ -4,6 +4,7 @@ use cmac_eia2::eia2;
 use hex::FromHex;
 use rec_base::Dir;
 use std::test::Fail;
+use test_values::same_at;
 
 #[derive(Clone, Copy)]
 struct TestSet {
@@ -118,7 +119,7 @@ fn texts_of_ts_33_401_c_2_have_their_mac(rt: HostRuntime) -> Result<(), Fail> {
         let mac = <[u8; 4] as FromHex>::from_hex(set.mac)?;
         assert!(rt; set.bearer < 32);
         let made = eia2(&key, set.count, set.bearer, Dir::Down, &text);
-        assert_eq!(rt; made, mac, "test set {}", set.number);
+        same_at(&rt, set.number, made, mac);
     }
     Ok(())
 }

@@ -4,6 +4,7 @@
 use annex_a_keys::{AlgType, Kasme, Kenb};
 use hex::FromHex;
 use std::test::Fail;
+use test_values::{same, same_at};
 
 #[test]
 fn each_type_and_identity_has_its_key(rt: HostRuntime) -> Result<(), Fail> {
@@ -41,7 +42,7 @@ fn each_type_and_identity_has_its_key(rt: HostRuntime) -> Result<(), Fail> {
         ];
         for ((key, _), want) in made.iter().zip(keys.iter()) {
             let want = <[u8; 32] as FromHex>::from_hex(*want)?;
-            assert_eq!(rt; key.octets(), want, "of identity {id}");
+            same_at(&rt, id, key.octets(), want);
         }
     }
     Ok(())
@@ -53,6 +54,6 @@ fn a_128_bit_algorithm_takes_the_last_octets(rt: HostRuntime) -> Result<(), Fail
     let kenb = Kenb::of_octets(<[u8; 32] as FromHex>::from_hex(kenb)?);
     let (key, _) = kenb.alg(AlgType::RrcEnc, 2);
     let want = <[u8; 16] as FromHex>::from_hex("ae14c26e3ba014f8e4279841fb8ade28")?;
-    assert_eq!(rt; key.key128(), want);
+    same(&rt, key.key128(), want);
     Ok(())
 }

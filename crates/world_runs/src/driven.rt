@@ -4,6 +4,7 @@ use edge_io::{MemPeers, MemSink};
 use hub_drive::{DriveFault, drive};
 use scenario_file::read;
 use std::process::Abort;
+use test_values::{same, same_at};
 
 // How it ended.
 #[derive(Clone, Copy, Debug, PartialEq, Eq)]
@@ -80,8 +81,8 @@ fn each_call_of_the_peers_fails_in_turn(rt: HostRuntime) {
         };
         let wanted = lines(&rt, count).expect(&rt, "memory");
         let (ended, out) = driven(&rt, Some(number)).expect(&rt, "memory");
-        assert_eq!(rt; ended, end, "call {number}");
-        assert_eq!(rt; out.octets(), wanted.as_slice(), "call {number}");
+        same_at(&rt, number, ended, end);
+        same_at(&rt, number, out.octets(), wanted.as_slice());
     }
 }
 
@@ -95,7 +96,7 @@ fn refused_memory_leaves_a_prefix(rt: HostRuntime) {
         return;
     };
     match ended {
-        End::Done => assert_eq!(rt; out.octets(), report.as_slice()),
+        End::Done => same(&rt, out.octets(), report.as_slice()),
         End::Memory => assert!(rt; report.as_slice().starts_with(out.octets())),
         End::PeerFault | End::Other => assert!(rt; false, "it ends so where memory is refused"),
     }

@@ -3,6 +3,7 @@ use hub_drive::{DriveFault, drive};
 use scenario_file::read;
 use std::process::Abort;
 use std::test::Fail;
+use test_values::{same, same_at};
 
 // One station, and one step: the core releases a connection that does not stand.
 const SCENARIO: &[u8] =
@@ -64,15 +65,16 @@ fn driven<R: Abort + AllocGlobal>(
 
 #[test]
 fn each_call_of_the_peers_fails_in_turn(rt: HostRuntime) -> Result<(), Fail> {
-    assert_eq!(rt; driven(&rt, None, NO_UE)?, (End::Done, true));
+    same(&rt, driven(&rt, None, NO_UE)?, (End::Done, true));
     for number in 0..15 {
-        assert_eq!(rt;
+        same_at(
+            &rt,
+            number,
             driven(&rt, Some(number), NO_UE)?,
             (End::Peer, false),
-            "call {number}"
         );
     }
-    assert_eq!(rt; driven(&rt, Some(15), NO_UE)?, (End::Done, true));
+    same(&rt, driven(&rt, Some(15), NO_UE)?, (End::Done, true));
     Ok(())
 }
 
@@ -81,10 +83,11 @@ fn a_changed_reply_is_found_at_its_step(rt: HostRuntime) -> Result<(), Fail> {
     for place in 0..10 {
         let mut changed = NO_UE;
         changed[place] ^= 1;
-        assert_eq!(rt;
+        same_at(
+            &rt,
+            place,
             driven(&rt, None, changed)?,
             (End::Differs(Some(0)), false),
-            "octet {place}"
         );
     }
     Ok(())

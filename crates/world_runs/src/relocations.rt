@@ -13,6 +13,7 @@ use scenario_file::read;
 use std::alloc::{AllocError, Global};
 use std::process::Abort;
 use std::test::Fail;
+use test_values::{same, same_at};
 
 // What is told of an event that is done: by this core, by another actor or by none alone, or that this core does not hold
 // the context.
@@ -250,9 +251,9 @@ fn follow(rt: &impl Abort, two: &mut Two, events: &[Event], case: &Case)
         let step = two.events().len();
         let line = happen(rt, two, event);
         let row = row_of(rt, case, step);
-        assert_eq!(rt; told_of(&line), Some(row.0), "{}: {step}", case.shown);
-        assert_eq!(rt; two.holder(), row.1, "{}: {step}", case.shown);
-        assert_eq!(rt; two.next(), row.2, "{}: {step}", case.shown);
+        same_at(rt, case.shown, told_of(&line), Some(row.0));
+        same_at(rt, case.shown, two.holder(), row.1);
+        same_at(rt, case.shown, two.next(), row.2);
     }
 }
 
@@ -317,7 +318,7 @@ fn the_report_numbers_the_cores(rt: HostRuntime) -> Result<(), Fail> {
         &scenario.events,
         &mut out,
     );
-    assert_eq!(rt; coincides, Ok(false));
-    assert_eq!(rt; out.octets(), CANCELLED_REPORT.as_bytes());
+    same(&rt, coincides, Ok(false));
+    same(&rt, out.octets(), CANCELLED_REPORT.as_bytes());
     Ok(())
 }

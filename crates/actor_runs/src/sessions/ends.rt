@@ -4,6 +4,7 @@ use edge_io::Role;
 use role_node::ServeEnd;
 use role_wire::FrameFault;
 use std::test::Fail;
+use test_values::{same, same_at};
 
 // A Setup of the phone, an authentication, and an act; and the reply to each.
 const SETUP: &str = "000300a020";
@@ -33,11 +34,12 @@ fn three_frames_are_cut_after_each_octet(rt: HostRuntime) -> Result<(), Fail> {
             ServeEnd::BadFrame(edge, FrameFault::Truncated)
         };
         let (end, written) = session(&rt, Role::Phone, front(frames.as_slice(), size), None, None)?;
-        assert_eq!(rt; end, want, "{size} octets");
-        assert_eq!(rt;
+        same_at(&rt, size, end, want);
+        same_at(
+            &rt,
+            size,
             written.as_slice(),
             front(replies.as_slice(), answered),
-            "{size} octets"
         );
     }
     Ok(())
@@ -86,11 +88,12 @@ fn a_frame_that_is_none_ends_a_session_at_its_place(rt: HostRuntime) -> Result<(
     for (frames, replies, want) in &SESSIONS {
         let octets = octets_of(&rt, frames)?;
         let (end, written) = session(&rt, Role::Phone, octets.as_slice(), None, None)?;
-        assert_eq!(rt; end, *want);
-        assert_eq!(rt;
+        same(&rt, end, *want);
+        same_at(
+            &rt,
+            want,
             written.as_slice(),
             octets_of(&rt, replies)?.as_slice(),
-            "{want:?}"
         );
     }
     Ok(())
@@ -109,11 +112,12 @@ fn a_fault_ends_a_session(rt: HostRuntime) -> Result<(), Fail> {
         } else {
             ServeEnd::Done
         };
-        assert_eq!(rt; end, want, "read {number}");
-        assert_eq!(rt;
+        same_at(&rt, number, end, want);
+        same_at(
+            &rt,
+            number,
             written.as_slice(),
             front(replies.as_slice(), answered),
-            "read {number}"
         );
     }
     for number in 0..4 {
@@ -124,11 +128,12 @@ fn a_fault_ends_a_session(rt: HostRuntime) -> Result<(), Fail> {
         } else {
             ServeEnd::Done
         };
-        assert_eq!(rt; end, want, "write {number}");
-        assert_eq!(rt;
+        same_at(&rt, number, end, want);
+        same_at(
+            &rt,
+            number,
             written.as_slice(),
             front(replies.as_slice(), answered),
-            "write {number}"
         );
     }
     Ok(())

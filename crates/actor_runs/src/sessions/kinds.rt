@@ -5,6 +5,7 @@ use edge_io::Role;
 use role_node::ServeEnd;
 use role_wire::FrameFault;
 use std::test::Fail;
+use test_values::same_at;
 
 // A frame and its reply; a frame that is none, by its octets and so many zeros behind them, and the offset of its
 // first bad octet.
@@ -167,9 +168,9 @@ fn every_kind_is_answered_or_ends_a_session(rt: HostRuntime) -> Result<(), Fail>
             let (before, said) = if index == 0 { ("", "") } else { (setup, DONE) };
             let good = octets_of(&rt, &[before, *frame])?;
             let (end, written) = session(&rt, role, good.as_slice(), None, None)?;
-            assert_eq!(rt; end, ServeEnd::Done, "{frame}");
+            same_at(&rt, frame, end, ServeEnd::Done);
             let replies = octets_of(&rt, &[said, *reply])?;
-            assert_eq!(rt; written.as_slice(), replies.as_slice(), "{frame}");
+            same_at(&rt, frame, written.as_slice(), replies.as_slice());
 
             let mut octets = octets_of(&rt, &[before, *bad])?;
             for _ in 0..*zeros {
@@ -178,9 +179,9 @@ fn every_kind_is_answered_or_ends_a_session(rt: HostRuntime) -> Result<(), Fail>
             let (end, written) = session(&rt, role, octets.as_slice(), None, None)?;
             let fault = FrameFault::BadBody(*offset);
             let place = before.len() as u64 / 2;
-            assert_eq!(rt; end, ServeEnd::BadFrame(place, fault), "{bad}");
+            same_at(&rt, bad, end, ServeEnd::BadFrame(place, fault));
             let replies = octets_of(&rt, &[said])?;
-            assert_eq!(rt; written.as_slice(), replies.as_slice(), "{bad}");
+            same_at(&rt, bad, written.as_slice(), replies.as_slice());
         }
     }
     Ok(())

@@ -4,6 +4,7 @@ use super::{octets_of, session};
 use edge_io::Role;
 use role_node::ServeEnd;
 use std::test::Fail;
+use test_values::same_at;
 
 static PHONE: [(&str, &str); 8] = [
     ("000300a020", "00088000000000000000"),
@@ -144,9 +145,9 @@ fn the_actors_of_an_ordinary_run_are_served(rt: HostRuntime) -> Result<(), Fail>
         }
         let frames = octets_of(&rt, frames.as_slice())?;
         let (end, written) = session(&rt, role, frames.as_slice(), None, None)?;
-        assert_eq!(rt; end, ServeEnd::Done, "{role:?}");
+        same_at(&rt, role, end, ServeEnd::Done);
         let replies = octets_of(&rt, replies.as_slice())?;
-        assert_eq!(rt; written.as_slice(), replies.as_slice(), "{role:?}");
+        same_at(&rt, role, written.as_slice(), replies.as_slice());
     }
     Ok(())
 }

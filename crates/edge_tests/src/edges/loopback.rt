@@ -6,6 +6,7 @@ use std::os::unix::fs::PermissionsExt;
 use std::path::PathBuf;
 use std::test::Fail;
 use std::{env, process};
+use test_values::{same, same_at};
 
 // A writer that connects to the port whose number is written to it.
 #[derive(Drop)]
@@ -44,19 +45,19 @@ fn a_port_is_one_connection(rt: HostRuntime) -> Result<(), Fail> {
         connection: None,
     };
     let mut port = LoopbackPort::new(rt, caller);
-    assert_eq!(rt; port.open(), Ok(()));
+    same(&rt, port.open(), Ok(()));
     let Some(mut connection) = port.out.connection.take() else {
         panic!(rt; "the number of the port was not written as a line");
     };
     connection.write_all(b"ping")?;
     let mut buf = [0u8; 4];
-    assert_eq!(rt; read_fill(&mut port, &mut buf), Ok(4));
-    assert_eq!(rt; buf.as_slice(), b"ping".as_slice());
-    assert_eq!(rt; write_all(&mut port, b"pong"), Ok(()));
+    same(&rt, read_fill(&mut port, &mut buf), Ok(4));
+    same(&rt, buf.as_slice(), b"ping".as_slice());
+    same(&rt, write_all(&mut port, b"pong"), Ok(()));
     connection.read_exact(&mut buf)?;
-    assert_eq!(rt; buf.as_slice(), b"pong".as_slice());
+    same(&rt, buf.as_slice(), b"pong".as_slice());
     drop(connection);
-    assert_eq!(rt; port.read(&mut buf), Ok(0));
+    same(&rt, port.read(&mut buf), Ok(0));
     Ok(())
 }
 
@@ -69,31 +70,38 @@ fn a_peer_is_a_program_that_says_its_port(rt: HostRuntime) -> Result<(), Fail> {
     )?;
     let program = program_of(&rt, "serves", text.as_str())?;
     let mut peers = ChildPeers::new(rt, rt.alloc(), Some(program.clone()?));
-    assert_eq!(rt;
+    same_at(
+        &rt,
+        "other words",
         peers.start(Role::Core),
         Err(StartFault::Failed),
-        "other words"
     );
-    assert_eq!(rt; peers.start(Role::Station(1)), Ok(0));
+    same(&rt, peers.start(Role::Station(1)), Ok(0));
     let (mut connection, _) = listener.accept()?;
-    assert_eq!(rt; peers.send(0, b"ping"), Ok(()));
+    same(&rt, peers.send(0, b"ping"), Ok(()));
     let mut buf = [0u8; 4];
     connection.read_exact(&mut buf)?;
-    assert_eq!(rt; buf.as_slice(), b"ping".as_slice());
+    same(&rt, buf.as_slice(), b"ping".as_slice());
     connection.write_all(b"pong")?;
-    assert_eq!(rt; peers.receive(0, &mut buf), Ok(()));
-    assert_eq!(rt; buf.as_slice(), b"pong".as_slice());
-    assert_eq!(rt; peers.start(Role::Station(1)), Ok(1));
+    same(&rt, peers.receive(0, &mut buf), Ok(()));
+    same(&rt, buf.as_slice(), b"pong".as_slice());
+    same(&rt, peers.start(Role::Station(1)), Ok(1));
     peers.stop(0);
-    assert_eq!(rt; connection.read(&mut buf)?, 0, "the connection is closed");
-    assert_eq!(rt;
+    same_at(
+        &rt,
+        "the connection is closed",
+        connection.read(&mut buf)?,
+        0,
+    );
+    same_at(
+        &rt,
+        "a peer that was stopped",
         peers.send(0, b"ping"),
         Err(Failed),
-        "a peer that was stopped"
     );
     let (connection, _) = listener.accept()?;
     drop(connection);
-    assert_eq!(rt; peers.receive(1, &mut buf), Err(Failed), "an early end");
+    same_at(&rt, "an early end", peers.receive(1, &mut buf), Err(Failed));
     peers.stop(1);
     fs::remove_file(&rt, program)?;
     Ok(())
@@ -119,19 +127,21 @@ fn a_program_that_is_not_reached_is_no_peer(rt: HostRuntime) -> Result<(), Fail>
     for (name, text) in table {
         let program = program_of(&rt, name, text)?;
         let mut peers = ChildPeers::new(rt, rt.alloc(), Some(program.clone()?));
-        assert_eq!(rt; peers.start(Role::Phone), Err(StartFault::Failed), "{name}");
+        same_at(&rt, name, peers.start(Role::Phone), Err(StartFault::Failed));
         fs::remove_file(&rt, program.clone()?)?;
-        assert_eq!(rt;
+        same_at(
+            &rt,
+            "no file",
             peers.start(Role::Phone),
             Err(StartFault::Failed),
-            "no file"
         );
     }
     let mut peers = ChildPeers::new(rt, rt.alloc(), None);
-    assert_eq!(rt;
+    same_at(
+        &rt,
+        "no path",
         peers.start(Role::Phone),
         Err(StartFault::Failed),
-        "no path"
     );
     Ok(())
 }

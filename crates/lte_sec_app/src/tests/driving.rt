@@ -4,6 +4,7 @@ use crate::status::Status;
 use edge_io::{MemPeers, MemPort, MemSink, MemSource};
 use std::alloc::{AllocError, Global};
 use std::test::Fail;
+use test_values::{same, same_at};
 
 // One station, and two steps: the core releases a connection that does not stand.
 const SCENARIO: &[u8] =
@@ -60,8 +61,8 @@ fn each_call_of_the_peers_fails_in_turn(rt: HostRuntime) -> Result<(), Fail> {
             15..=17 => (Status::PeerFault, STEPS),
             _ => (Status::Done, REPORT),
         };
-        assert_eq!(rt; status, wanted, "call {number}");
-        assert_eq!(rt; written.as_slice(), text, "call {number}");
+        same_at(&rt, number, status, wanted);
+        same_at(&rt, number, written.as_slice(), text);
     }
     Ok(())
 }
@@ -69,7 +70,7 @@ fn each_call_of_the_peers_fails_in_turn(rt: HostRuntime) -> Result<(), Fail> {
 #[test]
 fn a_text_that_is_none_asks_no_peer(rt: HostRuntime) -> Result<(), Fail> {
     let (status, written) = drive_over(rt.alloc(), b"x", [&[], &[], &[]], Some(0), 256)?;
-    assert_eq!(rt; status, Status::Refused);
+    same(&rt, status, Status::Refused);
     assert!(rt; !written.is_empty());
     Ok(())
 }
@@ -82,11 +83,11 @@ fn a_line_that_cannot_be_written_is_a_write_fault(rt: HostRuntime) -> Result<(),
     let whole = b"0 core NoUe\n1 core NoUe\n1 differs 0008801e000000000000 0008801e000000000001\n";
     for room in 0..whole.len() {
         let (status, written) = drive_over(rt.alloc(), SCENARIO, replies, None, room)?;
-        assert_eq!(rt; status, Status::WriteFault, "{room} octets");
-        assert_eq!(rt; written.as_slice(), &whole[..room], "{room} octets");
+        same_at(&rt, room, status, Status::WriteFault);
+        same_at(&rt, room, written.as_slice(), &whole[..room]);
     }
     let (status, written) = drive_over(rt.alloc(), SCENARIO, replies, None, whole.len())?;
-    assert_eq!(rt; status, Status::Differs);
-    assert_eq!(rt; written.as_slice(), whole.as_slice());
+    same(&rt, status, Status::Differs);
+    same(&rt, written.as_slice(), whole.as_slice());
     Ok(())
 }

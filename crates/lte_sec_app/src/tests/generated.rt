@@ -2,6 +2,7 @@
 use super::run_over;
 use crate::status::Status;
 use std::test::Fail;
+use test_values::same;
 
 const SUMMARIES: [(&str, &str, &str); 3] = [
     (
@@ -27,8 +28,8 @@ fn a_seed_has_its_summary(rt: HostRuntime) -> Result<(), Fail> {
     for (steps, seed, summary) in SUMMARIES {
         let words = ["gen", steps, seed];
         let (ended, written) = run_over(rt.alloc(), &words, Vec::new(rt.alloc()), Some(0), None)?;
-        assert_eq!(rt; ended, Status::Done);
-        assert_eq!(rt; written.as_slice(), summary.as_bytes());
+        same(&rt, ended, Status::Done);
+        same(&rt, written.as_slice(), summary.as_bytes());
     }
     Ok(())
 }
@@ -37,8 +38,8 @@ fn a_seed_has_its_summary(rt: HostRuntime) -> Result<(), Fail> {
 fn a_failed_write_leaves_whole_lines_of_a_summary(rt: HostRuntime) -> Result<(), Fail> {
     let words = ["gen", "8", "0"];
     let (ended, written) = run_over(rt.alloc(), &words, Vec::new(rt.alloc()), None, Some(2))?;
-    assert_eq!(rt; ended, Status::WriteFault);
-    assert_eq!(rt; written.as_slice(), b"steps 8\nrecords 5\n".as_slice());
+    same(&rt, ended, Status::WriteFault);
+    same(&rt, written.as_slice(), b"steps 8\nrecords 5\n".as_slice());
     Ok(())
 }
 
@@ -58,8 +59,8 @@ fn other_numbers_are_bad_words(rt: HostRuntime) -> Result<(), Fail> {
     ];
     for words in words {
         let (ended, written) = run_over(rt.alloc(), words, Vec::new(rt.alloc()), None, None)?;
-        assert_eq!(rt; ended, Status::BadWords);
-        assert_eq!(rt; written.len(), 0);
+        same(&rt, ended, Status::BadWords);
+        same(&rt, written.len(), 0);
     }
     Ok(())
 }

@@ -2,6 +2,7 @@
 use super::run_over;
 use crate::status::Status;
 use std::test::Fail;
+use test_values::{same, same_at};
 
 // What is shown, the text, the status and the output.
 type Case = (&'static str, &'static str, Status, &'static str);
@@ -159,8 +160,8 @@ fn texts_are_answered(rt: HostRuntime) -> Result<(), Fail> {
     for (shown, text, status, output) in CASES {
         let text = Vec::from_slice(rt.alloc(), text.as_bytes())?;
         let (ended, written) = run_over(rt.alloc(), &["ladder"], text, None, None)?;
-        assert_eq!(rt; ended, status, "{shown}");
-        assert_eq!(rt; written.as_slice(), output.as_bytes(), "{shown}");
+        same_at(&rt, shown, ended, status);
+        same_at(&rt, shown, written.as_slice(), output.as_bytes());
     }
     Ok(())
 }
@@ -211,11 +212,12 @@ fn a_bad_algorithm_line_is_refused(rt: HostRuntime) -> Result<(), Fail> {
             let mut text = Vec::from_slice(rt.alloc(), FOUR_ROWS.as_bytes())?;
             text.extend_from_slice(line.as_bytes())?;
             let (ended, written) = run_over(rt.alloc(), &["ladder"], text, None, None)?;
-            assert_eq!(rt; ended, Status::Refused, "{line}");
-            assert_eq!(rt;
+            same_at(&rt, line, ended, Status::Refused);
+            same_at(
+                &rt,
+                line,
                 written.as_slice(),
                 b"refused line 5\n".as_slice(),
-                "{line}"
             );
         }
     }
@@ -234,8 +236,8 @@ fn a_failed_read_writes_nothing(rt: HostRuntime) -> Result<(), Fail> {
         if ended == Status::Done {
             break;
         }
-        assert_eq!(rt; ended, Status::ReadFault);
-        assert_eq!(rt; written.len(), 0);
+        same(&rt, ended, Status::ReadFault);
+        same(&rt, written.len(), 0);
         failed = failed.saturating_add(1);
     }
     assert!(rt; failed >= 1);
@@ -249,7 +251,7 @@ fn a_failed_write_leaves_a_prefix(rt: HostRuntime) -> Result<(), Fail> {
     for k in 0..3 {
         let text = Vec::from_slice(rt.alloc(), TEXT.as_bytes())?;
         let (ended, written) = run_over(rt.alloc(), &["ladder"], text, None, Some(k))?;
-        assert_eq!(rt; ended, Status::WriteFault);
+        same(&rt, ended, Status::WriteFault);
         assert!(rt; written.len() < whole.len());
         assert!(rt; whole.as_slice().starts_with(written.as_slice()));
     }

@@ -3,6 +3,7 @@ use super::run_over;
 use crate::status::Status;
 use std::alloc::{AllocError, Global};
 use std::test::Fail;
+use test_values::same;
 
 const SCENARIO: &[u8] = b"\
 phone={caps='a020'}
@@ -92,8 +93,8 @@ fn ran(
 #[test]
 fn a_scenario_is_answered(rt: HostRuntime) -> Result<(), Fail> {
     let (ended, written) = ran(rt.alloc(), None, None)?;
-    assert_eq!(rt; ended, Status::Done);
-    assert_eq!(rt; written.as_slice(), REPORT);
+    same(&rt, ended, Status::Done);
+    same(&rt, written.as_slice(), REPORT);
     Ok(())
 }
 
@@ -105,8 +106,8 @@ fn a_failed_read_of_a_scenario_writes_nothing(rt: HostRuntime) -> Result<(), Fai
         if ended == Status::Done {
             break;
         }
-        assert_eq!(rt; ended, Status::ReadFault);
-        assert_eq!(rt; written.len(), 0);
+        same(&rt, ended, Status::ReadFault);
+        same(&rt, written.len(), 0);
         failed = failed.saturating_add(1);
     }
     assert!(rt; failed >= 1);
@@ -121,13 +122,13 @@ fn a_failed_write_leaves_a_prefix_of_the_report(rt: HostRuntime) -> Result<(), F
     let mut least = 0;
     for k in 0..WRITES {
         let (ended, written) = ran(rt.alloc(), None, Some(k))?;
-        assert_eq!(rt; ended, Status::WriteFault);
+        same(&rt, ended, Status::WriteFault);
         assert!(rt; least <= written.len());
         assert!(rt; written.len() < REPORT.len());
         assert!(rt; REPORT.starts_with(written.as_slice()));
         least = written.len().saturating_add(1);
     }
     let (ended, _) = ran(rt.alloc(), None, Some(WRITES))?;
-    assert_eq!(rt; ended, Status::Done);
+    same(&rt, ended, Status::Done);
     Ok(())
 }

@@ -4,6 +4,7 @@ use crate::status::Status;
 use edge_io::{MemPeers, MemPort, MemSink, MemSource};
 use std::alloc::{AllocError, Global};
 use std::test::Fail;
+use test_values::{same, same_at};
 
 // How a run over memory ended, what it printed, and what it wrote at the port.
 #[derive(Drop)]
@@ -61,9 +62,9 @@ fn a_session_ends_with_its_status(rt: HostRuntime) -> Result<(), Fail> {
     ];
     for (octets, status, printed, replies) in table {
         let ended = serve_over(rt.alloc(), &["serve", "phone"], octets, None, None, 64)?;
-        assert_eq!(rt; ended.status, status, "{octets:?}");
-        assert_eq!(rt; ended.printed.as_slice(), printed.as_bytes(), "{octets:?}");
-        assert_eq!(rt; ended.replies.as_slice(), replies, "{octets:?}");
+        same_at(&rt, octets, ended.status, status);
+        same_at(&rt, octets, ended.printed.as_slice(), printed.as_bytes());
+        same_at(&rt, octets, ended.replies.as_slice(), replies);
     }
     Ok(())
 }
@@ -94,13 +95,13 @@ fn each_role_is_served_and_no_other(rt: HostRuntime) -> Result<(), Fail> {
     ];
     for (words, octets, status) in table {
         let ended = serve_over(rt.alloc(), words, octets, None, None, 64)?;
-        assert_eq!(rt; ended.status, status, "{words:?}");
+        same_at(&rt, words, ended.status, status);
         let replied = if status == Status::Done {
             DONE.as_slice()
         } else {
             &[]
         };
-        assert_eq!(rt; ended.replies.as_slice(), replied, "{words:?}");
+        same_at(&rt, words, ended.replies.as_slice(), replied);
     }
     Ok(())
 }
@@ -121,9 +122,9 @@ fn a_fault_of_the_port_is_one_of_a_peer(rt: HostRuntime) -> Result<(), Fail> {
             bad_write,
             64,
         )?;
-        assert_eq!(rt; ended.status, Status::PeerFault);
-        assert_eq!(rt; ended.printed.len(), 0);
-        assert_eq!(rt; ended.replies.is_empty(), !replied);
+        same(&rt, ended.status, Status::PeerFault);
+        same(&rt, ended.printed.len(), 0);
+        same(&rt, ended.replies.is_empty(), !replied);
     }
     Ok(())
 }
@@ -132,13 +133,14 @@ fn a_fault_of_the_port_is_one_of_a_peer(rt: HostRuntime) -> Result<(), Fail> {
 fn a_line_that_cannot_be_written_is_a_write_fault(rt: HostRuntime) -> Result<(), Fail> {
     for room in 0..14 {
         let ended = serve_over(rt.alloc(), &["serve", "phone"], &TWICE, None, None, room)?;
-        assert_eq!(rt; ended.status, Status::WriteFault, "{room} octets");
-        assert_eq!(rt;
+        same_at(&rt, room, ended.status, Status::WriteFault);
+        same_at(
+            &rt,
+            room,
             ended.printed.as_slice(),
             &b"bad frame 5 4\n"[..room],
-            "{room} octets"
         );
-        assert_eq!(rt; ended.replies.as_slice(), DONE.as_slice(), "{room} octets");
+        same_at(&rt, room, ended.replies.as_slice(), DONE.as_slice());
     }
     Ok(())
 }

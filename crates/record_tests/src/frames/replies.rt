@@ -9,6 +9,7 @@ use rec_base::{Bearer, RecFault, Way};
 use role_wire::{reply_frame, setup_reply};
 use std::process::Abort;
 use std::test::Fail;
+use test_values::{same, same_at};
 
 // A derivation with this output.
 fn derived(out: &str) -> Result<Derived, Fail> {
@@ -21,14 +22,14 @@ fn derived(out: &str) -> Result<Derived, Fail> {
 
 fn expect_reply<R: Abort + AllocGlobal>(rt: &R, reply: &ActorOut, text: &str) -> Result<(), Fail> {
     let octets = hex::decode(rt.alloc(), text)?;
-    assert_eq!(rt; reply_frame(reply).as_slice(), octets.as_slice(), "{text}");
+    same_at(rt, text, reply_frame(reply).as_slice(), octets.as_slice());
     Ok(())
 }
 
 #[test]
 fn records_and_texts_of_the_ordinary_scenario(rt: HostRuntime) -> Result<(), Fail> {
     let setup = octets_of::<_, 10>(&rt, "00088000000000000000")?;
-    assert_eq!(rt; setup_reply().as_slice(), setup.as_slice());
+    same(&rt, setup_reply().as_slice(), setup.as_slice());
 
     let mut packet = ActorOut::of(Answer::Done);
     packet.sent = Some(Record {
@@ -172,11 +173,11 @@ fn notes_have_their_way_and_the_alarm_is_the_last_octet(rt: HostRuntime) -> Resu
         reply.alarm = true;
         let frame = reply_frame(&reply);
         let octets = frame.as_slice();
-        assert_eq!(rt; octets.len(), 44);
+        same(&rt, octets.len(), 44);
         let head = [0, 42, 0x80, 0, 0, 0, 0, 0, 1, 7, number as u8];
-        assert_eq!(rt; octets.split_at(11).0, head.as_slice());
-        assert_eq!(rt; octets[42], 0xab);
-        assert_eq!(rt; octets[43], 1);
+        same(&rt, octets.split_at(11).0, head.as_slice());
+        same(&rt, octets[42], 0xab);
+        same(&rt, octets[43], 1);
     }
     Ok(())
 }

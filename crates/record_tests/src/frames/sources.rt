@@ -3,6 +3,7 @@ use alg_choice::Caps;
 use edge_io::{MemSource, Role, SliceSource, read_fill};
 use role_wire::{FrameFault, FrameIn, RoleSetup, read_frame};
 use std::test::Fail;
+use test_values::{same, same_at};
 
 // Two Setup frames of the phone.
 static TWICE: [u8; 10] = [0, 3, 0, 0xa0, 0x20, 0, 3, 0, 0xa0, 0x20];
@@ -25,21 +26,23 @@ fn an_input_ends_at_a_frames_edge_or_inside_a_frame(rt: HostRuntime) {
             6..=9 => (Ok(SETUP), Err(FrameFault::Truncated)),
             _ => (Ok(SETUP), Ok(SETUP)),
         };
-        assert_eq!(rt; (first, second), want, "{size} octets");
+        same_at(&rt, size, (first, second), want);
     }
 }
 
 #[test]
 fn a_second_setup_is_no_frame(rt: HostRuntime) {
     let mut src = SliceSource::new(&TWICE);
-    assert_eq!(rt; read_frame(&mut src, Role::Phone, true), Ok(SETUP));
-    assert_eq!(rt;
+    same(&rt, read_frame(&mut src, Role::Phone, true), Ok(SETUP));
+    same(
+        &rt,
         read_frame(&mut src, Role::Phone, false),
-        Err(FrameFault::BadBody(0))
+        Err(FrameFault::BadBody(0)),
     );
-    assert_eq!(rt;
+    same(
+        &rt,
         read_frame(&mut src, Role::Phone, false),
-        Err(FrameFault::Ended)
+        Err(FrameFault::Ended),
     );
 }
 
@@ -49,19 +52,21 @@ fn a_length_ends_at_4096(rt: HostRuntime) {
     octets[0] = 0x10;
     octets[2] = 0x02;
     let mut src = SliceSource::new(&octets);
-    assert_eq!(rt;
+    same(
+        &rt,
         read_frame(&mut src, Role::Core, false),
-        Err(FrameFault::BadBody(1537))
+        Err(FrameFault::BadBody(1537)),
     );
     octets[1] = 1;
     let mut src = SliceSource::new(&octets);
-    assert_eq!(rt;
+    same(
+        &rt,
         read_frame(&mut src, Role::Core, false),
-        Err(FrameFault::TooLong(4097))
+        Err(FrameFault::TooLong(4097)),
     );
     // Nothing behind the length was read.
     let mut rest = [0u8; 4099];
-    assert_eq!(rt; read_fill(&mut src, &mut rest), Ok(4097));
+    same(&rt, read_fill(&mut src, &mut rest), Ok(4097));
 }
 
 #[test]
@@ -82,7 +87,7 @@ fn texts_end_at_their_greatest_size(rt: HostRuntime) {
             octets[1] = (size % 256) as u8;
             let mut src = SliceSource::new(&octets[..size + 2]);
             let fault = read_frame(&mut src, role, false).err();
-            assert_eq!(rt; fault, want.map(FrameFault::BadBody), "{kind}");
+            same_at(&rt, kind, fault, want.map(FrameFault::BadBody));
         }
     }
 }
@@ -98,11 +103,7 @@ fn a_fault_in_mid_frame_is_answered(rt: HostRuntime) -> Result<(), Fail> {
         } else {
             Ok(SETUP)
         };
-        assert_eq!(rt;
-            read_frame(&mut src, Role::Phone, true),
-            want,
-            "call {failing}"
-        );
+        same_at(&rt, failing, read_frame(&mut src, Role::Phone, true), want);
     }
     Ok(())
 }
@@ -117,6 +118,6 @@ fn faults_have_their_number(rt: HostRuntime) {
         FrameFault::ReadFault,
     ];
     for (i, fault) in faults.iter().enumerate() {
-        assert_eq!(rt; fault.number() as usize, i + 1);
+        same(&rt, fault.number() as usize, i + 1);
     }
 }

@@ -1,6 +1,7 @@
 use super::*;
 use scenario_file::Field::{Fleet, Phones};
 use scenario_file::{read_fleet, read_two};
+use test_values::{same, same_at};
 
 const FLEET: &str = "fleet={phones=2}\n";
 
@@ -39,10 +40,11 @@ fn a_fleet_is_refused_before_its_phone_and_its_core(rt: HostRuntime) -> Result<(
         ),
     ];
     for (text, refusal) in whole {
-        assert_eq!(rt;
+        same_at(
+            &rt,
+            text,
             fleet_fault_of(rt.alloc(), text),
             Some(refusal.at(None)),
-            "{text}"
         );
     }
     Ok(())
@@ -69,10 +71,11 @@ fn the_phone_of_a_step_is_refused_before_the_fields_of_its_act(
     ];
     for (step, refusal) in steps {
         let text = format!(in rt.alloc(); "{FLEET}{PHONE}{STATION}step=[{{{step}}}]")?;
-        assert_eq!(rt;
+        same_at(
+            &rt,
+            step,
             fleet_fault_of(rt.alloc(), &text),
             Some(refusal.at(Some(0))),
-            "{step}"
         );
     }
     Ok(())
@@ -84,13 +87,13 @@ fn a_fleet_is_what_its_tables_say(rt: HostRuntime) -> Result<(), Fail> {
         "{PHONE}{STATION}[fleet]\nphones=256\n[[step]]\ndo='idle'\nphone=255\n[[step]]\ndo='smc'\n"
     )?;
     let scenario = read_fleet(rt.alloc(), text.as_str().as_bytes())?;
-    assert_eq!(rt; scenario.phones, 256);
-    assert_eq!(rt; scenario.setup.stations.as_slice().len(), 1);
+    same(&rt, scenario.phones, 256);
+    same(&rt, scenario.setup.stations.as_slice().len(), 1);
     let events = [
         (255, Event::Phone(PhoneAct::GoIdle)),
         (0, Event::Core(CoreAct::StartSmc)),
     ];
-    assert_eq!(rt; scenario.events.as_slice(), events.as_slice());
+    same(&rt, scenario.events.as_slice(), events.as_slice());
     Ok(())
 }
 
@@ -109,15 +112,16 @@ fn the_core_of_a_station_is_refused_behind_its_cells(rt: HostRuntime) -> Result<
     ];
     for (text, refusal) in behind_phone {
         let text = format!(in rt.alloc(); "{PHONE}{text}")?;
-        assert_eq!(rt;
+        same_at(
+            &rt,
+            text.as_str(),
             two_fault_of(rt.alloc(), &text),
             Some(refusal.at(None)),
-            "{text}"
         );
     }
     let text = format!(in rt.alloc(); "{PHONE}{STATION}step=[{{do='idle',phone=0}}]")?;
     let fault = two_fault_of(rt.alloc(), &text);
-    assert_eq!(rt; fault, Some(Unknown.at(Some(0))));
+    same(&rt, fault, Some(Unknown.at(Some(0))));
     Ok(())
 }
 
@@ -128,10 +132,10 @@ fn two_cores_are_what_their_tables_say(rt: HostRuntime) -> Result<(), Fail> {
         {{id=3,cells=[[2,0]],core=1}},\n    {{id=2,cells=[[3,0]],core=0}},\n]\nstep=[{{do='smc'}}]\n"
     )?;
     let scenario = read_two(rt.alloc(), text.as_str().as_bytes())?;
-    assert_eq!(rt; scenario.setup.stations.as_slice().len(), 4);
-    assert_eq!(rt; scenario.core_of, [0, 0, 0, 1, 0, 0, 0, 1]);
+    same(&rt, scenario.setup.stations.as_slice().len(), 4);
+    same(&rt, scenario.core_of, [0, 0, 0, 1, 0, 0, 0, 1]);
     let events = [Event::Core(CoreAct::StartSmc)];
-    assert_eq!(rt; scenario.events.as_slice(), events.as_slice());
+    same(&rt, scenario.events.as_slice(), events.as_slice());
     Ok(())
 }
 
@@ -150,7 +154,7 @@ fn one_phone_and_one_core_are_written_without_the_fields_of_others(
     ];
     for (before, behind, fault) in table {
         let text = format!(in rt.alloc(); "{PHONE}{before}{behind}")?;
-        assert_eq!(rt; fault_of(rt.alloc(), &text), Some(fault), "{text}");
+        same_at(&rt, text.as_str(), fault_of(rt.alloc(), &text), Some(fault));
     }
     Ok(())
 }
@@ -163,7 +167,7 @@ fn refusals_of_a_fleet_name_their_fields(rt: HostRuntime) -> Result<(), Fail> {
         (Wrong(Phone).at(Some(0)), "refused step 0 wrong phone\n"),
     ];
     for (fault, line) in table {
-        assert_eq!(rt; fault.line(rt.alloc())?.as_str(), line);
+        same(&rt, fault.line(rt.alloc())?.as_str(), line);
     }
     Ok(())
 }

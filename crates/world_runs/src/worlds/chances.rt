@@ -5,6 +5,7 @@ use key_terms::{Proof, Row};
 use lte_events::{Address, Event};
 use lte_world::WorldFault::Chance;
 use rec_base::{Bearer, Dir, Octets, Use};
+use test_values::same;
 
 // The octets of a message on SRB1 that nobody sent, with the MAC that the phone wants (TS 33.401 B.2).
 const FORGED: [u8; 8] = [0x01, 0xd9, 0x67, 0xe3, 0x96, 0xd8, 0xbd, 0xb4];
@@ -19,12 +20,12 @@ const KENB: [u8; 32] = [
 fn a_kasme_with_the_octets_of_a_derived_key(rt: HostRuntime) {
     let mut world = begin(&rt, rt.alloc());
     follow(&rt, &mut world, &ORDINARY[..8]);
-    assert_eq!(rt; world.phone_kenb(), Some(KENB));
+    same(&rt, world.phone_kenb(), Some(KENB));
     let chance = Err(Chance(Proof::RootIsRow(Row(3), KENB)));
     let auth = Event::Auth(1, KENB, CAPS);
-    assert_eq!(rt; happen(&rt, &mut world, &auth), chance);
-    assert_eq!(rt; happen(&rt, &mut world, &Event::Deliver(-1)), chance);
-    assert_eq!(rt; world.journal().len(), 8);
+    same(&rt, &happen(&rt, &mut world, &auth), &chance);
+    same(&rt, &happen(&rt, &mut world, &Event::Deliver(-1)), &chance);
+    same(&rt, world.journal().len(), 8);
 }
 
 #[test]
@@ -44,7 +45,7 @@ fn a_record_that_nobody_sent(rt: HostRuntime) {
     let mut octets = Octets::new();
     octets.append(&FORGED);
     let forged = Event::Inject(Address::Phone(0, 1, Bearer::Srb1), octets);
-    assert_eq!(rt; happen(&rt, &mut world, &forged), chance);
-    assert_eq!(rt; happen(&rt, &mut world, &Event::Deliver(-1)), chance);
-    assert_eq!(rt; world.journal().len(), 10);
+    same(&rt, &happen(&rt, &mut world, &forged), &chance);
+    same(&rt, &happen(&rt, &mut world, &Event::Deliver(-1)), &chance);
+    same(&rt, world.journal().len(), 10);
 }

@@ -4,6 +4,7 @@ use crate::worlds::system::{Do, Row, Tells, begin, follow};
 use lte_events::{ActorIn, Answer, Who};
 use lte_world::World;
 use std::process::Abort;
+use test_values::same;
 
 // Who replied: the phone, the core or a station.
 #[derive(Clone, Copy, Debug, PartialEq, Eq)]
@@ -14,15 +15,15 @@ enum By {
 }
 
 fn expect_replies(rt: &impl Abort, world: &World, want: &[By]) {
-    assert_eq!(rt; world.replies().as_slice().len(), want.len());
+    same(rt, world.replies().as_slice().len(), want.len());
     for ((input, out), by) in world.replies().as_slice().iter().zip(want) {
-        assert_eq!(rt; out.answer, Answer::Done);
+        same(rt, out.answer, Answer::Done);
         let actor = match input {
             ActorIn::Phone(_) => By::Phone,
             ActorIn::Core(_) => By::Core,
             ActorIn::Station(id, _) => By::Station(*id),
         };
-        assert_eq!(rt; actor, *by);
+        same(rt, actor, *by);
     }
 }
 

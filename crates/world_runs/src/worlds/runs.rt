@@ -13,6 +13,7 @@ use lte_events::Who::{Both, Core, Phone, Station};
 use rec_base::Way::{Chained, Completed, Given, Horizontal, Initial, Vertical};
 use rec_base::u32_at;
 use std::process::Abort;
+use test_values::same;
 
 // The first four octets of a key, and whether the phone, the core and the two stations hold it.
 type Held = (u32, bool, bool, bool, bool);
@@ -411,44 +412,44 @@ pub(crate) static EIGHT: [Step; 82] = [
 fn an_ordinary_run(rt: HostRuntime) {
     let mut world = begin(&rt, rt.alloc());
     follow(&rt, &mut world, &ORDINARY);
-    assert_eq!(rt; world.journal().len(), 27);
-    assert_eq!(rt; world.uses().len(), 15);
+    same(&rt, world.journal().len(), 27);
+    same(&rt, world.uses().len(), 15);
     expect_keys(&rt, world.ladder(), &ORDINARY_KEYS);
-    assert_eq!(rt; first_four(world.phone_kenb()), Some(0x5a3b5a21));
-    assert_eq!(rt; first_four(world.station_kenb(0)), Some(0x5a3b5a21));
-    assert_eq!(rt; world.station_kenb(2), None);
+    same(&rt, first_four(world.phone_kenb()), Some(0x5a3b5a21));
+    same(&rt, first_four(world.station_kenb(0)), Some(0x5a3b5a21));
+    same(&rt, world.station_kenb(2), None);
 }
 
 #[test]
 fn an_answer_that_comes_late(rt: HostRuntime) {
     let mut world = begin(&rt, rt.alloc());
     follow(&rt, &mut world, &STALE);
-    assert_eq!(rt; first_four(world.phone_kenb()), Some(0x8d418cc4));
-    assert_eq!(rt; first_four(world.station_kenb(0)), Some(0x8d418cc4));
-    assert_eq!(rt; world.station_kenb(1), None);
+    same(&rt, first_four(world.phone_kenb()), Some(0x8d418cc4));
+    same(&rt, first_four(world.station_kenb(0)), Some(0x8d418cc4));
+    same(&rt, world.station_kenb(1), None);
 }
 
 #[test]
 fn an_s1_handover_that_is_cancelled(rt: HostRuntime) {
     let mut world = begin(&rt, rt.alloc());
     follow(&rt, &mut world, &CANCELLED);
-    assert_eq!(rt; first_four(world.phone_kenb()), Some(0x177d0aa7));
+    same(&rt, first_four(world.phone_kenb()), Some(0x177d0aa7));
 }
 
 #[test]
 fn six_lost_answers(rt: HostRuntime) {
     let mut world = begin(&rt, rt.alloc());
     follow(&rt, &mut world, &SEVEN);
-    assert_eq!(rt; first_four(world.phone_kenb()), Some(0x7c15c035));
-    assert_eq!(rt; first_four(world.station_kenb(0)), Some(0x7c15c035));
+    same(&rt, first_four(world.phone_kenb()), Some(0x7c15c035));
+    same(&rt, first_four(world.station_kenb(0)), Some(0x7c15c035));
 }
 
 #[test]
 fn seven_lost_answers(rt: HostRuntime) {
     let mut world = begin(&rt, rt.alloc());
     follow(&rt, &mut world, &EIGHT);
-    assert_eq!(rt; first_four(world.phone_kenb()), Some(0x183d9b20));
-    assert_eq!(rt; first_four(world.station_kenb(1)), Some(0x183d9b20));
+    same(&rt, first_four(world.phone_kenb()), Some(0x183d9b20));
+    same(&rt, first_four(world.station_kenb(1)), Some(0x183d9b20));
 }
 
 fn first_four(key: Option<[u8; 32]>) -> Option<u32> {
@@ -460,14 +461,14 @@ fn first_four(key: Option<[u8; 32]>) -> Option<u32> {
 
 // The rows of the ladder, in order.
 fn expect_keys(rt: &impl Abort, ladder: &Ladder, keys: &[Held]) {
-    assert_eq!(rt; ladder.len(), keys.len());
+    same(rt, ladder.len(), keys.len());
     let mut number = 0;
     for (octets, phone, core, home, next) in keys {
         assert!(rt; (number as usize) < ladder.len());
         let row = ladder.row(Row(number));
-        assert_eq!(rt; u32_at(&row.octets, 0), *octets);
-        assert_eq!(rt; (row.phone, row.core), (*phone, *core));
-        assert_eq!(rt; (row.stations[0], row.stations[1]), (*home, *next));
+        same(rt, u32_at(&row.octets, 0), *octets);
+        same(rt, (row.phone, row.core), (*phone, *core));
+        same(rt, (row.stations[0], row.stations[1]), (*home, *next));
         number = u32::wrapping_add(number, 1);
     }
 }

@@ -14,6 +14,7 @@ use lte_world::{World, WorldFault};
 use rec_base::{Bearer, UserText, Way, u32_at};
 use std::alloc::Global;
 use std::process::Abort;
+use test_values::same;
 
 // One of the two stations.
 #[derive(Clone, Copy)]
@@ -177,7 +178,7 @@ pub(crate) fn happen(rt: &impl Abort, world: &mut World, event: &Event) -> Resul
 {
     if world.reserve() == Err(WorldFault::Memory) {
         // memory ran out once
-        assert_eq!(rt; world.reserve(), Ok(()));
+        same(rt, world.reserve(), Ok(()));
     }
     assert!(rt; world.journal().len() < 200_000);
     world.apply(event)
@@ -193,9 +194,9 @@ pub(crate) fn follow(rt: &impl Abort, world: &mut World, rows: &[Row])
         let number = world.journal().len();
         let event = event(rt, *step);
         let line = happen(rt, world, &event).expect(rt, "no coincidence");
-        assert_eq!(rt; line.step as usize, number);
-        assert_eq!(rt; line.who, *who);
-        assert_eq!(rt; line.sent, class.map(|class| (sent, class)));
+        same(rt, line.step as usize, number);
+        same(rt, line.who, *who);
+        same(rt, line.sent, class.map(|class| (sent, class)));
         if class.is_some() {
             sent = u32::wrapping_add(sent, 1);
         }
@@ -215,16 +216,16 @@ fn expect_told(rt: &impl Abort, line: &Line, tells: &Tells) {
         Tells::Text(octets) => text = Some(*octets),
         Tells::Refused(cause) => answer = *cause,
     }
-    assert_eq!(rt; line.answer, answer);
+    same(rt, line.answer, answer);
     let note = line
         .note
         .map(|note| (note.ncc, note.way, u32_at(&note.key, 0)));
-    assert_eq!(rt; note, key);
+    same(rt, note, key);
     match text {
         None => assert!(rt; line.opened.is_none()),
         Some(octets) => match &line.opened {
             None => assert!(rt; false, "a text is told"),
-            Some(opened) => assert_eq!(rt; opened.as_slice(), octets.as_slice()),
+            Some(opened) => same(rt, opened.as_slice(), octets.as_slice()),
         },
     }
 }
