@@ -6,7 +6,6 @@ use std::os::unix::fs::PermissionsExt;
 use std::path::PathBuf;
 use std::test::Fail;
 use std::{env, process};
-use test_values::{same, same_at};
 
 // A writer that connects to the port whose number is written to it.
 #[derive(Drop)]

@@ -1,6 +1,5 @@
 use super::*;
 use scenario_file::generate;
-use test_values::{same, same_at};
 
 // The scenario of seed 94 as another program wrote it down: 50 steps, with a turn of each kind. The last handover over
 // X2 but one is without the answer to its path switch, and the last would be.

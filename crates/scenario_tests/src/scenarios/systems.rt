@@ -1,7 +1,7 @@
 use super::*;
+use lte_events::{CoreAct, Event, PhoneAct};
 use scenario_file::Field::{Fleet, Phones};
 use scenario_file::{read_fleet, read_two};
-use test_values::{same, same_at};
 
 const FLEET: &str = "fleet={phones=2}\n";
 
