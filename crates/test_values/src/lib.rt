@@ -1,5 +1,6 @@
 //! What tests compare their values by.
 #![tactic(auto)]
+
 ghost use Rattle.std.specs.Prelude.{◌≡◌, IsTrue, true};
 
 use std::fmt::Debug;
