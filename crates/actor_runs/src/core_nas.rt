@@ -2,6 +2,7 @@
 // KASMEs of octets 00 to 1f and of octets 20 to 3f.
 ghost use Rattle.std.specs.Prelude.{◌≤◌, length};
 
+use crate::values::same;
 use alg_choice::{Caps, Eea, Priority};
 use annex_a_keys::Kasme;
 use lte_events::Answer;
@@ -9,7 +10,6 @@ use nas_count::LIMIT;
 use nas_smc::{CoreNas, NasOut};
 use rec_base::{RecFault, ShortText};
 use std::process::Abort;
-use test_values::same;
 
 const OWN: Caps = Caps {
     eea: 0xa0,

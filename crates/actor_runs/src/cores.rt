@@ -2,13 +2,13 @@
 // 00 to 1f, of a handover over X2 and of one over S1, and of a change to the KASME of octets 20 to 3f.
 ghost use Rattle.std.specs.Prelude.{◌≤◌, length};
 
+use crate::values::same;
 use alg_choice::{Caps, Eea, Priority};
 use annex_a_keys::{Cell, Kasme};
 use lte_events::{ActorOut, Address, Answer, Cells, CoreAct, CoreIn};
 use mme_context::Core;
 use rec_base::{Octets, Way};
 use std::process::Abort;
-use test_values::same;
 
 const OWN: Caps = Caps {
     eea: 0xa0,

@@ -3,11 +3,11 @@ ghost use Rattle.std.specs.Prelude.{◌≤◌, length};
 
 use crate::runs::ORDINARY;
 use crate::system::System;
+use crate::values::same;
 use lte_events::{Answer, CoreIn, PhoneAct, PhoneIn, StationIn};
 use mme_context::Core;
 use rec_base::{Bearer, Octets, ShortText};
 use std::process::Abort;
-use test_values::same;
 use ue_context::Phone;
 
 fn octets(of: &[u8]) -> Octets

@@ -21,3 +21,5 @@ mod sessions;
 mod stations;
 #[cfg(test)]
 mod system;
+#[cfg(test)]
+mod values;

@@ -4,12 +4,12 @@
 ghost use Rattle.std.specs.Prelude.{◌≤◌, length};
 ghost use Rattle.ue_context.specs.Acts.{IsInput};
 
+use crate::values::same;
 use alg_choice::Caps;
 use annex_a_keys::Kasme;
 use lte_events::{ActorOut, Address, Answer, KeyNote, PhoneAct, PhoneIn};
 use rec_base::{Bearer, Octets, UserText, Way};
 use std::process::Abort;
-use test_values::same;
 use ue_context::Phone;
 
 const COMMAND: [u8; 11] = [

@@ -1,8 +1,8 @@
 // What phone, stations and core answer in whole runs.
 use crate::system::{At, Round, Row, Step, System};
+use crate::values::same;
 use lte_events::{Answer, HoKind};
 use rec_base::Way;
-use test_values::same;
 
 // A connection, a handover over X2 to the next station, and one back.
 pub(crate) static ORDINARY: [Row; 27] = [

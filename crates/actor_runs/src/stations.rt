@@ -3,13 +3,13 @@
 ghost use Rattle.std.specs.Prelude.{◌≤◌, length};
 ghost use Rattle.enb_context.specs.Acts.{IsInput};
 
+use crate::values::same;
 use alg_choice::{Eea, Priority};
 use annex_a_keys::Cell;
 use enb_context::Station;
 use lte_events::{ActorOut, Address, Answer, Cells, HoKind, StationAct, StationIn};
 use rec_base::{Bearer, Octets, UserText};
 use std::process::Abort;
-use test_values::same;
 
 const CONTEXT: [u8; 45] = [
     0x20, 0x00, 0x00, 0x00, 0x01, 0x00, 0x0a, 0x00, 0x00, 0x00, 0x64, 0xa0, 0x20, 0xe6, 0x26, 0x73,

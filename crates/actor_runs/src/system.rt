@@ -2,6 +2,7 @@
 ghost use Rattle.std.specs.Prelude.{◌≤◌};
 ghost use Rattle.enb_context.specs.Acts.{IsAct};
 
+use crate::values::same;
 use alg_choice::{Caps, Eea, Priority};
 use annex_a_keys::{Cell, Kasme};
 use enb_context::Station;
@@ -13,7 +14,6 @@ use mme_context::Core;
 use rec_base::{Bearer, Octets, UserText, Way, u32_at};
 use std::alloc::Global;
 use std::process::Abort;
-use test_values::same;
 use ue_context::Phone;
 
 // One of the two stations.

@@ -2,6 +2,7 @@ ghost use Rattle.std.specs.Prelude.{◌≡◌, length, IfOk, IfSome};
 
 mod loopback;
 
+use crate::values::{same, same_at};
 use edge_io::{
     ChildPeers, DropSink, Failed, LoopbackPort, MemPeers, MemPort, MemSink, MemSource, Peers, Port,
     ReadAll, ReaderSource, Role, Sink, SliceSource, Source, StartFault, WriterSink, read_all,
@@ -9,7 +10,6 @@ use edge_io::{
 };
 use std::io::{self, ErrorKind, Read};
 use std::test::Fail;
-use test_values::{same, same_at};
 
 #[test]
 fn listed_reads_fail(rt: HostRuntime) -> Result<(), Fail> {

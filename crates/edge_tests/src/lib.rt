@@ -3,3 +3,5 @@
 
 #[cfg(test)]
 mod edges;
+#[cfg(test)]
+mod values;

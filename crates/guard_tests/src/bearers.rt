@@ -1,11 +1,11 @@
 // The octets come from an independent implementation of the profile: the first PDUs of a phone under this KeNB.
+use crate::values::same;
 use alg_choice::{Algs, Eea};
 use annex_a_keys::Kenb;
 use pdcp_guard::{AsKeys, PdcpFault};
 use radio_bearers::{Bearers, is_srb, is_srb1};
 use rec_base::{Bearer, Dir, UserText};
 use std::process::Abort;
-use test_values::same;
 
 const KENB: [u8; 32] = [
     0xe6, 0x26, 0x73, 0x59, 0xde, 0x01, 0x2d, 0x9b, 0xda, 0x17, 0x3d, 0x1b, 0x6f, 0xae, 0x57, 0xde,

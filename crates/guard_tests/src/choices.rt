@@ -1,5 +1,5 @@
+use crate::values::same;
 use alg_choice::{Algs, Caps, Eea, NoAlgorithm, Priority, choose, supports};
-use test_values::same;
 
 #[test]
 fn first_supported_of_the_list_is_chosen(rt: HostRuntime) {

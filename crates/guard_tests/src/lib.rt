@@ -17,4 +17,6 @@ mod preparations;
 #[cfg(test)]
 mod s1;
 #[cfg(test)]
+mod values;
+#[cfg(test)]
 mod x2;

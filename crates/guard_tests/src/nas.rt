@@ -3,6 +3,7 @@
 ghost use Rattle.std.specs.Prelude.{◌≡◌, ◌<◌, ◌≤◌, length};
 ghost use Rattle.nas_count.specs.Estimate.{count_limit};
 
+use crate::values::same;
 use alg_choice::{Algs, Eea};
 use annex_a_keys::{AlgType, Kasme};
 use nas_count::{LIMIT, RxCount, TxCount};
@@ -10,7 +11,6 @@ use nas_guard::{NasKeys, OpenFault, open, seal};
 use rec_base::Dir;
 use std::process::Abort;
 use std::test::Fail;
-use test_values::same;
 
 const TEXT: &[u8; 33] = b"a NAS text of more than one block";
 

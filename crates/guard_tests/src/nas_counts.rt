@@ -1,5 +1,5 @@
+use crate::values::same;
 use nas_count::{CountSpent, LIMIT, RxCount, TxCount};
-use test_values::same;
 
 #[test]
 fn estimate_is_the_least_count_with_the_sequence_number(rt: HostRuntime) {

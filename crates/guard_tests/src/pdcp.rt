@@ -4,13 +4,13 @@ ghost use Rattle.std.specs.Prelude.{◌<◌, ◌≤◌, length};
 ghost use Rattle.pdcp_guard.specs.Srb.{IsSrb};
 ghost use Rattle.pdcp_guard.specs.Drb.{IsDrb};
 
+use crate::values::same;
 use alg_choice::{Algs, Eea};
 use annex_a_keys::{AlgType, Kenb};
 use pdcp_guard::{AsKeys, Drb, PdcpFault, Srb};
 use rec_base::{Bearer, Dir, UserText};
 use std::process::Abort;
 use std::test::Fail;
-use test_values::same;
 
 const TEXT: &[u8; 34] = b"an RRC text of more than one block";
 

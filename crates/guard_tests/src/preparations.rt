@@ -1,8 +1,8 @@
 ghost use Rattle.std.specs.Prelude.{◌≤◌};
 
+use crate::values::same;
 use ho_prep::{Prep, Preps};
 use std::process::Abort;
-use test_values::same;
 
 // A preparation of this connection for attempt 10 + air of station 3, at an air address.
 fn prep(conn: u32, air: u8) -> Prep

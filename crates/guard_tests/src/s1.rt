@@ -1,7 +1,7 @@
+use crate::values::same;
 use alg_choice::{Algs, Eea};
 use annex_a_keys::Cell;
 use s1_handover::S1Open;
-use test_values::same;
 
 #[test]
 fn an_order_holds_what_was_opened_and_acknowledged(rt: HostRuntime) {

@@ -1,8 +1,8 @@
+use crate::values::same;
 use alg_choice::{Algs, Eea};
 use annex_a_keys::{Cell, Kasme};
 use nh_chain::{CoreChain, StationKey};
 use std::process::Abort;
-use test_values::same;
 use x2_handover::X2Open;
 
 fn cell(rt: &impl Abort) -> Cell {

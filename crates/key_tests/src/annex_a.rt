@@ -1,5 +1,5 @@
+use crate::values::{same, same_at};
 use annex_a_keys::{AlgType, Cell, CellFault, Kasme, Kenb, Nh, Star};
-use test_values::{same, same_at};
 
 // The 32 octets whose halves are these.
 fn octets(first: u128, last: u128) -> [u8; 32] {

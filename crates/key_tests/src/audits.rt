@@ -1,10 +1,10 @@
+use crate::values::same;
 use annex_a_keys::{Cell, Kasme};
 use key_audit::{Audit, audit_of, audit_text, check};
 use key_terms::{Holder, Ladder, Origin, Row};
 use std::alloc::Global;
 use std::process::Abort;
 use std::test::Fail;
-use test_values::same;
 
 // A root of octets 00 to 1f.
 const KASME: [u8; 32] = [

@@ -1,10 +1,10 @@
 ghost use Rattle.std.specs.Prelude.{◌≡◌, ◌<◌, ◌^◌, ◌-◌, length};
 
+use crate::values::same;
 use lte_events::{Address, Class, Record};
 use net_bag::{Bag, BagMemory};
 use rec_base::{Bearer, Dir, Octets, Use};
 use std::process::Abort;
-use test_values::same;
 
 // A record with these octets, at most 1,536.
 fn record_of(rt: &impl Abort, to: Address, octets: &[u8]) -> Record {

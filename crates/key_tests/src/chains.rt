@@ -1,8 +1,8 @@
+use crate::values::{same, same_at};
 use annex_a_keys::{Cell, Kasme, Kenb, Nh};
 use nh_chain::{CoreChain, NhPair, PhoneChain, StationKey};
 use rec_base::Way;
 use std::process::Abort;
-use test_values::{same, same_at};
 
 // The 32 octets whose halves are these.
 fn octets(first: u128, last: u128) -> [u8; 32] {

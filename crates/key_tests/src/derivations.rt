@@ -1,5 +1,5 @@
+use crate::values::same_at;
 use hmac_kdf::{KdfInput, hmac, kdf};
-use test_values::same_at;
 
 // The 32 octets whose halves are these.
 fn octets(first: u128, last: u128) -> [u8; 32] {

@@ -1,11 +1,11 @@
 ghost use Rattle.std.specs.Prelude.{◌≤◌, ◌<◌, ◌+◌};
 
+use crate::values::same;
 use annex_a_keys::Kasme;
 use hmac_kdf::KdfInput;
 use key_terms::{Holder, Ladder, LadderFault, Origin, Row};
 use std::alloc::Global;
 use std::process::Abort;
-use test_values::same;
 
 const KASME: [u8; 32] = [7; 32];
 

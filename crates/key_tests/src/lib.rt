@@ -18,3 +18,5 @@ mod ladders;
 mod terms;
 #[cfg(test)]
 mod texts;
+#[cfg(test)]
+mod values;

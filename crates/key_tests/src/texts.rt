@@ -1,5 +1,6 @@
 ghost use Rattle.std.specs.Prelude.{◌≤◌, length};
 
+use crate::values::{same, same_at};
 use alg_choice::{Algs, Caps, Eea};
 use annex_a_keys::{AlgType, Cell, Kasme, Kenb};
 use key_terms::{Holder, Ladder, Origin, Proof, Row};
@@ -9,7 +10,6 @@ use report_text::{Figure, Tally, chance, ladder_text, line, summary_line};
 use std::alloc::Global;
 use std::process::Abort;
 use std::test::Fail;
-use test_values::{same, same_at};
 
 // The line of an event in which one acted and answered, and nothing else.
 fn line_of(step: u32, who: Who, answer: Answer) -> Line {

@@ -4,13 +4,14 @@ mod generated;
 mod ladder;
 mod runs;
 mod serving;
+mod values;
 
 use crate::app::{LIMIT, run};
 use crate::status::Status;
+use crate::tests::values::{same, same_at};
 use edge_io::{MemPeers, MemPort, MemSink, MemSource};
 use std::alloc::{AllocError, Global};
 use std::test::Fail;
-use test_values::{same, same_at};
 
 // A run over memory, in which the read and the write of these numbers fail: its status and what it
 // wrote.

@@ -1,8 +1,8 @@
+use crate::values::{same, same_at};
 use alg_choice::{Algs, Caps, Eea};
 use annex_a_keys::{Cell, Kenb, Nh, Star};
 use rec_base::{Octets, RecFault};
 use s1x2_rec::CoreRecord;
-use test_values::{same, same_at};
 
 // A key of 32 octets.
 const KEY: [u8; 32] = [

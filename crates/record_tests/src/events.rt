@@ -1,3 +1,4 @@
+use crate::values::same;
 use alg_choice::{Algs, Caps, Eea, Priority};
 use annex_a_keys::Cell;
 use lte_events::{
@@ -6,7 +7,6 @@ use lte_events::{
 };
 use rec_base::{Bearer, Octets, RecFault, UserText};
 use std::process::Abort;
-use test_values::same;
 
 #[test]
 fn answers_have_their_number_and_name(rt: HostRuntime) {

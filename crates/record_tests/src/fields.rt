@@ -1,6 +1,6 @@
+use crate::values::same;
 use rec_base::{Octets, RecFault};
 use rec_fields::{cell_at, list_of, put_cell};
-use test_values::same;
 
 #[test]
 fn cell_is_two_fields(rt: HostRuntime) {

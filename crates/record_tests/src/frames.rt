@@ -7,13 +7,13 @@ mod good;
 mod replies;
 mod sources;
 
+use crate::values::same_at;
 use annex_a_keys::Cell;
 use edge_io::{Role, SliceSource};
 use rec_base::Bounded;
 use role_wire::{FrameFault, FrameIn, input_frame, read_frame};
 use std::process::Abort;
 use std::test::Fail;
-use test_values::same_at;
 
 // A frame is read as this, and written again with the same octets.
 fn expect_frame<R: Abort + AllocGlobal>(

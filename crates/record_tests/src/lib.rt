@@ -15,3 +15,5 @@ mod nas_records;
 mod octets;
 #[cfg(test)]
 mod rrc_records;
+#[cfg(test)]
+mod values;

@@ -1,7 +1,7 @@
+use crate::values::same;
 use alg_choice::{Algs, Caps, Eea};
 use nas_rec::NasRecord;
 use rec_base::{RecFault, ShortText};
-use test_values::same;
 
 #[test]
 fn records_are_read_as_spelled_and_written_back(rt: HostRuntime) {

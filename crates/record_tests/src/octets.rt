@@ -1,7 +1,7 @@
+use crate::values::same;
 use rec_base::{
     Bearer, Dir, ShortText, UserText, greatest_lengths, header, key_at, u8_at, u16_at, u32_at,
 };
-use test_values::same;
 
 #[test]
 fn bearers_have_their_octet_and_number(rt: HostRuntime) {

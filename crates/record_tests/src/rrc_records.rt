@@ -1,8 +1,8 @@
+use crate::values::same;
 use alg_choice::{Algs, Eea};
 use annex_a_keys::Cell;
 use rec_base::{RecFault, ShortText};
 use rrc_rec::RrcRecord;
-use test_values::same;
 
 #[test]
 fn records_are_read_as_spelled_and_written_back(rt: HostRuntime) {

@@ -5,3 +5,5 @@
 mod refusals;
 #[cfg(test)]
 mod scenarios;
+#[cfg(test)]
+mod values;

@@ -3,6 +3,7 @@ mod good;
 mod systems;
 
 use crate::refusals::Refusal::{self, Missing, Unknown, Wrong};
+use crate::values::{same, same_at};
 use scenario_file::Field::{
     Air, Bearer as BearerField, Caps as CapsField, Cell as CellField, Cells, Core, Do, First, From,
     Id, Kasme, Ksi, N, Octets as OctetsField, Phone, Priority as PriorityField, Record, Station,
@@ -12,7 +13,6 @@ use scenario_file::{ScenarioFault, read};
 use std::alloc::Global;
 use std::process::Abort;
 use std::test::Fail;
-use test_values::{same, same_at};
 
 // A phone with EEA0, 128-EEA2 and 128-EIA2, and one station with one cell.
 const PHONE: &str = "phone={caps='a020'}\n";

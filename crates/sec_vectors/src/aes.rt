@@ -1,11 +1,11 @@
 // AES with 128-bit keys: the examples of FIPS 197, of NIST SP 800-38A, and known answers of the NIST
 // AES validation suite (AESAVS, appendices B to E).
 
+use crate::values::same_at;
 use aes_core::Aes128;
 use hex::{FromHex, FromHexError};
 use std::process::Abort;
 use std::test::Fail;
-use test_values::same_at;
 
 const ZERO: &str = "00000000000000000000000000000000";
 

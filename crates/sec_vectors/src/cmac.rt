@@ -1,10 +1,10 @@
 // CMAC with AES-128: the examples of NIST SP 800-38B, which RFC 4493 has too.
 
+use crate::values::{same, same_at};
 use aes_core::Aes128;
 use cmac_eia2::{Cmac, cmac_of};
 use hex::FromHex;
 use std::test::Fail;
-use test_values::{same, same_at};
 
 #[test]
 fn texts_of_sp_800_38b_have_their_cmac(rt: HostRuntime) -> Result<(), Fail> {

@@ -1,12 +1,12 @@
 // 128-EEA2: the test sets of 3GPP TS 33.401 C.1, each cut to its whole octets. A keystream does not
 // depend on the length of the text.
 
+use crate::values::same;
 use aes_core::Aes128;
 use ctr_eea2::eea2;
 use hex::FromHex;
 use rec_base::Dir;
 use std::test::Fail;
-use test_values::same;
 
 #[derive(Clone, Copy)]
 struct TestSet {

@@ -1,10 +1,10 @@
 // 128-EIA2: the test sets of whole octets of 3GPP TS 33.401 C.2.
 
+use crate::values::same_at;
 use cmac_eia2::eia2;
 use hex::FromHex;
 use rec_base::Dir;
 use std::test::Fail;
-use test_values::same_at;
 
 #[derive(Clone, Copy)]
 struct TestSet {

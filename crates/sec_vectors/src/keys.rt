@@ -1,10 +1,10 @@
 // The algorithm keys of TS 33.401 A.7 under one KASME and its KeNB at COUNT 0. The values come from an
 // independent HMAC.
 
+use crate::values::{same, same_at};
 use annex_a_keys::{AlgType, Kasme, Kenb};
 use hex::FromHex;
 use std::test::Fail;
-use test_values::{same, same_at};
 
 #[test]
 fn each_type_and_identity_has_its_key(rt: HostRuntime) -> Result<(), Fail> {

@@ -11,3 +11,5 @@ mod eea2;
 mod eia2;
 #[cfg(test)]
 mod keys;
+#[cfg(test)]
+mod values;

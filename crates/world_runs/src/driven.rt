@@ -1,10 +1,10 @@
 // The ordinary scenario against peers in memory.
 use crate::kept::{CORE, PHONE, REPORT, SCENARIO, STATION_0, STATION_1};
+use crate::values::{same, same_at};
 use edge_io::{MemPeers, MemSink};
 use hub_drive::{DriveFault, drive};
 use scenario_file::read;
 use std::process::Abort;
-use test_values::{same, same_at};
 
 // How it ended.
 #[derive(Clone, Copy, Debug, PartialEq, Eq)]

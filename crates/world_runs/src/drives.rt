@@ -1,9 +1,9 @@
+use crate::values::{same, same_at};
 use edge_io::{MemPeers, MemSink};
 use hub_drive::{DriveFault, drive};
 use scenario_file::read;
 use std::process::Abort;
 use std::test::Fail;
-use test_values::{same, same_at};
 
 // One station, and one step: the core releases a connection that does not stand.
 const SCENARIO: &[u8] =

@@ -11,4 +11,6 @@ mod kept;
 #[cfg(test)]
 mod relocations;
 #[cfg(test)]
+mod values;
+#[cfg(test)]
 mod worlds;

@@ -5,6 +5,7 @@ ghost use Rattle.lte_events.specs.Conditions.{CanHappen, EventFits};
 ghost use Rattle.lte_world.specs.Whole.{CanBegin};
 
 use crate::relocations::Told::{By, Else, NotHere};
+use crate::values::{same, same_at};
 use core_relocation::{Two, TwoLine, write_two};
 use edge_io::MemSink;
 use lte_events::{Answer, Event, Setup};
@@ -13,7 +14,6 @@ use scenario_file::read;
 use std::alloc::{AllocError, Global};
 use std::process::Abort;
 use std::test::Fail;
-use test_values::{same, same_at};
 
 // What is told of an event that is done: by this core, by another actor or by none alone, or that this core does not hold
 // the context.

@@ -1,10 +1,10 @@
 // How a session ends: at a frame's edge, inside a frame, at a frame that is none, and at a fault.
 use super::{front, octets_of, session};
+use crate::values::{same, same_at};
 use edge_io::Role;
 use role_node::ServeEnd;
 use role_wire::FrameFault;
 use std::test::Fail;
-use test_values::{same, same_at};
 
 // A Setup of the phone, an authentication, and an act; and the reply to each.
 const SETUP: &str = "000300a020";

@@ -1,11 +1,11 @@
 // Every kind of frame for each role: to an actor that was just set up a frame with a good body, which has its
 // reply, and one with a bad body, which ends the session.
 use super::{octets_of, session};
+use crate::values::same_at;
 use edge_io::Role;
 use role_node::ServeEnd;
 use role_wire::FrameFault;
 use std::test::Fail;
-use test_values::same_at;
 
 // A frame and its reply; a frame that is none, by its octets and so many zeros behind them, and the offset of its
 // first bad octet.

@@ -1,10 +1,10 @@
 // The frames of a run over two handovers, for each actor of it: what it was told, and its reply. Computed by
 // another implementation.
 use super::{octets_of, session};
+use crate::values::same_at;
 use edge_io::Role;
 use role_node::ServeEnd;
 use std::test::Fail;
-use test_values::same_at;
 
 static PHONE: [(&str, &str); 8] = [
     ("000300a020", "00088000000000000000"),

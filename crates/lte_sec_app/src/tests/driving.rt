@@ -1,10 +1,10 @@
 // What the program does where it drives a scenario against peers.
 use crate::app::run;
 use crate::status::Status;
+use crate::tests::values::{same, same_at};
 use edge_io::{MemPeers, MemPort, MemSink, MemSource};
 use std::alloc::{AllocError, Global};
 use std::test::Fail;
-use test_values::{same, same_at};
 
 // One station, and two steps: the core releases a connection that does not stand.
 const SCENARIO: &[u8] =

@@ -1,8 +1,8 @@
 // Summaries of generated scenarios, which are those of another implementation.
 use super::run_over;
 use crate::status::Status;
+use crate::tests::values::same;
 use std::test::Fail;
-use test_values::same;
 
 const SUMMARIES: [(&str, &str, &str); 3] = [
     (

@@ -1,8 +1,8 @@
 // What `ladder` writes, on values of an independent HMAC.
 use super::run_over;
 use crate::status::Status;
+use crate::tests::values::{same, same_at};
 use std::test::Fail;
-use test_values::{same, same_at};
 
 // What is shown, the text, the status and the output.
 type Case = (&'static str, &'static str, Status, &'static str);

@@ -1,9 +1,9 @@
 // What `run` writes for an ordinary run over two handovers, as another implementation of the same rules answers to it.
 use super::run_over;
 use crate::status::Status;
+use crate::tests::values::same;
 use std::alloc::{AllocError, Global};
 use std::test::Fail;
-use test_values::same;
 
 const SCENARIO: &[u8] = b"\
 phone={caps='a020'}

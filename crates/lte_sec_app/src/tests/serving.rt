@@ -1,10 +1,10 @@
 // What the program does where it serves an actor.
 use crate::app::run;
 use crate::status::Status;
+use crate::tests::values::{same, same_at};
 use edge_io::{MemPeers, MemPort, MemSink, MemSource};
 use std::alloc::{AllocError, Global};
 use std::test::Fail;
-use test_values::{same, same_at};
 
 // How a run over memory ended, what it printed, and what it wrote at the port.
 #[derive(Drop)]

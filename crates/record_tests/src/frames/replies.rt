@@ -1,5 +1,6 @@
 // The frames of replies.
 use super::octets_of;
+use crate::values::{same, same_at};
 use alg_choice::{Algs, Caps, Eea};
 use annex_a_keys::Derived;
 use hex::FromHex;
@@ -9,7 +10,6 @@ use rec_base::{Bearer, RecFault, Way};
 use role_wire::{reply_frame, setup_reply};
 use std::process::Abort;
 use std::test::Fail;
-use test_values::{same, same_at};
 
 // A derivation with this output.
 fn derived(out: &str) -> Result<Derived, Fail> {

@@ -1,9 +1,9 @@
 // What a frame takes of a source, and how its end and its faults are answered.
+use crate::values::{same, same_at};
 use alg_choice::Caps;
 use edge_io::{MemSource, Role, SliceSource, read_fill};
 use role_wire::{FrameFault, FrameIn, RoleSetup, read_frame};
 use std::test::Fail;
-use test_values::{same, same_at};
 
 // Two Setup frames of the phone.
 static TWICE: [u8; 10] = [0, 3, 0, 0xa0, 0x20, 0, 3, 0, 0xa0, 0x20];

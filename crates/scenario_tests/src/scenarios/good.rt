@@ -1,5 +1,6 @@
 // Texts that are read, and what they are read as.
 use crate::scenarios::{PHONE, STATION};
+use crate::values::{same, same_at};
 use alg_choice::{Caps, Eea, Priority};
 use annex_a_keys::Cell;
 use lte_events::{Address, CoreAct, Event, HoKind, PhoneAct, StationAct, StationSetup};
@@ -8,7 +9,6 @@ use scenario_file::{Scenario, read};
 use std::alloc::Global;
 use std::process::Abort;
 use std::test::Fail;
-use test_values::{same, same_at};
 
 // A list of these octets.
 fn bounded<R: Abort, const MOST: usize>(rt: &R, octets: &[u8]) -> Bounded<MOST> {

@@ -1,11 +1,11 @@
 // Coincidences end a world, and it answers with them for ever.
+use crate::values::same;
 use crate::worlds::runs::ORDINARY;
 use crate::worlds::system::{CAPS, begin, follow, happen};
 use key_terms::{Proof, Row};
 use lte_events::{Address, Event};
 use lte_world::WorldFault::Chance;
 use rec_base::{Bearer, Dir, Octets, Use};
-use test_values::same;
 
 // The octets of a message on SRB1 that nobody sent, with the MAC that the phone wants (TS 33.401 B.2).
 const FORGED: [u8; 8] = [0x01, 0xd9, 0x67, 0xe3, 0x96, 0xd8, 0xbd, 0xb4];

@@ -1,10 +1,10 @@
 // What the actors of an event replied, and events that reach no actor.
+use crate::values::same;
 use crate::worlds::runs::ORDINARY;
 use crate::worlds::system::{Do, Row, Tells, begin, follow};
 use lte_events::{ActorIn, Answer, Who};
 use lte_world::World;
 use std::process::Abort;
-use test_values::same;
 
 // Who replied: the phone, the core or a station.
 #[derive(Clone, Copy, Debug, PartialEq, Eq)]

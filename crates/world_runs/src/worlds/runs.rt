@@ -1,4 +1,5 @@
 // What a world answers in whole runs, as tables of events and lines.
+use crate::values::same;
 use crate::worlds::system::At::{Home, Next};
 use crate::worlds::system::Do::{
     Auth, Cancel, Command, Connect, Deliver, Down, Idle, Last, Resend, Service, Smc, Start, Up,
@@ -13,7 +14,6 @@ use lte_events::Who::{Both, Core, Phone, Station};
 use rec_base::Way::{Chained, Completed, Given, Horizontal, Initial, Vertical};
 use rec_base::u32_at;
 use std::process::Abort;
-use test_values::same;
 
 // The first four octets of a key, and whether the phone, the core and the two stations hold it.
 type Held = (u32, bool, bool, bool, bool);

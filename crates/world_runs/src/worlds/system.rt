@@ -4,6 +4,7 @@ ghost use Rattle.lte_events.specs.Conditions.{has_station, CanHappen, EventFits}
 ghost use Rattle.lte_events.specs.declared.setups.Setup.{Setup as TheSetup};
 ghost use Rattle.lte_world.specs.Whole.{CanBegin};
 
+use crate::values::same;
 use alg_choice::{Caps, Eea, Priority};
 use annex_a_keys::Cell;
 use lte_events::{
@@ -14,7 +15,6 @@ use lte_world::{World, WorldFault};
 use rec_base::{Bearer, UserText, Way, u32_at};
 use std::alloc::Global;
 use std::process::Abort;
-use test_values::same;
 
 // One of the two stations.
 #[derive(Clone, Copy)]
