@@ -220,7 +220,8 @@ fn holders_stand_in_their_order(rt: HostRuntime) -> Result<(), Fail> {
     same(&rt, ladder.root([1; 32]), Ok(Row(0)));
     same(&rt, ladder.root([2; 32]), Ok(Row(1)));
     same(&rt, ladder.root([3; 32]), Ok(Row(2)));
-    same(&rt, ladder.len(), 3);
+    same(&rt, ladder.root([4; 32]), Ok(Row(3)));
+    same(&rt, ladder.len(), 4);
     ladder.hold(Holder::Phone, Row(0));
     ladder.hold(Holder::Station(7), Row(1));
     ladder.hold(Holder::Core, Row(1));
@@ -229,10 +230,17 @@ fn holders_stand_in_their_order(rt: HostRuntime) -> Result<(), Fail> {
     ladder.hold(Holder::Core, Row(2));
     ladder.hold(Holder::Station(3), Row(2));
     ladder.hold(Holder::Phone, Row(2));
+    ladder.hold(Holder::Core, Row(3));
+    ladder.hold(Holder::Phone, Row(3));
+    for station in 0..8 {
+        assert!(rt; 3 < ladder.len());
+        ladder.hold(Holder::Station(station), Row(3));
+    }
     let wanted = "\
 row 0 root 0101010101010101010101010101010101010101010101010101010101010101 P
 row 1 root 0202020202020202020202020202020202020202020202020202020202020202 C,S7
 row 2 root 0303030303030303030303030303030303030303030303030303030303030303 P,C,S0,S3,S5
+row 3 root 0404040404040404040404040404040404040404040404040404040404040404 P,C,S0,S1,S2,S3,S4,S5,S6,S7
 ";
     let text = ladder_text(rt.alloc(), &ladder)?;
     same(&rt, text.as_slice(), wanted.as_bytes());
