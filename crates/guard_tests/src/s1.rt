@@ -20,12 +20,3 @@ fn an_order_holds_what_was_opened_and_acknowledged(rt: HostRuntime) {
     same(&rt, (commanded.number(), commanded.station()), (9, 2));
     same(&rt, commanded.cell(), cell);
 }
-
-#[test]
-fn an_attempt_is_cancelled_before_it_commands(rt: HostRuntime) {
-    let cell = Cell::new(11, 101).expect(&rt, "in range");
-    S1Open::new(9, 2, cell).cancel();
-    S1Open::new(10, 2, cell)
-        .acked(3, Algs { eea: Eea::Eea2 }, 77)
-        .cancel();
-}
