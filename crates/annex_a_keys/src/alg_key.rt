@@ -4,7 +4,7 @@ ghost use Rattle.annex_a_keys.specs.AlgType.{distinguisher};
 ghost use Rattle.annex_a_keys.specs.Derived.{derivation};
 
 use crate::{AlgType, Derived};
-use hmac_kdf::KdfInput;
+use hmac_kdf::{KdfInput, KdfKey};
 use std::marker::Model;
 
 /// An algorithm key (TS 33.401 A.7): 32 octets, of which a 128-bit algorithm takes the last 16.
@@ -35,6 +35,13 @@ impl Default for AlgKey {
 }
 
 impl AlgKey {
+    /// The algorithm key of these octets.
+    pub fn of_octets(octets: [u8; 32]) -> AlgKey
+        ensures { result ≡ octets }
+    {
+        AlgKey { octets }
+    }
+
     /// The octets of this key.
     pub fn octets(&self) -> [u8; 32]
         ensures { result ≡ self.now }
@@ -53,13 +60,12 @@ impl AlgKey {
     }
 
     // The algorithm key from the octets of KASME or KeNB.
-    pub(crate) fn derive(key: [u8; 32], kind: AlgType, id: u8) -> (AlgKey, Derived)
-        ensures value { result.0 ≡ kdf key (KdfInput.Alg (distinguisher kind) id) }
-        ensures derived { result.1 ≡ derivation key (KdfInput.Alg (distinguisher kind) id) }
+    pub(crate) fn derive(key: &KdfKey, kind: AlgType, id: u8) -> (AlgKey, Derived)
+        ensures value { result.0 ≡ kdf key.now (KdfInput.Alg (distinguisher kind) id) }
+        ensures derived { result.1 ≡ derivation key.now (KdfInput.Alg (distinguisher kind) id) }
         ensures input { IsKdfInput result.1.input }
     {
         let derived = Derived::of(key, KdfInput::Alg(kind.distinguisher(), id));
-        let octets = derived.out;
-        (AlgKey { octets }, derived)
+        (AlgKey::of_octets(derived.out), derived)
     }
 }

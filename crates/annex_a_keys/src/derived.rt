@@ -1,7 +1,7 @@
 ghost use Rattle.std.specs.Prelude.{◌≡◌};
 ghost use Rattle.hmac_kdf.specs.Kdf.{IsKdfInput};
 
-use hmac_kdf::{KdfInput, kdf};
+use hmac_kdf::{KdfInput, KdfKey};
 
 /// One derivation of TS 33.401 Annex A: the key that was used, its input, and the 32 octets that
 /// came out.
@@ -19,15 +19,15 @@ impl Derived {
     ghost use Rattle.annex_a_keys.specs.Derived.{derivation};
 
     // The derivation from a key and an input.
-    pub(crate) fn of(key: [u8; 32], input: KdfInput) -> Derived
+    pub(crate) fn of(key: &KdfKey, input: KdfInput) -> Derived
         requires { IsKdfInput input }
-        ensures value { result ≡ derivation key input }
+        ensures value { result ≡ derivation key.now input }
         ensures input { IsKdfInput result.input }
     {
         Derived {
-            key,
+            key: key.octets(),
             input,
-            out: kdf(&key, &input),
+            out: key.derive(&input),
         }
     }
 }

@@ -4,7 +4,7 @@ ghost use Rattle.annex_a_keys.specs.AlgType.{distinguisher, IsOfNas};
 ghost use Rattle.annex_a_keys.specs.Derived.{derivation};
 
 use crate::{AlgKey, AlgType, Derived, Kenb, Nh};
-use hmac_kdf::KdfInput;
+use hmac_kdf::{KdfInput, KdfKey};
 use std::marker::Model;
 
 /// KASME, the root of the keys of one authentication (TS 33.401 6.2): 32 octets.
@@ -44,7 +44,7 @@ impl Kasme {
         ensures derived { result.1 ≡ derivation self.now (KdfInput.Kenb count) }
         ensures input { IsKdfInput result.1.input }
     {
-        let derived = Derived::of(self.octets, KdfInput::Kenb(count));
+        let derived = Derived::of(&KdfKey::new(&self.octets), KdfInput::Kenb(count));
         (Kenb::of_octets(derived.out), derived)
     }
 
@@ -72,7 +72,7 @@ impl Kasme {
         ensures derived { result.1 ≡ derivation self.now (KdfInput.Nh sync) }
         ensures input { IsKdfInput result.1.input }
     {
-        let derived = Derived::of(self.octets, KdfInput::Nh(sync));
+        let derived = Derived::of(&KdfKey::new(&self.octets), KdfInput::Nh(sync));
         (Nh::of_octets(derived.out), derived)
     }
 
@@ -84,6 +84,41 @@ impl Kasme {
         ensures derived { result.1 ≡ derivation self.now (KdfInput.Alg (distinguisher kind) id) }
         ensures input { IsKdfInput result.1.input }
     {
-        AlgKey::derive(self.octets, kind, id)
+        self.keyed().nas_alg(kind, id)
+    }
+
+    /// This KASME, of which several NAS algorithm keys are to be derived.
+    pub fn keyed(&self) -> KeyedKasme
+        ensures { result ≡ self.now }
+    {
+        KeyedKasme {
+            key: KdfKey::new(&self.octets),
+        }
+    }
+}
+
+/// A KASME of which several NAS algorithm keys are derived: each after the first takes half the work.
+#[derive(Drop)]
+pub struct KeyedKasme {
+    key: KdfKey,
+}
+
+impl Model for KeyedKasme {
+    ghost use Rattle.std.specs.Prelude.{List, ℕ};
+
+    ghost Value = { List ℕ };
+
+    ghost view = { λ k. k.key };
+}
+
+impl KeyedKasme {
+    /// A NAS algorithm key, as `Kasme::nas_alg` derives it, and its derivation.
+    pub fn nas_alg(&self, kind: AlgType, id: u8) -> (AlgKey, Derived)
+        requires { IsOfNas kind }
+        ensures value { result.0 ≡ kdf self.now (KdfInput.Alg (distinguisher kind) id) }
+        ensures derived { result.1 ≡ derivation self.now (KdfInput.Alg (distinguisher kind) id) }
+        ensures input { IsKdfInput result.1.input }
+    {
+        AlgKey::derive(&self.key, kind, id)
     }
 }

@@ -4,7 +4,7 @@ ghost use Rattle.annex_a_keys.specs.AlgType.{distinguisher, IsOfAs};
 ghost use Rattle.annex_a_keys.specs.Derived.{derivation};
 
 use crate::{AlgKey, AlgType, Cell, Derived, Star};
-use hmac_kdf::KdfInput;
+use hmac_kdf::{KdfInput, KdfKey};
 use std::marker::Model;
 
 /// KeNB, the key of a connection between phone and base station (TS 33.401 6.2): 32 octets.
@@ -66,6 +66,41 @@ impl Kenb {
         ensures derived { result.1 ≡ derivation self.now (KdfInput.Alg (distinguisher kind) id) }
         ensures input { IsKdfInput result.1.input }
     {
-        AlgKey::derive(self.octets, kind, id)
+        self.keyed().alg(kind, id)
+    }
+
+    /// This KeNB, of which several algorithm keys are to be derived.
+    pub fn keyed(&self) -> KeyedKenb
+        ensures { result ≡ self.now }
+    {
+        KeyedKenb {
+            key: KdfKey::new(&self.octets),
+        }
+    }
+}
+
+/// A KeNB of which several algorithm keys are derived: each after the first takes half the work.
+#[derive(Drop)]
+pub struct KeyedKenb {
+    key: KdfKey,
+}
+
+impl Model for KeyedKenb {
+    ghost use Rattle.std.specs.Prelude.{List, ℕ};
+
+    ghost Value = { List ℕ };
+
+    ghost view = { λ k. k.key };
+}
+
+impl KeyedKenb {
+    /// An algorithm key, as `Kenb::alg` derives it, and its derivation.
+    pub fn alg(&self, kind: AlgType, id: u8) -> (AlgKey, Derived)
+        requires { IsOfAs kind }
+        ensures value { result.0 ≡ kdf self.now (KdfInput.Alg (distinguisher kind) id) }
+        ensures derived { result.1 ≡ derivation self.now (KdfInput.Alg (distinguisher kind) id) }
+        ensures input { IsKdfInput result.1.input }
+    {
+        AlgKey::derive(&self.key, kind, id)
     }
 }

@@ -3,7 +3,7 @@ ghost use Rattle.hmac_kdf.specs.Kdf.{IsKdfInput, kdf};
 ghost use Rattle.annex_a_keys.specs.Derived.{derivation};
 
 use crate::{Cell, Derived, Kenb};
-use hmac_kdf::KdfInput;
+use hmac_kdf::{KdfInput, KdfKey};
 use std::marker::Model;
 
 /// KeNB*, the key that a handover makes for its target cell (TS 33.401 A.5): 32 octets.
@@ -50,7 +50,10 @@ impl Star {
         ensures derived { result.1 ≡ derivation key (KdfInput.Star cell.now.pci cell.now.earfcn) }
         ensures input { IsKdfInput result.1.input }
     {
-        let derived = Derived::of(key, KdfInput::Star(cell.pci(), cell.earfcn()));
+        let derived = Derived::of(
+            &KdfKey::new(&key),
+            KdfInput::Star(cell.pci(), cell.earfcn()),
+        );
         (Star::of_octets(derived.out), derived)
     }
 }

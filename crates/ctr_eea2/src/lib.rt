@@ -12,10 +12,9 @@ use rec_base::{Dir, header};
 /// 128-EEA2: ciphers a text in place, or deciphers it. Each octet is combined with the keystream
 /// octet of its place (TS 33.401 B.1.3).
 ///
-/// `key` has 16 octets, `bearer` is BEARER, of 5 bits, and the text has at most 1,536 octets.
+/// `key` has 16 octets, `bearer` is BEARER, of 5 bits, and the text has any length.
 pub fn eea2(key: &[u8; 16], count: u32, bearer: u8, dir: Dir, text: &mut [u8])
-    requires bearer { bearer < 32 }
-    requires length { length text.old ≤ 1536 }
+    requires { bearer < 32 }
     ensures value { text.new ≡ eea2_of key.now count bearer dir text.old }
     ensures twice { eea2_of key.now count bearer dir text.new ≡ text.old }
 {

@@ -12,11 +12,10 @@ use rec_base::{Dir, header};
 /// Ciphers a text in place under an encryption algorithm, or deciphers it (TS 33.401 B.1.1). EEA0
 /// leaves it as it is.
 ///
-/// `bearer` is BEARER, of 5 bits, and the text has at most 1,536 octets.
+/// `bearer` is BEARER, of 5 bits, and the text has any length.
 #[tactic(auto, unfolding(crate::specs::Cipher::ciphered))]
 pub fn cipher(eea: Eea, key: &AlgKey, count: u32, bearer: u8, dir: Dir, text: &mut [u8])
-    requires bearer { bearer < 32 }
-    requires length { length text.old ≤ 1536 }
+    requires { bearer < 32 }
     ensures { text.new ≡ ciphered eea key.now count bearer dir text.old }
 {
     match eea {

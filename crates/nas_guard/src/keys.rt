@@ -48,22 +48,32 @@ impl NasKeys {
         }
     }
 
-    // The MAC over a sequence number and a text as sent.
-    pub(crate) fn mac(&self, count: u32, dir: Dir, covered: &[u8]) -> [u8; 4]
+    /// The NAS-MAC over a sequence number and a text as sent, of any length (TS 24.301 4.4.3.3).
+    pub fn mac(&self, count: u32, dir: Dir, covered: &[u8]) -> [u8; 4]
         ensures { result ≡ mac_of self.now.int count nas_bearer dir covered.now }
     {
         mac(&self.int, count, 0, dir, covered)
     }
 
-    // The MAC over a sequence number and the text as sent behind it.
-    pub(crate) fn mac_behind(&self, count: u32, dir: Dir, sn: u8, sent: &[u8]) -> [u8; 4]
+    /// The NAS-MAC over a sequence number and the text as sent behind it, as `mac` of them joined.
+    pub fn mac_behind(&self, count: u32, dir: Dir, sn: u8, sent: &[u8]) -> [u8; 4]
         ensures { result ≡ mac_of self.now.int count nas_bearer dir (sn ∷ sent.now) }
     {
         mac_behind(&self.int, count, 0, dir, sn, sent)
     }
 
-    // The text as sent of a text, and the text of a text as sent.
+    /// Makes the text as sent of a text in place, or the text of a text as sent (TS 24.301 4.4.5): ciphered where the security
+    /// header type, 1 to 4, is 2 or 4. The text has any length.
     #[tactic(auto, unfolding(crate::specs::Seal::sent_text))]
+    pub fn cipher(&self, header: u8, count: u32, dir: Dir, text: &mut [u8])
+        ensures { text.new ≡ sent_text self.now header count dir text.old }
+    {
+        if header == 2 || header == 4 {
+            cipher(self.algs.eea, &self.enc, count, 0, dir, text);
+        }
+    }
+
+    // The text as sent of a text, and the text of a text as sent.
     pub(crate) fn sent_text(&self, header: u8, count: u32, dir: Dir, text: &[u8]) -> Octets
         requires { length text.now ≤ 1536 }
         ensures value { result ≡ sent_text self.now header count dir text.now }
@@ -72,9 +82,7 @@ impl NasKeys {
         let mut buffer = [0; 1536];
         let sent = &mut buffer[..text.len()];
         sent.copy_from_slice(text);
-        if header == 2 || header == 4 {
-            cipher(self.algs.eea, &self.enc, count, 0, dir, sent);
-        }
+        self.cipher(header, count, dir, sent);
         let mut octets = Octets::new();
         octets.append(sent);
         octets

@@ -153,6 +153,7 @@ pub(crate) fn nas_keys(root: &Kasme, algs: Algs) -> (NasKeys, Few<Derived, 2>)
     ensures keys { result.0 ≡ nas_keys_of octet_reading root.now algs }
     ensures derived { result.1 ≡ map derived_of (nas_derivations octet_reading root.now algs) }
 {
+    let root = root.keyed();
     let (enc, first) = root.nas_alg(AlgType::NasEnc, algs.eea.identity());
     let (int, second) = root.nas_alg(AlgType::NasInt, 2);
     let mut derived = Few::new();

@@ -73,18 +73,34 @@ impl Counts {
     }
 
     // The COUNT of a PDU that was received, from its sequence number of so many values.
-    pub(crate) fn estimate(&self, sn: u16, values: u16) -> Result<u32, PdcpFault>
-        requires some { 0 < values }
+    pub(crate) fn estimate(&self, sn: u32, values: u32) -> Result<u32, PdcpFault>
         requires below { sn < values }
-        requires twelve_bits { values ≤ 4096 }
+        requires eighteen_bits { values ≤ 262144 }
         ensures value { result ≡ in_32_bits (least self.now.receive sn values) }
         ensures least { IfOk result (λ count. count ≡ least self.now.receive sn values) }
         ensures at_or_above { IfOk result (λ count. self.now.receive ≤ count) }
         ensures spent { IfErr result (λ _. count_limit ≤ least self.now.receive sn values) }
         ensures cause { IfErr result (λ fault. fault ≡ PdcpFault.CountSpent) }
     {
-        in_32_bits(least(self.receive, sn, values))
+        count_from(self.receive, sn, values)
     }
+}
+
+/// The COUNT of a PDU that was received (TS 36.323 5.1.2): the least at or above the next expected one with its sequence
+/// number, of so many values. `CountSpent` is the answer exactly where that has more than 32 bits.
+///
+/// The next expected COUNT is at most 2^32, and a sequence number has at most 18 bits.
+pub fn count_from(next: u64, sn: u32, values: u32) -> Result<u32, PdcpFault>
+    requires next { next ≤ count_limit }
+    requires below { sn < values }
+    requires eighteen_bits { values ≤ 262144 }
+    ensures value { result ≡ in_32_bits (least next sn values) }
+    ensures least { IfOk result (λ count. count ≡ least next sn values) }
+    ensures at_or_above { IfOk result (λ count. next ≤ count) }
+    ensures spent { IfErr result (λ _. count_limit ≤ least next sn values) }
+    ensures cause { IfErr result (λ fault. fault ≡ PdcpFault.CountSpent) }
+{
+    in_32_bits(least(next, sn, values))
 }
 
 // A COUNT that has 32 bits.
@@ -103,11 +119,10 @@ fn in_32_bits(count: u64) -> Result<u32, PdcpFault>
 
 // The least number at or above `low` with this remainder modulo so many values.
 #[tactic(auto, unfolding(key_model::specs::Least::least))]
-fn least(low: u64, sn: u16, values: u16) -> u64
+fn least(low: u64, sn: u32, values: u32) -> u64
     requires low { low ≤ count_limit }
-    requires some { 0 < values }
     requires below { sn < values }
-    requires twelve_bits { values ≤ 4096 }
+    requires eighteen_bits { values ≤ 262144 }
     ensures value { result ≡ least low sn values }
     ensures at_or_above { low ≤ result }
 {

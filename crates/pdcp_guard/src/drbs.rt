@@ -123,7 +123,7 @@ impl Drb {
         if first / 16 != 8 {
             return Err(PdcpFault::BadHeader(first));
         }
-        let sn = 256 * u16::from(first % 16) + u16::from(pdu[1]);
+        let sn = 256 * u32::from(first % 16) + u32::from(pdu[1]);
         self.counts.estimate(sn, 4096)
     }
 }

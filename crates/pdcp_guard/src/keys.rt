@@ -43,6 +43,7 @@ impl AsKeys {
         ensures derived { result.1.items ≡ map derived_of (as_derivations octet_reading kenb.now algs) }
     {
         let id = algs.eea.identity();
+        let kenb = kenb.keyed();
         let (rrc_enc, first) = kenb.alg(AlgType::RrcEnc, id);
         let (rrc_int, second) = kenb.alg(AlgType::RrcInt, 2);
         let (up_enc, third) = kenb.alg(AlgType::UpEnc, id);

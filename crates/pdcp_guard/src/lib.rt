@@ -9,7 +9,7 @@ mod laws;
 mod pdus;
 mod srbs;
 
-pub use counting::LIMIT;
+pub use counting::{LIMIT, count_from};
 pub use drbs::Drb;
 pub use keys::AsKeys;
 pub use laws::{

@@ -150,7 +150,7 @@ impl Srb {
         if first >= 32 {
             return Err(PdcpFault::BadHeader(first));
         }
-        self.counts.estimate(u16::from(first % 32), 32)
+        self.counts.estimate(u32::from(first % 32), 32)
     }
 }
 

@@ -1,7 +1,7 @@
 use Rattle.std.proofs.Common.{◌≡◌, ℕ, ◌-◌, List, ◌++◌, length, drop}
 use Rattle.std.proofs.Math.ListN.{replicate}
 use Rattle.std.proofs.lemmas.List.{drop-replicate}
-use Rattle.hmac_kdf.proofs.with_zeros.Goals as goal
+use Rattle.hmac_kdf.proofs.blocks.with_zeros.Goals as goal
 
 -- octets written over the front of a block of zeros
 zeros_behind : (octets copied : List ℕ) → copied ≡ octets → copied ++ drop (length octets) (replicate 64 0) ≡ octets ++ replicate (64 - length octets) 0
