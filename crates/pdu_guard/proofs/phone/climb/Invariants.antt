@@ -1,0 +1,7 @@
+use Rattle.std.proofs.Common.{◌≡◌}
+use Rattle.key_model.specs.Reading.{octet_reading}
+use Rattle.key_model.specs.HandoverLines.{nh_after}
+use Rattle.pdu_guard.proofs.phone.climb.Given as goal
+
+abbrev pub invariant-loop : goal.invariant-loop
+invariant-loop l = l.nh ≡ nh_after octet_reading l.root l.fn.sync l.counter
