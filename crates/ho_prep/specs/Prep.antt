@@ -1,13 +1,15 @@
 -- The preparations of a target, each for a phone that may come at an air address (TS 33.401 7.2.8.4, TS 36.300
 -- 10.1.2.1.1).
-use Rattle.std.specs.Prelude.{ℕ, ◌==◌, nat_le, Bool, not, ◌&&◌, List, Option, None, Some, filter, find, position, remove}
+use Rattle.std.specs.Prelude.{ℕ, ◌==◌, nat_le, Bool, not, ◌&&◌, List, Option, None, Some, filter, find, position, remove, replicate}
 use Rattle.std.specs.List.{list_any}
 use Rattle.annex_a_keys.specs.Cell.{Place}
 use Rattle.alg_choice.specs.declared.algs.Algs.{Algs}
+use Rattle.alg_choice.specs.declared.algs.Eea.TheVariants.{Eea0}
 use Rattle.alg_choice.specs.declared.caps.Caps.{Caps}
 use Rattle.nh_chain.specs.Station.{StationKey, map_station_key}
 use Rattle.pdcp_guard.specs.AsKeys.{AsKeys, map_as_keys}
 use Rattle.ho_prep.specs.declared.origins.By.{By}
+use Rattle.ho_prep.specs.declared.origins.By.TheVariants.{X2}
 
 -- a preparation: the connection, the source station and its attempt, how it came, the target cell, the air address
 -- drawn for the phone, its key and number, the algorithms chosen, the keys of the access stratum, and the phone's
@@ -37,6 +39,24 @@ map_prep f g p = record {
   algs = p.algs;
   keys = map_as_keys f p.keys;
   caps = p.caps;
+}
+
+-- what an unused place of a list of preparations holds: the least numbers in range, keys of zeros, no pair and no capability
+abbrev pub zeros : List ℕ
+zeros = replicate 32 0
+
+abbrev pub unused : Prep (List ℕ) ℕ
+unused = record {
+  conn = 1;
+  source = 0;
+  attempt = 1;
+  by = X2;
+  cell = record { pci = 0; earfcn = 0 };
+  air = 1;
+  key = record { kenb = zeros; number = 0; pair = None };
+  algs = record { eea = Eea0 };
+  keys = record { rrc_enc = zeros; rrc_int = zeros; up_enc = zeros; algs = record { eea = Eea0 } };
+  caps = record { eea = 0; eia = 0 };
 }
 
 -- how many preparations a station holds at most

@@ -67,6 +67,11 @@ impl Model for Prep {
 
 // What the unused places of a bounded list of preparations hold.
 impl Default for Prep {
+    ghost use Rattle.std.specs.Prelude.{◌≡◌};
+    ghost use Rattle.ho_prep.specs.Prep.{unused};
+
+    ghost is_default = { λ v. v ≡ unused };
+
     fn default() -> Prep {
         Prep {
             conn: 1,
