@@ -1,5 +1,5 @@
 -- The headline holds of every setup and events in range.
-use Rattle.std.proofs.Common.{◌≡◌, ◌≢◌, arith, refl, sym, subst, ℕ, ◌<◌, ◌≤◌, List, take}
+use Rattle.std.proofs.Common.{◌≡◌, refl, sym, subst, ℕ, List, take}
 use Rattle.lte_events.specs.declared.events.Event.{Event}
 use Rattle.lte_events.specs.declared.setups.Setup.{Setup}
 use Rattle.key_model.specs.Term.{Term, Root}
@@ -10,7 +10,6 @@ use Rattle.lte_machine.specs.Ciphers.{annex_b, octets_of}
 use Rattle.lte_machine.specs.Machines.{Kept, machine_in_octets, sender_of, written_machine, written_in_values}
 use Rattle.lte_machine.specs.Opening.{open_octets, open_by_uses}
 use Rattle.lte_machine.specs.Ranges.{AllOf, IsEvent, IsSetup}
-use Rattle.lte_machine.specs.Reply.{Made, Came, Secured, Commanded, Changed, Took}
 use Rattle.lte_machine.specs.Run.{Running, run, first_world}
 use Rattle.lte_machine.specs.Wire.{Outgoing}
 use Rattle.lte_machine.specs.World.{World, Line}
@@ -19,9 +18,8 @@ use Rattle.lte_machine.proofs.EventByEvent.{written_still, ends_at, each_of_firs
 use Rattle.lte_machine.proofs.StillRun.{still_is_run}
 use Rattle.lte_machine.proofs.WholeRun.{tale_is_value}
 use Rattle.lte_properties.specs.Accounts.{UsesAreThoseSent}
-use Rattle.lte_properties.specs.Agreement.{ahead, TookMade, NoneThere, ObeysMade, Agrees}
-use Rattle.lte_properties.specs.BySteps.{Follows}
-use Rattle.lte_properties.specs.Headline.{OfTarget, Headline}
+use Rattle.lte_properties.specs.Agreement.{NoneThere, Agrees}
+use Rattle.lte_properties.specs.Headline.{Headline}
 use Rattle.lte_properties.specs.Separation.{Separates}
 use Rattle.lte_properties.proofs.AccountsHold.{uses_are_sent}
 use Rattle.lte_properties.proofs.EveryRun.{agrees, none_ever, shared}
@@ -31,33 +29,6 @@ use Rattle.lte_properties.proofs.StepByStep.{follows, step_tells, step_completed
 
 abbrev TheWorld : Type 0
 TheWorld = World Term ℕ (Outgoing Term ℕ)
-
--- near and far, of a handover command and of a key change
-near_took : (x : Took Term ℕ) (m : Made Term ℕ) (came : Came Term ℕ) → ObeysMade x came m → ahead m came < 8 → TookMade x m
-near_took x m Secured o low = o.0
-near_took x m (Commanded before) o low = o.near low
-near_took x m (Changed before root) o low = o.near low
-
-far_differs : (x : Took Term ℕ) (m : Made Term ℕ) (came : Came Term ℕ) → ObeysMade x came m → 8 ≤ ahead m came → x.key ≢ m.key
-far_differs x m Secured o low = absurd (omega (arith, low))
-far_differs x m (Commanded before) o low = (o.far low).0
-far_differs x m (Changed before root) o low = o.far low
-
-of_target : (setup : Setup) (events : List Event) (k : ℕ) (x : Took Term ℕ) (came : Came Term ℕ) (line : Line Term) → x.came ≡ came → Follows setup events k x line → OfTarget setup events k x came line
-of_target setup events k x came line is f = record {
-  made = f.made;
-  when = f.when;
-  told = f.told;
-  makes = f.makes;
-  earlier = f.earlier;
-  station = f.there.0;
-  air = f.there.1;
-  near = λ low. (near_took x f.made came obeys low, f.near (subst (λ c. ahead f.made c < 8) (sym is) low));
-  far = λ high. far_differs x f.made came obeys high;
-}
-  where
-    obeys : ObeysMade x came f.made
-    obeys = subst (λ c. ObeysMade x c f.made) is f.obeys
 
 module _ (setup : Setup) (events : List Event) (set : IsSetup setup) (are : AllOf IsEvent events) where
   first : (n : ℕ) → AllOf IsEvent (take n events)
@@ -86,11 +57,9 @@ module _ (setup : Setup) (events : List Event) (set : IsSetup setup) (are : AllO
     steps = λ k v e u line h. step_of_value setup events set are k v e u line h;
     ends = λ chance over. ends_at (open_octets annex_b) (machine_in_octets annex_b) (first_world setup) events chance over;
     lines = λ k w e u line is. step_tells setup events k w e u line is;
-    agreement = λ k x before line h. of_target setup events k x (Commanded before) line h.1 (follows setup events set are k x line h.0);
-    renewal = λ k x before root line h is. of_target setup events k x (Changed before root) line is (follows setup events set are k x line h);
-    last = λ n w runs. (agree n w runs).last;
+    agreement = follows setup events set are;
+    agrees = agree;
     never = never_there;
-    completed = λ n w runs. (agree n w runs).completed;
     told = λ k w e u line is. step_completed setup events set are k w e u line is;
     joined = λ n u runs. joined_octets setup (take n events) u (value n u runs) set (first n);
     opening = λ k sent h. packet_told setup events set are k sent h;

@@ -10,4 +10,5 @@ pub mod SameKeys
 pub mod AccountsHold
 pub mod StepByStep
 pub mod OctetLaws
+pub mod FarNever
 pub mod HeadlineHolds

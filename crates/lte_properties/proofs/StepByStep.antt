@@ -1,5 +1,5 @@
 -- What the phone takes at a step was made at an earlier one.
-use Rattle.std.proofs.Common.{◌≡◌, refl, sym, ap, ◌∙◌, subst, ℕ, zero, suc, ◌<◌, arith, Bool, true, false, cond, List, [], ◌∷◌, ◌++◌, take, Option, Some, None, inl, inr}
+use Rattle.std.proofs.Common.{◌≡◌, refl, sym, ap, ◌∙◌, subst, ℕ, zero, suc, ◌+◌, ◌<◌, arith, Bool, true, false, cond, List, [], ◌∷◌, ◌++◌, take, Option, Some, None, inl, inr}
 use Rattle.std.specs.Prelude.{◌⊎◌, slice_get, find}
 use Rattle.std.specs.Option.{option_or}
 use Rattle.std.proofs.lemmas.List.Folds.{find-append}
@@ -112,6 +112,22 @@ module _ (setup : Setup) (events : List Event) where
   no_more (d ∷ es) zero is = absurd cc
   no_more (d ∷ es) (suc i) is = ap (λ xs. d ∷ xs) (no_more es i is)
 
+  -- what each step keeps holds in each later world
+  pub holds_on : (P : TheWorld → Type 0) → ((i : ℕ) (w : TheWorld) (e : Event) (u : TheWorld) (line : Line Term) → IsStep setup events i w e u line → P w → P u)
+      → (d n k : ℕ) → n ≡ k + d → (w u : TheWorld) → written_run setup (take k events) ≡ Running w → written_run setup (take n events) ≡ Running u → P w → P u
+  holds_on P f zero n k is w u before after h =
+      let same : n ≡ k = omega arith in
+      subst P (still_one (sym before ∙ ap (λ j. written_run setup (take j events)) (sym same) ∙ after)) h
+  holds_on P f (suc d) n k is w u before after h = by (slice_get events (k + d)) refl (λ v runs. holds_on P f d (k + d) k refl w v before runs h)
+    where
+      here : written_run setup (take (suc (k + d)) events) ≡ Running u
+      here = let same : n ≡ suc (k + d) = omega arith in ap (λ j. written_run setup (take j events)) (sym same) ∙ after
+
+      by : (o : Option Event) → slice_get events (k + d) ≡ o → ((v : TheWorld) → written_run setup (take (k + d) events) ≡ Running v → P v) → P u
+      by None at rest = rest u (ap (written_run setup) (sym (no_more events (k + d) at)) ∙ here)
+      by (Some e) at rest =
+          let led = led_by (k + d) e u at here in f (k + d) led.0 e u led.1 led.2 (rest led.0 led.2.before)
+
   pub was_made : (n : ℕ) (u : TheWorld) → written_run setup (take n events) ≡ Running u → (m : Made Term ℕ) (station air : ℕ) → made_at u.made station air ≡ Some m → WasMade n m
   was_made zero u runs m station air found =
       let bad : None ≡ Some m = ap (λ x. made_at x.made station air) (still_one runs) ∙ found in absurd cc
@@ -125,7 +141,7 @@ module _ (setup : Setup) (events : List Event) where
 
   -- WHAT THE PHONE TAKES
 
-  all_last : (P : Took Term ℕ → Type 0) (xs : List (Took Term ℕ)) (x : Took Term ℕ) → AllOf P (xs ++ x ∷ []) → P x
+  pub all_last : (P : Took Term ℕ → Type 0) (xs : List (Took Term ℕ)) (x : Took Term ℕ) → AllOf P (xs ++ x ∷ []) → P x
   all_last P [] x h = h.0
   all_last P (y ∷ ys) x h = all_last P ys x h.1
 

@@ -154,6 +154,17 @@ JoinedAgree w = JoinedBy w w.phone.radio
 abbrev pub IsFar : List (Made Term ℕ) → Took Term ℕ → Type 0
 IsFar made x = (m : Made Term ℕ) × (made_at made x.station x.air ≡ Some m) × (8 ≤ ahead m x.came)
 
+-- the key under which the phone obeyed an order
+abbrev pub key_before : Came Term ℕ → Option Term
+key_before Secured = None
+key_before (Commanded before) = Some before.key
+key_before (Changed before root) = Some before.key
+
+-- a phone that took a key eight or more steps ahead, by a handover command or by a key change that was made from another
+-- authentication, obeys no order under it
+abbrev pub NoneUnder : {S : Type 0} → World Term ℕ S → Type 0
+NoneUnder w = AllOf (λ x. IsFar w.made x → AllOf (λ y. key_before y.came ≢ Some x.key) w.took) w.took
+
 -- no context of the station has the air address of an obeyed command where the key differs: where it was eight or more
 -- steps ahead; in world v, of what the phone took in world w
 abbrev pub NoneThere : {S : Type 0} → World Term ℕ S → World Term ℕ S → Type 0
@@ -261,7 +272,9 @@ pub record Agrees {S : Type 0} (w : World Term ℕ S) : Type 0 where
   pub last : TookLast w.took w.phone.radio
   -- it takes one key at most at an air address
   pub one_term : OneTerm w
-  -- phone and station have one key wherever both are at one air address
+  -- under a key that was eight or more steps ahead it obeys no order
+  pub none_under : NoneUnder w
+  -- phone and station have one key, chain number and algorithms wherever both are at one air address
   pub joined : JoinedAgree w
   -- a context that came by a handover or a key change has a key that the phone had taken there
   pub completed : CompletedTaken w

@@ -4,7 +4,7 @@ use Rattle.lte_events.specs.declared.events.Event.{Event}
 use Rattle.lte_events.specs.declared.setups.Setup.{Setup}
 use Rattle.key_model.specs.Term.{Term}
 use Rattle.lte_machine.specs.ByEvent.{IsStep}
-use Rattle.lte_machine.specs.Reply.{Note, Made, Before, Commanded, Took}
+use Rattle.lte_machine.specs.Reply.{Note, Made, Took}
 use Rattle.lte_machine.specs.Wire.{Outgoing}
 use Rattle.lte_machine.specs.World.{World, Line}
 use Rattle.lte_properties.specs.Agreement.{ahead, ObeysMade}
@@ -43,7 +43,3 @@ pub record Follows (setup : Setup) (events : List Event) (k : ℕ) (x : Took Ter
   -- how what the phone took stands to it
   pub obeys : ObeysMade x x.came made
   pub near : ahead made x.came < 8 → TellOneKey line told
-
--- the phone obeys a handover command at step k
-abbrev pub Obeyed : Setup → List Event → ℕ → Took Term ℕ → Before Term ℕ → Line Term → Type 0
-Obeyed setup events k x before line = TakesAt setup events k x line × (x.came ≡ Commanded before)

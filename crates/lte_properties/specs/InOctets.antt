@@ -1,5 +1,5 @@
 -- What is said of a run in octets: of the worlds by which it goes on, and of what it tells.
-use Rattle.std.specs.Prelude.{◌≡◌, ℕ, ℤ, List, take, slice_get, Some}
+use Rattle.std.specs.Prelude.{◌≡◌, ℕ, ◌<◌, ◌≤◌, ℤ, List, take, slice_get, Some}
 use Rattle.lte_events.specs.declared.answers.Answer.TheVariants.{Done}
 use Rattle.lte_events.specs.declared.events.Event.{Event}
 use Rattle.lte_events.specs.declared.setups.Setup.{Setup}
@@ -8,9 +8,13 @@ use Rattle.lte_machine.specs.BothRuns.{octet_run, octet_report}
 use Rattle.lte_machine.specs.ByEvent.{IsStep}
 use Rattle.lte_machine.specs.Ladder.{OfRoot}
 use Rattle.lte_machine.specs.Machines.{Kept}
+use Rattle.lte_machine.specs.Reply.{Made, Took}
 use Rattle.lte_machine.specs.Run.{Running, Reported}
 use Rattle.lte_machine.specs.Wire.{Outgoing}
 use Rattle.lte_machine.specs.World.{World, Line, AtStation, record_at}
+use Rattle.lte_properties.specs.Agreement as agreement
+use Rattle.lte_properties.specs.Agreement.{ahead, ContextAt}
+use Rattle.lte_properties.specs.BySteps.{MakesAt, TakesAt}
 use Rattle.lte_properties.specs.Packets.{IsPacket, IsReady, InWindow, next_for, count_of, window_of}
 use Rattle.lte_machine.specs.Distinct.{Member}
 
@@ -42,3 +46,26 @@ pub record TellsText (setup : Setup) (events : List Event) (k : ℕ) (sent : Lis
   pub told : slice_get (octet_report setup events) k ≡ Some (Reported line)
   pub done : line.answer ≡ Done
   pub opened : line.opened ≡ Some sent
+
+-- the phone took this by an order, of a handover or of a change of the key, and what had been made for that air address was
+-- eight or more chain steps ahead of the phone's key
+pub record TakesFar (setup : Setup) (events : List Event) (x : Took Term ℕ) : Type 0 where
+  pub step : ℕ
+  pub told : Line Term
+  pub takes : TakesAt setup events step x told
+  pub made : Made Term ℕ
+  pub when : ℕ
+  pub line : Line Term
+  pub makes : MakesAt setup events when made line
+  pub earlier : when < step
+  pub there : (made.station ≡ x.station) × (made.air ≡ x.air)
+  pub far : 8 ≤ ahead made x.came
+
+-- no context of the station has this air address
+abbrev pub NoContextAt : ℕ → ℕ → World (List ℕ) ℕ Kept → Type 0
+NoContextAt station air u = agreement.AtStation u station (λ s. ContextAt air s.context (λ c. ⊥))
+
+-- in no world of the run has a context the air address of such an order, neither before the phone obeyed it nor after it
+abbrev pub FarNeverThere : Setup → List Event → Type 0
+FarNeverThere setup events =
+    (x : Took Term ℕ) → TakesFar setup events x → EachWorld setup events (NoContextAt x.station x.air)

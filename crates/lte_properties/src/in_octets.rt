@@ -8,7 +8,7 @@ ghost use Rattle.lte_machine.specs.Ranges.{AllOf, IsEvent, IsSetup};
 ghost use Rattle.lte_machine.specs.World.{World};
 ghost use Rattle.lte_properties.specs.Agreement.{JoinedAgree};
 ghost use Rattle.lte_properties.specs.Freshness.{NoUseTwice};
-ghost use Rattle.lte_properties.specs.InOctets.{NoKasmeHeld, BringsPacket, TellsText};
+ghost use Rattle.lte_properties.specs.InOctets.{NoKasmeHeld, BringsPacket, TellsText, FarNeverThere};
 
 /// In each world in octets that is the value of a run which goes on, with the algorithms of TS 33.401
 /// Annex B:
@@ -20,6 +20,9 @@ ghost use Rattle.lte_properties.specs.InOctets.{NoKasmeHeld, BringsPacket, Tells
 ///
 /// And at a step of a run that brings a packet, as it was sent, to a receiver that is ready for it, with a
 /// COUNT in its window, the report in octets tells that it is done, and the text that was sent (`packet`).
+///
+/// Where the phone obeyed an order eight or more chain steps ahead, of a handover or of a change of the key, no
+/// context of the station has that air address in any world of the run, before the order or after it (`far`).
 pub fn runs_in_octets_keep_what_terms_do()
     ensures uses { (setup : Setup) (events : List Event) (u : World (List ℕ) ℕ Kept) →
         IsValueOfRun setup events u → NoUseTwice u.uses }
@@ -29,4 +32,5 @@ pub fn runs_in_octets_keep_what_terms_do()
         IsValueOfRun setup events u → NoKasmeHeld u }
     ensures packet { (setup : Setup) (events : List Event) → IsSetup setup → AllOf IsEvent events →
         (k : ℕ) (sent : List ℕ) → BringsPacket setup events k sent → TellsText setup events k sent }
+    ensures far { (setup : Setup) (events : List Event) → IsSetup setup → AllOf IsEvent events → FarNeverThere setup events }
 {}

@@ -1,5 +1,5 @@
 -- What a world answers is what its run tells.
-use Rattle.std.proofs.Common.{◌≡◌, refl, sym, ap, ◌∙◌, ℕ, zero, suc, List, [], ◌∷◌, ◌++◌, length, map, Option, Some, Result, Ok, option_map}
+use Rattle.std.proofs.Common.{◌≡◌, refl, sym, ap, ◌∙◌, ℕ, zero, suc, ◌≤◌, ◌<◌, arith, List, [], ◌∷◌, ◌++◌, length, map, Option, Some, Result, Ok, option_map}
 use Rattle.std.specs.Prelude.{slice_get}
 use Rattle.lte_events.specs.declared.events.Event.{Event}
 use Rattle.lte_events.specs.declared.lines.Line.{Line}
@@ -14,7 +14,7 @@ use Rattle.lte_machine.specs.Carried.{map_line, report_value}
 use Rattle.lte_machine.specs.Ciphers.{annex_b}
 use Rattle.lte_machine.specs.Opening.{open_octets}
 use Rattle.lte_machine.specs.Ranges.{AllOf, IsEvent, IsSetup}
-use Rattle.lte_machine.specs.Reply.{Note, Came, Secured, Commanded, Changed, Took, map_note}
+use Rattle.lte_machine.specs.Reply.{Note, Made, Came, Secured, Commanded, Changed, Took, map_note}
 use Rattle.lte_machine.specs.Run.{Running, first_world, Reported, event_report}
 use Rattle.lte_machine.specs.Wire.{Outgoing}
 use Rattle.lte_machine.specs.World as world
@@ -22,8 +22,9 @@ use Rattle.lte_machine.specs.World.{World}
 use Rattle.lte_machine.proofs.AnnexB.{annex_b_ciphers}
 use Rattle.lte_machine.proofs.EventByEvent.{tale_snoc, told_each, step_told}
 use Rattle.lte_machine.proofs.WholeRun.{tale_is_value}
-use Rattle.lte_properties.specs.BySteps.{TakesAt}
-use Rattle.lte_properties.specs.Headline.{Headline, OfTarget}
+use Rattle.lte_properties.specs.Agreement.{ahead, ObeysMade}
+use Rattle.lte_properties.specs.BySteps.{TakesAt, Follows}
+use Rattle.lte_properties.specs.Headline.{Headline}
 use Rattle.lte_properties.specs.InOctets.{TellsText}
 use Rattle.lte_properties.proofs.HeadlineHolds.{headline}
 use Rattle.lte_properties.proofs.StepByStep.{takes_tell, makes_tell}
@@ -74,6 +75,18 @@ module _ (setup : Setup) (journal : List Event) (e : Event) where
   last_answer = ap (λ xs. slice_get xs (length journal)) answers_more ∙ ap (λ k. slice_get (answers journal ++ event_told ∷ []) k) (sym answers_length)
       ∙ slice_get_at_end (answers journal) event_told
 
+-- THE KEY TAKEN
+
+takes_made : (x : Took Term ℕ) (m : Made Term ℕ) (came : Came Term ℕ) → ObeysMade x came m → ahead m came < 8 → x.key ≡ m.key
+takes_made x m Secured o low = o.0.0
+takes_made x m (Commanded before) o low = (o.near low).0
+takes_made x m (Changed before root) o low = (o.near low).0
+
+takes_other : (x : Took Term ℕ) (m : Made Term ℕ) (came : Came Term ℕ) → ObeysMade x came m → 8 ≤ ahead m came → x.key ≡ m.key → ⊥
+takes_other x m Secured o high same = omega (arith, high)
+takes_other x m (Commanded before) o high same = (o.far high).0 same
+takes_other x m (Changed before root) o high same = o.far high same
+
 -- WHAT STANDS AT A PLACE
 
 abbrev answered : world.Line Term → Line
@@ -106,15 +119,9 @@ module _ (v : Whole) (set : IsSetup v.setup) (are : AllOf IsEvent v.journal) whe
 
     -- COMMANDS
 
-    target_of : (x : Took Term ℕ) (told : world.Line Term) (takes : TakesAt v.setup v.journal k x told) (came : Came Term ℕ) → x.came ≡ came → IsCommanded came
-        → OfTarget v.setup v.journal k x came told
-    target_of x told takes (Commanded before) is commanded = heads.agreement k x before told (takes, is)
-    target_of x told takes (Changed before root) is commanded = heads.renewal k x before root told takes is
-    target_of x told takes Secured is commanded = absurd commanded
-
     pub commands_share : CommandsShare v k line
     commands_share x told takes commanded =
-        let target = target_of x told takes x.came refl commanded in
+        let target : Follows v.setup v.journal k x told = heads.agreement k x told takes in
         let is : line ≡ answered told = same_ok (same_some (sym there ∙ line_at k takes.world takes.event takes.after told takes.step)) in
         let taken = takes_tell v.setup v.journal k x told takes in
         let made = makes_tell v.setup v.journal target.when target.made target.told target.makes in
@@ -125,6 +132,6 @@ module _ (v : Whole) (set : IsSetup v.setup) (are : AllOf IsEvent v.journal) whe
           answered = line_at target.when target.makes.world target.makes.event target.makes.after target.told target.makes.step;
           made = made_is;
           took = took_is;
-          near = λ low. took_is ∙ ap (λ key. Some (value_of key)) (target.near low).0.0 ∙ sym made_is;
-          far = λ high same. target.far high (one_term v.setup v.journal k x told takes target.when target.made target.told target.makes target.earlier (same_some (sym took_is ∙ same ∙ made_is)));
+          near = λ low. took_is ∙ ap (λ key. Some (value_of key)) (takes_made x target.made x.came target.obeys low) ∙ sym made_is;
+          far = λ high same. takes_other x target.made x.came target.obeys high (one_term v.setup v.journal k x told takes target.when target.made target.told target.makes target.earlier (same_some (sym took_is ∙ same ∙ made_is)));
         }

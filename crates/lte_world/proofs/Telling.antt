@@ -19,6 +19,8 @@ use Rattle.lte_machine.specs.Step.{StepResult, Continues, Stops, next}
 use Rattle.lte_machine.specs.World as world
 use Rattle.lte_machine.specs.World.{World, auth_unless, known_root, station_of_id, turn_of, content_in, arrives, delivery, record_at, injected, is_sent, class_of, happens}
 use Rattle.lte_machine.proofs.EventByEvent.{step_is}
+use Rattle.lte_properties.specs.InOctets.{FarNeverThere}
+use Rattle.lte_properties.proofs.FarNever.{far_never}
 use Rattle.lte_world.specs.declared.faults.WorldFault.{WorldFault}
 use Rattle.lte_world.specs.InOctets.{answers_of, CommandsShare, PacketsOpen}
 use Rattle.lte_world.specs.Systems.{octets, Actors}
@@ -104,6 +106,9 @@ module _ (setup : Setup) (journal : List Event) (a : Actors) (set : IsSetup setu
     pub packets_line : PacketsOpen after (length before.journal) line
     packets_line = packets_open after in_range.0 in_range.1 (length before.journal) line there
 
+    pub never_line : FarNeverThere after.setup after.journal
+    never_line = far_never after.setup after.journal in_range.0 in_range.1
+
 -- ONE EVENT OF A WORLD
 
 module _ (setup : Setup) (journal : List Event) (over : Option Proof) (ready : Bool) (a : Actors) (none : over ≡ None) (set : IsSetup setup) (are : AllOf IsEvent journal)
@@ -139,3 +144,6 @@ module _ (setup : Setup) (journal : List Event) (over : Option Proof) (ready : B
 
     pub line_packets : PacketsOpen after (length v.journal) line
     line_packets = packets_line v.setup v.journal a set_so are_so goes e (is_event v.setup e can.can can.fits) line says_so v after refl refl (ap (λ x. x.setup) view) grown
+
+    pub line_never : FarNeverThere after.setup after.journal
+    line_never = never_line v.setup v.journal a set_so are_so goes e (is_event v.setup e can.can can.fits) line says_so v after refl refl (ap (λ x. x.setup) view) grown

@@ -15,8 +15,7 @@ use Rattle.lte_machine.specs.StationState.{Station, Context}
 use Rattle.lte_machine.specs.World as world
 use Rattle.lte_machine.specs.World.{World, station_of_id}
 use Rattle.lte_properties.specs.Agreement.{ahead}
-use Rattle.lte_properties.specs.BySteps.{TakesAt}
-use Rattle.lte_properties.specs.Headline.{OfTarget}
+use Rattle.lte_properties.specs.BySteps.{TakesAt, Follows}
 use Rattle.lte_properties.specs.InOctets.{BringsPacket}
 use Rattle.lte_world.specs.declared.faults.WorldFault.{WorldFault}
 use Rattle.lte_world.specs.Whole.{Whole, answer_of}
@@ -46,17 +45,18 @@ key_told line = option_map (λ n. n.key) line.note
 
 -- a command that was obeyed at step k, of a handover or of a change of the key, beside what its target made for it at an earlier
 -- step: the line that the world answered then, and the one that it answers now
-pub record SharesKey (v : Whole) (k : ℕ) (x : Took Term ℕ) (came : Came Term ℕ) (told : world.Line Term) (line : Line) : Type 0 where
-  pub target : OfTarget v.setup v.journal k x came told
+pub record SharesKey (v : Whole) (k : ℕ) (x : Took Term ℕ) (told : world.Line Term) (line : Line) : Type 0 where
+  -- what was made there. It is not behind the phone, and what the phone took of it is said there over terms
+  pub target : Follows v.setup v.journal k x told
   pub earlier : Line
   pub answered : slice_get (answers_of v) target.when ≡ Some (Ok earlier)
   -- the one tells the key that the target made, the other the key that the phone took
   pub made : key_told earlier ≡ Some (value_of target.made.key)
   pub took : key_told line ≡ Some (value_of x.key)
   -- fewer than eight chain steps ahead that is one key
-  pub near : ahead target.made came < 8 → key_told line ≡ key_told earlier
+  pub near : ahead target.made x.came < 8 → key_told line ≡ key_told earlier
   -- and at eight or more another
-  pub far : 8 ≤ ahead target.made came → key_told line ≢ key_told earlier
+  pub far : 8 ≤ ahead target.made x.came → key_told line ≢ key_told earlier
 
 -- the phone took a key by a command, and not where the security of its connection began
 abbrev pub IsCommanded : Came Term ℕ → Type 0
@@ -67,7 +67,7 @@ IsCommanded came = Unit {0}
 abbrev pub CommandsShare : Whole → ℕ → Line → Type 0
 CommandsShare v k line =
     (x : Took Term ℕ) (told : world.Line Term) → TakesAt v.setup v.journal k x told → IsCommanded x.came →
-    SharesKey v k x x.came told line
+    SharesKey v k x told line
 
 -- the line of step k, where that brings an intact packet to a ready receiver in its window: it is done, and tells the text that
 -- was sent

@@ -7,6 +7,7 @@ ghost use Rattle.lte_machine.specs.Ciphers.{annex_b};
 ghost use Rattle.lte_machine.specs.Run.{Running, first_world};
 ghost use Rattle.run_stores.specs.Records.{world_uses};
 ghost use Rattle.run_stores.specs.Rows.{world_rows};
+ghost use Rattle.lte_properties.specs.InOctets.{FarNeverThere};
 ghost use Rattle.lte_world.specs.InOctets.{answers_of, NoTwoEqual, IsJoined, CommandsShare, PacketsOpen};
 ghost use Rattle.lte_machine.specs.Ranges.{AllOf};
 ghost use Rattle.lte_world.specs.Replies.{RepliedLast, IsOfSetup};
@@ -97,8 +98,10 @@ impl World {
         ensures step { IfOk result (λ line. line.step ≡ length self.old.journal) }
         ensures answers { OnOk result (answers_of self.new ≡ answers_of self.old ++ result ∷ []) }
         // A phone that obeys a command, of a handover or of a change of the key, fewer than eight chain steps ahead shares the
-        // target's key, and one that obeys one further ahead does not.
+        // target's key, and one that obeys one further ahead does not. The target is never behind the phone.
         ensures commands { IfOk result (λ line. CommandsShare self.new (length self.old.journal) line) }
+        // Where it obeyed one further ahead, now or before, no context of the station has that air address, at any event.
+        ensures never { OnOk result (FarNeverThere self.new.setup self.new.journal) }
         // An intact packet in a ready receiver's window opens to what was sent.
         ensures packets { IfOk result (λ line. PacketsOpen self.new (length self.old.journal) line) }
     {

@@ -25,7 +25,7 @@ use Rattle.x2_handover.specs.Attempt.{x2_order}
 use Rattle.s1_handover.specs.Attempt.{s1_order}
 use Rattle.lte_machine.specs.Bearers.{Srb, Signalling1, Bearers}
 use Rattle.lte_machine.specs.Wire.{KeyUse, Ciphering, Outgoing, SealedNas, SealedRrc, Between, srb_use, srb_ciphering}
-use Rattle.lte_machine.specs.Reply.{Origin, From, BySetup, ByAttempt, ByChange, Made, Tried, Took, Handover, BySource, ByTarget}
+use Rattle.lte_machine.specs.Reply.{Origin, From, BySetup, ByAttempt, ByChange, Made, Tried, Came, Secured, Commanded, Changed, Took, Handover, BySource, ByTarget}
 use Rattle.lte_machine.specs.PhoneState.{Link, Radio, Idle, Connecting, Connected}
 use Rattle.lte_machine.specs.StationState.{Station, Context, Attempt, OverX2, OverS1, Within, Renewing, X2State, X2Open, X2Ready, X2Commanded, S1State, S1Open, S1Ready, S1Commanded}
 use Rattle.lte_machine.specs.CoreState.{Core, CoreLink}
@@ -130,11 +130,22 @@ TriedOk cells g e =
     TermOk g e.conn e.key e.number × (station_of e.cell cells ≡ Some e.target) × GivenOk g e e.kind
     × (e.station ≤ 7)
 
+-- a key that the phone had taken at an air address of the station, which had made that very key there
+abbrev pub HadMade : Ghost → ℕ → Term → Type 0
+HadMade g station t =
+    (air : ℕ) × (m : Made Term ℕ) × (made_at g.made station air ≡ Some m) × (t ≡ m.key) × HadTaken g.took station air t
+
+-- under such a key it obeyed an order
+abbrev pub UnderIs : Ghost → Came Term ℕ → Type 0
+UnderIs g Secured = ⊤
+UnderIs g (Commanded before) = HadMade g before.station before.key
+UnderIs g (Changed before root) = HadMade g before.station before.key
+
 -- what was taken
 abbrev pub TookOk : Ghost → Took Term ℕ → Type 0
 TookOk g x =
     HereIs g x.station x.air x.key × Obeys g.made x × Grows x x.came
-    × OnChain (root_of x.key) (nas_count_of x.key) x.key x.number
+    × OnChain (root_of x.key) (nas_count_of x.key) x.key x.number × UnderIs g x.came
 
 -- a context or preparation is what was made for its air address
 abbrev pub IsMade : Made Term ℕ → Term → ℕ → Algs → Type 0

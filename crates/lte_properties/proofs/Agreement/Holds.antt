@@ -14,9 +14,12 @@ use Rattle.lte_machine.specs.PhoneState.{Radio, Idle, Connecting, Connected, Lin
 use Rattle.lte_machine.specs.StationState.{Station, Context}
 use Rattle.lte_machine.specs.Run.{stations_of, first_world}
 use Rattle.lte_properties.specs.ChainBelow.{AllOf}
-use Rattle.lte_properties.specs.Agreement.{made_at, ahead, ObeysMade, Obeys, Grows, OneTerm, ContextAt, AtStation, Agree, JoinedBy, IsFar, NoneThere, ComesMade, PrepMade, Agrees}
+use Rattle.lte_properties.specs.Agreement.{made_at, ahead, ObeysMade, Obeys, Grows, OneTerm, key_before, NoneUnder, ContextAt, AtStation, Agree, JoinedBy, IsFar, NoneThere, ComesMade, PrepMade, Agrees}
 use Rattle.lte_properties.proofs.ChainNumbers.Lists.{all_map}
-use Rattle.lte_properties.proofs.Agreement.Ghost.{MadeOk, SeenBy, Ghost, tried_at, keys_of, taken, FromIs, HereIs, CtxOk, PrepOk, StationOk, LinkIs, RadioOk, TookOk}
+use Rattle.lte_properties.proofs.Agreement.Ghost.{MadeOk, SeenBy, Ghost, tried_at, keys_of, taken, FromIs, HereIs, CtxOk, PrepOk, StationOk, LinkIs, RadioOk, HadMade, UnderIs, TookOk}
+use Rattle.lte_properties.proofs.Freshness.Order.{not_before_itself}
+use Rattle.lte_properties.proofs.Freshness.PhoneUses.{TookInOrder}
+use Rattle.lte_properties.proofs.Freshness.Sequence.{IsBefore}
 use Rattle.lte_properties.proofs.Agreement.Follows.{InTurn}
 use Rattle.lte_properties.proofs.Agreement.Later.{Later, same_found, here_later}
 use Rattle.lte_properties.proofs.Agreement.Told.{SiteOk, term_number}
@@ -89,7 +92,47 @@ of_each P [] x h i = absurd i
 of_each P (y ∷ ys) x h (inl e) = subst P (sym e) h.0
 of_each P (y ∷ ys) x h (inr i) = of_each P ys x h.1 i
 
+-- where a key is eight or more steps ahead, the phone took another one
+other_key : (came : Came Term ℕ) (y : Took Term ℕ) (n : Made Term ℕ) → ObeysMade y came n → 8 ≤ ahead n came → y.key ≡ n.key → ⊥
+other_key Secured y n h wide same = omega arith
+other_key (Commanded before) y n h wide same = (h.far wide).0 same
+other_key (Changed before root) y n h wide same = h.far wide same
+
+-- what is a far key is not the one made there
+far_is_other : (made : List (Made Term ℕ)) (x : Took Term ℕ) → Obeys made x → IsFar made x → (m : Made Term ℕ) → made_at made x.station x.air ≡ Some m → x.key ≡ m.key → ⊥
+far_is_other made x obeys far m found same =
+    let one : obeys.0 ≡ m = same_found _ obeys.0 m obeys.1 found in
+    let also : far.0 ≡ m = same_found _ far.0 m far.1 found in
+    other_key x.came x m (subst (ObeysMade x x.came) one obeys.2) (subst (λ y. 8 ≤ ahead y x.came) also far.2) same
+
+-- keys that were taken in order are taken once
+same_took : (took : List (Took Term ℕ)) → TookInOrder took → (x y : Took Term ℕ) → Member x took → Member y took → x.key ≡ y.key → x ≡ y
+same_took [] o x y i j same = absurd i
+same_took (z ∷ zs) o x y (inl e) (inl f) same = e ∙ sym f
+same_took (z ∷ zs) o x y (inl e) (inr j) same =
+    absurd (not_before_itself z.key (subst (IsBefore z.key) (sym same ∙ ap (λ a. a.key) e) (of_each (λ a. IsBefore z.key a.key) zs y o.0 j)))
+same_took (z ∷ zs) o x y (inr i) (inl f) same =
+    absurd (not_before_itself z.key (subst (IsBefore z.key) (same ∙ ap (λ a. a.key) f) (of_each (λ a. IsBefore z.key a.key) zs x o.0 i)))
+same_took (z ∷ zs) o x y (inr i) (inr j) same = same_took zs o.1 x y i j same
+
+-- the key under which an order was obeyed had been made
+under_made : (g : Ghost) (came : Came Term ℕ) (t : Term) → UnderIs g came → key_before came ≡ Some t → (station : ℕ) × HadMade g station t
+under_made g Secured t k e = absurd cc
+under_made g (Commanded before) t k e = let one : before.key ≡ t = cc in (before.station, subst (HadMade g before.station) one k)
+under_made g (Changed before root) t k e = let one : before.key ≡ t = cc in (before.station, subst (HadMade g before.station) one k)
+
 module _ (cells : List Site) (c : Conns) (w : TheWorld) (h : WorldOk cells c w) where
+  -- no order is obeyed under a far key: the key of an order was made where it was taken, and it was taken once
+  none_under : TookInOrder w.took → NoneUnder w
+  none_under order =
+      all_in _ w.took (λ x i far. all_in _ w.took (λ y j under.
+      let k = under_made (ghost c w) y.came x.key (of_each (TookOk (ghost c w)) w.took y h.took j).4 under in
+      let z = k.1.4 in
+      let one : z.0 ≡ x = same_took w.took order z.0 x z.1 i z.4 in
+      let found : made_at w.made x.station x.air ≡ Some k.1.1 =
+      (λ e. made_at w.made ((ap (λ a. a.station) (sym one) ∙ z.2) e) ((ap (λ a. a.air) (sym one) ∙ z.3) e)) ∙ k.1.2 in
+      far_is_other w.made x (of_each (TookOk (ghost c w)) w.took x h.took i).1 far k.1.1 found k.1.3))
+
   one_term : OneTerm w
   one_term =
       all_in _ w.took (λ x i. all_in _ w.took (λ y j station air.
@@ -129,8 +172,8 @@ module _ (cells : List Site) (c : Conns) (w : TheWorld) (h : WorldOk cells c w) 
   preps_made id ps ok =
       all_map (PrepOk (ghost c w) id) (PrepMade w id) (λ p k. (k.3, k.4, k.5.0, k.5.1, k.5.2)) ps ok
 
-  pub agrees : InTurn w → Agrees w
-  agrees turn = record {
+  pub agrees : InTurn w → TookInOrder w.took → Agrees w
+  agrees turn order = record {
     follow = turn.0;
     last = turn.1;
     tried_once = h.once;
@@ -138,6 +181,7 @@ module _ (cells : List Site) (c : Conns) (w : TheWorld) (h : WorldOk cells c w) 
     obeyed = all_map (TookOk (ghost c w)) (Obeys w.made) (λ x k. k.1) w.took h.took;
     grow = all_map (TookOk (ghost c w)) (λ x. Grows x x.came) (λ x k. k.2) w.took h.took;
     one_term = one_term;
+    none_under = none_under order;
     joined = joined w.phone.radio h.radio;
     completed = all_map (StationOk cells (ghost c w)) (λ s. ComesMade w s.id s.context) (λ s ok. comes s.id s.context ok.0) w.stations h.stations;
     preps = all_map (StationOk cells (ghost c w)) (λ s. AllOf (PrepMade w s.id) s.preps) (λ s ok. preps_made s.id s.preps ok.1) w.stations h.stations;
@@ -148,17 +192,7 @@ module _ (cells : List Site) (c d : Conns) (v u : TheWorld) (l : Later (ghost c 
   -- a context's key is the one made, and what the phone takes there
   far_differs : (x : Took Term ℕ) → TookOk (ghost d u) x → IsFar u.made x
       → (m : Made Term ℕ) → made_at u.made x.station x.air ≡ Some m → HereIs (ghost d u) x.station x.air m.key → ⊥
-  far_differs x k far m found here =
-      let obeys = k.1 in
-      let one : obeys.0 ≡ m = same_found _ obeys.0 m obeys.1 found in
-      let also : far.0 ≡ m = same_found _ far.0 m far.1 found in
-      let wide : 8 ≤ ahead m x.came = subst (λ y. 8 ≤ ahead y x.came) also far.2 in
-      other_key x.came x m (subst (ObeysMade x x.came) one obeys.2) wide (one_here (ghost d u) x.station x.air x.key m.key k.0 here)
-    where
-      other_key : (came : Came Term ℕ) (y : Took Term ℕ) (n : Made Term ℕ) → ObeysMade y came n → 8 ≤ ahead n came → y.key ≡ n.key → ⊥
-      other_key Secured y n h wide same = omega arith
-      other_key (Commanded before) y n h wide same = (h.far wide).0 same
-      other_key (Changed before root) y n h wide same = h.far wide same
+  far_differs x k far m found here = far_is_other u.made x k.1 far m found (one_here (ghost d u) x.station x.air x.key m.key k.0 here)
 
   -- a context of the earlier world
   none_before_at : (x : Took Term ℕ) → TookOk (ghost d u) x → IsFar u.made x → (s : Station Term ℕ) → s.id ≡ x.station

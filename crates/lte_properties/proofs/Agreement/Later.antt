@@ -17,7 +17,7 @@ use Rattle.x2_handover.specs.Attempt.{x2_order}
 use Rattle.s1_handover.specs.Attempt.{s1_order}
 use Rattle.lte_machine.specs.Bearers.{Srb}
 use Rattle.lte_machine.specs.Wire.{KeyUse, Ciphering, Outgoing, SealedNas, SealedRrc, Between}
-use Rattle.lte_machine.specs.Reply.{From, BySetup, ByAttempt, ByChange, Made, Tried, Took, Handover, BySource, ByTarget}
+use Rattle.lte_machine.specs.Reply.{From, BySetup, ByAttempt, ByChange, Made, Tried, Came, Secured, Commanded, Changed, Took, Handover, BySource, ByTarget}
 use Rattle.lte_machine.specs.PhoneState.{Radio, Idle, Connecting, Connected}
 use Rattle.lte_machine.specs.StationState.{Context, Attempt, OverX2, OverS1, Within, Renewing, X2State, X2Open, X2Ready, X2Commanded, S1State, S1Open, S1Ready, S1Commanded}
 use Rattle.lte_properties.specs.ChainBelow.{AllOf}
@@ -26,7 +26,7 @@ use Rattle.std.specs.Prelude.{find}
 use Rattle.std.specs.Option.{option_or}
 use Rattle.std.proofs.lemmas.List.Folds.{find-append}
 use Rattle.lte_properties.specs.Agreement.{made_at, Obeys, HadTaken, TakenIfTried}
-use Rattle.lte_properties.proofs.Agreement.Ghost.{Ghost, tried_at, took_at, chain_at, TermOk, PairOk, PairsOk, FromIs, HereIs, FromOk, MadeOk, GivenOk, TriedOk, TookOk, EntryIs, OrderIs, IsOrder, StartIs, UnderKey, X2Ok, S1Ok, ChangeIs, AttemptOk, StartedOk, CtxOk, PrepOk, RadioOk, SaysOk, CipheredSo, DownOk, UpOk, AskedIs, AckIs, CommandTo, X2AckTo, HasNcc, AnyMade, IsOther, Surpasses, IsFor, BetweenOk, SentOk}
+use Rattle.lte_properties.proofs.Agreement.Ghost.{Ghost, tried_at, took_at, chain_at, TermOk, PairOk, PairsOk, FromIs, HereIs, FromOk, MadeOk, GivenOk, TriedOk, HadMade, UnderIs, TookOk, EntryIs, OrderIs, IsOrder, StartIs, UnderKey, X2Ok, S1Ok, ChangeIs, AttemptOk, StartedOk, CtxOk, PrepOk, RadioOk, SaysOk, CipheredSo, DownOk, UpOk, AskedIs, AckIs, CommandTo, X2AckTo, HasNcc, AnyMade, IsOther, Surpasses, IsFor, BetweenOk, SentOk}
 use Rattle.lte_machine.specs.Distinct.{Member}
 
 -- more is told, connections go on, and none begins anew
@@ -130,8 +130,16 @@ module _ (g h : Ghost) (l : Later g h) where
   obeys_later : (x : Took Term ℕ) → Obeys g.made x → Obeys h.made x
   obeys_later x y = (y.0, l.made x.station x.air y.0 y.1, y.2)
 
+  made_key_later : (station : ℕ) (t : Term) → HadMade g station t → HadMade h station t
+  made_key_later station t k = (k.0, k.1, l.made station k.0 k.1 k.2, k.3, had_later station k.0 t k.4)
+
+  came_later : (came : Came Term ℕ) → UnderIs g came → UnderIs h came
+  came_later Secured k = tt
+  came_later (Commanded before) k = made_key_later before.station before.key k
+  came_later (Changed before root) k = made_key_later before.station before.key k
+
   pub took_later : (x : Took Term ℕ) → TookOk g x → TookOk h x
-  took_later x y = (here_later x.station x.air x.key y.0, obeys_later x y.1, y.2, y.3)
+  took_later x y = (here_later x.station x.air x.key y.0, obeys_later x y.1, y.2, y.3, came_later x.came y.4)
 
   taken_if_later : (station air : ℕ) (t : Term) (o : From Term) → TakenIfTried g.took station air t o → TakenIfTried h.took station air t o
   taken_if_later station air t BySetup x = tt

@@ -23,7 +23,7 @@ use Rattle.lte_properties.specs.Agreement.{made_at, change_ahead, ahead, TookMad
 use Rattle.lte_properties.specs.Origins.{root_of, nas_count_of}
 use Rattle.lte_properties.proofs.Agreement.Terms.{climb, lands, climb-nh, IsKenb, number_lands, ChainOf, reached_key, reached_number, reached_chain, steps_below, steps_near, lands_near, steps_far, lands_far}
 use Rattle.lte_properties.specs.Chains.{chain_key}
-use Rattle.lte_properties.proofs.Agreement.Ghost.{Ghost, is_took_at, took_at, taken, FromIs, HereIs, Leads, FromOk, MadeOk, TookOk, OrderIs, ChangeIs, LinkIs, RadioOk, OutOk}
+use Rattle.lte_properties.proofs.Agreement.Ghost.{Ghost, is_took_at, took_at, taken, FromIs, HereIs, Leads, FromOk, MadeOk, HadMade, TookOk, OrderIs, ChangeIs, LinkIs, RadioOk, OutOk}
 use Rattle.lte_properties.proofs.Agreement.Told.{found_new, both_same, made_there}
 use Rattle.lte_properties.proofs.Agreement.Later.{Later, found_later, in_front, in_last, same_found}
 
@@ -46,15 +46,20 @@ StartNeeds g station air algs (Connecting w) =
     (m : Made Term ℕ) × (made_at g.made station air ≡ Some m) × (m.from ≡ BySetup) × (w.kenb ≡ m.key) × (algs ≡ m.algs)
 StartNeeds g station air algs other = ⊤
 
+-- the phone has the key that the station made for its air address
+abbrev pub OwnMade : Ghost → Link Term ℕ → Type 0
+OwnMade g l = (m : Made Term ℕ) × (made_at g.made l.station l.air ≡ Some m) × (l.kenb ≡ m.key)
+
 abbrev pub CommandNeeds : Ghost → Place → ℕ → Algs → ℕ → ℕ → Radio Term ℕ → Type 0
 CommandNeeds g cell steps algs station air (Connected l) =
     (ncc : ℕ) × (steps ≡ steps_to (ncc_of l.chain.number) ncc) × OrderIs g l.station l.kenb cell ncc algs station air
+    × OwnMade g l
 CommandNeeds g cell steps algs station air other = ⊤
 
 -- an order to change the present key, at whose air address the phone took nothing yet
 abbrev pub ChangeNeeds : Ghost → Place → Algs → ℕ → ℕ → Radio Term ℕ → Type 0
 ChangeNeeds g cell algs station air (Connected l) =
-    ChangeIs g l.kenb cell algs station air × (took_at g.took station air ≡ None)
+    ChangeIs g l.kenb cell algs station air × (took_at g.took station air ≡ None) × OwnMade g l
 ChangeNeeds g cell algs station air other = ⊤
 
 abbrev pub AirNeeds : Ghost → Radio Term ℕ → AirRow → Type 0
@@ -177,6 +182,10 @@ heard_left (OnDrb User2) n b h = h
 heard_left (OnDrb User3) n b h = h
 heard_left (OnDrb User4) n b h = h
 
+-- an order is obeyed under the key that the station made for the phone's air address
+own_before : (g : Ghost) (x : Took Term ℕ) (l : Link Term ℕ) → LinkIs g l → OwnMade g l → HadMade (with_took g (Some x)) l.station l.kenb
+own_before g x l h own = (l.air, own.0, own.1, own.2, (h.6.0, in_front h.6.0 g.took (x ∷ []) h.6.1, h.6.2, h.6.3, h.6.4))
+
 -- THE ROWS ON A PDU
 
 link_secured_goes : (same : Term → Term → Bool) (g : Ghost) → AllOf (MadeOk g) g.made → (station air : ℕ) (algs : Algs) (count : ℕ) (s : Phone Term ℕ) (radio : Radio Term ℕ)
@@ -195,7 +204,7 @@ link_secured_goes same g made station air algs count s (Connecting w) old h need
     let on : IsKenb w.kenb = ap chain_key h.1 ∙ sym (λ j. nh (root_of (h.1 j)) (nas_count_of (h.1 j)) (chain_number (h.1 j))) in
     let zero_on = on ∙ ap (nh (root_of w.kenb) (nas_count_of w.kenb)) (ap chain_number h.1) in (
       ((sym (ap root_of h.1), h.1 ∙ sym (ap chain_key h.1), sym (ap chain_number h.1), on), refl, m, needs.1, needs.4, from, had, (λ none. heard)),
-      (here, (m, needs.1, ((needs.3, sym number, needs.4), needs.2)), tt, zero_on),
+      (here, (m, needs.1, ((needs.3, sym number, needs.4), needs.2)), tt, zero_on, tt),
       (w.kenb, refl, here, had),
     )
 link_secured_goes same g made station air algs count s other old h needs = (old, tt, tt)
@@ -252,7 +261,7 @@ handed_over_goes same g made cell steps algs station air s (Connected l) old h n
         had,
         (λ none. absurd (no_setup order.4 none)),
       ),
-      (here, obeys, grows same l steps cell h.0 x refl refl, on),
+      (here, obeys, grows same l steps cell h.0 x refl refl, on, own_before g x l h needs.3),
       (r.star.key, refl, here, had),
     )
 handed_over_goes same g made cell steps algs station air s other old h needs = (old, tt, tt)
@@ -296,10 +305,10 @@ no_setup_change e f = cc
 
 changed_goes : (same : Term → Term → Bool) (g : Ghost) → AllOf (MadeOk g) g.made
     → (cell : Place) (algs : Algs) (station air : ℕ) (s : Phone Term ℕ) (l : Link Term ℕ) (root : Term) (b : Bool)
-    → RadioOk g s.radio → ChangeNeeds g cell algs station air (Connected l)
+    → RadioOk g s.radio → LinkIs g l → ChangeNeeds g cell algs station air (Connected l)
     → PhoneGoes g (changed_unless (term_reading_by same) cell algs station air s (before_of l) root b)
-changed_goes same g made cell algs station air s l root true old needs = (old, tt, tt)
-changed_goes same g made cell algs station air s l root false old needs =
+changed_goes same g made cell algs station air s l root true old own needs = (old, tt, tt)
+changed_goes same g made cell algs station air s l root false old own needs =
     let order = needs.0 in
     let m = order.0 in
     let t = Star (Kenb root 0) cell.pci cell.earfcn in
@@ -315,17 +324,17 @@ changed_goes same g made cell algs station air s l root false old needs =
     let ok : FromOk g m (ByChange l.kenb) = subst (FromOk g m) order.2 (all_found (MadeOk g) _ g.made m made order.1).3 in
     let of_cell : t ≡ Star (Kenb root 0) m.cell.pci m.cell.earfcn = λ j. Star (Kenb root 0) (sym order.3 j).pci (sym order.3 j).earfcn in (
       ((refl, refl, refl, refl), refl, m, order.1, sym order.4, from, had, (λ e. absurd (no_setup_change order.2 e))),
-      (here, (m, order.1, obeys_change m x (before_of l) root order.2 ok.0 ok.2 ok.3 of_cell refl (sym order.4)), (refl, cell.pci, cell.earfcn, refl), refl),
+      (here, (m, order.1, obeys_change m x (before_of l) root order.2 ok.0 ok.2 ok.3 of_cell refl (sym order.4)), (refl, cell.pci, cell.earfcn, refl), refl, own_before g x l own needs.2),
       (t, refl, here, had),
     )
 
 key_changed_goes : (same : Term → Term → Bool) (g : Ghost) → AllOf (MadeOk g) g.made
     → (cell : Place) (algs : Algs) (station air : ℕ) (s : Phone Term ℕ) (radio : Radio Term ℕ) (o : Option (NasContext Term))
-    → RadioOk g s.radio → ChangeNeeds g cell algs station air radio
+    → RadioOk g s.radio → RadioOk g radio → ChangeNeeds g cell algs station air radio
     → PhoneGoes g (key_changed (term_reading_by same) cell algs station air s radio o)
-key_changed_goes same g made cell algs station air s (Connected l) (Some c) old needs =
-    changed_goes same g made cell algs station air s l c.root (same c.root l.chain.root) old needs
-key_changed_goes same g made cell algs station air s radio o old needs = (old, tt, tt)
+key_changed_goes same g made cell algs station air s (Connected l) (Some c) old own needs =
+    changed_goes same g made cell algs station air s l c.root (same c.root l.chain.root) old own needs
+key_changed_goes same g made cell algs station air s radio o old own needs = (old, tt, tt)
 
 rrc_opened_goes : (same : Term → Term → Bool) (g : Ghost) (srb : Srb) (count : ℕ) (text : List ℕ) (s : Phone Term ℕ) (radio : Radio Term ℕ)
     → RadioOk g s.radio → RadioOk g radio → PhoneGoes g (rrc_opened {C = ℕ} srb count text s radio)
@@ -343,7 +352,7 @@ air_goes same g made (AirRefused answer) s h needs = (h, tt, tt)
 air_goes same g made (LinkSecured station air algs count) s h needs = link_secured_goes same g made station air algs count s s.radio h h needs
 air_goes same g made (HandedOver cell steps algs station air) s h needs =
     handed_over_goes same g made cell steps algs station air s s.radio h h needs
-air_goes same g made (KeyChanged cell algs station air) s h needs = key_changed_goes same g made cell algs station air s s.radio s.context h needs
+air_goes same g made (KeyChanged cell algs station air) s h needs = key_changed_goes same g made cell algs station air s s.radio s.context h h needs
 air_goes same g made (RrcOpened srb count text) s h needs = rrc_opened_goes same g srb count text s s.radio h h
 air_goes same g made (PacketOpened drb count text) s h needs = packet_opened_goes g drb count text s s.radio h h
 

@@ -29,7 +29,7 @@ use Rattle.lte_properties.specs.Agreement.{made_at}
 use Rattle.lte_properties.proofs.Agreement.Openings.{WasSealed, IsHonest, CipheredAs, IsCalm, is_ciphered}
 use Rattle.lte_properties.proofs.Agreement.Ghost.{Ghost, took_at, keys_of, TextOk, CipheredSo, DownOk, LinkIs, RadioOk, OrderIs, ChangeIs}
 use Rattle.lte_properties.proofs.Agreement.Later.{same_found}
-use Rattle.lte_properties.proofs.Agreement.Phone.{StartNeeds, CommandNeeds, ChangeNeeds, AirNeeds}
+use Rattle.lte_properties.proofs.Agreement.Phone.{StartNeeds, OwnMade, CommandNeeds, ChangeNeeds, AirNeeds}
 
 -- what came to a phone's air address on a bearer: nothing that was sent, or a record of the station there, and an
 -- unciphered one has its text in its octets
@@ -138,12 +138,12 @@ module _ (same : Term → Term → Bool) (g : Ghost) (s : Phone Term ℕ) (caps 
 
   -- A CONNECTED PHONE
 
-  -- a text under the phone's keys is what the station there sent
+  -- a text under the phone's keys is what the station there sent, which made the phone's key
   text_is : (l : Link Term ℕ) → LinkIs g l → l.station ≡ station → l.air ≡ air → (srb : Srb) (count : ℕ) → on ≡ OnSrb srb
       → (text : List ℕ) (o : Option (Outgoing Term ℕ)) → CameDown g station air on pdu o
       → WasSealed (srb_use Down l.keys.rrc_int srb count) (Some (srb_ciphering Down l.keys srb count)) text o
       → CipheredAs Down (Some (srb_ciphering Down l.keys srb count)) o
-      → TextOk g l.station l.kenb text
+      → TextOk g l.station l.kenb text × OwnMade g l
   text_is l h is_s is_a srb count is_on text None k sealed calm = absurd sealed
   text_is l h is_s is_a srb count is_on text (Some (SealedNas dir header i f sent)) k sealed calm = absurd k
   text_is l h is_s is_a srb count is_on text (Some (SealedRrc Up st a sr i f sent)) k sealed calm = absurd k
@@ -160,8 +160,10 @@ module _ (same : Term → Term → Bool) (g : Ghost) (s : Phone Term ℕ) (caps 
       let counts : count ≡ i.count = ap (λ v. v.count) sealed.0 in
       let srbs : srb ≡ sr = one_srb srb sr (sym is_on ∙ k.2) in
       let cipher : Some (srb_ciphering Down l.keys srb count) ≡ Some f =
-      (λ j. Some (srb_ciphering Down (keys j) (srbs j) (counts j))) ∙ ap Some (sym d.3.0) in
-      subst (λ n. TextOk g n l.kenb text) (sym is_s) (subst (λ t. TextOk g station t text) (sym kenb) (subst (TextOk g station m.key) (sym (sealed.1 cipher)) d.4))
+      (λ j. Some (srb_ciphering Down (keys j) (srbs j) (counts j))) ∙ ap Some (sym d.3.0) in (
+        subst (λ n. TextOk g n l.kenb text) (sym is_s) (subst (λ t. TextOk g station t text) (sym kenb) (subst (TextOk g station m.key) (sym (sealed.1 cipher)) d.4)),
+        (h.2, h.3, kenb ∙ ap (λ x. x.key) (sym one)),
+      )
     where
       one_srb : (a b : Srb) → OnSrb a ≡ OnSrb b → a ≡ b
       one_srb a b e = cc
@@ -170,33 +172,33 @@ module _ (same : Term → Term → Bool) (g : Ghost) (s : Phone Term ℕ) (caps 
   text_is l h is_s is_a srb count is_on text (Some (Between to fields key)) k sealed calm = absurd sealed
 
   command_walks : (l : Link Term ℕ) → s.radio ≡ Connected l → (srb : Srb) (cell : Place) (ncc : ℕ) (algs : Algs) (st a : ℕ)
-      → OrderIs g l.station l.kenb cell ncc algs st a
+      → OrderIs g l.station l.kenb cell ncc algs st a → OwnMade g l
       → AirNeeds g s.radio (command_taken caps srb (ncc_of l.chain.number) cell ncc algs st a)
-  command_walks l is Signalling1 cell ncc algs st a order =
+  command_walks l is Signalling1 cell ncc algs st a order own =
       by_test (AirNeeds g s.radio) (are_supported caps algs) _ _
-      (λ b. subst (CommandNeeds g cell (steps_to (ncc_of l.chain.number) ncc) algs st a) (sym is) (ncc, refl, order)) (λ b. tt)
-  command_walks l is Signalling2 cell ncc algs st a order = tt
+      (λ b. subst (CommandNeeds g cell (steps_to (ncc_of l.chain.number) ncc) algs st a) (sym is) (ncc, refl, order, own)) (λ b. tt)
+  command_walks l is Signalling2 cell ncc algs st a order own = tt
 
   change_walks : (l : Link Term ℕ) → s.radio ≡ Connected l → (srb : Srb) (cell : Place) (algs : Algs) (st a : ℕ)
-      → ChangeIs g l.kenb cell algs st a
+      → ChangeIs g l.kenb cell algs st a → OwnMade g l
       → AirNeeds g s.radio (change_taken caps srb cell algs st a)
-  change_walks l is Signalling1 cell algs st a change =
+  change_walks l is Signalling1 cell algs st a change own =
       by_test (AirNeeds g s.radio) (are_supported caps algs) _ _
-      (λ b. subst (ChangeNeeds g cell algs st a) (sym is) (change, subst (NothingYet g) is yet st a change.0 change.1 change.2)) (λ b. tt)
-  change_walks l is Signalling2 cell algs st a change = tt
+      (λ b. subst (ChangeNeeds g cell algs st a) (sym is) (change, subst (NothingYet g) is yet st a change.0 change.1 change.2, own)) (λ b. tt)
+  change_walks l is Signalling2 cell algs st a change own = tt
 
-  text_walks : (l : Link Term ℕ) → s.radio ≡ Connected l → (srb : Srb) (count : ℕ) (text : List ℕ) → TextOk g l.station l.kenb text
+  text_walks : (l : Link Term ℕ) → s.radio ≡ Connected l → (srb : Srb) (count : ℕ) (text : List ℕ) → TextOk g l.station l.kenb text × OwnMade g l
       → (read : Result RrcRecord RecFault) → read_rrc text ≡ read
       → AirNeeds g s.radio (signalling_read caps srb count (ncc_of l.chain.number) read)
   text_walks l is srb count text ok (Err fault) reads = tt
   text_walks l is srb count text ok (Ok (SecurityModeCommand algs st a)) reads = tt
   text_walks l is srb count text ok (Ok SecurityModeComplete) reads = tt
   text_walks l is srb count text ok (Ok (Reconfiguration cell ncc algs st a)) reads =
-      command_walks l is srb cell ncc algs st a (ok (Reconfiguration cell ncc algs st a) reads)
+      command_walks l is srb cell ncc algs st a (ok.0 (Reconfiguration cell ncc algs st a) reads) ok.1
   text_walks l is srb count text ok (Ok ReconfigurationComplete) reads = tt
   text_walks l is srb count text ok (Ok (RrcData data_text)) reads = tt
   text_walks l is srb count text ok (Ok (KeyChange cell algs st a)) reads =
-      change_walks l is srb cell algs st a (ok (KeyChange cell algs st a) reads)
+      change_walks l is srb cell algs st a (ok.0 (KeyChange cell algs st a) reads) ok.1
 
   signalling_walks : (l : Link Term ℕ) → s.radio ≡ Connected l → LinkIs g l → l.station ≡ station → l.air ≡ air → (srb : Srb) → on ≡ OnSrb srb
       → (outcome : Outcome) (count : Result ℕ PdcpFault)

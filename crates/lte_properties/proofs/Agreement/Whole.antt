@@ -21,7 +21,7 @@ use Rattle.lte_properties.specs.Agreement.{NoneEver, CompletedLines, AgreementHo
 use Rattle.lte_properties.proofs.Agreement.Openings.{Honest, Calm, Along, OpensByTerms}
 use Rattle.lte_properties.proofs.ChainNumbers.World.{happens_holds, run_holds, first_holds}
 use Rattle.lte_properties.proofs.Freshness.PhoneUses.{RadioInOrder, PhoneFresh}
-use Rattle.lte_properties.proofs.Freshness.PhoneRun.{in_order, happens_order, first_order}
+use Rattle.lte_properties.proofs.Freshness.PhoneRun.{in_order, happens_order, first_order, phone_always_in_order}
 use Rattle.lte_properties.proofs.Agreement.Later.{later_itself}
 use Rattle.lte_properties.proofs.Agreement.Told.{SiteOk}
 use Rattle.lte_properties.proofs.Agreement.World.{TheWorld, Conns, ghost, WorldOk, OctetsTell, Settled}
@@ -145,7 +145,8 @@ module _ (same : Term → Term → Bool) (itself : IsReflexive same) (octets : O
     -- every run whose openings are honest
     pub agreement_if_honest : AgreementHolds rooted setup events
     agreement_if_honest = (
-      agrees setup.cells goes.0 (run rooted (first_world setup) events) goes.2 (in_turn same Root octets sender opener setup events),
+      agrees setup.cells goes.0 (run rooted (first_world setup) events) goes.2 (in_turn same Root octets sender opener setup events)
+          (phone_always_in_order same itself octets sender opener setup events).0,
       none_ever same Root octets sender opener tell setup.cells (cells_of setup is) (λ conn. 0) (no_conns setup) (first_world setup) events (first_holds setup) (first_ok setup is) (first_fits setup) are settled honest calm,
       lines_along same Root octets sender opener tell setup.cells (cells_of setup is) (λ conn. 0) (no_conns setup) (first_world setup) events (first_holds setup) (first_ok setup is) are settled honest calm,
       keys_told same Root octets sender opener (first_world setup) events,

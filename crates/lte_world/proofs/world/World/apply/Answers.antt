@@ -4,7 +4,7 @@ use Rattle.lte_world.proofs.Applying.{may_happen}
 use Rattle.lte_world.proofs.Standing.{event_fits, says_line, run_line, written_line, line_keeps, says_chance, run_chance}
 use Rattle.lte_world.specs.Replies.{RepliedLast, UnlessOver}
 use Rattle.lte_world.proofs.LastReplies.{next_replied, told_ok}
-use Rattle.lte_world.proofs.Telling.{line_step, line_answers, line_commands, line_packets}
+use Rattle.lte_world.proofs.Telling.{line_step, line_answers, line_commands, line_never, line_packets}
 use Rattle.lte_world.proofs.world.World.apply.Goals as goal
 
 pub happen-requires-clause-may : goal.happen-requires-clause-may
@@ -70,6 +70,13 @@ returns-in-Ok-clause-answers c =
 pub returns-in-Ok-clause-commands : goal.returns-in-Ok-clause-commands
 returns-in-Ok-clause-commands c =
     line_commands c.self.inside.setup c.self.inside.journal.items c.self.inside.over c.self.inside.ready c.self.inside.system (search rules) c.self.invariant.0 c.self.invariant.1 c.self.invariant.3 c.args.self.now c.self.view_is c.args.event.now c.requires c.in-Ok.line
+    (says_line c.self.inside.setup c.self.inside.journal.items c.self.inside.over c.self.inside.ready c.self.inside.system (search rules) c.self.invariant.0 c.self.invariant.1 c.self.invariant.3 c.args.self.now c.self.view_is c.args.event.now c.requires
+    c.happen.new.self c.as_slice.result.now c.as_slice.ensures c.in-Ok.line (subst (Happens c.self.inside.system c.happen.new.self c.args.event.now _) c.in-Ok.is c.happen.ensures.happens) c.copied.result c.copied.ensures c.put.new.self.items c.put.ensures.items)
+    c.copied.result c.copied.ensures c.put.new.self.items c.put.ensures.items false
+
+pub returns-in-Ok-clause-never : goal.returns-in-Ok-clause-never
+returns-in-Ok-clause-never c =
+    line_never c.self.inside.setup c.self.inside.journal.items c.self.inside.over c.self.inside.ready c.self.inside.system (search rules) c.self.invariant.0 c.self.invariant.1 c.self.invariant.3 c.args.self.now c.self.view_is c.args.event.now c.requires c.in-Ok.line
     (says_line c.self.inside.setup c.self.inside.journal.items c.self.inside.over c.self.inside.ready c.self.inside.system (search rules) c.self.invariant.0 c.self.invariant.1 c.self.invariant.3 c.args.self.now c.self.view_is c.args.event.now c.requires
     c.happen.new.self c.as_slice.result.now c.as_slice.ensures c.in-Ok.line (subst (Happens c.self.inside.system c.happen.new.self c.args.event.now _) c.in-Ok.is c.happen.ensures.happens) c.copied.result c.copied.ensures c.put.new.self.items c.put.ensures.items)
     c.copied.result c.copied.ensures c.put.new.self.items c.put.ensures.items false
