@@ -1,9 +1,9 @@
 -- How the octets left and the octets written change over several calls.
-use Rattle.std.proofs.Common.{◌≡◌, ℕ, ◌+◌, ◌-◌, ◌≤◌, min, Option, Some, None, List, [], ◌++◌, take, drop, length, refl, ap, sym, subst, ◌∙◌, append_assoc, append-nil, arith, length-take, length-append}
+use Rattle.std.proofs.Common.{◌≡◌, ℕ, ◌+◌, ◌-◌, ◌<◌, ◌≤◌, min, Option, Some, None, List, [], ◌++◌, take, drop, length, refl, ap, sym, subst, ◌∙◌, append_assoc, append-nil, arith, length-take, length-append}
 use Rattle.std.proofs.lemmas.List.{take_rest, take_at, take_min, drop_at, take-append-le}
 use Rattle.std.proofs.Math.Seq.{take-add}
 use Rattle.std.specs.Io.KnownBytes.{prepend_known, append_known}
-use Rattle.edge_io.specs.Octets.{Gives, Grows, GrowsByPrefix, LosesPrefix, LosesWithin}
+use Rattle.edge_io.specs.Octets.{Gives, Grows, GrowsByPrefix, GrowsByProperPrefix, LosesPrefix, LosesWithin}
 use borrow.Rule.Slice.PartMut.{put_mid, post_of}
 
 -- nothing was taken
@@ -63,19 +63,39 @@ grows_twice None mid new front octets first second = second ∙ ap (λ (known : 
 grows_twice (Some xs) mid new front octets first second =
     second ∙ ap (λ (known : Option (List ℕ)). append_known known octets) first ∙ ap Some (append_assoc xs front octets)
 
+-- some octets and a prefix of the next are a prefix of all
+front_and : (front octets more : List ℕ) (n : ℕ) → n ≤ length octets → take (length front + n) ((front ++ octets) ++ more) ≡ front ++ take n octets
+front_and front octets more n within =
+    let size : length front ≡ length front = refl in
+    let all : length front + n ≤ length (front ++ octets) = omega (arith, length-append front octets, within) in
+    take-append-le (length front + n) (front ++ octets) more all
+    ∙ take-add (length front) n (front ++ octets)
+    ∙ rw (take_at front octets (length front) size, drop_at front octets (length front) size) refl
+
 -- a call writes some octets, and the next call a prefix of more: together a prefix
 pub prefix_on : (old mid new : Option (List ℕ)) (front octets more : List ℕ) → Grows old mid front → GrowsByPrefix mid new octets → GrowsByPrefix old new ((front ++ octets) ++ more)
 prefix_on old mid new front octets more first second =
     let n : ℕ = min second.count (length octets) in
-    let size : length front ≡ length front = refl in
-    let within : length front + n ≤ length (front ++ octets) = omega (arith, length-append front octets) in
     let parts : take (length front + n) ((front ++ octets) ++ more) ≡ front ++ take second.count octets =
-    take-append-le (length front + n) (front ++ octets) more within
-    ∙ take-add (length front) n (front ++ octets)
-    ∙ rw (take_at front octets (length front) size, drop_at front octets (length front) size)
-    (ap (λ (xs : List ℕ). front ++ xs) (take_min second.count octets)) in
+    front_and front octets more n (omega arith) ∙ ap (λ (xs : List ℕ). front ++ xs) (take_min second.count octets) in
     let P : List ℕ → Type 0 = λ xs. Grows old new xs in
     record { count = length front + n; grows = subst P (sym parts) (grows_twice old mid new front (take second.count octets) first second.grows) }
+
+-- a prefix that is not all is a prefix
+pub prefix_of : (old new : Option (List ℕ)) (octets : List ℕ) → GrowsByProperPrefix old new octets → GrowsByPrefix old new octets
+prefix_of old new octets part = record { count = part.count; grows = part.grows }
+
+-- a call writes some octets, and the next call a prefix of more that is not all: together such a prefix
+pub proper_prefix_on : (old mid new : Option (List ℕ)) (front octets more : List ℕ) → Grows old mid front → GrowsByProperPrefix mid new octets → GrowsByProperPrefix old new ((front ++ octets) ++ more)
+proper_prefix_on old mid new front octets more first second =
+    let P : List ℕ → Type 0 = λ xs. Grows old new xs in
+    let n : ℕ = second.count in
+    let short : n < length octets = second.short in
+    record {
+      count = length front + n;
+      short = omega (arith, short, length-append (front ++ octets) more, length-append front octets);
+      grows = subst P (sym (front_and front octets more n (omega (arith, short)))) (grows_twice old mid new front (take n octets) first second.grows);
+    }
 
 -- a write of the rest of a piece goes on, as `octets[sent..]` is written
 pub grows_on : (old mid new : Option (List ℕ)) (sent n : ℕ) (octets : List ℕ) → Grows old mid (take sent octets) → Grows mid new (take n (take (length octets - sent) (drop sent octets))) → Grows old new (take (sent + n) octets)

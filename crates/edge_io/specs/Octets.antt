@@ -1,6 +1,7 @@
 -- How the octets left and the octets written change, where they are told.
-use Rattle.std.specs.Prelude.{◌≡◌, ℕ, ◌≤◌, Option, List, [], length, take, Result, Ok, Err}
+use Rattle.std.specs.Prelude.{◌≡◌, ℕ, ◌≤◌, ◌<◌, Option, List, [], length, take, Result, Ok, Err}
 use Rattle.std.specs.Io.KnownBytes.{prepend_known, append_known}
+use Rattle.edge_io.specs.Told.{Told}
 
 -- the octets that a read gave in its buffer, or that a write took of its piece
 abbrev pub octets_of : {E : Type 0} → Result ℕ E → List ℕ → List ℕ
@@ -20,6 +21,12 @@ pub record GrowsByPrefix (old new : Option (List ℕ)) (octets : List ℕ) : Typ
   pub count : ℕ
   pub grows : Grows old new (take count octets)
 
+-- the octets written grow by a prefix of these that is not all: something is still to be written
+pub record GrowsByProperPrefix (old new : Option (List ℕ)) (octets : List ℕ) : Type 0 where
+  pub count : ℕ
+  pub short : count < length octets
+  pub grows : Grows old new (take count octets)
+
 -- the octets left lose some octets at their front
 pub record LosesPrefix (old new : Option (List ℕ)) : Type 0 where
   pub taken : List ℕ
@@ -30,3 +37,14 @@ pub record LosesWithin (limit : ℕ) (old new : Option (List ℕ)) : Type 0 wher
   pub taken : List ℕ
   pub gives : Gives old new taken
   pub within : length taken ≤ limit
+
+-- the octets left lose some octets at their front, fewer than so many
+pub record LosesFewer (limit : ℕ) (old new : Option (List ℕ)) : Type 0 where
+  pub taken : List ℕ
+  pub gives : Gives old new taken
+  pub fewer : length taken < limit
+
+-- a read that gave octets, or failed, met no end
+abbrev pub MetNoEnd : {E : Type 0} → Result ℕ E → Told → Told → Type 0
+MetNoEnd (Ok n) before after = 0 < n → after.ended ≡ before.ended
+MetNoEnd (Err _) before after = after.ended ≡ before.ended

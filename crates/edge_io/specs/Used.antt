@@ -14,4 +14,5 @@ pub record UsedAsSink (before after : Told) : Type 0 where
   pub ready : IsTrue after.ready
   pub left : after.left ≡ before.left
   pub most : after.most ≡ before.most
+  pub ended : after.ended ≡ before.ended
   pub counts : NoCountFell before after

@@ -37,6 +37,8 @@ impl Sink for DropSink {
             ≡ (⟦<DropSink as Edge>⟧.told self.old).left }
         ensures most { (⟦<DropSink as Edge>⟧.told self.new).most
             ≡ (⟦<DropSink as Edge>⟧.told self.old).most }
+        ensures ended { (⟦<DropSink as Edge>⟧.told self.new).ended
+            ≡ (⟦<DropSink as Edge>⟧.told self.old).ended }
         ensures cause { HasCause (⟦<DropSink as Edge>⟧.told self.old).write_faults
             (⟦<DropSink as Edge>⟧.told self.new).write_faults result }
         ensures no_fault { OnOk result (NoFault (⟦<DropSink as Edge>⟧.told self.old)

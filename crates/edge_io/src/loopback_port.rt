@@ -1,8 +1,8 @@
 ghost use Rattle.std.specs.Prelude.{◌≡◌, ◌+◌, ◌-◌, ◌^◌, ◌≤◌, ◌<◌, ◌⊎◌, min, IsTrue, length, IfOk, OnOk, OnErr, IfSome, Ok, None, is_some, false};
-ghost use Rattle.std.specs.Io.KnownBytes.{IsAtEnd, ReadConsumes, WriteAppends};
-ghost use Rattle.edge_io.specs.Told.{connection_told};
+ghost use Rattle.std.specs.Io.KnownBytes.{ReadConsumes, WriteAppends};
+ghost use Rattle.edge_io.specs.Told.{HasEnded, connection_told};
 ghost use Rattle.edge_io.specs.Cause.{HasCause, NoCountFell, NoFault};
-ghost use Rattle.edge_io.specs.Octets.{Gives, Grows, octets_of};
+ghost use Rattle.edge_io.specs.Octets.{Gives, Grows, MetNoEnd, octets_of};
 ghost use Rattle.edge_io.specs.PortLine.{SaysPort};
 
 use crate::edge::Edge;
@@ -25,6 +25,7 @@ pub struct LoopbackPort<N: Net + Drop, W: Write + Drop> {
     pub out: W,
     net: N,
     most: usize,
+    ended: bool,
     read_faults: u64,
     write_faults: u64,
     open_faults: u64,
@@ -34,13 +35,14 @@ impl<N: Net + Drop, W: Write + Drop> LoopbackPort<N, W> {
     /// A port that is not open. It will be bound by `net`, and its number written to `out`.
     pub fn new(net: N, out: W) -> LoopbackPort<N, W>
         ensures told { ⟦<LoopbackPort<N, W> as Edge>⟧.told result
-            ≡ connection_told false (2 ^ 62) 0 0 0 }
+            ≡ connection_told false (2 ^ 62) false 0 0 0 }
     {
         LoopbackPort {
             connection: None,
             out,
             net,
             most: MOST,
+            ended: false,
             read_faults: 0,
             write_faults: 0,
             open_faults: 0,
@@ -49,7 +51,7 @@ impl<N: Net + Drop, W: Write + Drop> LoopbackPort<N, W> {
 }
 
 impl<N: Net + Drop, W: Write + Drop> Edge for LoopbackPort<N, W> {
-    ghost told = { λ p. connection_told (is_some p.connection) p.most p.read_faults p.write_faults p.open_faults };
+    ghost told = { λ p. connection_told (is_some p.connection) p.most p.ended p.read_faults p.write_faults p.open_faults };
 }
 
 impl<N: Net + Drop, W: Write + Drop> Source for LoopbackPort<N, W> {
@@ -63,7 +65,9 @@ impl<N: Net + Drop, W: Write + Drop> Source for LoopbackPort<N, W> {
         ensures octets { Gives (⟦<LoopbackPort<N, W> as Edge>⟧.told self.old).left
             (⟦<LoopbackPort<N, W> as Edge>⟧.told self.new).left (octets_of result buf.new) }
         ensures end { IfOk result (λ n. n ≡ 0 → 0 < length buf.old →
-            IsAtEnd (⟦<LoopbackPort<N, W> as Edge>⟧.told self.new).left) }
+            HasEnded (⟦<LoopbackPort<N, W> as Edge>⟧.told self.new)) }
+        ensures no_end { MetNoEnd result (⟦<LoopbackPort<N, W> as Edge>⟧.told self.old)
+            (⟦<LoopbackPort<N, W> as Edge>⟧.told self.new) }
         ensures most { (⟦<LoopbackPort<N, W> as Edge>⟧.told self.new).most
             + length (octets_of result buf.new) ≤ (⟦<LoopbackPort<N, W> as Edge>⟧.told self.old).most }
         ensures written { (⟦<LoopbackPort<N, W> as Edge>⟧.told self.new).written
@@ -84,6 +88,9 @@ impl<N: Net + Drop, W: Write + Drop> Source for LoopbackPort<N, W> {
             let room = buf.len().min(self.most);
             if let Ok(count) = read_once(connection, &mut buf[..room]) {
                 self.most -= count;
+                if count == 0 && room > 0 {
+                    self.ended = true;
+                }
                 return Ok(count);
             }
         }
@@ -107,6 +114,8 @@ impl<N: Net + Drop, W: Write + Drop> Sink for LoopbackPort<N, W> {
             ≡ (⟦<LoopbackPort<N, W> as Edge>⟧.told self.old).left }
         ensures most { (⟦<LoopbackPort<N, W> as Edge>⟧.told self.new).most
             ≡ (⟦<LoopbackPort<N, W> as Edge>⟧.told self.old).most }
+        ensures ended { (⟦<LoopbackPort<N, W> as Edge>⟧.told self.new).ended
+            ≡ (⟦<LoopbackPort<N, W> as Edge>⟧.told self.old).ended }
         ensures cause { HasCause (⟦<LoopbackPort<N, W> as Edge>⟧.told self.old).write_faults
             (⟦<LoopbackPort<N, W> as Edge>⟧.told self.new).write_faults result }
         ensures no_fault { OnOk result (NoFault (⟦<LoopbackPort<N, W> as Edge>⟧.told self.old)
@@ -140,6 +149,8 @@ impl<N: Net + Drop, W: Write + Drop> Port for LoopbackPort<N, W> {
             ≡ (⟦<LoopbackPort<N, W> as Edge>⟧.told self.old).left }
         ensures most { (⟦<LoopbackPort<N, W> as Edge>⟧.told self.new).most
             ≡ (⟦<LoopbackPort<N, W> as Edge>⟧.told self.old).most }
+        ensures ended { (⟦<LoopbackPort<N, W> as Edge>⟧.told self.new).ended
+            ≡ (⟦<LoopbackPort<N, W> as Edge>⟧.told self.old).ended }
         ensures written { (⟦<LoopbackPort<N, W> as Edge>⟧.told self.new).written
             ≡ (⟦<LoopbackPort<N, W> as Edge>⟧.told self.old).written }
         ensures cause { HasCause (⟦<LoopbackPort<N, W> as Edge>⟧.told self.old).open_faults

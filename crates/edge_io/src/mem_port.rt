@@ -1,8 +1,7 @@
 ghost use Rattle.std.specs.Prelude.{◌≡◌, ◌+◌, ◌-◌, ◌≤◌, ◌<◌, ◌↔◌, ◌⊎◌, min, IsTrue, length, IfOk, OnOk, OnErr, IsOk, IsErr, IfSome, false};
-ghost use Rattle.std.specs.Io.KnownBytes.{IsAtEnd};
-ghost use Rattle.edge_io.specs.Told.{port_told, sink_told};
+ghost use Rattle.edge_io.specs.Told.{HasEnded, port_told, sink_told};
 ghost use Rattle.edge_io.specs.Cause.{HasCause, NoCountFell, NoFault};
-ghost use Rattle.edge_io.specs.Octets.{Gives, Grows, octets_of};
+ghost use Rattle.edge_io.specs.Octets.{Gives, Grows, MetNoEnd, octets_of};
 ghost use Rattle.edge_io.specs.Script.{FailsNext, IsFull, after_call};
 
 use crate::edge::Edge;
@@ -77,7 +76,9 @@ impl Source for MemPort {
         ensures octets { Gives (⟦<MemPort as Edge>⟧.told self.old).left
             (⟦<MemPort as Edge>⟧.told self.new).left (octets_of result buf.new) }
         ensures end { IfOk result (λ n. n ≡ 0 → 0 < length buf.old →
-            IsAtEnd (⟦<MemPort as Edge>⟧.told self.new).left) }
+            HasEnded (⟦<MemPort as Edge>⟧.told self.new)) }
+        ensures no_end { MetNoEnd result (⟦<MemPort as Edge>⟧.told self.old)
+            (⟦<MemPort as Edge>⟧.told self.new) }
         ensures most { (⟦<MemPort as Edge>⟧.told self.new).most
             + length (octets_of result buf.new) ≤ (⟦<MemPort as Edge>⟧.told self.old).most }
         ensures written { (⟦<MemPort as Edge>⟧.told self.new).written
@@ -118,6 +119,8 @@ impl Sink for MemPort {
             ≡ (⟦<MemPort as Edge>⟧.told self.old).left }
         ensures most { (⟦<MemPort as Edge>⟧.told self.new).most
             ≡ (⟦<MemPort as Edge>⟧.told self.old).most }
+        ensures ended { (⟦<MemPort as Edge>⟧.told self.new).ended
+            ≡ (⟦<MemPort as Edge>⟧.told self.old).ended }
         ensures cause { HasCause (⟦<MemPort as Edge>⟧.told self.old).write_faults
             (⟦<MemPort as Edge>⟧.told self.new).write_faults result }
         ensures no_fault { OnOk result (NoFault (⟦<MemPort as Edge>⟧.told self.old)
@@ -152,6 +155,8 @@ impl Port for MemPort {
             ≡ (⟦<MemPort as Edge>⟧.told self.old).left }
         ensures most { (⟦<MemPort as Edge>⟧.told self.new).most
             ≡ (⟦<MemPort as Edge>⟧.told self.old).most }
+        ensures ended { (⟦<MemPort as Edge>⟧.told self.new).ended
+            ≡ (⟦<MemPort as Edge>⟧.told self.old).ended }
         ensures written { (⟦<MemPort as Edge>⟧.told self.new).written
             ≡ (⟦<MemPort as Edge>⟧.told self.old).written }
         ensures cause { HasCause (⟦<MemPort as Edge>⟧.told self.old).open_faults

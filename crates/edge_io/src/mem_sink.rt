@@ -68,6 +68,8 @@ impl Sink for MemSink {
             ≡ (⟦<MemSink as Edge>⟧.told self.old).left }
         ensures most { (⟦<MemSink as Edge>⟧.told self.new).most
             ≡ (⟦<MemSink as Edge>⟧.told self.old).most }
+        ensures ended { (⟦<MemSink as Edge>⟧.told self.new).ended
+            ≡ (⟦<MemSink as Edge>⟧.told self.old).ended }
         ensures cause { HasCause (⟦<MemSink as Edge>⟧.told self.old).write_faults
             (⟦<MemSink as Edge>⟧.told self.new).write_faults result }
         ensures no_fault { OnOk result (NoFault (⟦<MemSink as Edge>⟧.told self.old)

@@ -1,8 +1,7 @@
-ghost use Rattle.std.specs.Prelude.{◌≡◌, ◌+◌, ◌≤◌, ◌<◌, ◌↔◌, min, IsTrue, length, drop, IfOk, OnOk, IsErr, Some};
-ghost use Rattle.std.specs.Io.KnownBytes.{IsAtEnd};
-ghost use Rattle.edge_io.specs.Told.{source_told};
+ghost use Rattle.std.specs.Prelude.{◌≡◌, ◌+◌, ◌≤◌, ◌<◌, ◌↔◌, min, IsTrue, length, drop, IfOk, OnOk, IsErr, Some, false};
+ghost use Rattle.edge_io.specs.Told.{HasEnded, source_told};
 ghost use Rattle.edge_io.specs.Cause.{HasCause, NoCountFell, NoFault};
-ghost use Rattle.edge_io.specs.Octets.{Gives, octets_of};
+ghost use Rattle.edge_io.specs.Octets.{Gives, MetNoEnd, octets_of};
 ghost use Rattle.edge_io.specs.Script.{script_of, FailsNext, after_call};
 
 use crate::copying::copy_front;
@@ -17,6 +16,7 @@ use crate::source::Source;
 pub struct MemSource {
     octets: Vec<u8>,
     at: usize,
+    ended: bool,
     faults: Faults,
     ghost within: { at ≤ length octets.items },
 }
@@ -25,12 +25,13 @@ impl MemSource {
     /// A source that has these octets left.
     pub fn new(octets: Vec<u8>, failing: Vec<u64>) -> MemSource
         ensures told { ⟦<MemSource as Edge>⟧.told result
-            ≡ source_told (Some octets.items) (length octets.items) 0 }
+            ≡ source_told (Some octets.items) (length octets.items) false 0 }
         ensures reads { ⟦<MemSource as Scripted>⟧.reads result ≡ script_of failing.items }
     {
         MemSource {
             octets,
             at: 0,
+            ended: false,
             faults: Faults::new(failing),
         }
     }
@@ -38,7 +39,7 @@ impl MemSource {
 
 impl Edge for MemSource {
     ghost told = { λ s. source_told (Some (drop s.at s.octets.items))
-        (length (drop s.at s.octets.items)) s.faults.count };
+        (length (drop s.at s.octets.items)) s.ended s.faults.count };
 }
 
 impl Scripted for MemSource {
@@ -56,7 +57,9 @@ impl Source for MemSource {
         ensures octets { Gives (⟦<MemSource as Edge>⟧.told self.old).left
             (⟦<MemSource as Edge>⟧.told self.new).left (octets_of result buf.new) }
         ensures end { IfOk result (λ n. n ≡ 0 → 0 < length buf.old →
-            IsAtEnd (⟦<MemSource as Edge>⟧.told self.new).left) }
+            HasEnded (⟦<MemSource as Edge>⟧.told self.new)) }
+        ensures no_end { MetNoEnd result (⟦<MemSource as Edge>⟧.told self.old)
+            (⟦<MemSource as Edge>⟧.told self.new) }
         ensures most { (⟦<MemSource as Edge>⟧.told self.new).most
             + length (octets_of result buf.new) ≤ (⟦<MemSource as Edge>⟧.told self.old).most }
         ensures written { (⟦<MemSource as Edge>⟧.told self.new).written
@@ -78,6 +81,9 @@ impl Source for MemSource {
         self.faults.next_call()?;
         let count = copy_front(&self.octets[self.at..], buf);
         self.at += count;
+        if count == 0 && !buf.is_empty() {
+            self.ended = true;
+        }
         Ok(count)
     }
 

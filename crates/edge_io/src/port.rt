@@ -15,6 +15,7 @@ pub trait Port: Source + Sink {
         ensures closed { OnErr result ((Self.told self.new).ready ≡ false) }
         ensures left { (Self.told self.new).left ≡ (Self.told self.old).left }
         ensures most { (Self.told self.new).most ≡ (Self.told self.old).most }
+        ensures ended { (Self.told self.new).ended ≡ (Self.told self.old).ended }
         ensures written { (Self.told self.new).written ≡ (Self.told self.old).written }
         ensures cause { HasCause (Self.told self.old).open_faults (Self.told self.new).open_faults
             result }

@@ -1,9 +1,9 @@
-ghost use Rattle.std.specs.Prelude.{◌≡◌, ◌+◌, ◌^◌, ◌≤◌, ◌<◌, ◌⊎◌, min, IsTrue, length, IfOk, OnOk, OnErr, Ok, None};
+ghost use Rattle.std.specs.Prelude.{◌≡◌, ◌+◌, ◌^◌, ◌≤◌, ◌<◌, ◌⊎◌, min, IsTrue, length, IfOk, OnOk, OnErr, Ok, None, false};
 ghost use Rattle.std.specs.Io.{ReadsAtMost};
-ghost use Rattle.std.specs.Io.KnownBytes.{IsAtEnd, ReadConsumes};
-ghost use Rattle.edge_io.specs.Told.{source_told};
+ghost use Rattle.std.specs.Io.KnownBytes.{ReadConsumes};
+ghost use Rattle.edge_io.specs.Told.{HasEnded, source_told};
 ghost use Rattle.edge_io.specs.Cause.{HasCause, NoCountFell, NoFault};
-ghost use Rattle.edge_io.specs.Octets.{Gives, octets_of};
+ghost use Rattle.edge_io.specs.Octets.{Gives, MetNoEnd, octets_of};
 ghost use Rattle.edge_io.specs.Tries.{LastAnswers, GivesUp};
 
 use crate::edge::Edge;
@@ -22,25 +22,27 @@ pub struct ReaderSource<R: Drop> {
     /// The reader that the octets come from.
     pub reader: R,
     most: usize,
+    ended: bool,
     faults: u64,
 }
 
 impl<R: Reader + Drop> ReaderSource<R> {
     /// A source that gives what this reader gives.
     pub fn new(reader: R) -> ReaderSource<R>
-        ensures told { ⟦<ReaderSource<R> as Edge>⟧.told result ≡ source_told None (2 ^ 62) 0 }
+        ensures told { ⟦<ReaderSource<R> as Edge>⟧.told result ≡ source_told None (2 ^ 62) false 0 }
         ensures reader { result.reader ≡ reader }
     {
         ReaderSource {
             reader,
             most: MOST,
+            ended: false,
             faults: 0,
         }
     }
 }
 
 impl<R: Reader + Drop> Edge for ReaderSource<R> {
-    ghost told = { λ s. source_told None s.most s.faults };
+    ghost told = { λ s. source_told None s.most s.ended s.faults };
 }
 
 impl<R: Reader + Drop> Source for ReaderSource<R> {
@@ -54,7 +56,9 @@ impl<R: Reader + Drop> Source for ReaderSource<R> {
         ensures octets { Gives (⟦<ReaderSource<R> as Edge>⟧.told self.old).left
             (⟦<ReaderSource<R> as Edge>⟧.told self.new).left (octets_of result buf.new) }
         ensures end { IfOk result (λ n. n ≡ 0 → 0 < length buf.old →
-            IsAtEnd (⟦<ReaderSource<R> as Edge>⟧.told self.new).left) }
+            HasEnded (⟦<ReaderSource<R> as Edge>⟧.told self.new)) }
+        ensures no_end { MetNoEnd result (⟦<ReaderSource<R> as Edge>⟧.told self.old)
+            (⟦<ReaderSource<R> as Edge>⟧.told self.new) }
         ensures most { (⟦<ReaderSource<R> as Edge>⟧.told self.new).most
             + length (octets_of result buf.new) ≤ (⟦<ReaderSource<R> as Edge>⟧.told self.old).most }
         ensures written { (⟦<ReaderSource<R> as Edge>⟧.told self.new).written
@@ -82,6 +86,9 @@ impl<R: Reader + Drop> Source for ReaderSource<R> {
             let room = buf.len().min(self.most);
             if let Ok(count) = read_once(&mut self.reader, &mut buf[..room]) {
                 self.most -= count;
+                if count == 0 && room > 0 {
+                    self.ended = true;
+                }
                 return Ok(count);
             }
         }

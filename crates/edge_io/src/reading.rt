@@ -1,7 +1,7 @@
-ghost use Rattle.std.specs.Prelude.{◌≡◌, ◌≢◌, ◌+◌, ◌≤◌, ◌<◌, IsTrue, length, take, IfOk, OnOk, Err, IsErrOf, IfSome};
-ghost use Rattle.std.specs.Io.KnownBytes.{IsAtEnd};
+ghost use Rattle.std.specs.Prelude.{◌≡◌, ◌≢◌, ◌+◌, ◌≤◌, ◌<◌, IsTrue, length, take, IfOk, OnOk, OnErr, Err, IsErrOf, IfSome};
 ghost use Rattle.edge_io.specs.Cause.{Rose, HasCause, NoCountFell, NoFault};
-ghost use Rattle.edge_io.specs.Octets.{Gives, LosesPrefix, LosesWithin, octets_of};
+ghost use Rattle.edge_io.specs.Octets.{Gives, LosesFewer, LosesPrefix, LosesWithin, octets_of};
+ghost use Rattle.edge_io.specs.Told.{HasEnded};
 
 use crate::failed::Failed;
 use crate::source::Source;
@@ -30,7 +30,8 @@ pub fn read_all<S: Source>(alloc: Global, src: &mut S, limit: usize) -> Result<V
     // What is read, and when it is refused.
     ensures all { IfOk result (λ octets.
         IfSome (S.told src.old).left (λ left. octets.items ≡ left)) }
-    ensures end { OnOk result (IsAtEnd (S.told src.new).left) }
+    ensures end { OnOk result (HasEnded (S.told src.new)) }
+    ensures no_end { OnErr result ((S.told src.new).ended ≡ (S.told src.old).ended) }
     ensures within { IfOk result (λ octets. length octets.items ≤ limit) }
     ensures too_long { IsErrOf result ReadAll.TooLong →
         IfSome (S.told src.old).left (λ left. limit < length left) }
@@ -78,7 +79,12 @@ pub fn read_fill<S: Source>(src: &mut S, buf: &mut [u8]) -> Result<usize, Failed
     ensures count { IfOk result (λ n. n ≤ length buf.old) }
     ensures octets { IfOk result (λ n.
         Gives (S.told src.old).left (S.told src.new).left (take n buf.new)) }
-    ensures end { IfOk result (λ n. n < length buf.old → IsAtEnd (S.told src.new).left) }
+    ensures end { IfOk result (λ n. n < length buf.old → HasEnded (S.told src.new)) }
+    ensures no_end { IfOk result (λ n. n ≡ length buf.old →
+        (S.told src.new).ended ≡ (S.told src.old).ended) }
+    ensures fewer { OnErr result
+        (LosesFewer (length buf.old) (S.told src.old).left (S.told src.new).left) }
+    ensures failed { OnErr result ((S.told src.new).ended ≡ (S.told src.old).ended) }
     ensures cause { HasCause (S.told src.old).read_faults (S.told src.new).read_faults result }
     ensures no_fault { OnOk result (NoFault (S.told src.old) (S.told src.new)) }
 

@@ -18,6 +18,7 @@ pub trait Sink: Edge {
             (octets_of result piece.now) }
         ensures left { (Self.told self.new).left ≡ (Self.told self.old).left }
         ensures most { (Self.told self.new).most ≡ (Self.told self.old).most }
+        ensures ended { (Self.told self.new).ended ≡ (Self.told self.old).ended }
         ensures cause { HasCause (Self.told self.old).write_faults (Self.told self.new).write_faults
             result }
         ensures no_fault { OnOk result (NoFault (Self.told self.old) (Self.told self.new)) }

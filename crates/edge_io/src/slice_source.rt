@@ -1,8 +1,7 @@
-ghost use Rattle.std.specs.Prelude.{◌≡◌, ◌+◌, ◌≤◌, ◌<◌, min, IsTrue, length, IfOk, OnOk, IsOk, Some};
-ghost use Rattle.std.specs.Io.KnownBytes.{IsAtEnd};
-ghost use Rattle.edge_io.specs.Told.{source_told};
+ghost use Rattle.std.specs.Prelude.{◌≡◌, ◌+◌, ◌≤◌, ◌<◌, min, IsTrue, length, IfOk, OnOk, IsOk, Some, false};
+ghost use Rattle.edge_io.specs.Told.{HasEnded, source_told};
 ghost use Rattle.edge_io.specs.Cause.{HasCause, NoCountFell, NoFault};
-ghost use Rattle.edge_io.specs.Octets.{Gives, octets_of};
+ghost use Rattle.edge_io.specs.Octets.{Gives, MetNoEnd, octets_of};
 
 use crate::copying::copy_front;
 use crate::edge::Edge;
@@ -13,20 +12,24 @@ use crate::source::Source;
 #[derive(Drop)]
 pub struct SliceSource<'a> {
     rest: &'a [u8],
+    ended: bool,
 }
 
 impl<'a> SliceSource<'a> {
     /// A source that has these octets left.
     pub fn new(octets: &'a [u8]) -> SliceSource<'a>
         ensures { ⟦<SliceSource<'a> as Edge>⟧.told result
-            ≡ source_told (Some octets.now) (length octets.now) 0 }
+            ≡ source_told (Some octets.now) (length octets.now) false 0 }
     {
-        SliceSource { rest: octets }
+        SliceSource {
+            rest: octets,
+            ended: false,
+        }
     }
 }
 
 impl<'a> Edge for SliceSource<'a> {
-    ghost told = { λ s. source_told (Some s.rest.now) (length s.rest.now) 0 };
+    ghost told = { λ s. source_told (Some s.rest.now) (length s.rest.now) s.ended 0 };
 }
 
 impl<'a> Source for SliceSource<'a> {
@@ -40,7 +43,9 @@ impl<'a> Source for SliceSource<'a> {
         ensures octets { Gives (⟦<SliceSource<'a> as Edge>⟧.told self.old).left
             (⟦<SliceSource<'a> as Edge>⟧.told self.new).left (octets_of result buf.new) }
         ensures end { IfOk result (λ n. n ≡ 0 → 0 < length buf.old →
-            IsAtEnd (⟦<SliceSource<'a> as Edge>⟧.told self.new).left) }
+            HasEnded (⟦<SliceSource<'a> as Edge>⟧.told self.new)) }
+        ensures no_end { MetNoEnd result (⟦<SliceSource<'a> as Edge>⟧.told self.old)
+            (⟦<SliceSource<'a> as Edge>⟧.told self.new) }
         ensures most { (⟦<SliceSource<'a> as Edge>⟧.told self.new).most
             + length (octets_of result buf.new) ≤ (⟦<SliceSource<'a> as Edge>⟧.told self.old).most }
         ensures written { (⟦<SliceSource<'a> as Edge>⟧.told self.new).written
@@ -59,6 +64,9 @@ impl<'a> Source for SliceSource<'a> {
     {
         let count = copy_front(self.rest, buf);
         self.rest = &self.rest[count..];
+        if count == 0 && !buf.is_empty() {
+            self.ended = true;
+        }
         Ok(count)
     }
 

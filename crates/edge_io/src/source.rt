@@ -1,7 +1,7 @@
 ghost use Rattle.std.specs.Prelude.{◌≡◌, ◌+◌, ◌≤◌, ◌<◌, IsTrue, length, IfOk, OnOk, IfSome};
-ghost use Rattle.std.specs.Io.KnownBytes.{IsAtEnd};
 ghost use Rattle.edge_io.specs.Cause.{HasCause, NoCountFell, NoFault};
-ghost use Rattle.edge_io.specs.Octets.{Gives, octets_of};
+ghost use Rattle.edge_io.specs.Octets.{Gives, MetNoEnd, octets_of};
+ghost use Rattle.edge_io.specs.Told.{HasEnded};
 
 use crate::edge::Edge;
 use crate::failed::Failed;
@@ -17,7 +17,8 @@ pub trait Source: Edge {
         ensures octets { Gives (Self.told self.old).left (Self.told self.new).left
             (octets_of result buf.new) }
         ensures end { IfOk result (λ n. n ≡ 0 → 0 < length buf.old →
-            IsAtEnd (Self.told self.new).left) }
+            HasEnded (Self.told self.new)) }
+        ensures no_end { MetNoEnd result (Self.told self.old) (Self.told self.new) }
         ensures most { (Self.told self.new).most + length (octets_of result buf.new)
             ≤ (Self.told self.old).most }
         ensures written { (Self.told self.new).written ≡ (Self.told self.old).written }

@@ -48,6 +48,8 @@ impl<W: Writer + Drop> Sink for WriterSink<W> {
             ≡ (⟦<WriterSink<W> as Edge>⟧.told self.old).left }
         ensures most { (⟦<WriterSink<W> as Edge>⟧.told self.new).most
             ≡ (⟦<WriterSink<W> as Edge>⟧.told self.old).most }
+        ensures ended { (⟦<WriterSink<W> as Edge>⟧.told self.new).ended
+            ≡ (⟦<WriterSink<W> as Edge>⟧.told self.old).ended }
         ensures cause { HasCause (⟦<WriterSink<W> as Edge>⟧.told self.old).write_faults
             (⟦<WriterSink<W> as Edge>⟧.told self.new).write_faults result }
         ensures no_fault { OnOk result (NoFault (⟦<WriterSink<W> as Edge>⟧.told self.old)

@@ -9,6 +9,7 @@ invariant-pieces g l =
     × Gives (g.S.Edge.told l.initial.src).left (g.S.Edge.told l.src).left l.octets.items
     × (length l.octets.items ≤ l.limit)
     × ((g.S.Edge.told l.src).most + length l.octets.items ≤ (g.S.Edge.told l.initial.src).most)
+    × ((g.S.Edge.told l.src).ended ≡ (g.S.Edge.told l.initial.src).ended)
     × ((g.S.Edge.told l.src).written ≡ (g.S.Edge.told l.initial.src).written)
     × NoFault (g.S.Edge.told l.initial.src) (g.S.Edge.told l.src)
 

@@ -9,6 +9,7 @@ invariant-pieces g l =
     × Gives (g.S.Edge.told l.initial.src).left (g.S.Edge.told l.src).left (take l.filled l.buf)
     × (l.filled ≤ length l.buf)
     × ((g.S.Edge.told l.src).most + l.filled ≤ (g.S.Edge.told l.initial.src).most)
+    × ((g.S.Edge.told l.src).ended ≡ (g.S.Edge.told l.initial.src).ended)
     × ((g.S.Edge.told l.src).written ≡ (g.S.Edge.told l.initial.src).written)
     × NoFault (g.S.Edge.told l.initial.src) (g.S.Edge.told l.src)
 

@@ -4,4 +4,4 @@ use Rattle.edge_io.proofs.writing.write_all.Goals as goal
 
 pub pieces-preserved : goal.pieces-preserved
 pieces-preserved g c =
-    (search rules, grows_on _ _ _ c.pieces.sent c.in_ok-sent.field-0 c.args.octets.now c.pieces.invariant.1 c.in_ok-sent.ensures.octets, search rules, search rules, search rules, search rules)
+    (search rules, grows_on _ _ _ c.pieces.sent c.in_ok-sent.field-0 c.args.octets.now c.pieces.invariant.1 c.in_ok-sent.ensures.octets, search rules, search rules, search rules, search rules, search rules)

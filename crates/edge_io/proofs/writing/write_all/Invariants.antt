@@ -10,6 +10,7 @@ invariant-pieces g l =
     × (l.sent ≤ length l.octets)
     × ((g.K.Edge.told l.sink).left ≡ (g.K.Edge.told l.initial.sink).left)
     × ((g.K.Edge.told l.sink).most ≡ (g.K.Edge.told l.initial.sink).most)
+    × ((g.K.Edge.told l.sink).ended ≡ (g.K.Edge.told l.initial.sink).ended)
     × NoFault (g.K.Edge.told l.initial.sink) (g.K.Edge.told l.sink)
 
 abbrev pub decreases-pieces : goal.decreases-pieces
