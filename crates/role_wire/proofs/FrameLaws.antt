@@ -8,14 +8,13 @@ use Rattle.rec_base.proofs.Numbers.{AreOctets, length-octets_of, octets_of-numbe
 use Rattle.edge_io.specs.Octets.{Gives}
 use Rattle.edge_io.proofs.Known.{gives_twice}
 use Rattle.edge_io.specs.declared.peers.Role.{Role}
-use Rattle.role_wire.specs.declared.frames.TheConstants.{GREATEST_BODY}
 use Rattle.role_wire.specs.declared.frames.FrameIn.{FrameIn}
 use Rattle.role_wire.specs.declared.frames.FrameFault.{FrameFault}
 use Rattle.role_wire.specs.declared.frames.FrameFault.TheVariants.{Ended, Truncated, TooLong, BadBody, ReadFault}
 use Rattle.role_wire.specs.Spelling.{body_spelling}
 use Rattle.role_wire.specs.Reading.{body_of}
 use Rattle.role_wire.specs.Ranges.{IsFrame, IsRole}
-use Rattle.role_wire.specs.Frame.{framed, frame_spelling, size_of, of_body, frame_at, IsWhole, IsCut, IsTaken, FrameRead, IsBodyTaken, BodyRead}
+use Rattle.role_wire.specs.Frame.{body_limit, framed, frame_spelling, size_of, of_body, frame_at, IsWhole, IsCut, IsTaken, FrameRead, IsBodyTaken, BodyRead}
 use Rattle.role_wire.proofs.FieldLaws.{field_is, number_is}
 use Rattle.role_wire.proofs.Grammar.{body_found, body_again}
 
@@ -38,7 +37,7 @@ unfolding number_at field_at
 size_front head rest h = ap number_of (take-append-le 2 head rest h)
 
 is_joined : (role : Role) (first : Bool) (result : Result FrameIn FrameFault) (head body : List ℕ) (left : Option (List ℕ)) (size : ℕ)
-    → length head ≡ 2 → number_at head 0 2 ≡ size → head ≡ octets_of 2 size → size ≤ GREATEST_BODY
+    → length head ≡ 2 → number_at head 0 2 ≡ size → head ≡ octets_of 2 size → size ≤ body_limit
     → IsBodyTaken role first size result body left → IsTaken role first result (head ++ body) left
 unfolding framed
 is_joined role first (Ok frame) head body left size two number spelled allowed is =
@@ -59,11 +58,14 @@ is_joined role first (Err (BadBody place)) head body left size two number spelle
     let front : size_of (head ++ body) ≡ size = size_front head body (omega arith) ∙ number in
     let all = length-append head body in
     (record { has_length = omega arith; allowed = omega arith; whole = omega (arith, is.0) }, ap (body_of role first) (drop_at head body 2 two) ∙ is.1)
-is_joined role first (Err ReadFault) head body left size two number spelled allowed is = tt
+is_joined role first (Err ReadFault) head body left size two number spelled allowed is =
+    let front : size_of (head ++ body) ≡ size = size_front head body (omega arith) ∙ number in
+    let all = length-append head body in
+    inr (inr (omega arith, omega arith, omega (arith, is)))
 
 -- a length and the body behind it are a frame
 pub joined : (role : Role) (first : Bool) (result : Result FrameIn FrameFault) (old mid new : Option (List ℕ)) (head : List ℕ) (size : ℕ)
-    → Gives old mid head → length head ≡ 2 → number_at head 0 2 ≡ size → head ≡ octets_of 2 size → size ≤ GREATEST_BODY
+    → Gives old mid head → length head ≡ 2 → number_at head 0 2 ≡ size → head ≡ octets_of 2 size → size ≤ body_limit
     → BodyRead role first size result mid new → FrameRead role first result old new
 joined role first result old mid new head size gives two number spelled allowed read = record {
   taken = head ++ read.taken;
@@ -91,7 +93,7 @@ cut_answers role first taken rest (inr cut) none =
     let short = cut.2 in
     let a : eqb (length octets) 0 ≡ false = ne_eqb _ _ (omega arith) in
     let b : ltb (length octets) 2 ≡ false = le-ltb _ _ (omega arith) in
-    let c : ltb GREATEST_BODY (size_of octets) ≡ false = le-ltb _ _ (omega arith) in
+    let c : ltb body_limit (size_of octets) ≡ false = le-ltb _ _ (omega arith) in
     let d : ltb (length octets) (2 + size_of octets) ≡ true = lt-ltb _ _ (omega arith) in
     rw (a, b, c, d) refl
 
@@ -108,7 +110,7 @@ whole_answers role first taken rest answer is e =
     let front : size_of octets ≡ size_of taken = size_front taken rest two in
     let a : eqb (length octets) 0 ≡ false = ne_eqb _ _ (omega arith) in
     let b : ltb (length octets) 2 ≡ false = le-ltb _ _ (omega arith) in
-    let c : ltb GREATEST_BODY (size_of octets) ≡ false = le-ltb _ _ (omega arith) in
+    let c : ltb body_limit (size_of octets) ≡ false = le-ltb _ _ (omega arith) in
     let d : ltb (length octets) (2 + size_of octets) ≡ false = le-ltb _ _ (omega arith) in
     let size : length (drop 2 taken) ≡ size_of octets = omega (arith, length-drop 2 taken) in
     let body : field_at octets 2 (size_of octets) ≡ drop 2 taken = field_is octets (drop 2 taken) rest 2 (size_of octets) size (drop-append-le 2 taken rest two) in
@@ -127,11 +129,11 @@ answers role first (Err (TooLong n)) taken rest is h =
     let octets : List ℕ = taken ++ rest in
     let all = length-append taken rest in
     let two : length taken ≡ 2 = is.0 in
-    let long : GREATEST_BODY < n = is.2 in
+    let long : body_limit < n = is.2 in
     let front : size_of octets ≡ n = size_front taken rest (omega arith) ∙ is.1 in
     let a : eqb (length octets) 0 ≡ false = ne_eqb _ _ (omega arith) in
     let b : ltb (length octets) 2 ≡ false = le-ltb _ _ (omega arith) in
-    let c : ltb GREATEST_BODY (size_of octets) ≡ true = lt-ltb _ _ (omega arith) in
+    let c : ltb body_limit (size_of octets) ≡ true = lt-ltb _ _ (omega arith) in
     rw (a, b, c) (ap (λ m. Err (TooLong m)) (sym front))
 answers role first (Err (BadBody place)) taken rest is h = sym (whole_answers role first taken rest (Err place) is.0 is.1)
 answers role first (Err ReadFault) taken rest is h = absurd (h refl)

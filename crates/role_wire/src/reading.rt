@@ -3,7 +3,7 @@ ghost use Rattle.std.specs.Prelude.{◌≡◌, ◌≢◌, ◌+◌, ◌≤◌, �
 ghost use Rattle.rec_base.specs.BigEndian.{number_at, octets_of};
 ghost use Rattle.edge_io.specs.Cause.{Rose, NoCountFell, NoFault};
 ghost use Rattle.role_wire.specs.Ranges.{IsRole, IsFrame};
-ghost use Rattle.role_wire.specs.Frame.{FrameRead, BodyRead, frame_at};
+ghost use Rattle.role_wire.specs.Frame.{FrameRead, BodyRead, MetEnd, frame_at, body_limit};
 
 use crate::frames::GREATEST_BODY;
 use crate::inputs::body;
@@ -35,6 +35,7 @@ pub fn read_frame<S: Source>(src: &mut S, role: Role, first: bool) -> Result<Fra
     // What becomes of the source. Each frame takes three octets or more.
     ensures some { OnOk result ((S.told src.new).most + 3 ≤ (S.told src.old).most) }
     ensures most { (S.told src.new).most ≤ (S.told src.old).most }
+    ensures ended { MetEnd result (S.told src.old).ended (S.told src.new).ended }
     ensures written { (S.told src.new).written ≡ (S.told src.old).written }
     ensures counts { NoCountFell (S.told src.old) (S.told src.new) }
 {
@@ -52,6 +53,7 @@ fn next_frame<S: Source>(src: &mut S, role: Role, first: bool) -> Result<FrameIn
     ensures no_fault { result ≢ Err FrameFault.ReadFault → NoFault (S.told src.old) (S.told src.new) }
     ensures some { OnOk result ((S.told src.new).most + 3 ≤ (S.told src.old).most) }
     ensures most { (S.told src.new).most ≤ (S.told src.old).most }
+    ensures ended { MetEnd result (S.told src.old).ended (S.told src.new).ended }
     ensures written { (S.told src.new).written ≡ (S.told src.old).written }
     ensures counts { NoCountFell (S.told src.old) (S.told src.new) }
 {
@@ -94,7 +96,7 @@ fn read_body<S: Source>(
     requires ready { IsTrue (S.told src.old).ready }
     requires role { IsRole role }
     requires size { length buf.old ≡ size }
-    requires allowed { size ≤ 4096 }
+    requires allowed { size ≤ body_limit }
     ensures ready { IsTrue (S.told src.new).ready }
     ensures read { BodyRead role first size result (S.told src.old).left (S.told src.new).left }
     ensures fault { IsErrOf result FrameFault.ReadFault →
@@ -102,6 +104,7 @@ fn read_body<S: Source>(
     ensures no_fault { result ≢ Err FrameFault.ReadFault → NoFault (S.told src.old) (S.told src.new) }
     ensures some { OnOk result ((S.told src.new).most + 1 ≤ (S.told src.old).most) }
     ensures most { (S.told src.new).most ≤ (S.told src.old).most }
+    ensures ended { MetEnd result (S.told src.old).ended (S.told src.new).ended }
     ensures written { (S.told src.new).written ≡ (S.told src.old).written }
     ensures counts { NoCountFell (S.told src.old) (S.told src.new) }
 {
