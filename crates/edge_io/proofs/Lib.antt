@@ -2,3 +2,4 @@ pub mod Known
 pub mod Changed
 pub mod Running
 pub mod Trying
+pub mod Ending

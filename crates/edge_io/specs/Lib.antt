@@ -1,4 +1,5 @@
 pub mod Told
+pub mod Lines
 pub mod Cause
 pub mod Octets
 pub mod PortLine

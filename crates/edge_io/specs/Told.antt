@@ -10,6 +10,7 @@ pub record Told : Type 0 where
   pub ended : Bool  -- whether a read met the end of its input
   pub read_faults : ℕ
   pub written : Option (List ℕ)  -- the octets that it was given, where it tells them
+  pub lines : Option Bool  -- whether each piece that it was given ended with a line, where it tells that
   pub write_faults : ℕ
   pub open_faults : ℕ
   pub ready : Bool  -- it may be read and written; a port is ready while it is open
@@ -28,20 +29,22 @@ source_told left most ended faults =
       ended = ended;
       read_faults = faults;
       written = None;
+      lines = None;
       write_faults = 0;
       open_faults = 0;
       ready = true;
     }
 
 -- what a sink alone tells, which is always ready
-abbrev pub sink_told : Option (List ℕ) → ℕ → Told
-sink_told written faults =
+abbrev pub sink_told : Option (List ℕ) → Option Bool → ℕ → Told
+sink_told written lines faults =
     record {
       left = None;
       most = 0;
       ended = false;
       read_faults = 0;
       written = written;
+      lines = lines;
       write_faults = faults;
       open_faults = 0;
       ready = true;
@@ -56,6 +59,7 @@ port_told source sink is_open =
       ended = source.ended;
       read_faults = source.read_faults;
       written = sink.written;
+      lines = sink.lines;
       write_faults = sink.write_faults;
       open_faults = 0;
       ready = is_open;
@@ -70,6 +74,7 @@ connection_told is_open most ended read_faults write_faults open_faults =
       ended = ended;
       read_faults = read_faults;
       written = None;
+      lines = None;
       write_faults = write_faults;
       open_faults = open_faults;
       ready = is_open;

@@ -11,6 +11,7 @@ mod edge;
 mod failed;
 mod faults;
 mod interrupted;
+mod lines;
 mod loopback_port;
 mod mem_peer;
 mod mem_peers;

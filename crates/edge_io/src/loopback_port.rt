@@ -2,6 +2,7 @@ ghost use Rattle.std.specs.Prelude.{◌≡◌, ◌+◌, ◌-◌, ◌^◌, ◌≤
 ghost use Rattle.std.specs.Io.KnownBytes.{ReadConsumes, WriteAppends};
 ghost use Rattle.edge_io.specs.Told.{HasEnded, connection_told};
 ghost use Rattle.edge_io.specs.Cause.{HasCause, NoCountFell, NoFault};
+ghost use Rattle.edge_io.specs.Lines.{with_piece};
 ghost use Rattle.edge_io.specs.Octets.{Gives, Grows, MetNoEnd, octets_of};
 ghost use Rattle.edge_io.specs.PortLine.{SaysPort};
 
@@ -110,6 +111,8 @@ impl<N: Net + Drop, W: Write + Drop> Sink for LoopbackPort<N, W> {
         ensures some { IfOk result (λ n. 0 < length piece.now → 0 < n) }
         ensures octets { Grows (⟦<LoopbackPort<N, W> as Edge>⟧.told self.old).written
             (⟦<LoopbackPort<N, W> as Edge>⟧.told self.new).written (octets_of result piece.now) }
+        ensures lines { (⟦<LoopbackPort<N, W> as Edge>⟧.told self.new).lines
+            ≡ with_piece piece.now (⟦<LoopbackPort<N, W> as Edge>⟧.told self.old).lines }
         ensures left { (⟦<LoopbackPort<N, W> as Edge>⟧.told self.new).left
             ≡ (⟦<LoopbackPort<N, W> as Edge>⟧.told self.old).left }
         ensures most { (⟦<LoopbackPort<N, W> as Edge>⟧.told self.new).most

@@ -1,6 +1,7 @@
 ghost use Rattle.std.specs.Prelude.{◌≡◌, ◌+◌, ◌-◌, ◌≤◌, ◌<◌, ◌↔◌, ◌⊎◌, min, IsTrue, length, IfOk, OnOk, OnErr, IsOk, IsErr, IfSome, false};
 ghost use Rattle.edge_io.specs.Told.{HasEnded, port_told, sink_told};
 ghost use Rattle.edge_io.specs.Cause.{HasCause, NoCountFell, NoFault};
+ghost use Rattle.edge_io.specs.Lines.{with_piece};
 ghost use Rattle.edge_io.specs.Octets.{Gives, Grows, MetNoEnd, octets_of};
 ghost use Rattle.edge_io.specs.Script.{FailsNext, IsFull, after_call};
 
@@ -43,6 +44,7 @@ impl MemPort {
     pub fn sink(&self) -> &MemSink
         ensures told { ⟦<MemSink as Edge>⟧.told result.now
             ≡ sink_told (⟦<MemPort as Edge>⟧.told self.now).written
+            (⟦<MemPort as Edge>⟧.told self.now).lines
             (⟦<MemPort as Edge>⟧.told self.now).write_faults }
         ensures writes { ⟦<MemSink as Scripted>⟧.writes result.now
             ≡ ⟦<MemPort as Scripted>⟧.writes self.now }
@@ -115,6 +117,8 @@ impl Sink for MemPort {
         ensures some { IfOk result (λ n. 0 < length piece.now → 0 < n) }
         ensures octets { Grows (⟦<MemPort as Edge>⟧.told self.old).written
             (⟦<MemPort as Edge>⟧.told self.new).written (octets_of result piece.now) }
+        ensures lines { (⟦<MemPort as Edge>⟧.told self.new).lines
+            ≡ with_piece piece.now (⟦<MemPort as Edge>⟧.told self.old).lines }
         ensures left { (⟦<MemPort as Edge>⟧.told self.new).left
             ≡ (⟦<MemPort as Edge>⟧.told self.old).left }
         ensures most { (⟦<MemPort as Edge>⟧.told self.new).most
