@@ -1,5 +1,5 @@
 -- Octets that end with a line.
-use Rattle.std.proofs.Common.{◌≡◌, ℕ, zero, suc, ◌-◌, ◌<◌, ◌==◌, ◌&&◌, Bool, true, false, Option, Some, None, List, [], ◌∷◌, ◌++◌, take, drop, length, slice_get, refl, ap, ◌∙◌, append-nil, arith}
+use Rattle.std.proofs.Common.{◌≡◌, ℕ, zero, suc, ◌-◌, ◌<◌, ◌==◌, ◌&&◌, Bool, true, false, Option, Some, None, List, [], ◌∷◌, ◌++◌, take, drop, length, slice_get, refl, ap, sym, ◌∙◌, append-nil, append_assoc, arith}
 use Rattle.std.proofs.lemmas.List.{take_rest}
 use Rattle.std.specs.List.{last_or}
 use Rattle.std.specs.Option.{option_map_or}
@@ -28,6 +28,19 @@ ends_behind front x more ends = ap (λ o. option_map_or (λ octet. octet == 10) 
 pub ends_both : (front more : List ℕ) → ends_line front ≡ true → ends_line more ≡ true → ends_line (front ++ more) ≡ true
 ends_both front [] first second = ap ends_line (append-nil front) ∙ first
 ends_both front (x ∷ more) first second = ends_behind front x more second
+
+-- octets with which a line ends, whatever stands before them
+pub record Closes (octets : List ℕ) : Type 0 where
+  pub behind : (front : List ℕ) → ends_line (front ++ octets) ≡ true
+
+pub feed : Closes (10 ∷ [])
+feed = record { behind = λ front. ends_behind front 10 [] refl }
+
+pub closes : (text octets : List ℕ) → Closes octets → Closes (text ++ octets)
+closes text octets is = record { behind = λ front. ap ends_line (sym (append_assoc front text octets)) ∙ is.behind (front ++ text) }
+
+pub closed : (octets : List ℕ) → Closes octets → ends_line octets ≡ true
+closed octets is = is.behind []
 
 -- what is left of them ends so too
 rest_ends : (sent : ℕ) (octets : List ℕ) → sent < length octets → ends_line octets ≡ true → ends_line (drop sent octets) ≡ true

@@ -1,8 +1,8 @@
 -- What comes of a scenario that was driven.
 use Rattle.std.proofs.Common.{◌≡◌, ℕ, ◌⊎◌, inl, inr, Bool, true, false, Option, Some, None, List, [], ◌∷◌, ◌++◌, Result, Ok, Err, IfSome, OnOk, OnErr, IsErrOf, refl, ap, sym, subst, ◌∙◌, append_assoc, append-nil}
-use Rattle.edge_io.proofs.Known.{all_out, prefix_on}
+use Rattle.edge_io.proofs.Known.{all_out, prefix_on, prefix_of, proper_prefix_on}
 use Rattle.edge_io.specs.Cause.{Rose}
-use Rattle.edge_io.specs.Octets.{Grows, GrowsByPrefix}
+use Rattle.edge_io.specs.Octets.{Grows, GrowsByPrefix, GrowsByProperPrefix}
 use Rattle.edge_io.specs.Peers.{PeersTold}
 use Rattle.peer_calls.proofs.Composing.{writes-append}
 use Rattle.peer_calls.proofs.Gone.{whole_made, whole_made_at_chance, failed_next, no_difference}
@@ -38,14 +38,20 @@ chance_text {A} plan r result before after is driven chance =
     let at : Driven {A = A} plan (Err Chance) before after = subst P chance driven in
     (subst Q is.text at.went.0.written, sym is.coincides ∙ at.went.1)
 
+-- an act at which the output failed left something to write
+act_short : (act : Act) (more : List Act) (first : Option (List ℕ)) (front : List ℕ) (x y : Outside) → Grows first x.written front → ActFails act WriteFault x y → GrowsByProperPrefix first y.written (front ++ writes (act ∷ more))
+act_short (Writing text) more first front x y so_far fails =
+    let P : List ℕ → Type 0 = λ octets. GrowsByProperPrefix first y.written octets in
+    subst P (append_assoc front text (writes more)) (proper_prefix_on first x.written y.written front text (writes more) so_far fails.0)
+act_short (Calling call) more first front x y so_far fails = absurd fails
+
 -- an act that was cut wrote a prefix of its text
 act_prefix : (act : Act) (more : List Act) (fault : DriveFault) (first : Option (List ℕ)) (front : List ℕ) (x y : Outside) → Grows first x.written front → ActFails act fault x y → GrowsByPrefix first y.written (front ++ writes (act ∷ more))
 act_prefix (Writing text) more Memory first front x y so_far fails =
     let P : List ℕ → Type 0 = λ octets. GrowsByPrefix first y.written octets in
     subst P (append_assoc front text (writes more)) (prefix_on first x.written y.written front text (writes more) so_far fails.0)
 act_prefix (Writing text) more WriteFault first front x y so_far fails =
-    let P : List ℕ → Type 0 = λ octets. GrowsByPrefix first y.written octets in
-    subst P (append_assoc front text (writes more)) (prefix_on first x.written y.written front text (writes more) so_far fails.0)
+    prefix_of first y.written (front ++ writes (Writing text ∷ more)) (act_short (Writing text) more first front x y so_far fails)
 act_prefix (Calling call) more Memory first front x y so_far fails =
     let P : Outside → Type 0 = λ o. Grows first o.written front in
     all_out first y.written front (writes more) (subst P (sym fails) so_far)
@@ -62,6 +68,12 @@ cut_text acts fault x y cut =
     let P : List ℕ → Type 0 = λ octets. GrowsByPrefix x.written y.written octets in
     subst P (sym (ap writes cut.is ∙ writes-append cut.made (cut.next ∷ cut.more)))
     (act_prefix cut.next cut.more fault x.written (writes cut.made) cut.between y cut.did.written cut.fails)
+
+cut_short : (acts : List Act) (x y : Outside) → CutAt acts WriteFault x y → GrowsByProperPrefix x.written y.written (writes acts)
+cut_short acts x y cut =
+    let P : List ℕ → Type 0 = λ octets. GrowsByProperPrefix x.written y.written octets in
+    subst P (sym (ap writes cut.is ∙ writes-append cut.made (cut.next ∷ cut.more)))
+    (act_short cut.next cut.more x.written (writes cut.made) cut.between y cut.did.written cut.fails)
 
 whole_prefix : (acts : List Act) (x y : Outside) → AllDone acts x y → GrowsByPrefix x.written y.written (writes acts)
 whole_prefix acts x y did =
@@ -80,6 +92,13 @@ fault_text plan r (Ok done) before after is driven = tt
 fault_text {A} plan r (Err fault) before after is driven =
     let P : List ℕ → Type 0 = λ octets. GrowsByPrefix before.written after.written octets in
     subst P is.text (err_text {A = A} plan fault before after driven)
+
+pub short_text : {A : Type 0} (plan : Plan) (r : Report) (result : Result A DriveFault) (before after : Outside) → Reports plan r → Driven plan result before after → result ≡ Err WriteFault → GrowsByProperPrefix before.written after.written r.text
+short_text {A} plan r result before after is driven failed =
+    let P : Result A DriveFault → Type 0 = λ res. Driven plan res before after in
+    let Q : List ℕ → Type 0 = λ octets. GrowsByProperPrefix before.written after.written octets in
+    let at : Driven {A = A} plan (Err WriteFault) before after = subst P failed driven in
+    subst Q is.text (cut_short plan.acts before (outside after.written at.last) at.went)
 
 -- THE PEERS
 

@@ -1,6 +1,6 @@
 ghost use Rattle.std.specs.Prelude.{◌≡◌, ◌≢◌, ◌<◌, ◌≤◌, ◌⊎◌, [], false, true, Ok, Err, ℕ, IsTrue, IsErrOf, OnOk, OnErr, All, IfSome, length};
 ghost use Rattle.edge_io.specs.Cause.{NoFault, Rose};
-ghost use Rattle.edge_io.specs.Octets.{Grows, GrowsByPrefix};
+ghost use Rattle.edge_io.specs.Octets.{Grows, GrowsByPrefix, GrowsByProperPrefix};
 ghost use Rattle.edge_io.specs.Used.{UsedAsSink};
 ghost use Rattle.lte_events.specs.Conditions.{CanHappen, EventFits};
 ghost use Rattle.lte_machine.specs.Run.{Running, first_world};
@@ -47,12 +47,14 @@ pub fn drive<P: Peers, W: Sink>(
     ensures driven { Driven (plan_of setup.now events.now) result
         (outside (W.told out.old).written (P.told peers.old)) (outside (W.told out.new).written (P.told peers.new)) }
 
-    // What is written is the report of the run: all of it, or a prefix where the answer is a fault.
+    // What is written is the report of the run: all of it, or a prefix where the answer is a fault. Where the output failed,
+    // something was still to be written.
     ensures report { OnOk result (Grows (W.told out.old).written (W.told out.new).written (report_of setup.now events.now).text) }
     ensures no_coincidence { OnOk result ((report_of setup.now events.now).coincides ≡ false) }
     ensures coincidence { result ≡ Err DriveFault.Chance →
         Grows (W.told out.old).written (W.told out.new).written (report_of setup.now events.now).text × ((report_of setup.now events.now).coincides ≡ true) }
     ensures prefix { OnErr result (GrowsByPrefix (W.told out.old).written (W.told out.new).written (report_of setup.now events.now).text) }
+    ensures short { result ≡ Err DriveFault.WriteFault → GrowsByProperPrefix (W.told out.old).written (W.told out.new).written (report_of setup.now events.now).text }
 
     // The roles that were started, and what each peer was sent and gave.
     ensures made { OnOk result (WhereTold (Made (calls (plan_of setup.now events.now).acts)) (P.told peers.old) (P.told peers.new)) }

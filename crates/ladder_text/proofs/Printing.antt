@@ -8,10 +8,10 @@ use Rattle.std.specs.List.{position, position_or_len, list_any}
 use Rattle.std.specs.Option.{option_map_or}
 use Rattle.std.specs.Str.{bytes_eq}
 use Rattle.std.proofs.Math.Seq.{drop-cons}
-use Rattle.edge_io.proofs.Known.{nothing_out, all_out, grows_twice, prefix_on}
+use Rattle.edge_io.proofs.Known.{nothing_out, all_out, grows_twice, proper_prefix_on}
 use Rattle.edge_io.specs.Told.{Told}
 use Rattle.edge_io.specs.Cause.{NoCountFell}
-use Rattle.edge_io.specs.Octets.{Grows, GrowsByPrefix}
+use Rattle.edge_io.specs.Octets.{Grows, GrowsByPrefix, GrowsByProperPrefix}
 use Rattle.key_terms.specs.declared.ladder.LadderFault.TheVariants as fault
 use Rattle.key_terms.specs.declared.row.LadderRow.{LadderRow}
 use Rattle.key_terms.specs.declared.row.Origin.{Origin}
@@ -244,10 +244,10 @@ cut_after output rest text first mid now whole grown none =
     let grows = subst (λ t. Grows first.written now.written t) (append-nil text) (grows_twice first.written mid.written now.written text [] grown none) in
     subst (λ t. GrowsByPrefix first.written now.written t) (sym (ap (λ o. o.text) whole)) (all_out first.written now.written text rest.text grows)
 
-cut_within : (output rest : Output) (text octets more : List ℕ) (first mid now : Told) → output ≡ prefixed text rest → rest.text ≡ octets ++ more → Grows first.written mid.written text → GrowsByPrefix mid.written now.written octets → GrowsByPrefix first.written now.written output.text
+cut_within : (output rest : Output) (text octets more : List ℕ) (first mid now : Told) → output ≡ prefixed text rest → rest.text ≡ octets ++ more → Grows first.written mid.written text → GrowsByProperPrefix mid.written now.written octets → GrowsByProperPrefix first.written now.written output.text
 cut_within output rest text octets more first mid now whole follows grown prefix =
     let text_is = ap (λ o. o.text) whole ∙ ap (λ t. text ++ t) follows ∙ sym (append_assoc text octets more) in
-    subst (λ t. GrowsByPrefix first.written now.written t) (sym text_is) (prefix_on first.written mid.written now.written text octets more grown prefix)
+    subst (λ t. GrowsByProperPrefix first.written now.written t) (sym text_is) (proper_prefix_on first.written mid.written now.written text octets more grown prefix)
 
 -- an ending that ends the output, by what its line's text says
 pub ended_at : (ending : Ending) (output rest : Output) (p : Place) (text line : List ℕ) (first mid now : Told) → output ≡ prefixed text (then_rest p line rest) → Grows first.written mid.written text → NoCountFell first mid → TextAt ending (ends_at p) line mid now → ending ≢ Done → Writes output ending first now

@@ -6,7 +6,7 @@ use Rattle.std.specs.Str.{bytes_eq}
 use Rattle.hex.specs.Hex.{encode_lower}
 use Rattle.edge_io.specs.Told.{Told}
 use Rattle.edge_io.specs.Cause.{Rose}
-use Rattle.edge_io.specs.Octets.{Grows, GrowsByPrefix}
+use Rattle.edge_io.specs.Octets.{Grows, GrowsByPrefix, GrowsByProperPrefix}
 use Rattle.hmac_kdf.specs.declared.input.KdfInput.{KdfInput}
 use Rattle.hmac_kdf.specs.declared.input.KdfInput.TheVariants as input
 use Rattle.hmac_kdf.specs.Kdf.{kdf_string}
@@ -131,7 +131,7 @@ IsReported other = ⊥
 -- what is so of one text at each ending, where `ends` says that it was written
 abbrev pub TextAt : Ending → Ending → List ℕ → Told → Told → Type 0
 TextAt Memory ends text out out' = Grows out.written out'.written []
-TextAt WriteFault ends text out out' = Rose out.write_faults out'.write_faults × GrowsByPrefix out.written out'.written text
+TextAt WriteFault ends text out out' = Rose out.write_faults out'.write_faults × GrowsByProperPrefix out.written out'.written text
 TextAt ending ends text out out' = (ending ≡ ends) × Grows out.written out'.written text
 
 -- what is so of an output at each ending: it was written whole, or as far as memory and the sink went
@@ -140,4 +140,4 @@ Writes output Done out out' = (output.ends ≡ Done) × Grows out.written out'.w
 Writes output Refused out out' = (output.ends ≡ Refused) × Grows out.written out'.written output.text
 Writes output Coincidence out out' = (output.ends ≡ Coincidence) × Grows out.written out'.written output.text
 Writes output Memory out out' = GrowsByPrefix out.written out'.written output.text
-Writes output WriteFault out out' = Rose out.write_faults out'.write_faults × GrowsByPrefix out.written out'.written output.text
+Writes output WriteFault out out' = Rose out.write_faults out'.write_faults × GrowsByProperPrefix out.written out'.written output.text

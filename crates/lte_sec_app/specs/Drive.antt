@@ -1,11 +1,10 @@
 -- What is so of `drive` at each status, by the input, the output and the peers before and after.
 use Rattle.std.specs.Prelude.{◌≡◌, ◌⊎◌, ℕ, ◌+◌, ◌<◌, ◌≤◌, ◌++◌, Bool, true, false, Option, Some, None, List, length, codes, Result, Ok, Err, IfSome}
 use Rattle.std.specs.Fmt.{decimal}
-use Rattle.std.specs.Io.KnownBytes.{IsAtEnd}
 use Rattle.hex.specs.Hex.{encode_lower}
-use Rattle.edge_io.specs.Told.{Told}
+use Rattle.edge_io.specs.Told.{Told, HasEnded}
 use Rattle.edge_io.specs.Cause.{Rose}
-use Rattle.edge_io.specs.Octets.{Grows, GrowsByPrefix, LosesWithin}
+use Rattle.edge_io.specs.Octets.{Grows, GrowsByPrefix, GrowsByProperPrefix, LosesWithin}
 use Rattle.edge_io.specs.Peers.{PeersTold}
 use Rattle.lte_events.specs.declared.events.Event.{Event}
 use Rattle.lte_events.specs.declared.setups.Setup.{Setup}
@@ -38,7 +37,7 @@ difference_text step wanted got =
 abbrev pub LineAt : List ℕ → Status → Told → Told → Type 0
 LineAt text Differs out out' = Grows out.written out'.written text
 LineAt text Memory out out' = out'.written ≡ out.written
-LineAt text WriteFault out out' = GrowsByPrefix out.written out'.written text
+LineAt text WriteFault out out' = GrowsByProperPrefix out.written out'.written text
 LineAt text other out out' = ⊥
 
 -- the plan of a scenario was gone through as far as the answer says, and then all peers that were started were stopped
@@ -58,10 +57,15 @@ pub record AllDriven (setup : Setup) (events : List Event) (answer : Result (Uni
   pub ends : (report_of setup events).coincides ≡ coincides
   pub made : WhereTold (Made (calls_of setup events)) peers peers'
 
+-- how far a report was written that a fault cut: where the output failed, something was still to be written
+abbrev pub CutText : DriveFault → List ℕ → Told → Told → Type 0
+CutText fault.WriteFault text out out' = GrowsByProperPrefix out.written out'.written text
+CutText other text out out' = GrowsByPrefix out.written out'.written text
+
 -- a fault cut it: a prefix of the report is written
 pub record CutShort (setup : Setup) (events : List Event) (fault : DriveFault) (out out' : Told) (peers peers' : Option PeersTold) : Type 0 where
   pub driven : WasDriven setup events (Err fault) out out' peers peers'
-  pub report : GrowsByPrefix out.written out'.written (report_of setup events).text
+  pub report : CutText fault (report_of setup events).text out out'
 
 -- a call on a peer failed, which is the next one of the scenario
 pub record CallFailed (setup : Setup) (events : List Event) (out out' : Told) (peers peers' : Option PeersTold) : Type 0 where
@@ -109,7 +113,7 @@ pub record TextDriven (status : Status) (octets : List ℕ) (out out' : Told) (p
 
 abbrev pub ReadToEnd : Status → Told → Told → Told → Told → Option PeersTold → Option PeersTold → Type 0
 ReadToEnd status input input' out out' peers peers' =
-    IsAtEnd input'.left × IfSome input.left (λ octets. TextDriven status octets out out' peers peers')
+    HasEnded input' × IfSome input.left (λ octets. TextDriven status octets out out' peers peers')
 
 -- what is so of `drive` at each status; no other status comes
 abbrev pub DriveAt : Status → Told → Told → Told → Told → Option PeersTold → Option PeersTold → Type 0
@@ -121,7 +125,8 @@ DriveAt Coincidence input input' out out' peers peers' = ReadToEnd Coincidence i
 DriveAt Differs input input' out out' peers peers' = ReadToEnd Differs input input' out out' peers peers'
 DriveAt Memory input input' out out' peers peers' = IfSome input.left (λ octets. TextAt (reading_of octets) Memory out out' peers peers')
 DriveAt ReadFault input input' out out' peers peers' =
-    Rose input.read_faults input'.read_faults × LosesWithin most_octets input.left input'.left × Untouched out out' peers peers'
+    Rose input.read_faults input'.read_faults × LosesWithin most_octets input.left input'.left × (input'.ended ≡ input.ended)
+    × Untouched out out' peers peers'
 DriveAt TooLong input input' out out' peers peers' =
     (input'.most + most_octets < input.most) × IfSome input.left (λ octets. most_octets < length octets) × Untouched out out' peers peers'
 DriveAt other input input' out out' peers peers' = ⊥

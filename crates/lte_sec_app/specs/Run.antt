@@ -1,9 +1,8 @@
 -- What is so of a command that reads a text and writes its output, at each status of the program.
 use Rattle.std.specs.Prelude.{◌≡◌, ◌⊎◌, ℕ, ◌+◌, ◌<◌, ◌≤◌, Some, IfSome, List, length}
-use Rattle.std.specs.Io.KnownBytes.{IsAtEnd}
-use Rattle.edge_io.specs.Told.{Told}
+use Rattle.edge_io.specs.Told.{Told, HasEnded}
 use Rattle.edge_io.specs.Cause.{Rose}
-use Rattle.edge_io.specs.Octets.{Grows, GrowsByPrefix, LosesWithin}
+use Rattle.edge_io.specs.Octets.{Grows, GrowsByPrefix, GrowsByProperPrefix, LosesWithin}
 use Rattle.lte_sec_app.specs.declared.status.Status.{Status}
 use Rattle.lte_sec_app.specs.declared.status.Status.TheVariants.{Done, Memory, Refused, ReadFault, WriteFault, Coincidence, TooLong}
 
@@ -22,10 +21,11 @@ WhereRun holds Done = holds
 WhereRun holds Coincidence = holds
 WhereRun holds other = Unit {0}
 
--- what was written of an output at each status: all of it, or as far as memory and the sink went
+-- What was written of an output at each status: all of it, or as far as memory and the sink went. Where the sink failed,
+-- something was still to be written.
 abbrev pub WritesAt : Output → Status → Told → Told → Type 0
 WritesAt output Memory out out' = GrowsByPrefix out.written out'.written output.text
-WritesAt output WriteFault out out' = Rose out.write_faults out'.write_faults × GrowsByPrefix out.written out'.written output.text
+WritesAt output WriteFault out out' = Rose out.write_faults out'.write_faults × GrowsByProperPrefix out.written out'.written output.text
 WritesAt output Done out out' = (output.ends ≡ Done) × Grows out.written out'.written output.text
 WritesAt output Refused out out' = (output.ends ≡ Refused) × Grows out.written out'.written output.text
 WritesAt output Coincidence out out' = (output.ends ≡ Coincidence) × Grows out.written out'.written output.text
@@ -39,21 +39,27 @@ pub record Answers (output : List ℕ → Output) (ends : Status) (octets : List
 
 -- the input was read to its end, and the text that it held has its answer
 abbrev pub Answered : (List ℕ → Output) → Status → Told → Told → Told → Told → Type 0
-Answered output ends input input' out out' = IsAtEnd input'.left × IfSome input.left (λ octets. Answers output ends octets out out')
+Answered output ends input input' out out' = HasEnded input' × IfSome input.left (λ octets. Answers output ends octets out out')
 
 -- what is written is a prefix of the output
 abbrev pub WritesPrefix : (List ℕ → Output) → Told → Told → Told → Type 0
 WritesPrefix output input out out' = IfSome input.left (λ octets. GrowsByPrefix out.written out'.written (output octets).text)
 
--- what is so of such a command at each status, by the input and the output before and after; no other status comes
+-- and something of it was still to be written
+abbrev pub WritesShort : (List ℕ → Output) → Told → Told → Told → Type 0
+WritesShort output input out out' = IfSome input.left (λ octets. GrowsByProperPrefix out.written out'.written (output octets).text)
+
+-- What is so of such a command at each status, by the input and the output before and after; no other status comes. A read
+-- fails before the end of the input was met, and a write before all was written.
 abbrev pub CommandAt : (List ℕ → Output) → Status → Told → Told → Told → Told → Type 0
 CommandAt output Done input input' out out' = Answered output Done input input' out out'
 CommandAt output Refused input input' out out' = Answered output Refused input input' out out'
 CommandAt output Coincidence input input' out out' = Answered output Coincidence input input' out out'
 CommandAt output Memory input input' out out' = WritesPrefix output input out out'
-CommandAt output ReadFault input input' out out' = Rose input.read_faults input'.read_faults × LosesWithin most_octets input.left input'.left
+CommandAt output ReadFault input input' out out' =
+    Rose input.read_faults input'.read_faults × LosesWithin most_octets input.left input'.left × (input'.ended ≡ input.ended)
 CommandAt output TooLong input input' out out' = (input'.most + most_octets < input.most) × IfSome input.left (λ octets. most_octets < length octets)
-CommandAt output WriteFault input input' out out' = Rose out.write_faults out'.write_faults × IsAtEnd input'.left × WritesPrefix output input out out'
+CommandAt output WriteFault input input' out out' = Rose out.write_faults out'.write_faults × HasEnded input' × WritesShort output input out out'
 CommandAt output other input input' out out' = ⊥
 
 -- For a text within the limit, where no count rose, the whole output is written and the status is that of the output, unless

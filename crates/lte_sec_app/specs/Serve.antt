@@ -3,7 +3,7 @@ use Rattle.std.specs.Prelude.{◌≡◌, ◌⊎◌, ℕ, ◌++◌, true, Some, L
 use Rattle.std.specs.Fmt.{decimal}
 use Rattle.edge_io.specs.Told.{Told}
 use Rattle.edge_io.specs.Cause.{Rose}
-use Rattle.edge_io.specs.Octets.{Grows, GrowsByPrefix}
+use Rattle.edge_io.specs.Octets.{Grows, GrowsByProperPrefix}
 use Rattle.edge_io.specs.declared.peers.Role.{Role}
 use Rattle.role_wire.specs.declared.frames.FrameIn.{FrameIn}
 use Rattle.role_wire.specs.declared.frames.FrameFault.{FrameFault}
@@ -21,7 +21,7 @@ bad_frame_text place number = codes "bad frame " ++ (decimal place ++ (codes " "
 -- what is so of such a line at the status with which it was written; no other status comes
 abbrev pub SaidAt : List ℕ → Status → Told → Told → Type 0
 SaidAt text BadFrame out out' = Grows out.written out'.written text
-SaidAt text WriteFault out out' = Rose out.write_faults out'.write_faults × GrowsByPrefix out.written out'.written text
+SaidAt text WriteFault out out' = Rose out.write_faults out'.write_faults × GrowsByProperPrefix out.written out'.written text
 SaidAt text other out out' = ⊥
 
 -- a session that ended at a frame that is none, and what is so of the line for it
@@ -45,7 +45,7 @@ PortFailed role port port' = NotOpened port port' ⊎ (Session role ServeEnd.Rea
 abbrev pub ServeAt : Role → Status → Told → Told → Told → Told → Type 0
 ServeAt role Done port port' out out' = Session role ServeEnd.Done port port' × (out' ≡ out)
 ServeAt role BadFrame port port' out out' = EndsBad role port port' (Grows out.written out'.written)
-ServeAt role WriteFault port port' out out' = Rose out.write_faults out'.write_faults × EndsBad role port port' (GrowsByPrefix out.written out'.written)
+ServeAt role WriteFault port port' out out' = Rose out.write_faults out'.write_faults × EndsBad role port port' (GrowsByProperPrefix out.written out'.written)
 ServeAt role PeerFault port port' out out' = PortFailed role port port' × (out' ≡ out)
 ServeAt role other port port' out out' = ⊥
 

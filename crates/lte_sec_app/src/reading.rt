@@ -1,7 +1,6 @@
 ghost use Rattle.std.specs.Prelude.{◌≡◌, ◌≢◌, ◌≤◌, ℕ, List, Err, length, IfOk, IfErr, IfSome, IsTrue, OnOk};
-ghost use Rattle.std.specs.Io.KnownBytes.{IsAtEnd};
 ghost use Rattle.edge_io.specs.Cause.{NoFault};
-ghost use Rattle.edge_io.specs.Told.{Told};
+ghost use Rattle.edge_io.specs.Told.{Told, HasEnded};
 ghost use Rattle.edge_io.specs.Used.{UsedAsSource};
 ghost use Rattle.lte_sec_app.specs.Drive.{IsUnread};
 ghost use Rattle.lte_sec_app.specs.Run.{Output, CommandAt, most_octets};
@@ -16,7 +15,7 @@ use std::alloc::Global;
 // Reads the text of a command, or answers the status that says why it was not read.
 pub(crate) fn read_text<R: Source>(alloc: Global, input: &mut R) -> Result<Vec<u8>, Status>
     requires { IsTrue (R.told input.old).ready }
-    ensures end { OnOk result (IsAtEnd (R.told input.new).left) }
+    ensures end { OnOk result (HasEnded (R.told input.new)) }
     ensures text { IfOk result (λ text. IfSome (R.told input.old).left (λ left. text.items ≡ left)) }
     ensures within { IfOk result (λ text. length text.items ≤ most_octets) }
     ensures unread { IfErr result (λ status. (output : List ℕ → Output) (out : Told) → CommandAt output status (R.told input.old) (R.told input.new) out out) }

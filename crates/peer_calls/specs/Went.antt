@@ -1,7 +1,7 @@
 -- How far acts went: all were done, or they were cut at one.
 use Rattle.std.specs.Prelude.{◌≡◌, ◌≢◌, ℕ, Option, List, ◌∷◌, ◌++◌, length, take, Result, Ok, Err, IfSome}
 use Rattle.std.specs.Option.{option_map}
-use Rattle.edge_io.specs.Octets.{GrowsByPrefix}
+use Rattle.edge_io.specs.Octets.{GrowsByPrefix, GrowsByProperPrefix}
 use Rattle.edge_io.specs.Peers.{PeersTold, SendFailed, ReceiveFailed, failed_at, taken_from, to_give_of}
 use Rattle.edge_io.specs.declared.peers.PeerCall.TheVariants.{Start}
 use Rattle.peer_calls.specs.declared.faults.DriveFault.{DriveFault}
@@ -29,7 +29,7 @@ pub record Differed (peer : ℕ) (w : Wanted) (step : Option ℕ) (wanted got : 
 -- the act at which it was cut, by the fault
 abbrev pub ActFails : Act → DriveFault → Outside → Outside → Type 0
 ActFails (Writing text) Memory before after = GrowsByPrefix before.written after.written text × (after.peers ≡ before.peers)
-ActFails (Writing text) WriteFault before after = GrowsByPrefix before.written after.written text × (after.peers ≡ before.peers)
+ActFails (Writing text) WriteFault before after = GrowsByProperPrefix before.written after.written text × (after.peers ≡ before.peers)
 ActFails (Calling call) Memory before after = after ≡ before
 ActFails (Calling call) PeerFault before after = (after.written ≡ before.written) × CallFails call before.peers after.peers
 ActFails (Calling (Receiving peer w)) (Differs step wanted got) before after =

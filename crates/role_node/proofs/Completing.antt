@@ -127,7 +127,7 @@ all_read role read given rest b none =
 pub completes : (role : Role) (end : ServeEnd) (before after : Told) → Session role end before after → SessionIsComplete role end before after
 completes role Done before after s given good left no_read no_write =
     let parts = split role s.frames given s.rest before.left after.left s.good good left s.gives in
-    let ended : parts.0.rest ≡ [] = subst (λ (o : Option (List ℕ)). IsAtEnd o) parts.0.left s.ends.1 in
+    let ended : parts.0.rest ≡ [] = subst (λ (o : Option (List ℕ)). IsAtEnd o) parts.0.left s.ends.1.none_left in
     let all : given ≡ s.frames = all_read role s.frames given (s.rest ++ parts.0.rest) parts.1 (λ j. s.ends.0 j ++ ended j) in
     (refl, subst (λ (fs : List FrameIn). Grows before.written after.written (replies role fs)) (sym all) s.ends.2)
 completes role (BadFrame place fault) before after s given good left no_read no_write =

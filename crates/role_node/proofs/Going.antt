@@ -20,6 +20,7 @@ pub record Going (role : Role) (actor : Option Actor) (place : ℕ) (before now 
   pub good : AreFrames role true frames
   pub gives : Gives before.left now.left (spelled frames)
   pub grows : Grows before.written now.written (replies role frames)
+  pub ended : now.ended ≡ before.ended
   pub next : (more : List FrameIn) → replies role (frames ++ more) ≡ replies role frames ++ replies_from role actor more
   pub first : waits actor ≡ opens frames
   pub place_is : place ≡ place_behind frames
@@ -31,6 +32,7 @@ not_begun role now = record {
   good = tt;
   gives = gives_none now.left;
   grows = nothing_out now.written;
+  ended = refl;
   next = λ more. refl;
   first = refl;
   place_is = refl;
@@ -88,9 +90,9 @@ place_more limit a b = omega arith
 pub going_on : (role : Role) (actor after : Option Actor) (frame : FrameIn) (reply : ActorOut) (place behind : ℕ) (before now mid new : Told)
     → Going role actor place before now → FrameRead role (waits actor) (Ok frame) now.left mid.left → mid.written ≡ now.written
     → (after, reply) ≡ turn role actor frame → behind ≡ min (place + length (frame_spelling frame)) (2 ^ 64 - 1)
-    → Grows mid.written new.written (reply_spelling reply) → new.left ≡ mid.left
+    → Grows mid.written new.written (reply_spelling reply) → new.left ≡ mid.left → new.ended ≡ now.ended
     → Going role after behind before new
-going_on role actor after frame reply place behind before now mid new going read same step place_is grows left =
+going_on role actor after frame reply place behind before now mid new going read same step place_is grows left ended =
     let done = turn role actor frame in
     let frames : List FrameIn = going.frames in
     let then : after ≡ done.0 = ap (λ (p : Option Actor × ActorOut). p.0) step in
@@ -106,6 +108,7 @@ going_on role actor after frame reply place behind before now mid new going read
       good = good_more role frames frame going.good good;
       gives = subst (λ (xs : List ℕ). Gives before.left new.left xs) (sym octets) (gives_twice before.left now.left new.left (spelled frames) (frame_spelling frame) going.gives taken);
       grows = subst (λ (xs : List ℕ). Grows before.written new.written xs) (sym all) (grows_twice before.written now.written new.written (replies role frames) (reply_spelling reply) going.grows out);
+      ended = ended ∙ going.ended;
       next = next_more role actor after frames frame reply going.next then is;
       first = ap (λ (a : Option Actor). waits a) then ∙ waits_no_more role actor frame read.is.1.of ∙ sym (opens_no_more frames frame);
       place_is =

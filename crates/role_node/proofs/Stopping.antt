@@ -2,8 +2,8 @@
 use Rattle.std.proofs.Common.{◌≡◌, ℕ, Bool, Option, List, [], ◌∷◌, ◌++◌, Ok, refl, sym, ap, ◌∙◌, subst, append-nil}
 use Rattle.edge_io.specs.Told.{Told}
 use Rattle.edge_io.specs.Cause.{Rose, NoFault}
-use Rattle.edge_io.specs.Octets.{Gives, Grows, GrowsByPrefix}
-use Rattle.edge_io.proofs.Known.{gives_twice, prefix_on}
+use Rattle.edge_io.specs.Octets.{Gives, Grows, GrowsByProperPrefix}
+use Rattle.edge_io.proofs.Known.{gives_twice, proper_prefix_on}
 use Rattle.edge_io.specs.declared.peers.Role.{Role}
 use Rattle.lte_events.specs.declared.replies.ActorOut.{ActorOut}
 use Rattle.role_wire.specs.declared.frames.FrameIn.{FrameIn}
@@ -19,10 +19,10 @@ use Rattle.role_node.proofs.Going.{Going, spelled_more, good_more, replies_more}
 -- a reply is not written
 pub cut : (role : Role) (actor after : Option Actor) (frame : FrameIn) (reply : ActorOut) (place : ℕ) (before now mid new : Told)
     → Going role actor place before now → NoFault before now → FrameRead role (waits actor) (Ok frame) now.left mid.left → NoFault now mid → mid.written ≡ now.written
-    → (after, reply) ≡ turn role actor frame → GrowsByPrefix mid.written new.written (reply_spelling reply) → new.left ≡ mid.left
+    → (after, reply) ≡ turn role actor frame → GrowsByProperPrefix mid.written new.written (reply_spelling reply) → new.left ≡ mid.left → new.ended ≡ now.ended
     → Rose mid.write_faults new.write_faults
     → Session role ends.WriteFault before new
-cut role actor after frame reply place before now mid new going quiet read none same step grows left rose =
+cut role actor after frame reply place before now mid new going quiet read none same step grows left ended rose =
     let frames : List FrameIn = going.frames in
     let is : reply ≡ (turn role actor frame).1 = ap (λ (p : Option Actor × ActorOut). p.1) step in
     let good : IsFrame role (opens frames) frame = subst (λ (b : Bool). IsFrame role b frame) going.first read.is.1 in
@@ -41,6 +41,7 @@ cut role actor after frame reply place before now mid new going quiet read none 
       ends = (
         subst (λ (n : ℕ). Rose n new.write_faults) (none.writes ∙ quiet.writes) rose,
         refl,
-        subst (λ (xs : List ℕ). GrowsByPrefix before.written new.written xs) out (prefix_on before.written mid.written new.written (replies role frames) (reply_spelling reply) [] front grows),
+        ended ∙ going.ended,
+        subst (λ (xs : List ℕ). GrowsByProperPrefix before.written new.written xs) out (proper_prefix_on before.written mid.written new.written (replies role frames) (reply_spelling reply) [] front grows),
       );
     }

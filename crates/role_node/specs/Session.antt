@@ -1,17 +1,16 @@
 -- A session: which frames were read, what was written, and how it ended.
 use Rattle.std.specs.Prelude.{◌≡◌, ℕ, ◌-◌, ◌^◌, Bool, true, false, min, Some, List, [], ◌∷◌, ◌++◌, length, Err}
 use Rattle.std.specs.List.{flat_map}
-use Rattle.std.specs.Io.KnownBytes.{IsAtEnd}
-use Rattle.edge_io.specs.Told.{Told}
+use Rattle.edge_io.specs.Told.{Told, HasEnded}
 use Rattle.edge_io.specs.Cause.{Rose}
-use Rattle.edge_io.specs.Octets.{Gives, Grows, GrowsByPrefix}
+use Rattle.edge_io.specs.Octets.{Gives, Grows, GrowsByProperPrefix}
 use Rattle.edge_io.specs.declared.peers.Role.{Role}
 use Rattle.role_wire.specs.declared.frames.FrameIn.{FrameIn}
 use Rattle.role_wire.specs.declared.frames.FrameFault.{FrameFault}
 use Rattle.role_wire.specs.declared.frames.FrameFault.TheVariants.{Ended, Truncated, TooLong, BadBody}
 use Rattle.role_wire.specs.declared.frames.FrameFault.TheVariants as faults
 use Rattle.role_wire.specs.Ranges.{IsFrame}
-use Rattle.role_wire.specs.Frame.{frame_spelling, IsTaken}
+use Rattle.role_wire.specs.Frame.{frame_spelling, IsLess, IsTaken, MetEnd}
 use Rattle.role_node.specs.Actor.{replies}
 use Rattle.role_node.specs.declared.serving.ServeEnd.{ServeEnd}
 use Rattle.role_node.specs.declared.serving.ServeEnd.TheVariants.{Done, BadFrame, ReadFault, WriteFault}
@@ -50,16 +49,17 @@ end_of place fault = BadFrame place fault
 abbrev pub SessionAt : Role → ServeEnd → List FrameIn → List ℕ → Told → Told → Type 0
 -- the input was read to its end, and each frame has its reply
 SessionAt role Done frames rest before after =
-    (rest ≡ []) × IsAtEnd after.left × Grows before.written after.written (replies role frames)
+    (rest ≡ []) × HasEnded after × Grows before.written after.written (replies role frames)
 -- the next frame is none, and each frame before it has its reply
 SessionAt role (BadFrame place fault) frames rest before after =
     IsBad fault × (place ≡ place_behind frames) × IsTaken role (opens frames) (Err fault) rest after.left × Grows before.written after.written (replies role frames)
--- a read failed, and each frame read has its reply
+    × MetEnd (Err fault) before.ended after.ended
+-- a read failed before the end was met: less than a frame was taken of the next one, and each frame before it has its reply
 SessionAt role ReadFault frames rest before after =
-    Rose before.read_faults after.read_faults × Grows before.written after.written (replies role frames)
--- a write failed: of the replies a prefix is written
+    Rose before.read_faults after.read_faults × IsLess rest × (after.ended ≡ before.ended) × Grows before.written after.written (replies role frames)
+-- a write failed: of the replies a prefix is written, and something of them was still to be written
 SessionAt role WriteFault frames rest before after =
-    Rose before.write_faults after.write_faults × (rest ≡ []) × GrowsByPrefix before.written after.written (replies role frames)
+    Rose before.write_faults after.write_faults × (rest ≡ []) × (after.ended ≡ before.ended) × GrowsByProperPrefix before.written after.written (replies role frames)
 
 -- A session of this role with this end: the octets left begin with those of good frames and then the rest that was taken.
 pub record Session (role : Role) (end : ServeEnd) (before after : Told) : Type 0 where

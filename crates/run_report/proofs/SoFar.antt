@@ -2,10 +2,10 @@
 use Rattle.std.proofs.Common.{◌≡◌, refl, sym, ap, subst, ◌∙◌, arith, ℕ, suc, ◌+◌, ◌<◌, ◌≤◌, Bool, true, false, Result, Ok, Err, List, [], ◌∷◌, ◌++◌, length, drop, get_or, append_assoc, append-nil, drop_of_length-le}
 use Rattle.std.proofs.Math.Nat.{le_refl}
 use Rattle.std.proofs.Math.Seq.{drop-cons}
-use Rattle.edge_io.proofs.Known.{nothing_out, grows_twice, prefix_on}
+use Rattle.edge_io.proofs.Known.{nothing_out, grows_twice, prefix_on, proper_prefix_on}
 use Rattle.edge_io.specs.Told.{Told}
 use Rattle.edge_io.specs.Cause.{NoCountFell}
-use Rattle.edge_io.specs.Octets.{Grows, GrowsByPrefix}
+use Rattle.edge_io.specs.Octets.{Grows, GrowsByPrefix, GrowsByProperPrefix}
 use Rattle.lte_events.specs.declared.events.Event.{Event}
 use Rattle.lte_events.specs.declared.setups.Setup.{Setup}
 use Rattle.lte_machine.specs.Ciphers.{annex_b}
@@ -65,7 +65,7 @@ written_on (Ok a) whole text piece more first mid now is none counts grown writt
 written_on (Err Memory) whole text piece more first mid now is none counts grown written =
     subst (λ t. GrowsByPrefix first.written now.written t) (sym is) (prefix_on first.written mid.written now.written text piece more grown written)
 written_on (Err WriteFault) whole text piece more first mid now is none counts grown written =
-    (omega (arith, counts.writes, written.0), subst (λ t. GrowsByPrefix first.written now.written t) (sym is) (prefix_on first.written mid.written now.written text piece more grown written.1))
+    (omega (arith, counts.writes, written.0), subst (λ t. GrowsByProperPrefix first.written now.written t) (sym is) (proper_prefix_on first.written mid.written now.written text piece more grown written.1))
 
 -- what is told of an event is a part of the report, and the last one where it is a coincidence
 parts_of : (step : ℕ) (rest : List (EventReport (List ℕ))) (end : List ℕ) (told : EventReport (List ℕ)) → (more : List ℕ) × ((told_from step (told ∷ rest) end).text ≡ event_text step told ++ more) × (is_coincidence told ≡ true → more ≡ [])

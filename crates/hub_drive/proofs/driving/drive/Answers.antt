@@ -1,7 +1,7 @@
 use Rattle.peer_calls.proofs.Gone.{all_stopped}
 use Rattle.peer_calls.specs.Driven.{Plan}
 use Rattle.run_report.specs.Report.{Report, report_of}
-use Rattle.hub_drive.proofs.Comes.{ok_text, ok_coincides, chance_text, fault_text, ok_made, chance_made, fault_named, all_is_done}
+use Rattle.hub_drive.proofs.Comes.{ok_text, ok_coincides, chance_text, fault_text, short_text, ok_made, chance_made, fault_named, all_is_done}
 use Rattle.hub_drive.proofs.Texts.{Reports, plan_report}
 use Rattle.hub_drive.specs.Plan.{plan_of}
 use Rattle.hub_drive.proofs.driving.drive.Goals as goal
@@ -18,6 +18,7 @@ returns g c =
       no_coincidence = ok_coincides plan r c.drive_plan.result _ _ is all.driven;
       coincidence = chance_text plan r c.drive_plan.result _ _ is all.driven;
       prefix = fault_text plan r c.drive_plan.result _ _ is all.driven;
+      short = short_text plan r c.drive_plan.result _ _ is all.driven;
       made = ok_made plan c.drive_plan.result _ _ all.driven;
       made_to_chance = chance_made plan c.drive_plan.result _ _ all.driven;
       failed = fault_named plan c.drive_plan.result _ _ all.driven;

@@ -1,5 +1,5 @@
 use Rattle.std.proofs.Common.{ℕ, ◌+◌, ◌-◌, ◌^◌, Bool, min, List, Ok, ap, subst, ◌∙◌, rules}
-use Rattle.edge_io.specs.Octets.{Grows, GrowsByPrefix}
+use Rattle.edge_io.specs.Octets.{Grows, GrowsByProperPrefix}
 use Rattle.role_wire.specs.Frame.{FrameRead}
 use Rattle.role_node.proofs.Going.{going_on}
 use Rattle.role_node.proofs.Stopping.{cut}
@@ -18,7 +18,8 @@ frames-preserved g c =
           c.turn-reply.ensures
           (c.saturating_add-place.ensures ∙ ap (λ (n : ℕ). min (c.frames.place + n) (2 ^ 64 - 1)) c.size_of.ensures)
           (subst (λ (xs : List ℕ). Grows mid.written new.written xs) (c.as_slice.ensures.value ∙ c.reply_frame.ensures) c.in-Ok-write_all.ensures.all)
-          c.write_all.ensures.left,
+          c.write_all.ensures.left
+          (c.write_all.ensures.ended ∙ c.in-Ok.ensures.ended),
     )
 
 pub returns-in-Err-write_all-clause-session : goal.returns-in-Err-write_all-clause-session
@@ -31,6 +32,7 @@ returns-in-Err-write_all-clause-session g c =
     (search rules)
     c.read_frame.ensures.written
     c.turn-reply.ensures
-    (subst (λ (xs : List ℕ). GrowsByPrefix mid.written new.written xs) (c.as_slice.ensures.value ∙ c.reply_frame.ensures) c.in-Err-write_all.ensures.prefix)
+    (subst (λ (xs : List ℕ). GrowsByProperPrefix mid.written new.written xs) (c.as_slice.ensures.value ∙ c.reply_frame.ensures) c.in-Err-write_all.ensures.prefix)
     c.write_all.ensures.left
+    (c.write_all.ensures.ended ∙ c.in-Ok.ensures.ended)
     c.in-Err-write_all.ensures.cause
