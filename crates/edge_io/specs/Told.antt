@@ -10,7 +10,7 @@ pub record Told : Type 0 where
   pub ended : Bool  -- whether a read met the end of its input
   pub read_faults : ℕ
   pub written : Option (List ℕ)  -- the octets that it was given, where it tells them
-  pub lines : Option Bool  -- whether each piece that it was given ended with a line, where it tells that
+  pub lines : Option Bool  -- whether each piece that it was given was whole lines, where it tells that
   pub write_faults : ℕ
   pub open_faults : ℕ
   pub ready : Bool  -- it may be read and written; a port is ready while it is open

@@ -9,10 +9,12 @@ pub record UsedAsSource (before after : Told) : Type 0 where
   pub written : after.written ≡ before.written
   pub counts : NoCountFell before after
 
--- and of one that is used as a sink
+-- And of one that is used as a sink. Each piece that it was given is whole lines, where each before it was: no line is written in
+-- parts.
 pub record UsedAsSink (before after : Told) : Type 0 where
   pub ready : IsTrue after.ready
   pub left : after.left ≡ before.left
   pub most : after.most ≡ before.most
   pub ended : after.ended ≡ before.ended
+  pub lines : after.lines ≡ before.lines
   pub counts : NoCountFell before after

@@ -8,7 +8,7 @@ ghost use Rattle.edge_io.specs.Script.{script_of, FailsNext, IsFull, after_call}
 use crate::edge::Edge;
 use crate::failed::Failed;
 use crate::faults::Faults;
-use crate::lines::ends_line;
+use crate::lines::are_lines;
 use crate::scripted::Scripted;
 use crate::sink::Sink;
 use std::alloc::{AllocError, Global};
@@ -94,7 +94,7 @@ impl Sink for MemSink {
             ≡ after_call (⟦<MemSink as Scripted>⟧.writes self.old) }
         ensures room { ⟦<MemSink as Scripted>⟧.room self.new ≡ ⟦<MemSink as Scripted>⟧.room self.old }
     {
-        self.lines = self.lines && ends_line(piece);
+        self.lines = self.lines && are_lines(piece);
         self.faults.next_call()?;
         let count = piece.len().min(self.room - self.octets.len());
         if count == 0 && !piece.is_empty() {

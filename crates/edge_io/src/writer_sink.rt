@@ -10,7 +10,7 @@ ghost use Rattle.edge_io.specs.Tries.{LastAnswers, GivesUp};
 use crate::edge::Edge;
 use crate::failed::Failed;
 use crate::interrupted::is_interrupted;
-use crate::lines::ends_line;
+use crate::lines::are_lines;
 use crate::sink::Sink;
 use crate::writer::Writer;
 
@@ -75,7 +75,7 @@ impl<W: Writer + Drop> Sink for WriterSink<W> {
             ⊎ (LastAnswers (W.answers piece.now) (Ok 0) self.old.writer self.new.writer
             × (0 < length piece.now))) }
     {
-        self.lines = self.lines && ends_line(piece);
+        self.lines = self.lines && are_lines(piece);
         if let Ok(count) = write_once(&mut self.writer, piece) {
             if count > 0 || piece.is_empty() {
                 return Ok(count);

@@ -1,6 +1,6 @@
 ghost use Rattle.std.specs.Prelude.{◌≡◌, IsTrue, true, OnOk, OnErr};
 ghost use Rattle.edge_io.specs.Cause.{HasCause, NoCountFell, NoFault};
-ghost use Rattle.edge_io.specs.Lines.{ends_line};
+ghost use Rattle.edge_io.specs.Lines.{are_lines};
 ghost use Rattle.edge_io.specs.Octets.{Grows, GrowsByProperPrefix};
 
 use crate::failed::Failed;
@@ -18,7 +18,7 @@ pub fn write_all<K: Sink>(sink: &mut K, octets: &[u8]) -> Result<(), Failed>
     ensures prefix { OnErr result
         (GrowsByProperPrefix (K.told sink.old).written (K.told sink.new).written octets.now) }
     ensures cause { HasCause (K.told sink.old).write_faults (K.told sink.new).write_faults result }
-    ensures lines { ends_line octets.now ≡ true →
+    ensures lines { are_lines octets.now ≡ true →
         (K.told sink.new).lines ≡ (K.told sink.old).lines }
     ensures no_fault { OnOk result (NoFault (K.told sink.old) (K.told sink.new)) }
 

@@ -1,6 +1,7 @@
 ghost use Rattle.std.specs.Prelude.{◌≡◌, ◌≢◌, ℕ, ◌<◌, ◌≤◌, true, List, [], length, map, IfOk, IsTrue};
 ghost use Rattle.std.specs.String.{string_bytes};
 ghost use Rattle.edge_io.specs.Cause.{NoFault};
+ghost use Rattle.edge_io.specs.Lines.{are_lines};
 ghost use Rattle.hmac_kdf.specs.Kdf.{IsKdfInput};
 ghost use Rattle.key_terms.specs.Ladder.{IsLadder};
 ghost use Rattle.ladder_text.specs.Text.{meets, AreGood};
@@ -106,6 +107,7 @@ fn write_row<W: Sink>(
 fn write_text<W: Sink>(text: Result<String, AllocError>, ends: Ending, out: &mut W) -> Ending
     requires ready { IsTrue (W.told out.old).ready }
     requires reported { IsReported ends }
+    requires line { IfOk text (λ t. are_lines (string_bytes t) ≡ true) }
     ensures text { (octets : List ℕ) → IfOk text (λ t. string_bytes t ≡ octets) → TextAt result ends octets (W.told out.old) (W.told out.new) }
     ensures no_fault { result ≢ Ending.WriteFault → NoFault (W.told out.old) (W.told out.new) }
     ensures out { UsedAsSink (W.told out.old) (W.told out.new) }
@@ -158,7 +160,8 @@ fn coincidence_line(
     asked: &Asked,
 ) -> Result<String, AllocError>
     requires { IsInput asked.now }
-    ensures { (rows : List KeyRow) (line : LadderLine) → Asks rows line asked.now → IfOk result (λ text. string_bytes text ≡ coincidence_text number row.0 (derived_in rows line)) }
+    ensures line { IfOk result (λ text. are_lines (string_bytes text) ≡ true) }
+    ensures text { (rows : List KeyRow) (line : LadderLine) → Asks rows line asked.now → IfOk result (λ text. string_bytes text ≡ coincidence_text number row.0 (derived_in rows line)) }
 {
     match asked {
         Asked::Root(_) => root_coincidence(alloc, number, row),

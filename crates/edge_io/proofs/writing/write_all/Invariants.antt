@@ -1,6 +1,6 @@
 use Rattle.std.proofs.Common.{◌≡◌, ◌-◌, ◌≤◌, true, IsTrue, length, take}
 use Rattle.edge_io.specs.Cause.{NoFault}
-use Rattle.edge_io.specs.Lines.{ends_line}
+use Rattle.edge_io.specs.Lines.{are_lines}
 use Rattle.edge_io.specs.Octets.{Grows}
 use Rattle.edge_io.proofs.writing.write_all.Given as goal
 
@@ -12,7 +12,7 @@ invariant-pieces g l =
     × ((g.K.Edge.told l.sink).left ≡ (g.K.Edge.told l.initial.sink).left)
     × ((g.K.Edge.told l.sink).most ≡ (g.K.Edge.told l.initial.sink).most)
     × ((g.K.Edge.told l.sink).ended ≡ (g.K.Edge.told l.initial.sink).ended)
-    × (ends_line l.octets ≡ true → (g.K.Edge.told l.sink).lines ≡ (g.K.Edge.told l.initial.sink).lines)
+    × (are_lines l.octets ≡ true → (g.K.Edge.told l.sink).lines ≡ (g.K.Edge.told l.initial.sink).lines)
     × NoFault (g.K.Edge.told l.initial.sink) (g.K.Edge.told l.sink)
 
 abbrev pub decreases-pieces : goal.decreases-pieces

@@ -12,5 +12,5 @@ pub returns-in-Err-Coincidence-clause-line : goal.returns-in-Err-Coincidence-cla
 returns-in-Err-Coincidence-clause-line g c = λ rows stand met.
     let asks = c.asked_by-asked.ensures rows stand in
     let answer = c.place.ensures.answer rows c.args.line.now stand met asks in
-    let text = c.coincidence_line-text.ensures rows c.args.line.now asks in
+    let text = c.coincidence_line-text.ensures.text rows c.args.line.now asks in
     taken_written rows c.args.line.now c.args.number c.in-Err-Coincidence.row _ c.write_text.result _ _ (sym (c.in-Err-Coincidence.is ∙ ap Err c.in-Err-Coincidence.field-0-is) ∙ answer) (c.write_text.ensures.text _ text)
