@@ -9,12 +9,12 @@ use Rattle.lte_events.specs.declared.setups.Setup.{Setup}
 use Rattle.key_model.specs.Chain.{ncc_of}
 use Rattle.key_model.specs.Term.{Term}
 use Rattle.key_model.specs.Value.{value_of}
-use Rattle.lte_machine.specs.BothRuns.{annex_b_terms, written_run, octet_run}
-use Rattle.lte_machine.specs.ByEvent.{in_octets, IsStep, IsValueOfRun}
+use Rattle.lte_machine.specs.BothRuns.{annex_b_terms, written_run}
+use Rattle.lte_machine.specs.ByEvent.{IsValueOfRun}
 use Rattle.lte_machine.specs.Carried.{map_stations}
 use Rattle.lte_machine.specs.Ciphers.{annex_b}
 use Rattle.lte_machine.specs.Distinct.{Member}
-use Rattle.lte_machine.specs.Machines.{Kept, written_machine}
+use Rattle.lte_machine.specs.Machines.{written_machine}
 use Rattle.lte_machine.specs.Opening.{open_octets}
 use Rattle.lte_machine.specs.Ranges.{AllOf, IsEvent, IsSetup}
 use Rattle.lte_machine.specs.Reply.{Made, Took}
@@ -26,7 +26,7 @@ use Rattle.lte_machine.specs.World.{World, Line}
 use Rattle.lte_machine.proofs.AnnexB.{annex_b_ciphers}
 use Rattle.lte_machine.proofs.EventByEvent.{step_takes, written_still, each_of_first}
 use Rattle.lte_machine.proofs.StillRun.{still_is_run}
-use Rattle.lte_properties.specs.Agreement.{is_made_at, made_at, ahead, ContextAt, AtStation, IsFar, NoneThere, MadeIsTold, TookIsTold, MadeOnce}
+use Rattle.lte_properties.specs.Agreement.{is_made_at, made_at, ContextAt, AtStation, IsFar, NoneThere, MadeIsTold, TookIsTold, MadeOnce}
 use Rattle.lte_properties.specs.BySteps.{MakesAt, TakesAt}
 use Rattle.lte_properties.specs.InOctets.{TakesFar, NoContextAt, FarNeverThere}
 use Rattle.lte_properties.proofs.Agreement.Holds.{of_each}

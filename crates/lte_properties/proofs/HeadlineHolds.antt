@@ -12,7 +12,7 @@ use Rattle.lte_machine.specs.Opening.{open_octets, open_by_uses}
 use Rattle.lte_machine.specs.Ranges.{AllOf, IsEvent, IsSetup}
 use Rattle.lte_machine.specs.Run.{Running, run, first_world}
 use Rattle.lte_machine.specs.Wire.{Outgoing}
-use Rattle.lte_machine.specs.World.{World, Line}
+use Rattle.lte_machine.specs.World.{World}
 use Rattle.lte_machine.proofs.AnnexB.{annex_b_ciphers}
 use Rattle.lte_machine.proofs.EventByEvent.{written_still, ends_at, each_of_first, step_of_value}
 use Rattle.lte_machine.proofs.StillRun.{still_is_run}

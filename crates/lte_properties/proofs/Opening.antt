@@ -14,3 +14,7 @@ pub mod Whole
 pub mod World
 pub mod NasOpens
 pub mod Openings
+pub mod Heard
+pub mod SecondNas
+pub mod SecondAir
+pub mod Second

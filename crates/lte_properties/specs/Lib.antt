@@ -11,4 +11,5 @@ pub mod Origins
 pub mod Accounts
 pub mod BySteps
 pub mod InOctets
+pub mod SecondCase
 pub mod Headline

@@ -15,6 +15,7 @@ mod keys_shared;
 mod keys_told;
 mod one_chain;
 mod packets_open;
+mod second_case;
 mod separation;
 mod uses_differ;
 
@@ -28,5 +29,6 @@ pub use keys_shared::only_source_and_target_share_the_key_in_every_run;
 pub use keys_told::lines_tell_the_keys_in_every_run;
 pub use one_chain::connections_have_one_chain_in_every_run;
 pub use packets_open::packets_open_to_what_was_sent_in_every_run;
+pub use second_case::the_octets_decide_at_a_starting_station_alone;
 pub use separation::{keys_are_given_as_tried_in_every_run, separation_holds_in_every_run};
 pub use uses_differ::no_use_comes_twice_in_every_run;

@@ -82,7 +82,7 @@ ok_is : (b : Bool) (n count : ℕ) → (if b then Ok n else Err PdcpFault.CountS
 ok_is true n count e = same_ok _ n count refl e
 ok_is false n count e = absurd (no_fault _ PdcpFault.CountSpent count refl e)
 
-count_low : (next : ℕ) (pdu : List ℕ) (count : ℕ) → srb_count next pdu ≡ Ok count → next ≤ count
+pub count_low : (next : ℕ) (pdu : List ℕ) (count : ℕ) → srb_count next pdu ≡ Ok count → next ≤ count
 unfolding srb_count in_32_bits least
 count_low next pdu count e =
     by_test (λ r. r ≡ Ok count → next ≤ count) (nat_lt (length pdu) 5) _ _ (λ b f. absurd (no_fault _ PdcpFault.Short count refl f))
@@ -101,7 +101,7 @@ module _ (same : Term → Term → Bool) (g : Ghost) (s : Phone Term ℕ) (caps 
       IsHonest (air_expects (term_reading_by same) front s) came outcome → IsCalm (air_expects (term_reading_by same) front s) came outcome
 
   -- a ciphered record of this address is under a key that the phone had taken
-  plain_here : (w : Waiting Term) → NewKenb g.took (Connecting w) → (u : KeyUse Term) → (algs : Algs) → u.key ≡ (keys_of w.kenb algs).rrc_int
+  pub plain_here : (w : Waiting Term) → NewKenb g.took (Connecting w) → (u : KeyUse Term) → (algs : Algs) → u.key ≡ (keys_of w.kenb algs).rrc_int
       → (text : List ℕ) (o : Option (Outgoing Term ℕ)) → CameDown g station air on pdu o → WasSealed u None text o → CipheredAs Down None o
   plain_here w never u algs key text None h sealed = tt
   plain_here w never u algs key text (Some (SealedNas dir header i f sent)) h sealed = tt
@@ -148,7 +148,7 @@ module _ (same : Term → Term → Bool) (g : Ghost) (s : Phone Term ℕ) (caps 
   waiting_calm w is never outcome (OnDrb drb) honest = tt
 
   -- an unciphered record of this address is the first, which the phone took before
-  ciphered_here : (l : Link Term ℕ) → LinkIs g l → l.station ≡ station → l.air ≡ air → (srb : Srb) (count : ℕ) → on ≡ OnSrb srb
+  pub ciphered_here : (l : Link Term ℕ) → LinkIs g l → l.station ≡ station → l.air ≡ air → (srb : Srb) (count : ℕ) → on ≡ OnSrb srb
       → (srb_counts srb l.bearers).receive ≤ count
       → (text : List ℕ) (o : Option (Outgoing Term ℕ)) → CameDown g station air on pdu o
       → WasSealed (srb_use Down l.keys.rrc_int srb count) (Some (srb_ciphering Down l.keys srb count)) text o

@@ -208,7 +208,7 @@ abbrev pub StartedOk : Ghost → ℕ → ℕ → Term → Bool → Option (Attem
 StartedOk g id air t true attempt = attempt ≡ None
 StartedOk g id air t false attempt = HadTaken g.took id air t
 
--- a station's context, and its preparations
+-- a station's context, and its preparations, which no setup made
 abbrev pub CtxOk : Ghost → ℕ → Option (Context Term ℕ) → Type 0
 CtxOk g id None = ⊤
 CtxOk g id (Some c) =
@@ -220,6 +220,7 @@ abbrev pub PrepOk : Ghost → ℕ → Prep Term ℕ → Type 0
 PrepOk g id p =
     TermOk g p.conn p.key.kenb p.key.number × PairsOk g p.conn p.key.pair × (p.keys ≡ keys_of p.key.kenb p.algs)
     × (m : Made Term ℕ) × (made_at g.made id p.air ≡ Some m) × IsMade m p.key.kenb p.key.number p.algs
+    × (m.from ≡ BySetup → ⊥)
 
 -- nothing was made or tried at numbers that the station did not draw yet
 abbrev pub FreshFrom : Ghost → ℕ → ℕ → Type 0
@@ -286,10 +287,21 @@ DownOk g station air srb i f text =
     (m : Made Term ℕ) × (made_at g.made station air ≡ Some m)
     × (i ≡ srb_use Down (keys_of m.key m.algs).rrc_int srb i.count) × CipheredSo g station air m srb i f × TextOk g station m.key text
 
+-- a text of the phone is ciphered under its own use, or not at all in the first of a new connection
+abbrev pub CipheredUp : Made Term ℕ → Term → Srb → KeyUse Term → Option (Ciphering Term) → Type 0
+CipheredUp m t srb i None = (m.from ≡ BySetup) × (i.count ≡ 0) × (srb ≡ Signalling1)
+CipheredUp m t srb i (Some e) = e ≡ srb_ciphering Up (keys_of t m.algs) srb i.count
+
+abbrev pub SealedUp : Ghost → ℕ → ℕ → Term → Srb → KeyUse Term → Option (Ciphering Term) → Type 0
+SealedUp g station air t srb i f =
+    (m : Made Term ℕ) × (made_at g.made station air ≡ Some m)
+    × (i ≡ srb_use Up (keys_of t m.algs).rrc_int srb i.count) × CipheredUp m t srb i f
+
 -- and from the phone: under the key that it took there
-abbrev pub UpOk : Ghost → ℕ → ℕ → KeyUse Term → Type 0
-UpOk g station air i =
+abbrev pub UpOk : Ghost → ℕ → ℕ → Srb → KeyUse Term → Option (Ciphering Term) → Type 0
+UpOk g station air srb i f =
     (t : Term) × (i.key ≡ Alg t 4 eia2_identity) × HereIs g station air t × HadTaken g.took station air t
+    × SealedUp g station air t srb i f
 
 -- records on S1 and X2
 abbrev pub AskedIs : Ghost → ℕ → ℕ → ℕ → Place → Handover Term ℕ → (Tried Term ℕ → Type 0) → Type 0
@@ -356,7 +368,7 @@ BetweenOk g to other key = ⊤
 -- what goes up on NAS: a SECURITY MODE COMPLETE, of header type 4, is the first under its context (TS 24.301 4.4.3.1)
 abbrev pub SentOk : Ghost → Outgoing Term ℕ → Type 0
 SentOk g (SealedRrc Down station air srb i f text) = DownOk g station air srb i f text
-SentOk g (SealedRrc Up station air srb i f text) = UpOk g station air i
+SentOk g (SealedRrc Up station air srb i f text) = UpOk g station air srb i f
 SentOk g (Between to fields key) = BetweenOk g to fields key
 SentOk g (SealedNas Up header i f text) = header ≡ 4 → i.count ≡ 0
 SentOk g other = ⊤

@@ -203,7 +203,7 @@ module _ (g h : Ghost) (l : Later g h) where
 
   pub prep_later : (id : ℕ) (p : Prep Term ℕ) → PrepOk g id p → PrepOk h id p
   prep_later id p x =
-      (term_later p.conn p.key.number p.key.kenb x.0, pairs_later p.conn p.key.pair x.1, x.2, x.3, l.made id p.air x.3 x.4, x.5)
+      (term_later p.conn p.key.number p.key.kenb x.0, pairs_later p.conn p.key.pair x.1, x.2, x.3, l.made id p.air x.3 x.4, x.5, x.6)
 
   pub preps_later : (id : ℕ) (ps : List (Prep Term ℕ)) → AllOf (PrepOk g id) ps → AllOf (PrepOk h id) ps
   preps_later id [] x = tt
@@ -229,8 +229,9 @@ module _ (g h : Ghost) (l : Later g h) where
   down_later station air srb i f text x =
       (x.0, l.made station air x.0 x.1, x.2, ciphered_later station air x.0 srb i f x.3, λ r e. says_later station x.0.key r (x.4 r e))
 
-  up_later : (station air : ℕ) (i : KeyUse Term) → UpOk g station air i → UpOk h station air i
-  up_later station air i x = (x.0, x.1, here_later station air x.0 x.2, had_later station air x.0 x.3)
+  up_later : (station air : ℕ) (srb : Srb) (i : KeyUse Term) (f : Option (Ciphering Term)) → UpOk g station air srb i f → UpOk h station air srb i f
+  up_later station air srb i f x =
+      (x.0, x.1, here_later station air x.0 x.2, had_later station air x.0 x.3, (x.4.0, l.made station air x.4.0 x.4.1, x.4.2, x.4.3))
 
   asked_later : (conn source attempt : ℕ) (cell : Place) (kind : Handover Term ℕ) (P : Tried Term ℕ → Type 0)
       → AskedIs g conn source attempt cell kind P → AskedIs h conn source attempt cell kind P
@@ -266,7 +267,7 @@ module _ (g h : Ghost) (l : Later g h) where
 
   pub sent_later : (x : Outgoing Term ℕ) → SentOk g x → SentOk h x
   sent_later (SealedRrc Down station air srb i f text) x = down_later station air srb i f text x
-  sent_later (SealedRrc Up station air srb i f text) x = up_later station air i x
+  sent_later (SealedRrc Up station air srb i f text) x = up_later station air srb i f x
   sent_later (Between to fields key) x = between_later to fields key x
   sent_later (SealedNas Up header i f text) x = x
   sent_later other x = tt

@@ -69,7 +69,7 @@ itself_ciphering : (e : Option (Ciphering Term)) → same_ciphering same_term e 
 itself_ciphering None = refl
 itself_ciphering (Some e) = true_both _ _ (itself_use e.under) (eq-eqb (identity_of e.eea) (identity_of e.eea) refl)
 
-one_ciphering : (e f : Option (Ciphering Term)) → e ≡ f → same_ciphering same_term e f ≡ true
+pub one_ciphering : (e f : Option (Ciphering Term)) → e ≡ f → same_ciphering same_term e f ≡ true
 one_ciphering e f is = subst (λ x. same_ciphering same_term e x ≡ true) is (itself_ciphering e)
 
 -- whatever the octets say, where the use is the sender's and the ciphering is not
@@ -182,7 +182,7 @@ no_header : (o : Result ℕ Answer) (a : Answer) (b : ℕ) → o ≡ Err a → o
 no_header o a b e f = cc
 
 -- the first octet of a NAS message has its header type (TS 24.301 9.2 and 9.3.1)
-plain_header : (c : Ciphers Term) (between : Fields → Option (NumberedKey Term ℕ) → List ℕ) → HeaderReads (octets_of c between)
+pub plain_header : (c : Ciphers Term) (between : Fields → Option (NumberedKey Term ℕ) → List ℕ) → HeaderReads (octets_of c between)
 unfolding nas_octets core_header
 plain_header c between dir header i e text h is =
     by_test (λ (r : Result ℕ Answer). r ≡ Ok h → h ≡ header) (length (nas_octets c header i e text) == 0) _ _

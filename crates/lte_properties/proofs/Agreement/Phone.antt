@@ -1,18 +1,17 @@
 -- What each row of the phone leaves of the invariant of agreement.
 use Rattle.std.proofs.Common.{◌≡◌, ℕ, zero, suc, ◌+◌, ◌-◌, ◌<◌, ◌≤◌, refl, sym, ◌∙◌, ap, subst, arith, Bool, true, false, cond, List, [], ◌∷◌, ◌++◌, Option, Some, None, inl, inr}
 use Rattle.std.specs.Prelude.{if◌then◌else◌, find, ⊤}
-use Rattle.alg_choice.specs.Algs.{eia2_identity}
 use Rattle.alg_choice.specs.declared.algs.Algs.{Algs}
 use Rattle.annex_a_keys.specs.Cell.{Place}
 use Rattle.lte_events.specs.declared.answers.Answer.{Answer}
-use Rattle.key_model.specs.Term.{Term, Kenb, Star, Alg, same_term}
+use Rattle.key_model.specs.Term.{Term, Kenb, Star, same_term}
 use Rattle.key_model.proofs.TermFacts.{same_term-Decides}
 use Rattle.key_model.specs.Chain.{nh, ncc_of}
 use Rattle.key_model.specs.Number.{chain_number}
 use Rattle.key_model.specs.Reading.{term_reading_by}
 use Rattle.key_model.specs.HandoverLines.{steps_to}
 use Rattle.nh_chain.specs.Reach.{reached_after}
-use Rattle.lte_machine.specs.Bearers.{Srb, Signalling1, Signalling2, Drb, User1, User2, User3, User4, Which, OnSrb, OnDrb, Bearers, srb_taken, drb_taken, srb_sent, drb_sent, skipped_on}
+use Rattle.lte_machine.specs.Bearers.{Srb, Signalling1, Signalling2, Drb, User1, User2, User3, User4, Which, OnSrb, OnDrb, Bearers, srb_counts, srb_taken, drb_taken, srb_sent, drb_sent, skipped_on}
 use Rattle.lte_machine.specs.Reply.{Origin, From, BySetup, ByAttempt, ByChange, Made, Tried, Before, Secured, Commanded, Changed, Took}
 use Rattle.lte_machine.specs.World.{with_one}
 use Rattle.lte_machine.specs.PhoneState.{Partial, NasContext, Link, Radio, Connecting, Connected, Phone}
@@ -23,7 +22,9 @@ use Rattle.lte_properties.specs.Agreement.{made_at, change_ahead, ahead, TookMad
 use Rattle.lte_properties.specs.Origins.{root_of, nas_count_of}
 use Rattle.lte_properties.proofs.Agreement.Terms.{climb, lands, climb-nh, IsKenb, number_lands, ChainOf, reached_key, reached_number, reached_chain, steps_below, steps_near, lands_near, steps_far, lands_far}
 use Rattle.lte_properties.specs.Chains.{chain_key}
-use Rattle.lte_properties.proofs.Agreement.Ghost.{Ghost, is_took_at, took_at, taken, FromIs, HereIs, Leads, FromOk, MadeOk, HadMade, TookOk, OrderIs, ChangeIs, LinkIs, RadioOk, OutOk}
+use Rattle.lte_machine.specs.Wire.{srb_use, srb_ciphering}
+use Rattle.rec_base.specs.declared.uses.Dir.TheVariants.{Up}
+use Rattle.lte_properties.proofs.Agreement.Ghost.{Ghost, keys_of, is_took_at, took_at, taken, FromIs, HereIs, Leads, FromOk, MadeOk, HadMade, TookOk, OrderIs, ChangeIs, LinkIs, RadioOk, UpOk, OutOk}
 use Rattle.lte_properties.proofs.Agreement.Told.{found_new, both_same, made_there}
 use Rattle.lte_properties.proofs.Agreement.Later.{Later, found_later, in_front, in_last, same_found}
 
@@ -154,27 +155,27 @@ heard_after : (g : Ghost) (l : Link Term ℕ) (bearers : Bearers) → LinkIs g l
     → RadioOk g (Connected (record l { bearers = bearers }))
 heard_after g l bearers h f = (h.0, h.1, h.2, h.3, h.4, h.5, h.6, λ none. f (h.7 none))
 
-heard_taken : (srb : Srb) (count : ℕ) (b : Bearers) → 1 ≤ b.srb1.receive → 1 ≤ (srb_taken srb count b).srb1.receive
+pub heard_taken : (srb : Srb) (count : ℕ) (b : Bearers) → 1 ≤ b.srb1.receive → 1 ≤ (srb_taken srb count b).srb1.receive
 heard_taken Signalling1 count b h = omega arith
 heard_taken Signalling2 count b h = h
 
-heard_packet : (drb : Drb) (count : ℕ) (b : Bearers) → 1 ≤ b.srb1.receive → 1 ≤ (drb_taken drb count b).srb1.receive
+pub heard_packet : (drb : Drb) (count : ℕ) (b : Bearers) → 1 ≤ b.srb1.receive → 1 ≤ (drb_taken drb count b).srb1.receive
 heard_packet User1 count b h = h
 heard_packet User2 count b h = h
 heard_packet User3 count b h = h
 heard_packet User4 count b h = h
 
-heard_sent : (srb : Srb) (b : Bearers) → 1 ≤ b.srb1.receive → 1 ≤ (srb_sent srb b).srb1.receive
+pub heard_sent : (srb : Srb) (b : Bearers) → 1 ≤ b.srb1.receive → 1 ≤ (srb_sent srb b).srb1.receive
 heard_sent Signalling1 b h = h
 heard_sent Signalling2 b h = h
 
-heard_packet_sent : (drb : Drb) (b : Bearers) → 1 ≤ b.srb1.receive → 1 ≤ (drb_sent drb b).srb1.receive
+pub heard_packet_sent : (drb : Drb) (b : Bearers) → 1 ≤ b.srb1.receive → 1 ≤ (drb_sent drb b).srb1.receive
 heard_packet_sent User1 b h = h
 heard_packet_sent User2 b h = h
 heard_packet_sent User3 b h = h
 heard_packet_sent User4 b h = h
 
-heard_left : (on : Which) (n : ℕ) (b : Bearers) → 1 ≤ b.srb1.receive → 1 ≤ (skipped_on on n b).srb1.receive
+pub heard_left : (on : Which) (n : ℕ) (b : Bearers) → 1 ≤ b.srb1.receive → 1 ≤ (skipped_on on n b).srb1.receive
 heard_left (OnSrb Signalling1) n b h = h
 heard_left (OnSrb Signalling2) n b h = h
 heard_left (OnDrb User1) n b h = h
@@ -205,7 +206,7 @@ link_secured_goes same g made station air algs count s (Connecting w) old h need
     let zero_on = on ∙ ap (nh (root_of w.kenb) (nas_count_of w.kenb)) (ap chain_number h.1) in (
       ((sym (ap root_of h.1), h.1 ∙ sym (ap chain_key h.1), sym (ap chain_number h.1), on), refl, m, needs.1, needs.4, from, had, (λ none. heard)),
       (here, (m, needs.1, ((needs.3, sym number, needs.4), needs.2)), tt, zero_on, tt),
-      (w.kenb, refl, here, had),
+      (w.kenb, refl, here, had, (m, needs.1, refl, (needs.2, refl, refl))),
     )
 link_secured_goes same g made station air algs count s other old h needs = (old, tt, tt)
 
@@ -262,7 +263,7 @@ handed_over_goes same g made cell steps algs station air s (Connected l) old h n
         (λ none. absurd (no_setup order.4 none)),
       ),
       (here, obeys, grows same l steps cell h.0 x refl refl, on, own_before g x l h needs.3),
-      (r.star.key, refl, here, had),
+      (r.star.key, refl, here, had, (m, order.3, refl, (λ j. srb_ciphering Up (keys_of r.star.key (sym order.9 j)) Signalling1 0))),
     )
 handed_over_goes same g made cell steps algs station air s other old h needs = (old, tt, tt)
 
@@ -325,7 +326,7 @@ changed_goes same g made cell algs station air s l root false old own needs =
     let of_cell : t ≡ Star (Kenb root 0) m.cell.pci m.cell.earfcn = λ j. Star (Kenb root 0) (sym order.3 j).pci (sym order.3 j).earfcn in (
       ((refl, refl, refl, refl), refl, m, order.1, sym order.4, from, had, (λ e. absurd (no_setup_change order.2 e))),
       (here, (m, order.1, obeys_change m x (before_of l) root order.2 ok.0 ok.2 ok.3 of_cell refl (sym order.4)), (refl, cell.pci, cell.earfcn, refl), refl, own_before g x l own needs.2),
-      (t, refl, here, had),
+      (t, refl, here, had, (m, order.1, refl, (λ j. srb_ciphering Up (keys_of t (sym order.4 j)) Signalling1 0))),
     )
 
 key_changed_goes : (same : Term → Term → Bool) (g : Ghost) → AllOf (MadeOk g) g.made
@@ -393,13 +394,20 @@ nas_goes same g (NasOpened count text) s h = nas_opened_goes g count text s s.co
 -- THE ROWS OF ITS OWN ACTS
 
 -- what a connected phone sends on an SRB is under the key that it took there
-sends_up : (g : Ghost) (l : Link Term ℕ) → LinkIs g l → (k : Term) → k ≡ l.keys.rrc_int
-    → (t : Term) × (k ≡ Alg t 4 eia2_identity) × HereIs g l.station l.air t × HadTaken g.took l.station l.air t
-sends_up g l h k e = (l.kenb, e ∙ ap (λ keys. keys.rrc_int) h.1, (h.2, h.3, h.5), h.6)
+sends_up : (g : Ghost) (l : Link Term ℕ) → LinkIs g l → (srb : Srb) (count : ℕ)
+    → UpOk g l.station l.air srb (srb_use Up l.keys.rrc_int srb count) (Some (srb_ciphering Up l.keys srb count))
+sends_up g l h srb count =
+    let keys : l.keys ≡ keys_of l.kenb h.2.algs = h.1 ∙ ap (keys_of l.kenb) h.4 in (
+      l.kenb,
+      ap (λ k. k.rrc_int) h.1,
+      (h.2, h.3, h.5),
+      h.6,
+      (h.2, h.3, (λ j. srb_use Up (keys j).rrc_int srb count), (λ j. srb_ciphering Up (keys j) srb count)),
+    )
 
 resent_goes : (g : Ghost) (s : Phone Term ℕ) (radio : Radio Term ℕ) → RadioOk g s.radio → RadioOk g radio
     → PhoneGoes g (complete_resent s radio)
-resent_goes g s (Connected l) old h = (heard_after g l (srb_sent Signalling1 l.bearers) h (heard_sent Signalling1 l.bearers), tt, sends_up g l h l.keys.rrc_int refl)
+resent_goes g s (Connected l) old h = (heard_after g l (srb_sent Signalling1 l.bearers) h (heard_sent Signalling1 l.bearers), tt, sends_up g l h Signalling1 l.bearers.srb1.send)
 resent_goes g s other old h = (old, tt, tt)
 
 packet_sent_goes : (g : Ghost) (drb : Drb) (text : List ℕ) (s : Phone Term ℕ) (radio : Radio Term ℕ) → RadioOk g s.radio → RadioOk g radio
@@ -409,7 +417,7 @@ packet_sent_goes g drb text s other old h = (old, tt, tt)
 
 rrc_sent_goes : (g : Ghost) (srb : Srb) (text : List ℕ) (s : Phone Term ℕ) (radio : Radio Term ℕ) → RadioOk g s.radio → RadioOk g radio
     → PhoneGoes g (rrc_sent srb text s radio)
-rrc_sent_goes g srb text s (Connected l) old h = (heard_after g l (srb_sent srb l.bearers) h (heard_sent srb l.bearers), tt, sends_up g l h l.keys.rrc_int refl)
+rrc_sent_goes g srb text s (Connected l) old h = (heard_after g l (srb_sent srb l.bearers) h (heard_sent srb l.bearers), tt, sends_up g l h srb (srb_counts srb l.bearers).send)
 rrc_sent_goes g srb text s other old h = (old, tt, tt)
 
 service_goes : (same : Term → Term → Bool) (g : Ghost) (s : Phone Term ℕ) (o : Option (NasContext Term)) → RadioOk g s.radio

@@ -64,7 +64,7 @@ Walked same g s came outcome caps front =
 pub one_key : (a b : Term) (m n i j : ℕ) → Alg a m i ≡ Alg b n j → a ≡ b
 one_key a b m n i j e = cc
 
-no_cipher : (f : Option (Ciphering Term)) → is_ciphered f ≡ false → f ≡ None
+pub no_cipher : (f : Option (Ciphering Term)) → is_ciphered f ≡ false → f ≡ None
 no_cipher None e = refl
 no_cipher (Some x) e = absurd cc
 

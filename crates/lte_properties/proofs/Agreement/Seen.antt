@@ -26,6 +26,12 @@ setup_no_attempt m is o e = clash m.from is e
     clash : (from : From Term) → from ≡ BySetup → from ≡ ByAttempt o → ⊥
     clash from a b = cc
 
+pub change_no_setup : (m : Made Term ℕ) (k : Term) → m.from ≡ ByChange k → m.from ≡ BySetup → ⊥
+change_no_setup m k is e = clash m.from is e
+  where
+    clash : (from : From Term) → from ≡ ByChange k → from ≡ BySetup → ⊥
+    clash from a b = cc
+
 pub change_no_attempt : (m : Made Term ℕ) (k : Term) → m.from ≡ ByChange k → (o : Origin) → m.from ≡ ByAttempt o → ⊥
 change_no_attempt m k is o e = clash m.from is e
   where

@@ -28,7 +28,7 @@ use Rattle.lte_properties.proofs.Agreement.Later.{same_found, made_later, ctx_la
 use Rattle.lte_properties.proofs.ChainNumbers.Lists.{all_map}
 use Rattle.lte_properties.proofs.Agreement.Phone.{all_found}
 use Rattle.lte_properties.proofs.Agreement.PhoneWalk.{both_named}
-use Rattle.lte_properties.proofs.Agreement.Seen.{NotBoth, setup_no_attempt, change_no_attempt, apart_always, apart_unseen, seen_more, seen_there}
+use Rattle.lte_properties.proofs.Agreement.Seen.{NotBoth, setup_no_attempt, change_no_attempt, change_no_setup, apart_always, apart_unseen, seen_more, seen_there}
 use Rattle.lte_properties.proofs.Agreement.StationSends.{sends_down, change_says}
 use Rattle.lte_properties.proofs.Agreement.Told.{found_holds, told, told_more, made_new, made_none, MadeBy, TriedBy, all_append, all_filter, reads_as, term_number, leads_up, star_term, if_tried}
 
@@ -246,6 +246,7 @@ module _ (same : Term → Term → Bool) (cells : List Site) (g : Ghost) (made_o
         m,
         ap (made_at k.made s.id) air ∙ here,
         (kenb ∙ sym (ap (λ x. x.key) is), number ∙ sym (ap (λ x. x.number) is), algs ∙ sym (ap (λ x. x.algs) is)),
+        λ e. setup_no_attempt m e w.from (ap (λ x. x.from) is),
       ) in
       (here, made, prep, fresh, omega arith)
 
@@ -403,7 +404,7 @@ module _ (same : Term → Term → Bool) (cells : List Site) (g : Ghost) (made_o
       λ n above. (made_none g.made m s.id n (h.2 n (omega arith)).0 (omega arith), (h.2 n (omega arith)).1) in (
         (
           (ctx_new.0, ctx_new.1, ctx_new.2, ctx_new.3, change, started_any k s.id c.air c.key.kenb c.starting _ needs.1 had),
-          ((term, tt, refl, m, here, (refl, refl, refl)), tt),
+          ((term, tt, refl, m, here, (refl, refl, refl), λ e. change_no_setup m c.key.kenb refl e), tt),
           fresh,
           h.3,
           h.4,

@@ -28,7 +28,7 @@ use Rattle.lte_properties.specs.ChainAbove.{ContextAbove}
 use Rattle.lte_properties.proofs.Agreement.Later.{term_later, pairs_later, entry_later, preps_later}
 use Rattle.lte_properties.proofs.Agreement.Told.{told, told_more, made_new, made_none, tried_new, tried_none, all_append, all_filter, SiteOk, reads_as, term_number, leads_up, leads_level, star_term}
 use Rattle.lte_properties.proofs.Agreement.Station.{StationGoes, map_ctx, started_map, started_any, had_by}
-use Rattle.lte_properties.proofs.Agreement.Seen.{one_origin, apart_new}
+use Rattle.lte_properties.proofs.Agreement.Seen.{setup_no_attempt, one_origin, apart_new}
 use Rattle.lte_properties.proofs.Agreement.StationSends.{sends_down, order_says, change_says}
 
 -- what the rows of acts need
@@ -221,7 +221,7 @@ module _ (same : Term → Term → Bool) (cells : List Site) (cells_ok : AllOf S
             ((m, record { source = s.id; attempt = number }, e, made_here, refl, tried_here, refl, refl, refl, refl, refl), pairs_later g x l c.conn c.key.pair k.1, (e, tried_here, refl, refl)),
             started_any x s.id c.air c.key.kenb c.starting _ active had,
           ),
-          all_append _ _ _ (preps_later g x l s.id s.preps h.1) (star_later, tt, refl, m, made_here, (refl, refl, refl)),
+          all_append _ _ _ (preps_later g x l s.id s.preps h.1) (star_later, tt, refl, m, made_here, (refl, refl, refl), λ e. setup_no_attempt m e (record { source = s.id; attempt = number }) refl),
           fresh,
           h.3,
           h.4,

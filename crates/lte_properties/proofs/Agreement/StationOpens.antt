@@ -47,7 +47,7 @@ use Rattle.lte_properties.proofs.Agreement.StationWalk.{in_range_next, own_targe
 -- what came to a station's air address: nothing that was sent, or what the phone sent there
 abbrev pub CameUp : Ghost → ℕ → ℕ → Option (Outgoing Term ℕ) → Type 0
 CameUp g station air None = ⊤
-CameUp g station air (Some (SealedRrc Up st a srb i f text)) = (st ≡ station) × (a ≡ air) × UpOk g station air i
+CameUp g station air (Some (SealedRrc Up st a srb i f text)) = (st ≡ station) × (a ≡ air) × UpOk g station air srb i f
 CameUp g station air (Some (SealedRrc Down st a srb i f text)) = ⊥
 CameUp g station air (Some (SealedNas dir header i f text)) = ⊥
 CameUp g station air (Some other) = ⊤

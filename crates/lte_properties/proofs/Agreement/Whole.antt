@@ -56,7 +56,7 @@ settled_by : (w : TheWorld) → PhoneFresh w → InTurn w → Ranged w → Settl
 settled_by w fresh turn ranged = record { turn = turn; order = in_order w fresh; fits = cells_fit w.stations ranged.1 }
 
 -- where the phone waits with a KeNB that it never took
-new_kenb : (radio : Radio Term ℕ) (took : List (Took Term ℕ)) → RadioInOrder took radio → NewKenb took radio
+pub new_kenb : (radio : Radio Term ℕ) (took : List (Took Term ℕ)) → RadioInOrder took radio → NewKenb took radio
 new_kenb Idle took h = tt
 new_kenb (Connecting w) took h = λ x i. of_each (λ y. y.key ≡ w.kenb → ⊥) took x h.1 i
 new_kenb (Connected l) took h = tt

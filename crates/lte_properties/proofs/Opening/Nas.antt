@@ -14,7 +14,8 @@ use Rattle.nas_guard.specs.Keys.{Keys}
 use Rattle.nas_rec.specs.declared.records.NasRecord.{NasRecord}
 use Rattle.nas_rec.specs.declared.records.NasRecord.TheVariants.{SecurityModeCommand, SecurityModeComplete, SecurityModeReject, ServiceRequest, NasData}
 use Rattle.nas_rec.specs.Spelling.{spelling_of}
-use Rattle.lte_machine.specs.Wire.{KeyUse, Ciphering, ciphering_by, nas_use, Outgoing, SealedNas, PlainNas, SealedRrc, UserPacket, Between}
+use Rattle.nas_guard.specs.Seal.{is_ciphered}
+use Rattle.lte_machine.specs.Wire.{KeyUse, Ciphering, ciphering_if, ciphering_by, nas_use, Outgoing, SealedNas, PlainNas, SealedRrc, UserPacket, Between}
 use Rattle.lte_machine.specs.PhoneState.{nas_keys_of, Partial, NasContext, Phone}
 use Rattle.lte_machine.specs.CoreState.{Core, CorePartial, CoreContext}
 
@@ -60,7 +61,7 @@ CorePartialOk g next priority None = ⊤
 CorePartialOk g next priority (Some p) = (p.ksi ≤ 6) × IsRootOf (ChosenIs g (choice_of priority p.caps)) next p.root
 
 abbrev pub ProcedureOk : Choices → ℕ → Option (CorePartial Term) → Option (Keys Term) → Type 0
-ProcedureOk g next None keys = ⊤
+ProcedureOk g next None keys = keys ≡ None
 ProcedureOk g next (Some p) None = ⊤
 ProcedureOk g next (Some p) (Some keys) = RootHas g next p.root keys.algs × (keys ≡ nas_keys p.root keys.algs)
 
@@ -81,11 +82,16 @@ SealedSo dir header u e root algs (NasData text) =
     (header ≡ 2) × (e ≡ Some (ciphering_by algs.eea (nas_use dir (nas_keys root algs).enc u.count)))
     × (u.count < count_limit) × (length text ≤ 200)
 
+-- the ciphering of a message by its header type (TS 24.301 9.3.1)
+abbrev pub ciphered_for : Dir → ℕ → KeyUse Term → Term → Algs → Option (Ciphering Term)
+ciphered_for dir header u root algs =
+    ciphering_if (is_ciphered header) (ciphering_by algs.eea (nas_use dir (nas_keys root algs).enc u.count))
+
 abbrev pub SealedOk : Choices → ℕ → Dir → ℕ → KeyUse Term → Option (Ciphering Term) → List ℕ → Type 0
 SealedOk g next dir header u e text =
     (root : Term) × (algs : Algs) × (x : NasRecord)
     × RootHas g next root algs × (u ≡ nas_use dir (Alg root 2 eia2_identity) u.count) × (text ≡ spelling_of x)
-    × SealedSo dir header u e root algs x
+    × SealedSo dir header u e root algs x × (e ≡ ciphered_for dir header u root algs)
 
 abbrev pub SentOk : Choices → ℕ → Outgoing Term ℕ → Type 0
 SentOk g next (SealedNas dir header u e text) = SealedOk g next dir header u e text
@@ -130,7 +136,7 @@ module _ (g h : Choices) (next later : ℕ) (more : More g next h later) where
       partial (Some p) k = (k.0, chosen_more (choice_of s.priority p.caps) p.root k.1)
 
       procedure : (o : Option (CorePartial Term)) (keys : Option (Keys Term)) → ProcedureOk g next o keys → ProcedureOk h later o keys
-      procedure None keys k = tt
+      procedure None keys k = k
       procedure (Some p) None k = tt
       procedure (Some p) (Some keys) k = (chosen_more (Ok keys.algs) p.root k.0, k.1)
 
@@ -139,7 +145,7 @@ module _ (g h : Choices) (next later : ℕ) (more : More g next h later) where
       context (Some c) k = context_more c.nas k
 
   pub sent_more : (x : Outgoing Term ℕ) → SentOk g next x → SentOk h later x
-  sent_more (SealedNas dir header u e text) k = (k.0, k.1, k.2, chosen_more (Ok k.1) k.0 k.3, k.4, k.5, k.6)
+  sent_more (SealedNas dir header u e text) k = (k.0, k.1, k.2, chosen_more (Ok k.1) k.0 k.3, k.4, k.5, k.6, k.7)
   sent_more (PlainNas octets) k = tt
   sent_more (SealedRrc dir station air srb u e text) k = tt
   sent_more (UserPacket dir station air drb e text) k = tt

@@ -28,7 +28,7 @@ use Rattle.lte_machine.specs.CoreRows as core
 use Rattle.lte_machine.specs.CoreRows.{CoreNasRow, CoreRecordRow, CoreActRow, CoreRow}
 use Rattle.lte_machine.specs.CoreKeys as core_keys
 use Rattle.lte_machine.specs.CoreKeys.{CoreDone, core_does}
-use Rattle.lte_properties.proofs.Opening.Nas.{Choices, nas_keys, IsRootOf, AnyNumber, ChosenIs, RootHas, ContextOk, PhoneContextOk, CoreContextOk, CorePartialOk, ProcedureOk, PhoneOk, CoreOk, SealedSo, SealedOk, OutOk}
+use Rattle.lte_properties.proofs.Opening.Nas.{Choices, nas_keys, IsRootOf, AnyNumber, ChosenIs, RootHas, ContextOk, PhoneContextOk, CoreContextOk, CorePartialOk, ProcedureOk, PhoneOk, CoreOk, SealedSo, ciphered_for, SealedOk, OutOk}
 use Rattle.lte_machine.specs.Reply.{Before}
 
 -- THE CORE
@@ -60,8 +60,9 @@ module _ (same : Term → Term → Bool) (g : Choices) (next : ℕ) where
   -- a message under a context
   sealed_by : (c : NasContext Term) → ContextOk g next c → (dir : Dir) (header count : ℕ) (e : Option (Ciphering Term)) (x : NasRecord)
       → SealedSo dir header (nas_use dir c.keys.int count) e c.root c.keys.algs x
+      → e ≡ ciphered_for dir header (nas_use dir c.keys.int count) c.root c.keys.algs
       → SealedOk g next dir header (nas_use dir c.keys.int count) e (spelling_of x)
-  sealed_by c k dir header count e x so = (c.root, c.keys.algs, x, k.0, ap (λ keys. nas_use dir keys.int count) k.1, refl, so)
+  sealed_by c k dir header count e x so type = (c.root, c.keys.algs, x, k.0, ap (λ keys. nas_use dir keys.int count) k.1, refl, so, type)
 
   ciphered_by_own : (c : NasContext Term) → ContextOk g next c → (dir : Dir) (count : ℕ)
       → Some (ciphering_by c.keys.algs.eea (nas_use dir c.keys.enc count)) ≡ Some (ciphering_by c.keys.algs.eea (nas_use dir (nas_keys c.root c.keys.algs).enc count))
@@ -73,19 +74,19 @@ module _ (same : Term → Term → Bool) (g : Choices) (next : ℕ) where
   smc_started_goes ksi algs caps count None s h k needs = (h, tt)
   smc_started_goes ksi algs caps count (Some p) s h k needs =
       let root : RootHas g next p.root algs = (k.1.0, k.1.1, k.1.2, k.1.3, sym needs.1 ∙ k.1.4) in
-      ((k, (root, refl), h.2), (p.root, algs, SecurityModeCommand ksi algs caps, root, refl, refl, (refl, refl, refl, subst (λ n. n ≤ 6) (sym needs.0) k.0)))
+      ((k, (root, refl), h.2), (p.root, algs, SecurityModeCommand ksi algs caps, root, refl, refl, (refl, refl, refl, subst (λ n. n ≤ 6) (sym needs.0) k.0), refl))
 
   smc_complete_goes : (count : ℕ) (o : Option (CorePartial Term)) (procedure : Option (Keys Term)) (s : Core Term ℕ) → CoreOk g next s
       → ProcedureOk g next o procedure → CoreGoes (core_keys.smc_complete count o procedure s)
   smc_complete_goes count None procedure s h k = (h, tt)
   smc_complete_goes count (Some p) None s h k = (h, tt)
-  smc_complete_goes count (Some p) (Some keys) s h k = ((tt, tt, k), tt)
+  smc_complete_goes count (Some p) (Some keys) s h k = ((tt, refl, k), tt)
 
   key_changed_goes : (count conn after station : ℕ) (o : Option (CorePartial Term)) (procedure : Option (Keys Term)) (s : Core Term ℕ) → CoreOk g next s
       → ProcedureOk g next o procedure → CoreGoes (core_keys.key_changed r count conn after station o procedure s)
   key_changed_goes count conn after station None procedure s h k = (h, tt)
   key_changed_goes count conn after station (Some p) None s h k = (h, tt)
-  key_changed_goes count conn after station (Some p) (Some keys) s h k = ((tt, tt, k), tt)
+  key_changed_goes count conn after station (Some p) (Some keys) s h k = ((tt, refl, k), tt)
 
   service_goes : (count : ℕ) (o : Option (CoreContext Term)) (s : Core Term ℕ) → CoreOk g next s → CoreContextOk g next o
       → CoreGoes (core_keys.service_asked count o s)
@@ -99,7 +100,7 @@ module _ (same : Term → Term → Bool) (g : Choices) (next : ℕ) where
 
   -- with no procedure the partial context has no keys
   no_procedure : (o : Option (CorePartial Term)) → ProcedureOk g next o None
-  no_procedure None = tt
+  no_procedure None = refl
   no_procedure (Some p) = tt
 
   sealed_reject_goes : (count : ℕ) (o : Option (CoreContext Term)) (s : Core Term ℕ) → CoreOk g next s → CoreContextOk g next o
@@ -111,7 +112,7 @@ module _ (same : Term → Term → Bool) (g : Choices) (next : ℕ) where
       → (count < count_limit) × (length text ≤ 200) → CoreGoes (core_keys.nas_sent count text o s)
   core_sent_goes count text None s h k needs = (h, tt)
   core_sent_goes count text (Some c) s h k needs =
-      ((h.0, h.1, k), sealed_by c.nas k Down 2 count _ (NasData text) (refl, ciphered_by_own c.nas k Down count, needs.0, needs.1))
+      ((h.0, h.1, k), sealed_by c.nas k Down 2 count _ (NasData text) (refl, ciphered_by_own c.nas k Down count, needs.0, needs.1) (ciphered_by_own c.nas k Down count))
 
   core_skipped_goes : (n : ℕ) (o : Option (CoreContext Term)) (s : Core Term ℕ) → CoreOk g next s → CoreContextOk g next o
       → CoreGoes (core_keys.nas_skipped n o s)
@@ -222,17 +223,17 @@ module _ (same : Term → Term → Bool) (g : Choices) (next : ℕ) where
   rejected_goes : (answer : Answer) (cause : ℕ) (s : Phone Term ℕ) (o : Option (NasContext Term)) → PhoneOk g next s → PhoneContextOk g next o
       → PhoneGoes (phone_keys.rejected_under answer cause s o)
   rejected_goes answer cause s None h k = (h, tt)
-  rejected_goes answer cause s (Some c) h k = ((h.0, k), sealed_by c k Up 2 c.send _ (SecurityModeReject cause) refl)
+  rejected_goes answer cause s (Some c) h k = ((h.0, k), sealed_by c k Up 2 c.send _ (SecurityModeReject cause) refl (ciphered_by_own c k Up c.send))
 
   taken_goes : (algs : Algs) (count : ℕ) (s : Phone Term ℕ) (o : Option (Partial Term)) → PhoneOk g next s → TakenNeeds algs o
       → PhoneGoes (phone_keys.context_taken r algs count s o)
   taken_goes algs count s None h needs = (h, tt)
-  taken_goes algs count s (Some p) h needs = ((tt, (needs, refl)), (p.root, algs, SecurityModeComplete, needs, refl, refl, refl))
+  taken_goes algs count s (Some p) h needs = ((tt, (needs, refl)), (p.root, algs, SecurityModeComplete, needs, refl, refl, refl, refl))
 
   taken_connected_goes : (algs : Algs) (count : ℕ) (s : Phone Term ℕ) (o : Option (Partial Term)) → PhoneOk g next s → TakenNeeds algs o
       → PhoneGoes (phone_keys.context_taken_connected r algs count s o)
   taken_connected_goes algs count s None h needs = (h, tt)
-  taken_connected_goes algs count s (Some p) h needs = ((tt, (needs, refl)), (p.root, algs, SecurityModeComplete, needs, refl, refl, refl))
+  taken_connected_goes algs count s (Some p) h needs = ((tt, (needs, refl)), (p.root, algs, SecurityModeComplete, needs, refl, refl, refl, refl))
 
   opened_goes : (count : ℕ) (text : List ℕ) (s : Phone Term ℕ) (o : Option (NasContext Term)) → PhoneOk g next s → PhoneContextOk g next o
       → PhoneGoes (phone_keys.nas_opened count text s o)
@@ -295,7 +296,7 @@ module _ (same : Term → Term → Bool) (g : Choices) (next : ℕ) where
 
   requested_goes : (s : Phone Term ℕ) (o : Option (NasContext Term)) → PhoneOk g next s → PhoneContextOk g next o → PhoneGoes (phone_keys.service_requested r s o)
   requested_goes s None h k = (h, tt)
-  requested_goes s (Some c) h k = ((h.0, k), sealed_by c k Up 1 c.send None ServiceRequest refl)
+  requested_goes s (Some c) h k = ((h.0, k), sealed_by c k Up 1 c.send None ServiceRequest refl refl)
 
   resent_goes : (s : Phone Term ℕ) (radio : Radio Term ℕ) → PhoneOk g next s → PhoneGoes (phone_keys.complete_resent s radio)
   resent_goes s Idle h = (h, tt)
@@ -316,7 +317,7 @@ module _ (same : Term → Term → Bool) (g : Choices) (next : ℕ) where
       → PhoneGoes (phone_keys.nas_sent text s o)
   sent_goes text s None h k needs = (h, tt)
   sent_goes text s (Some c) h k needs =
-      ((h.0, k), sealed_by c k Up 2 c.send _ (NasData text) (refl, ciphered_by_own c k Up c.send, needs.0, needs.1))
+      ((h.0, k), sealed_by c k Up 2 c.send _ (NasData text) (refl, ciphered_by_own c k Up c.send, needs.0, needs.1) (ciphered_by_own c k Up c.send))
 
   left_goes : (n : ℕ) (s : Phone Term ℕ) (o : Option (NasContext Term)) → PhoneOk g next s → PhoneContextOk g next o → PhoneGoes (phone_keys.nas_skipped n s o)
   left_goes n s None h k = (h, tt)

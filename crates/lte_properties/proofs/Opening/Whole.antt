@@ -53,6 +53,11 @@ use Rattle.lte_properties.proofs.Opening.Air.{AirOk, air_later}
 use Rattle.lte_properties.proofs.Opening.AirWalk.{station_act_needs, phone_act_sends}
 use Rattle.lte_properties.proofs.Opening.World.{PacketsOk, Keeps, one_root_more, chosen_at, chosen_below, chosen_there, CameTo, arrives_keeps, by_world_keeps, phone_turn_keeps, core_turn_keeps, station_turn_keeps}
 use Rattle.lte_properties.proofs.Opening.Fits.{packets_fit}
+use Rattle.lte_properties.specs.SecondCase.{SecondAtStarting}
+use Rattle.lte_properties.proofs.Freshness.PhoneRun.{phone_always_in_order}
+use Rattle.lte_properties.proofs.Agreement.Whole.{new_kenb}
+use Rattle.lte_properties.proofs.Opening.Heard.{always_heard}
+use Rattle.lte_properties.proofs.Opening.Second.{second_at}
 
 module _ (same : Term → Term → Bool) (sender : Option (Outgoing Term ℕ) → Option (KeyUse Term)) (opener : Opening Term → List ℕ → Option (Outgoing Term ℕ) → Outcome) (c : Ciphers Term) (good : AreCiphers c) (between : Fields → Option (NumberedKey Term ℕ) → List ℕ) (cells : List Site) where
   abbrev q : Reading Term ℕ
@@ -178,7 +183,7 @@ module _ (same : Term → Term → Bool) (sender : Option (Outgoing Term ℕ) �
 -- before the first event nothing was sent
 pub first_stands : (setup : Setup) → IsSetup setup → (k : Conns) × WorldOk setup.cells k (first_world setup) × Keeps k (first_world setup)
 first_stands setup is =
-    (no_conns setup, first_ok setup is, ((λ n. choice_of [] (record { eea = 0; eia = 0 })), record { core = (tt, tt, tt); phone = (tt, tt); nas = tt; air = tt }))
+    (no_conns setup, first_ok setup is, ((λ n. choice_of [] (record { eea = 0; eia = 0 })), record { core = (tt, refl, tt); phone = (tt, tt); nas = tt; air = tt }))
 
 -- in every world of a run of a machine whose opener compares the uses of SRB records as terms, and whose NAS messages come
 -- of the KASME under which they are accepted, an opener that opens what comes under the uses it was sealed with opens
@@ -195,3 +200,19 @@ packets_open same itself c good between opener by_terms setup is events are one 
     let settled = settled_from_first same itself (octets_of c between) sender_of opener setup is events are in
     let s = run_stands same sender_of opener c good between setup.cells (cells_of setup is) (λ conn. 0) (first_world setup) events (first_holds setup) (first_stands setup is) are settled honest calm one in
     opens_where_fits same Root sender_of back c good opens between u (packets_fit setup.cells s.0 s.2.0 u s.1 s.2.1)
+
+-- and the second case of opening comes at a starting station alone, whatever opener the event has
+pub second_case : (same : Term → Term → Bool) → IsReflexive same → (c : Ciphers Term) → AreCiphers c → (between : Fields → Option (NumberedKey Term ℕ) → List ℕ) (opener : Opening Term → List ℕ → Option (Outgoing Term ℕ) → Outcome) → OpensByTerms c opener
+    → (setup : Setup) → IsSetup setup → (events : List Event) → ranges.AllOf IsEvent events
+    → Along (SameRoot (record (machine_over same c between) { opener = opener })) (record (machine_over same c between) { opener = opener }) (first_world setup) events
+    → (back : Opening Term → List ℕ → Option (Outgoing Term ℕ) → Outcome)
+    → SecondAtStarting (record (machine_over same c between) { opener = back }) (run (record (machine_over same c between) { opener = opener }) (first_world setup) events)
+second_case same itself c good between opener by_terms setup is events are one back =
+    let m = record (machine_over same c between) { opener = opener } in
+    let u = run m (first_world setup) events in
+    let honest = honest_along same Root (octets_of c between) sender_of opener c by_terms (first_world setup) events in
+    let calm = calm_over same itself c good between opener by_terms setup is events are in
+    let settled = settled_from_first same itself (octets_of c between) sender_of opener setup is events are in
+    let s = run_stands same sender_of opener c good between setup.cells (cells_of setup is) (λ conn. 0) (first_world setup) events (first_holds setup) (first_stands setup is) are settled honest calm one in
+    let new = new_kenb u.phone.radio u.took (phone_always_in_order same itself (octets_of c between) sender_of opener setup events).1 in
+    second_at same sender_of back c good between setup.cells s.2.0 s.0 u s.1 s.2.1 (always_heard m setup events) new

@@ -1,0 +1,285 @@
+-- On the air the second case of opening comes at a station alone whose context's security is starting: it waits for an unciphered
+-- record, and the phone there ciphers already. A connected phone and an active context take the first record once.
+use Rattle.std.proofs.Common.{◌≡◌, refl, sym, ap, ◌∙◌, subst, ℕ, ◌≤◌, ◌==◌, ◌&&◌, Bool, true, false, List, Option, Some, None, option_map, Result, Ok, Err, arith}
+use Rattle.std.proofs.lemmas.Bool.{eqb-true}
+use Rattle.alg_choice.specs.Choice.{are_supported}
+use Rattle.alg_choice.specs.declared.algs.Algs.{Algs}
+use Rattle.alg_choice.specs.declared.caps.Caps.{Caps}
+use Rattle.rec_base.specs.Bearer.{bearer5_of}
+use Rattle.rec_base.specs.declared.faults.RecFault.{RecFault}
+use Rattle.rec_base.specs.declared.uses.Dir.TheVariants.{Up, Down}
+use Rattle.lte_events.specs.Site.{Site}
+use Rattle.key_model.specs.Chain.{ncc_of}
+use Rattle.key_model.specs.Reading.{term_reading_by}
+use Rattle.key_model.specs.Term.{Term}
+use Rattle.ho_prep.specs.Prep.{Prep, is_at, at_air}
+use Rattle.ho_prep.specs.declared.origins.By.{By}
+use Rattle.pdcp_guard.specs.AsKeys.{AsKeys}
+use Rattle.pdcp_guard.specs.Drb.{drb_count}
+use Rattle.pdcp_guard.specs.Srb.{srb_count}
+use Rattle.pdcp_guard.specs.declared.pdus.PdcpFault.{PdcpFault}
+use Rattle.rrc_rec.specs.Reading.{read_rrc}
+use Rattle.rrc_rec.specs.declared.records.RrcRecord.{RrcRecord}
+use Rattle.rrc_rec.specs.declared.records.RrcRecord.TheVariants.{SecurityModeCommand, SecurityModeComplete, Reconfiguration, ReconfigurationComplete, RrcData, KeyChange}
+use Rattle.lte_machine.specs.Bearers.{Srb, Signalling1, Signalling2, Drb, Which, OnSrb, OnDrb, of_srb, srb_counts, drb_counts}
+use Rattle.lte_machine.specs.Opening.{CipheredElse}
+use Rattle.lte_machine.specs.PhoneChoice.{AirFront, AtStart, start_read, start_at, waiting_front, signalling_at, packet_at, linked_front, air_front, unciphered_text}
+use Rattle.lte_machine.specs.PhoneKeys.{air_expects, start_expects, signalling_expects, packet_expects}
+use Rattle.lte_machine.specs.PhoneState.{Waiting, Link, Radio, Idle, Connecting, Connected, Phone, map_radio, map_link}
+use Rattle.lte_machine.specs.Reply.{Made, unseen}
+use Rattle.lte_machine.specs.StationChoice as st
+use Rattle.lte_machine.specs.StationKeys as stk
+use Rattle.lte_machine.specs.StationState.{Station, Context, map_context}
+use Rattle.lte_machine.specs.Wire.{KeyUse, Ciphering, Outgoing, SealedNas, PlainNas, SealedRrc, UserPacket, Between, srb_use, srb_ciphering}
+use Rattle.lte_properties.specs.Agreement.{made_at}
+use Rattle.lte_properties.specs.SecondCase.{sender_at}
+use Rattle.lte_properties.proofs.Agreement.Calm.{NewKenb, count_low, plain_here, ciphered_here}
+use Rattle.lte_properties.proofs.Agreement.Ghost.{Ghost, keys_of, CtxOk, PrepOk, StationOk, LinkIs, RadioOk, UpOk}
+use Rattle.lte_properties.proofs.Agreement.Later.{same_found}
+use Rattle.lte_properties.proofs.Agreement.Phone.{all_found}
+use Rattle.lte_properties.proofs.Agreement.PhoneWalk.{CameDown, by_test, one_key, no_cipher, both_named}
+use Rattle.lte_properties.proofs.Agreement.StationOpens.{CameUp}
+use Rattle.lte_properties.proofs.Agreement.Told.{found_holds}
+use Rattle.lte_properties.proofs.Opening.Heard.{Heard}
+use Rattle.lte_properties.proofs.Opening.SecondNas.{Never, never_srb}
+
+-- THE PHONE
+
+module _ (same : Term → Term → Bool) (g : Ghost) (s : Phone Term ℕ) (caps : Caps) (station air : ℕ) (pdu : List ℕ) (on : Which) (came : Option (Outgoing Term ℕ)) (came_ok : CameDown g station air on pdu came) where
+  abbrev NeverAt : AirFront → Type 0
+  NeverAt front = Never (air_expects (term_reading_by same) front s) came
+
+  -- a record under the KeNB that it waits with is not ciphered
+  waits : (w : Waiting Term) → NewKenb g.took (Connecting w) → (count : ℕ) (algs : Algs) (x : Option (Outgoing Term ℕ)) → CameDown g station air on pdu x
+      → Never (start_expects (term_reading_by same) count algs (Connecting w)) x
+  waits w never count algs None h = λ e. absurd cc
+  waits w never count algs (Some (SealedNas dir header i f text)) h = absurd h
+  waits w never count algs (Some (SealedRrc Up st a srb i f text)) h = absurd h
+  waits w never count algs (Some (SealedRrc Down st a srb i f text)) h =
+      let u = srb_use Down (keys_of w.kenb algs).rrc_int Signalling1 count in
+      never_srb u i None f Down st a srb text
+      (λ e. sym (no_cipher f (plain_here same g s caps station air pdu on (Some (SealedRrc Down st a srb i f text)) h w never u algs refl text (Some (SealedRrc Down st a srb i f text)) h (e, λ x. refl))))
+  waits w never count algs (Some (PlainNas octets)) h = λ e. absurd cc
+  waits w never count algs (Some (UserPacket dir st a drb e text)) h = λ e. absurd cc
+  waits w never count algs (Some (Between to fields key)) h = λ e. absurd cc
+
+  start_never : (w : Waiting Term) → s.radio ≡ Connecting w → NewKenb g.took (Connecting w) → (count : ℕ) (algs : Algs) (named : Bool) → NeverAt (AtStart count algs named station air)
+  start_never w is never count algs named =
+      subst (λ radio. Never (start_expects (term_reading_by same) count algs radio) came) (sym is) (waits w never count algs came came_ok)
+
+  read_never : (w : Waiting Term) → s.radio ≡ Connecting w → NewKenb g.took (Connecting w) → (count : ℕ) (read : Result RrcRecord RecFault) → NeverAt (start_read caps station air count read)
+  read_never w is never count (Err fault) = λ e. absurd cc
+  read_never w is never count (Ok (SecurityModeCommand algs ns na)) =
+      by_test NeverAt (are_supported caps algs) _ _ (λ b. start_never w is never count algs ((ns == station) && (na == air))) (λ b e. absurd cc)
+  read_never w is never count (Ok SecurityModeComplete) = λ e. absurd cc
+  read_never w is never count (Ok (Reconfiguration cell ncc algs st a)) = λ e. absurd cc
+  read_never w is never count (Ok ReconfigurationComplete) = λ e. absurd cc
+  read_never w is never count (Ok (RrcData text)) = λ e. absurd cc
+  read_never w is never count (Ok (KeyChange cell algs st a)) = λ e. absurd cc
+
+  count_never : (w : Waiting Term) → s.radio ≡ Connecting w → NewKenb g.took (Connecting w) → (count : Result ℕ PdcpFault) → NeverAt (start_at caps station air pdu count)
+  count_never w is never (Err fault) = λ e. absurd cc
+  count_never w is never (Ok count) = read_never w is never count (read_rrc (unciphered_text pdu))
+
+  waiting_never : (w : Waiting Term) → s.radio ≡ Connecting w → NewKenb g.took (Connecting w) → (which : Which) → NeverAt (waiting_front caps station air pdu which)
+  waiting_never w is never (OnSrb Signalling1) = count_never w is never (srb_count 0 pdu)
+  waiting_never w is never (OnSrb Signalling2) = λ e. absurd cc
+  waiting_never w is never (OnDrb drb) = λ e. absurd cc
+
+  -- a record under the keys of its connection is ciphered under them
+  ciphers : (l : Link Term ℕ) → LinkIs g l → l.station ≡ station → l.air ≡ air → (srb : Srb) (count : ℕ) → on ≡ OnSrb srb → (srb_counts srb l.bearers).receive ≤ count
+      → (x : Option (Outgoing Term ℕ)) → CameDown g station air on pdu x → Never (signalling_expects {C = ℕ} srb count (Connected l)) x
+  ciphers l h is_s is_a srb count is_on low None k = λ e. absurd cc
+  ciphers l h is_s is_a srb count is_on low (Some (SealedNas dir header i f text)) k = absurd k
+  ciphers l h is_s is_a srb count is_on low (Some (SealedRrc Up st a sr i f text)) k = absurd k
+  ciphers l h is_s is_a srb count is_on low (Some (SealedRrc Down st a sr i None text)) k =
+      let u = srb_use Down l.keys.rrc_int srb count in
+      let cipher = Some (srb_ciphering Down l.keys srb count) in
+      never_srb u i cipher None Down st a sr text
+      (λ e. absurd (no_first
+      (ciphered_here same g s caps station air pdu on (Some (SealedRrc Down st a sr i None text)) k l h is_s is_a srb count is_on low text (Some (SealedRrc Down st a sr i None text)) k (e, λ x. refl))))
+    where
+      no_first : false ≡ true → ⊥
+      no_first e = cc
+  ciphers l h is_s is_a srb count is_on low (Some (SealedRrc Down st a sr i (Some f) text)) k =
+      let d = k.3 in
+      let m = d.0 in
+      let there : made_at g.made station air ≡ Some h.2 = (λ j. made_at g.made (sym is_s j) (sym is_a j)) ∙ h.3 in
+      let one : h.2 ≡ m = same_found _ h.2 m there d.1 in
+      let srbs : srb ≡ sr = one_srb srb sr (sym is_on ∙ k.2) in
+      never_srb (srb_use Down l.keys.rrc_int srb count) i (Some (srb_ciphering Down l.keys srb count)) (Some f) Down st a sr text
+      (λ e. let kenb : l.kenb ≡ m.key = one_key l.kenb m.key _ _ _ _ (sym (ap (λ keys. keys.rrc_int) h.1) ∙ ap (λ v. v.key) e ∙ ap (λ v. v.key) d.2) in
+      let keys : l.keys ≡ keys_of m.key m.algs = h.1 ∙ (λ j. keys_of (kenb j) ((h.4 ∙ ap (λ x. x.algs) one) j)) in
+      (λ j. Some (srb_ciphering Down (keys j) (srbs j) ((ap (λ v. v.count) e) j))) ∙ ap Some (sym d.3.0))
+    where
+      one_srb : (a b : Srb) → OnSrb a ≡ OnSrb b → a ≡ b
+      one_srb a b e = cc
+  ciphers l h is_s is_a srb count is_on low (Some (PlainNas octets)) k = λ e. absurd cc
+  ciphers l h is_s is_a srb count is_on low (Some (UserPacket dir st a drb e text)) k = λ e. absurd cc
+  ciphers l h is_s is_a srb count is_on low (Some (Between to fields key)) k = λ e. absurd cc
+
+  signalling_never : (l : Link Term ℕ) → s.radio ≡ Connected l → LinkIs g l → l.station ≡ station → l.air ≡ air → (srb : Srb) → on ≡ OnSrb srb
+      → (own : ℕ) (count : Result ℕ PdcpFault) → srb_count (srb_counts srb l.bearers).receive pdu ≡ count → NeverAt (signalling_at srb own count)
+  signalling_never l is h is_s is_a srb is_on own (Err fault) e = λ x. absurd cc
+  signalling_never l is h is_s is_a srb is_on own (Ok count) e =
+      subst (λ radio. Never (signalling_expects {C = ℕ} srb count radio) came) (sym is)
+      (ciphers l h is_s is_a srb count is_on (count_low (srb_counts srb l.bearers).receive pdu count e) came came_ok)
+
+  packet_never : (l : Link Term ℕ) → s.radio ≡ Connected l → (drb : Drb) (count : Result ℕ PdcpFault) → NeverAt (packet_at drb count)
+  packet_never l is drb (Err fault) = λ x. absurd cc
+  packet_never l is drb (Ok count) = subst (λ radio. Never (packet_expects {C = ℕ} drb count radio) came) (sym is) (λ x. absurd cc)
+
+  linked_never : (l : Link Term ℕ) → s.radio ≡ Connected l → LinkIs g l → l.station ≡ station → l.air ≡ air → (which : Which) → on ≡ which
+      → NeverAt (linked_front (map_link unseen ncc_of l) pdu which)
+  linked_never l is h is_s is_a (OnSrb srb) is_on =
+      signalling_never l is h is_s is_a srb is_on (ncc_of l.chain.number) (srb_count (srb_counts srb l.bearers).receive pdu) refl
+  linked_never l is h is_s is_a (OnDrb drb) is_on = packet_never l is drb (drb_count (drb_counts drb l.bearers).receive pdu)
+
+  pub phone_air_never : (radio : Radio Term ℕ) → s.radio ≡ radio → RadioOk g radio → NewKenb g.took radio → NeverAt (air_front caps station air pdu on (map_radio unseen ncc_of radio))
+  phone_air_never Idle is h never = λ e. absurd cc
+  phone_air_never (Connecting w) is h never = waiting_never w is never on
+  phone_air_never (Connected l) is h never =
+      by_test NeverAt ((l.station == station) && (l.air == air)) _ _
+      (λ b. let here = both_named l.station station l.air air b in linked_never l is h here.0 here.1 on refl)
+      (λ b e. absurd cc)
+
+-- A STATION
+
+-- the security of its context is starting
+abbrev pub Starts : Option (Context Term ℕ) → Type 0
+Starts None = ⊥
+Starts (Some c) = c.starting ≡ true
+
+one_bearer : (a b : Srb) → bearer5_of (of_srb a) ≡ bearer5_of (of_srb b) → a ≡ b
+one_bearer Signalling1 Signalling1 e = refl
+one_bearer Signalling2 Signalling2 e = refl
+one_bearer Signalling1 Signalling2 e = absurd (omega (arith, e))
+one_bearer Signalling2 Signalling1 e = absurd (omega (arith, e))
+
+-- a record of the phone under this integrity use: of that bearer and COUNT, and ciphered under these keys, where it is
+module _ (g : Ghost) (id air : ℕ) (keys : AsKeys Term) (kenb : Term) (m : Made Term ℕ) (are : keys ≡ keys_of kenb m.algs) (there : made_at g.made id air ≡ Some m) (srb sr : Srb) (count : ℕ) (i : KeyUse Term)
+    (is : srb_use Up keys.rrc_int srb count ≡ i) where
+  srbs : (f : Option (Ciphering Term)) → UpOk g id air sr i f → srb ≡ sr
+  srbs f up = one_bearer srb sr (ap (λ v. v.bearer) is ∙ ap (λ v. v.bearer) up.4.2)
+
+  same_made : (f : Option (Ciphering Term)) (up : UpOk g id air sr i f) → m ≡ up.4.0
+  same_made f up = same_found _ m up.4.0 there up.4.1
+
+  same_kenb : (f : Option (Ciphering Term)) (up : UpOk g id air sr i f) → kenb ≡ up.0
+  same_kenb f up = one_key kenb up.0 _ _ _ _ (sym (ap (λ x. x.rrc_int) are) ∙ ap (λ v. v.key) is ∙ up.1)
+
+  ciphered_same : (f : Ciphering Term) (up : UpOk g id air sr i (Some f)) → Some (srb_ciphering Up keys srb count) ≡ Some f
+  ciphered_same f up =
+      let all : keys ≡ keys_of up.0 up.4.0.algs = are ∙ (λ j. keys_of (same_kenb (Some f) up j) (same_made (Some f) up j).algs) in
+      (λ j. Some (srb_ciphering Up (all j) (srbs (Some f) up j) (ap (λ v. v.count) is j))) ∙ ap Some (sym up.4.3)
+
+module _ (same : Term → Term → Bool) (cells : List Site) (g : Ghost) (s : Station Term ℕ) (ok : StationOk cells g s) (heard : Heard s.context) (air : ℕ) (came : Option (Outgoing Term ℕ)) (came_ok : CameUp g s.id air came) where
+  abbrev Second : st.AirFront → Type 0
+  Second front = sender_at (stk.air_expects front s) came ≡ CipheredElse → Starts s.context
+
+  -- an active context: the record is ciphered under its keys, and the first one was taken
+  active_never : (c : Context Term ℕ) → CtxOk g s.id (Some c) → Heard (Some c) → c.starting ≡ false → c.air ≡ air → (srb : Srb) (count : ℕ) → (srb_counts srb c.bearers).receive ≤ count
+      → (x : Option (Outgoing Term ℕ)) → CameUp g s.id air x → Never (stk.signalling_expects {C = ℕ} srb count (Some c)) x
+  active_never c k listened active there srb count low None h = λ e. absurd cc
+  active_never c k listened active there srb count low (Some (SealedNas dir header i f text)) h = absurd h
+  active_never c k listened active there srb count low (Some (SealedRrc Down st a sr i f text)) h = absurd h
+  active_never c k listened active there srb count low (Some (SealedRrc Up st a sr i (Some f) text)) h =
+      let m = k.3.0 in
+      let at : made_at g.made s.id air ≡ Some m = ap (made_at g.made s.id) (sym there) ∙ k.3.1 in
+      let are : c.keys ≡ keys_of c.key.kenb m.algs = k.2 ∙ ap (keys_of c.key.kenb) k.3.2.2 in
+      never_srb (srb_use Up c.keys.rrc_int srb count) i (Some (srb_ciphering Up c.keys srb count)) (Some f) Up st a sr text
+      (λ e. ciphered_same g s.id air c.keys c.key.kenb m are at srb sr count i e f h.2)
+  active_never c k listened active there srb count low (Some (SealedRrc Up st a sr i None text)) h =
+      let m = k.3.0 in
+      let at : made_at g.made s.id air ≡ Some m = ap (made_at g.made s.id) (sym there) ∙ k.3.1 in
+      let are : c.keys ≡ keys_of c.key.kenb m.algs = k.2 ∙ ap (keys_of c.key.kenb) k.3.2.2 in
+      never_srb (srb_use Up c.keys.rrc_int srb count) i (Some (srb_ciphering Up c.keys srb count)) None Up st a sr text
+      (λ e. let first : srb ≡ Signalling1 = srbs g s.id air c.keys c.key.kenb m are at srb sr count i e None h.2 ∙ h.2.4.3.2 in
+      let none : count ≡ 0 = ap (λ v. v.count) e ∙ h.2.4.3.1 in
+      absurd (too_low (listened active) (subst (λ x. (srb_counts x c.bearers).receive ≤ count) first low) none))
+    where
+      too_low : {a b : ℕ} → 1 ≤ a → a ≤ b → b ≡ 0 → ⊥
+      too_low x y z = omega arith
+  active_never c k listened active there srb count low (Some (PlainNas octets)) h = λ e. absurd cc
+  active_never c k listened active there srb count low (Some (UserPacket dir st a drb e text)) h = λ e. absurd cc
+  active_never c k listened active there srb count low (Some (Between to fields key)) h = λ e. absurd cc
+
+  -- a preparation: no setup made it, so that the phone came with a ciphered record
+  prepared_never : (p : Prep Term ℕ) → PrepOk g s.id p → p.air ≡ air → (count : ℕ) (x : Option (Outgoing Term ℕ)) → CameUp g s.id air x → Never (stk.prepared_expects {C = ℕ} count (Some p)) x
+  prepared_never p k there count None h = λ e. absurd cc
+  prepared_never p k there count (Some (SealedNas dir header i f text)) h = absurd h
+  prepared_never p k there count (Some (SealedRrc Down st a sr i f text)) h = absurd h
+  prepared_never p k there count (Some (SealedRrc Up st a sr i (Some f) text)) h =
+      let m = k.3 in
+      let at : made_at g.made s.id air ≡ Some m = ap (made_at g.made s.id) (sym there) ∙ k.4 in
+      let are : p.keys ≡ keys_of p.key.kenb m.algs = k.2 ∙ ap (keys_of p.key.kenb) k.5.2 in
+      never_srb (srb_use Up p.keys.rrc_int Signalling1 count) i (Some (srb_ciphering Up p.keys Signalling1 count)) (Some f) Up st a sr text
+      (λ e. ciphered_same g s.id air p.keys p.key.kenb m are at Signalling1 sr count i e f h.2)
+  prepared_never p k there count (Some (SealedRrc Up st a sr i None text)) h =
+      let m = k.3 in
+      let at : made_at g.made s.id air ≡ Some m = ap (made_at g.made s.id) (sym there) ∙ k.4 in
+      let one : m ≡ h.2.4.0 = same_found _ m h.2.4.0 at h.2.4.1 in
+      never_srb (srb_use Up p.keys.rrc_int Signalling1 count) i (Some (srb_ciphering Up p.keys Signalling1 count)) None Up st a sr text
+      (λ e. absurd (k.6 (ap (λ x. x.from) one ∙ h.2.4.3.0)))
+  prepared_never p k there count (Some (PlainNas octets)) h = λ e. absurd cc
+  prepared_never p k there count (Some (UserPacket dir st a drb e text)) h = λ e. absurd cc
+  prepared_never p k there count (Some (Between to fields key)) h = λ e. absurd cc
+
+  found_prep : (count : ℕ) (o : Option (Prep Term ℕ)) → at_air air s.preps ≡ o → sender_at (stk.prepared_expects {C = ℕ} count o) came ≡ CipheredElse → Starts s.context
+  found_prep count None is = λ e. absurd cc
+  found_prep count (Some p) is = λ e.
+      absurd (prepared_never p (all_found (PrepOk g s.id) (is_at air) s.preps p ok.1 is) (eqb-true p.air air (found_holds (is_at air) s.preps p is)) count came came_ok e)
+
+  counted_prepared : (by : By) (count : Result ℕ PdcpFault) → Second (st.counted (st.OnPrepared air by) count)
+  counted_prepared by (Err fault) = λ e. absurd cc
+  counted_prepared by (Ok count) = found_prep count (at_air air s.preps) refl
+
+  prepared_second : (o : Option (Prep (Unit {0}) ℕ)) (on : Which) (pdu : List ℕ) → Second (st.prepared_front o air on pdu)
+  prepared_second None on pdu = λ e. absurd cc
+  prepared_second (Some p) (OnSrb Signalling1) pdu = counted_prepared p.by (srb_count 0 pdu)
+  prepared_second (Some p) (OnSrb Signalling2) pdu = λ e. absurd cc
+  prepared_second (Some p) (OnDrb drb) pdu = λ e. absurd cc
+
+  module _ (c : Context Term ℕ) (is : s.context ≡ Some c) (there : c.air ≡ air) where
+    own : CtxOk g s.id (Some c)
+    own = subst (CtxOk g s.id) is ok.0
+
+    listened : Heard (Some c)
+    listened = subst Heard is heard
+
+    counted_starting : c.starting ≡ true → (count : Result ℕ PdcpFault) → Second (st.counted st.OnStarting count)
+    counted_starting starting (Err fault) = λ e. absurd cc
+    counted_starting starting (Ok count) = λ e. subst Starts (sym is) starting
+
+    starting_second : c.starting ≡ true → (on : Which) (pdu : List ℕ) → Second (st.starting_front c.bearers on pdu)
+    starting_second starting (OnSrb Signalling1) pdu = counted_starting starting (srb_count c.bearers.srb1.receive pdu)
+    starting_second starting (OnSrb Signalling2) pdu = λ e. absurd cc
+    starting_second starting (OnDrb drb) pdu = λ e. absurd cc
+
+    counted_signalling : c.starting ≡ false → (srb : Srb) (pdu : List ℕ) (count : Result ℕ PdcpFault) → srb_count (srb_counts srb c.bearers).receive pdu ≡ count
+        → Second (st.counted (st.OnSignalling srb) count)
+    counted_signalling active srb pdu (Err fault) counts = λ e. absurd cc
+    counted_signalling active srb pdu (Ok count) counts = λ e.
+        absurd (active_never c own listened active there srb count (count_low (srb_counts srb c.bearers).receive pdu count counts) came came_ok
+        (subst (λ o. sender_at (stk.signalling_expects {C = ℕ} srb count o) came ≡ CipheredElse) is e))
+
+    counted_user : (drb : Drb) (count : Result ℕ PdcpFault) → Second (st.counted (st.OnUser drb) count)
+    counted_user drb (Err fault) = λ e. absurd cc
+    counted_user drb (Ok count) = λ e. absurd (no_case (subst (λ o. sender_at (stk.user_expects {C = ℕ} drb count o) came ≡ CipheredElse) is e))
+      where
+        no_case : sender_at (stk.user_expects {C = ℕ} drb count (Some c)) came ≡ CipheredElse → ⊥
+        no_case e = cc
+
+    active_second : c.starting ≡ false → (on : Which) (pdu : List ℕ) → Second (st.active_front c.bearers on pdu)
+    active_second active (OnSrb srb) pdu = counted_signalling active srb pdu (srb_count (srb_counts srb c.bearers).receive pdu) refl
+    active_second active (OnDrb drb) pdu = counted_user drb (drb_count (drb_counts drb c.bearers).receive pdu)
+
+    context_second : (b : Bool) → c.starting ≡ b → (on : Which) (pdu : List ℕ) → Second (st.context_front b c.bearers on pdu)
+    context_second true e on pdu = starting_second e on pdu
+    context_second false e on pdu = active_second e on pdu
+
+  pub station_air_second : (o : Option (Context Term ℕ)) → s.context ≡ o → (prep : Option (Prep (Unit {0}) ℕ)) (on : Which) (pdu : List ℕ)
+      → Second (st.air_front_by (option_map (map_context unseen ncc_of) o) prep air on pdu)
+  station_air_second None is prep on pdu = prepared_second prep on pdu
+  station_air_second (Some c) is prep on pdu =
+      by_test Second (c.air == air) _ _ (λ b. context_second c is (eqb-true c.air air b) c.starting refl on pdu) (λ b. prepared_second prep on pdu)

@@ -1,0 +1,258 @@
+-- On NAS the second case of opening never comes: a message whose integrity use is the expected one is ciphered as its header type
+-- says, by the one choice of algorithms of its KASME.
+use Rattle.std.proofs.Common.{◌≡◌, refl, sym, ap, ◌∙◌, subst, ℕ, ◌==◌, ◌+◌, ◌*◌, ◌/◌, nat_lt, Bool, true, false, List, length, Option, Some, None, Result, Ok, Err, arith}
+use Rattle.std.proofs.lemmas.Bool.Decides.{nat_tests}
+use Rattle.alg_choice.specs.Algs.{eia2_identity}
+use Rattle.alg_choice.specs.Choice.{are_supported}
+use Rattle.alg_choice.specs.declared.algs.Algs.{Algs}
+use Rattle.alg_choice.specs.declared.caps.Caps.{Caps}
+use Rattle.rec_base.specs.declared.faults.RecFault.{RecFault}
+use Rattle.rec_base.specs.declared.uses.Dir.{Dir}
+use Rattle.rec_base.specs.declared.uses.Dir.TheVariants.{Up, Down}
+use Rattle.lte_events.specs.declared.answers.Answer.{Answer}
+use Rattle.lte_events.specs.declared.answers.Answer.TheVariants.{Short, BadHeader}
+use Rattle.key_model.specs.HandoverTable.{NumberedKey}
+use Rattle.key_model.specs.Reading.{Reading, term_reading_by}
+use Rattle.key_model.specs.Term.{Term, Alg, same_term}
+use Rattle.nas_count.specs.Estimate.{estimate_of}
+use Rattle.nas_count.specs.declared.sending.CountSpent.{CountSpent}
+use Rattle.nas_guard.specs.Keys.{Keys}
+use Rattle.nas_guard.specs.Open.{sn_in, sent_in}
+use Rattle.nas_guard.specs.Seal.{is_ciphered}
+use Rattle.nas_rec.specs.Reading.{read_nas}
+use Rattle.nas_rec.specs.declared.records.NasRecord.{NasRecord}
+use Rattle.nas_rec.specs.declared.records.NasRecord.TheVariants.{SecurityModeCommand, SecurityModeComplete, SecurityModeReject, ServiceRequest, NasData}
+use Rattle.s1x2_rec.specs.Fields.{Fields}
+use Rattle.lte_machine.specs.Ciphers.{Ciphers, AreCiphers, nas_octets}
+use Rattle.lte_machine.specs.CoreChoice as core_choice
+use Rattle.lte_machine.specs.CoreChoice.{core_header}
+use Rattle.lte_machine.specs.CoreKeys as core_keys
+use Rattle.lte_machine.specs.CoreState.{Core, CorePartial, CoreContext}
+use Rattle.lte_machine.specs.CoreStep.{plain_core}
+use Rattle.lte_machine.specs.Opening.{Opening, OpensNas, OpensSrb, CipheredElse, judged, same_uses, same_ciphering}
+use Rattle.lte_machine.specs.PhoneChoice as choice
+use Rattle.lte_machine.specs.PhoneChoice.{PlainPhone, is_for_phone, header_for_phone}
+use Rattle.lte_machine.specs.PhoneKeys as keys
+use Rattle.lte_machine.specs.PhoneState.{Partial, NasContext, Phone}
+use Rattle.lte_machine.specs.PhoneStep.{plain_phone}
+use Rattle.lte_machine.specs.Bearers.{Srb}
+use Rattle.lte_machine.specs.Wire.{KeyUse, Ciphering, ciphering_if, ciphering_by, nas_use, nas_ciphering, Outgoing, SealedNas, PlainNas, SealedRrc, UserPacket, Between}
+use Rattle.lte_properties.specs.SecondCase.{sender_at}
+use Rattle.lte_properties.proofs.Agreement.Opener.{one_use, one_ciphering, plain_header}
+use Rattle.lte_properties.proofs.Agreement.PhoneWalk.{by_test}
+use Rattle.lte_properties.proofs.Opening.Nas.{Choices, RootHas, PhoneContextOk, CoreContextOk, ProcedureOk, PhoneOk, CoreOk, ciphered_for, SealedOk, one_choice}
+use Rattle.lte_properties.proofs.Opening.NasOpens.{CameDown}
+
+-- the second case does not come
+abbrev pub Never : Opening Term → Option (Outgoing Term ℕ) → Type 0
+Never opening came = sender_at opening came ≡ CipheredElse → ⊥
+
+judged_second : (a b : Bool) (text : List ℕ) → judged a b text ≡ CipheredElse → (a ≡ true) × (b ≡ false)
+judged_second true true text e = absurd cc
+judged_second true false text e = (refl, refl)
+judged_second false b text e = absurd cc
+
+not_same : (e f : Option (Ciphering Term)) → same_ciphering same_term e f ≡ false → e ≡ f → ⊥
+not_same e f differs is = let bad : true ≡ false = sym (one_ciphering e f is) ∙ differs in cc
+
+never_nas : (u i : KeyUse Term) (e f : Option (Ciphering Term)) (dir : Dir) (header : ℕ) (text : List ℕ) → (u ≡ i → e ≡ f)
+    → Never (OpensNas u e) (Some (SealedNas dir header i f text))
+never_nas u i e f dir header text h second =
+    let k = judged_second (same_uses same_term u i) (same_ciphering same_term e f) text second in not_same e f k.1 (h (one_use u i k.0))
+
+pub never_srb : (u i : KeyUse Term) (e f : Option (Ciphering Term)) (dir : Dir) (station air : ℕ) (srb : Srb) (text : List ℕ) → (u ≡ i → e ≡ f)
+    → Never (OpensSrb u e) (Some (SealedRrc dir station air srb i f text))
+never_srb u i e f dir station air srb text h second =
+    let k = judged_second (same_uses same_term u i) (same_ciphering same_term e f) text second in not_same e f k.1 (h (one_use u i k.0))
+
+-- the header type of a message for the phone is the sender's
+one_header : (o : Result ℕ Answer) (a b : ℕ) → o ≡ Ok a → o ≡ Ok b → a ≡ b
+one_header o a b e f = cc
+
+no_header : (o : Result ℕ Answer) (a : Answer) (b : ℕ) → o ≡ Err a → o ≡ Ok b → ⊥
+no_header o a b e f = cc
+
+phone_header : (c : Ciphers Term) (header : ℕ) (i : KeyUse Term) (e : Option (Ciphering Term)) (text : List ℕ) (h : ℕ) → header_for_phone (nas_octets c header i e text) ≡ Ok h → h ≡ header
+unfolding nas_octets header_for_phone
+phone_header c header i e text h is =
+    by_test (λ (r : Result ℕ Answer). r ≡ Ok h → h ≡ header) (length (nas_octets c header i e text) == 0) _ _
+    (λ b f. absurd (no_header _ Short h refl f))
+    (λ b. by_test (λ (r : Result ℕ Answer). r ≡ Ok h → h ≡ header) (is_for_phone (16 * header + 7)) _ _
+    (λ d. by_test (λ (r : Result ℕ Answer). r ≡ Ok h → h ≡ header) (nat_lt (length (nas_octets c header i e text)) 6) _ _
+    (λ x f. absurd (no_header _ Short h refl f))
+    (λ x f. let one : (16 * header + 7) / 16 ≡ h = one_header _ _ _ refl f in omega arith))
+    (λ d f. absurd (no_header _ (BadHeader (16 * header + 7)) h refl f))) is
+
+root_of : (a b : Term) → Alg a 2 eia2_identity ≡ Alg b 2 eia2_identity → a ≡ b
+root_of a b e = cc
+
+module _ (g : Choices) (next : ℕ) where
+  -- a message under the expected integrity use is ciphered by the algorithms of that KASME
+  under_one : (dir : Dir) (header : ℕ) (i : KeyUse Term) (f : Option (Ciphering Term)) (text : List ℕ) → SealedOk g next dir header i f text
+      → (root : Term) (algs : Algs) → RootHas g next root algs → (u : KeyUse Term) → u.key ≡ Alg root 2 eia2_identity → u ≡ i
+      → f ≡ ciphered_for dir header u root algs
+  under_one dir header i f text k root algs has u key is =
+      let same_root : k.0 ≡ root = root_of k.0 root (sym (ap (λ v. v.key) k.4) ∙ ap (λ v. v.key) (sym is) ∙ key) in
+      let same_algs : k.1 ≡ algs = one_choice g next root k.1 algs (subst (λ t. RootHas g next t k.1) same_root k.3) has in
+      k.7 ∙ (λ j. ciphered_for dir header (sym is j) (same_root j) (same_algs j))
+
+  module _ (same : Term → Term → Bool) (c : Ciphers Term) (good : AreCiphers c) where
+    abbrev q : Reading Term ℕ
+    q = term_reading_by same
+
+    -- AT THE PHONE
+
+    module _ (s : Phone Term ℕ) (own : PhoneOk g next s) (pdu : List ℕ) (came : Option (Outgoing Term ℕ)) (is : CameDown same g next c good pdu came) where
+      abbrev plain : PlainPhone
+      plain = plain_phone q s
+
+      abbrev NeverAt : choice.NasFront → Type 0
+      NeverAt front = Never (keys.nas_expects q front s) came
+
+      header_is : (header h : ℕ) (i : KeyUse Term) (f : Option (Ciphering Term)) (text : List ℕ) → nas_octets c header i f text ≡ pdu → header_for_phone pdu ≡ Ok h → h ≡ header
+      header_is header h i f text octets type = phone_header c header i f text h (ap header_for_phone octets ∙ type)
+
+      message_never : (count header : ℕ) → header_for_phone pdu ≡ Ok header → (o : Option (NasContext Term)) → PhoneContextOk g next o
+          → (x : Option (Outgoing Term ℕ)) → CameDown same g next c good pdu x → Never (keys.message_expects count header o) x
+      message_never count header type None k x h = λ e. absurd cc
+      message_never count header type (Some d) k None h = λ e. absurd cc
+      message_never count header type (Some d) k (Some (SealedNas Down sent i f text)) h =
+          let key : d.keys.int ≡ Alg d.root 2 eia2_identity = ap (λ x. x.int) k.1 in
+          let one : header ≡ sent = header_is sent header i f text h.0 type in
+          never_nas (nas_use Down d.keys.int count) i (ciphering_if (is_ciphered header) (nas_ciphering Down d.keys count)) f Down sent text
+          (λ e. (λ j. ciphering_if (is_ciphered (one j)) (ciphering_by d.keys.algs.eea (nas_use Down (k.1 j).enc count)))
+          ∙ sym (under_one Down sent i f text h.1 d.root d.keys.algs k.0 (nas_use Down d.keys.int count) key e))
+      message_never count header type (Some d) k (Some (SealedNas Up sent i f text)) h = absurd h
+      message_never count header type (Some d) k (Some (PlainNas octets)) h = absurd h
+      message_never count header type (Some d) k (Some (SealedRrc dir station air srb i f text)) h = absurd h
+      message_never count header type (Some d) k (Some (UserPacket dir station air drb e text)) h = absurd h
+      message_never count header type (Some d) k (Some (Between to fields key)) h = λ e. absurd cc
+
+      command_never : (count : ℕ) (algs : Algs) → header_for_phone pdu ≡ Ok 3 → (o : Option (Partial Term))
+          → (x : Option (Outgoing Term ℕ)) → CameDown same g next c good pdu x → Never (keys.command_expects q count algs o) x
+      command_never count algs type None x h = λ e. absurd cc
+      command_never count algs type (Some p) None h = λ e. absurd cc
+      command_never count algs type (Some p) (Some (SealedNas Down sent i f text)) h =
+          let one : 3 ≡ sent = header_is sent 3 i f text h.0 type in
+          never_nas (nas_use Down (Alg p.root 2 eia2_identity) count) i None f Down sent text
+          (λ e. sym (h.1.7 ∙ (λ j. ciphered_for Down (sym one j) i h.1.0 h.1.1)))
+      command_never count algs type (Some p) (Some (SealedNas Up sent i f text)) h = absurd h
+      command_never count algs type (Some p) (Some (PlainNas octets)) h = absurd h
+      command_never count algs type (Some p) (Some (SealedRrc dir station air srb i f text)) h = absurd h
+      command_never count algs type (Some p) (Some (UserPacket dir station air drb e text)) h = absurd h
+      command_never count algs type (Some p) (Some (Between to fields key)) h = λ e. absurd cc
+
+      command_at_never : (algs : Algs) (caps : Caps) → header_for_phone pdu ≡ Ok 3 → (counted : Result ℕ CountSpent) → NeverAt (choice.command_at algs caps counted)
+      command_at_never algs caps type (Err none) = λ e. absurd cc
+      command_at_never algs caps type (Ok count) = command_never count algs type s.partial came is
+
+      command_read_never : (held : ℕ) → header_for_phone pdu ≡ Ok 3 → (read : Result NasRecord RecFault) → NeverAt (choice.command_read plain.caps plain.context held pdu read)
+      command_read_never held type (Err fault) = λ e. absurd cc
+      command_read_never held type (Ok (SecurityModeCommand ksi algs caps)) =
+          by_test NeverAt (ksi == held) _ _
+          (λ f. by_test NeverAt (are_supported plain.caps algs) _ _ (λ k. command_at_never algs caps type (estimate_of 0 (sn_in pdu))) (λ k e. absurd cc))
+          (λ f e. absurd cc)
+      command_read_never held type (Ok SecurityModeComplete) = λ e. absurd cc
+      command_read_never held type (Ok (SecurityModeReject cause)) = λ e. absurd cc
+      command_read_never held type (Ok ServiceRequest) = λ e. absurd cc
+      command_read_never held type (Ok (NasData text)) = λ e. absurd cc
+
+      command_front_never : header_for_phone pdu ≡ Ok 3 → (o : Option (Partial (Unit {0}))) → NeverAt (choice.command_front plain.caps plain.context pdu o)
+      command_front_never type None = λ e. absurd cc
+      command_front_never type (Some p) = command_read_never p.ksi type (read_nas (sent_in pdu))
+
+      message_at_never : (header : ℕ) → header_for_phone pdu ≡ Ok header → (counted : Result ℕ CountSpent) → NeverAt (choice.message_at header counted)
+      message_at_never header type (Err none) = λ e. absurd cc
+      message_at_never header type (Ok count) = message_never count header type s.context own.1 came is
+
+      message_front_never : (header : ℕ) → header_for_phone pdu ≡ Ok header → (o : Option (NasContext (Unit {0}))) → NeverAt (choice.message_front header pdu o)
+      message_front_never header type None = λ e. absurd cc
+      message_front_never header type (Some k) = message_at_never header type (estimate_of k.receive (sn_in pdu))
+
+      header_never : (o : Result ℕ Answer) → header_for_phone pdu ≡ o → NeverAt (choice.nas_by_header plain.caps plain.partial plain.context pdu o)
+      header_never (Err answer) type = λ e. absurd cc
+      header_never (Ok header) type =
+          by_test NeverAt (header == 3) _ _
+          (λ f. let three : header ≡ 3 = grind (arith, nat_tests) in command_front_never (type ∙ ap Ok three) plain.partial)
+          (λ f. message_front_never header type plain.context)
+
+      pub phone_nas_never : NeverAt (choice.nas_by_header plain.caps plain.partial plain.context pdu (header_for_phone pdu))
+      phone_nas_never = header_never (header_for_phone pdu) refl
+
+    -- AT THE CORE
+
+    -- what came to the core on NAS: nothing that was sent, or a message with the octets sent
+    abbrev pub CameUp : List ℕ → Option (Outgoing Term ℕ) → Type 0
+    CameUp pdu (Some (SealedNas Up header u e text)) = (nas_octets c header u e text ≡ pdu) × SealedOk g next Up header u e text
+    CameUp pdu (Some (SealedNas Down header u e text)) = ⊥
+    CameUp pdu (Some (SealedRrc dir station air srb u e text)) = ⊥
+    CameUp pdu other = Unit {0}
+
+    module _ (between : Fields → Option (NumberedKey Term ℕ) → List ℕ) (s : Core Term ℕ) (own : CoreOk g next s) (pdu : List ℕ) (came : Option (Outgoing Term ℕ)) (is : CameUp pdu came) where
+      abbrev NeverCore : core_choice.CoreNasFront → Type 0
+      NeverCore front = Never (core_keys.core_nas_expects front s) came
+
+      core_header_is : (header h : ℕ) (i : KeyUse Term) (f : Option (Ciphering Term)) (text : List ℕ) → nas_octets c header i f text ≡ pdu → core_header pdu ≡ Ok h → h ≡ header
+      core_header_is header h i f text octets type = plain_header c between Up header i f text h (ap core_header octets ∙ type)
+
+      complete_never : (count : ℕ) → core_header pdu ≡ Ok 4 → (partial : Option (CorePartial Term)) (o : Option (Keys Term)) → ProcedureOk g next partial o
+          → (x : Option (Outgoing Term ℕ)) → CameUp pdu x → Never (core_keys.opens_by_procedure o count) x
+      complete_never count type partial None k x h = λ e. absurd cc
+      complete_never count type None (Some own_keys) k x h = absurd cc
+      complete_never count type (Some p) (Some own_keys) k None h = λ e. absurd cc
+      complete_never count type (Some p) (Some own_keys) k (Some (SealedNas Up sent i f text)) h =
+          let key : own_keys.int ≡ Alg p.root 2 eia2_identity = ap (λ x. x.int) k.1 in
+          let one : 4 ≡ sent = core_header_is sent 4 i f text h.0 type in
+          never_nas (nas_use Up own_keys.int count) i (Some (nas_ciphering Up own_keys count)) f Up sent text
+          (λ e. (λ j. ciphering_if (is_ciphered (one j)) (ciphering_by own_keys.algs.eea (nas_use Up (k.1 j).enc count)))
+          ∙ sym (under_one Up sent i f text h.1 p.root own_keys.algs k.0 (nas_use Up own_keys.int count) key e))
+      complete_never count type (Some p) (Some own_keys) k (Some (SealedNas Down sent i f text)) h = absurd h
+      complete_never count type (Some p) (Some own_keys) k (Some (PlainNas octets)) h = λ e. absurd cc
+      complete_never count type (Some p) (Some own_keys) k (Some (SealedRrc dir station air srb i f text)) h = absurd h
+      complete_never count type (Some p) (Some own_keys) k (Some (UserPacket dir station air drb f text)) h = λ e. absurd cc
+      complete_never count type (Some p) (Some own_keys) k (Some (Between to fields key)) h = λ e. absurd cc
+
+      protected_never : (header count : ℕ) → core_header pdu ≡ Ok header → (o : Option (CoreContext Term)) → CoreContextOk g next o
+          → (x : Option (Outgoing Term ℕ)) → CameUp pdu x → Never (core_keys.opens_by_context o header count) x
+      protected_never header count type None k x h = λ e. absurd cc
+      protected_never header count type (Some d) k None h = λ e. absurd cc
+      protected_never header count type (Some d) k (Some (SealedNas Up sent i f text)) h =
+          let key : d.nas.keys.int ≡ Alg d.nas.root 2 eia2_identity = ap (λ x. x.int) k.1 in
+          let one : header ≡ sent = core_header_is sent header i f text h.0 type in
+          never_nas (nas_use Up d.nas.keys.int count) i (ciphering_if (is_ciphered header) (nas_ciphering Up d.nas.keys count)) f Up sent text
+          (λ e. (λ j. ciphering_if (is_ciphered (one j)) (ciphering_by d.nas.keys.algs.eea (nas_use Up (k.1 j).enc count)))
+          ∙ sym (under_one Up sent i f text h.1 d.nas.root d.nas.keys.algs k.0 (nas_use Up d.nas.keys.int count) key e))
+      protected_never header count type (Some d) k (Some (SealedNas Down sent i f text)) h = absurd h
+      protected_never header count type (Some d) k (Some (PlainNas octets)) h = λ e. absurd cc
+      protected_never header count type (Some d) k (Some (SealedRrc dir station air srb i f text)) h = absurd h
+      protected_never header count type (Some d) k (Some (UserPacket dir station air drb f text)) h = λ e. absurd cc
+      protected_never header count type (Some d) k (Some (Between to fields key)) h = λ e. absurd cc
+
+      opens_complete_never : core_header pdu ≡ Ok 4 → (count : Result ℕ CountSpent) → NeverCore (core_choice.opens_complete count)
+      opens_complete_never type (Err spent) = λ e. absurd cc
+      opens_complete_never type (Ok count) = complete_never count type s.partial s.procedure own.1 came is
+
+      complete_front_never : core_header pdu ≡ Ok 4 → (o : Option (Keys (Unit {0}))) → NeverCore (core_choice.complete_front o pdu)
+      complete_front_never type None = λ e. absurd cc
+      complete_front_never type (Some k) = opens_complete_never type (estimate_of 0 (sn_in pdu))
+
+      opens_protected_never : (header : ℕ) → core_header pdu ≡ Ok header → (count : Result ℕ CountSpent) → NeverCore (core_choice.opens_protected header count)
+      opens_protected_never header type (Err spent) = λ e. absurd cc
+      opens_protected_never header type (Ok count) = protected_never header count type s.context own.2 came is
+
+      protected_front_never : (header : ℕ) → core_header pdu ≡ Ok header → (o : Option (CoreContext (Unit {0}))) → NeverCore (core_choice.protected_front o header pdu)
+      protected_front_never header type None = λ e. absurd cc
+      protected_front_never header type (Some k) = opens_protected_never header type (estimate_of k.nas.receive (sn_in pdu))
+
+      core_front_never : (procedure : Option (Keys (Unit {0}))) (context : Option (CoreContext (Unit {0}))) (o : Result ℕ Answer) → core_header pdu ≡ o
+          → NeverCore (core_choice.core_nas_front procedure context pdu o)
+      core_front_never procedure context (Err answer) type = λ e. absurd cc
+      core_front_never procedure context (Ok header) type =
+          by_test NeverCore (header == 0) _ _ (λ f e. absurd cc)
+          (λ f. by_test NeverCore (nat_lt (length pdu) 6) _ _ (λ x e. absurd cc)
+          (λ x. by_test NeverCore (header == 4) _ _
+          (λ y. let four : header ≡ 4 = grind (arith, nat_tests) in complete_front_never (type ∙ ap Ok four) procedure)
+          (λ y. protected_front_never header type context)))
+
+      pub core_nas_never : NeverCore (core_choice.core_nas_front (plain_core q s).procedure (plain_core q s).context pdu (core_header pdu))
+      core_nas_never = core_front_never (plain_core q s).procedure (plain_core q s).context (core_header pdu) refl
