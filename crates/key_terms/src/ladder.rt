@@ -6,7 +6,7 @@ ghost use Rattle.key_terms.specs.Ladder.{row, unheld, octets_at, origin_at, row_
 use crate::index::Index;
 use crate::{Holder, LadderRow, Origin, Row};
 use annex_a_keys::Derived;
-use std::alloc::{AllocError, Global};
+use std::alloc::Global;
 use std::marker::Model;
 
 /// The keys that were derived, each once, in the order of their first derivation. No two rows have
@@ -53,16 +53,21 @@ impl Ladder {
         }
     }
 
-    /// Makes room for so many rows more. Where memory runs out the ladder is as before.
+    /// Makes room for so many rows more. Where memory runs out the ladder is as before, and it runs out only where there
+    /// was not room for so many.
     pub fn reserve(&mut self, rows: usize) -> Result<(), LadderFault>
         requires { length self.old.rows + rows < 2 ^ 32 }
         ensures memory { IsOkUnless result LadderFault.Memory }
+        ensures lacking { OnErr result (self.old.spare < rows) }
         ensures spare { OnOk result (rows ≤ self.new.spare) }
         ensures rows { self.new.rows ≡ self.old.rows }
         ensures err { OnErr result (self.new ≡ self.old) }
     {
-        index_all(&mut self.index, &self.rows).map_err(|_| LadderFault::Memory)?;
-        self.rows.reserve(rows).map_err(|_| LadderFault::Memory)
+        index_all(&mut self.index, &self.rows);
+        match self.rows.reserve(rows) {
+            Ok(()) => Ok(()),
+            Err(_) => Err(LadderFault::Memory),
+        }
     }
 
     /// The row of a root. The ladder is as before where a row has the octets: a root's row is named
@@ -73,6 +78,7 @@ impl Ladder {
         ensures repeated { (k : ℕ) → row_of self.old.rows octets ≡ Some k → origin_at self.old.rows k ≡ Some Origin.Root → result ≡ Err (LadderFault.RepeatedRoot (row k)) }
         ensures coincidence { (k : ℕ) → Coincides self.old.rows Origin.Root octets k → result ≡ Err (LadderFault.Coincidence (row k) Origin.Root) }
         ensures cause { IfErr result (RootRefused self.old.rows octets) }
+        ensures one { length self.new.rows ≤ length self.old.rows + 1 }
         ensures spare { self.old.spare ≤ self.new.spare + 1 }
         ensures err { OnErr result (self.new ≡ self.old) }
         ensures ladder { IsLadder self.new.rows }
@@ -99,6 +105,7 @@ impl Ladder {
         ensures again { (k : ℕ) → row_of self.old.rows made.now.out ≡ Some k → origin_at self.old.rows k ≡ Some (origin_of self.old.rows made.now) → (result ≡ Ok (row k)) × (self.new ≡ self.old) }
         ensures coincidence { (k : ℕ) → Coincides self.old.rows (origin_of self.old.rows made.now) made.now.out k → result ≡ Err (LadderFault.Coincidence (row k) (origin_of self.old.rows made.now)) }
         ensures cause { IfErr result (AddRefused self.old.rows made.now) }
+        ensures one { length self.new.rows ≤ length self.old.rows + 1 }
         ensures spare { self.old.spare ≤ self.new.spare + 1 }
         ensures err { OnErr result (self.new ≡ self.old) }
         ensures ladder { IsLadder self.new.rows }
@@ -192,17 +199,19 @@ fn hold_at(rows: &mut Vec<LadderRow>, place: usize, who: Holder)
     rows[place] = row;
 }
 
-// Brings the index up to date with the rows. Where memory runs out it has some of them.
-fn index_all(index: &mut Index, rows: &[LadderRow]) -> Result<(), AllocError>
+// Brings the index up to date with the rows. Where it has no memory it has some of them, and the others are looked for one by
+// one until a later call.
+fn index_all(index: &mut Index, rows: &[LadderRow])
     requires apart { AreApart rows.now }
     requires index { IsIndexOf index.old rows.now }
-    ensures index { IsIndexOf index.new rows.now }
-    ensures whole { OnOk result (length index.new ≡ length rows.now) }
+    ensures { IsIndexOf index.new rows.now }
 {
     for number in index.len()..rows.len() {
-        index.push(rows[number].octets)?;
+        match index.push(rows[number].octets) {
+            Ok(()) => {}
+            Err(_) => return,
+        }
     }
-    Ok(())
 }
 
 // The place of the first row with these octets: among the rows of the index, or else among those

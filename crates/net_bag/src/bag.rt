@@ -9,7 +9,7 @@ use crate::records::Records;
 use crate::search::first_sent;
 use lte_events::{Class, Record};
 use rec_base::Use;
-use std::alloc::{AllocError, Global};
+use std::alloc::Global;
 use std::marker::Model;
 
 /// Every record that was ever sent, in the order of sending. A contract sees it as the list of the
@@ -48,16 +48,21 @@ impl Bag {
         }
     }
 
-    /// Makes room for one record more. Where memory runs out the bag is as before.
+    /// Makes room for one record more. Where memory runs out the bag is as before, and it runs out only where there was room
+    /// for none.
     pub fn reserve(&mut self) -> Result<(), BagMemory>
         requires { length self.old.records < 2 ^ 32 - 1 }
+        ensures lacking { OnErr result (self.old.spare ≡ 0) }
         ensures room { OnOk result (0 < self.new.spare) }
         ensures records { self.new.records ≡ self.old.records }
         ensures spare { self.old.spare ≤ self.new.spare }
         ensures err { OnErr result (self.new ≡ self.old) }
     {
-        index_all(&mut self.index, &self.records).map_err(|_| BagMemory)?;
-        self.records.reserve().map_err(|_| BagMemory)
+        index_all(&mut self.index, &self.records);
+        match self.records.reserve() {
+            Ok(()) => Ok(()),
+            Err(_) => Err(BagMemory),
+        }
     }
 
     /// Puts a record at the end, with the use of the integrity key by which it is protected, if it is,
@@ -101,15 +106,17 @@ impl Bag {
     }
 }
 
-// Brings the index up to date with the records. Where memory runs out it has some of them.
-fn index_all(index: &mut Chains, records: &Records) -> Result<(), AllocError>
+// Brings the index up to date with the records. Where it has no memory it has some of them, and the others are looked for one
+// by one until a later call.
+fn index_all(index: &mut Chains, records: &Records)
     requires { IsIndexOf index.old records.now.records }
-    ensures index { IsIndexOf index.new records.now.records }
-    ensures whole { OnOk result (length index.new ≡ length records.now.records) }
+    ensures { IsIndexOf index.new records.now.records }
 {
     for number in index.len()..records.len() {
         let class = class_of(&records.to(number));
-        index.push(digest(&class, records.octets(number)))?;
+        match index.push(digest(&class, records.octets(number))) {
+            Ok(()) => {}
+            Err(_) => return,
+        }
     }
-    Ok(())
 }

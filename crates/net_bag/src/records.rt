@@ -51,9 +51,10 @@ impl Records {
         }
     }
 
-    // Makes room for one record more. Where memory runs out nothing changes.
+    // Makes room for one record more. Where memory runs out nothing changes, and there was room for none.
     pub fn reserve(&mut self) -> Result<(), AllocError>
         requires { length self.old.records < 2 ^ 32 - 1 }
+        ensures lacking { OnErr result (self.old.spare ≡ 0) }
         ensures room { OnOk result (0 < self.new.spare) }
         ensures records { self.new.records ≡ self.old.records }
         ensures spare { self.old.spare ≤ self.new.spare }
