@@ -29,41 +29,49 @@ held_or k x up false is = inr (refl, is)
 abbrev pub MarksFit : List LadderRow → (ℕ → Option ℕ) → ℕ → Type 0
 MarksFit rows mark s = (k : ℕ) (r : LadderRow) → slice_get rows k ≡ Some r → mark k ≡ local_mark rows mark s k r
 
+-- what is so of a row exactly where the station holds it, or where it is so of the rows that it was derived from
+abbrev pub ByRows : List LadderRow → ℕ → (ℕ → Type 0) → Type 0
+ByRows rows s P = (k : ℕ) (r : LadderRow) → slice_get rows k ≡ Some r → P k ↔ (IsTrue (held_by s r) ⊎ Above rows P k r.origin)
+
 -- one row, where those before it are right
-right_one : (rows : List LadderRow) → IsLadder rows → (mark : ℕ → Option ℕ) (s k : ℕ) (r : LadderRow) → slice_get rows k ≡ Some r → ((j : ℕ) → j < k → Marked mark j ↔ CanDerive rows s j)
-    → mark k ≡ local_mark rows mark s k r → Marked mark k ↔ CanDerive rows s k
-right_one rows ladder mark s k r at before local = (can, derive)
+right_one : (rows : List LadderRow) → IsLadder rows → (mark : ℕ → Option ℕ) (s : ℕ) (P : ℕ → Type 0) → ByRows rows s P → (k : ℕ) (r : LadderRow) → slice_get rows k ≡ Some r → ((j : ℕ) → j < k → Marked mark j ↔ P j)
+    → mark k ≡ local_mark rows mark s k r → Marked mark k ↔ P k
+right_one rows ladder mark s P step k r at before local = (can, derive)
   where
-    can : Marked mark k → CanDerive rows s k
+    can : Marked mark k → P k
     can some =
         let there = mark_there (mark k) some in
         elim (held_or k there.0 (above_mark rows mark k r.origin) (held_by s r) (sym local ∙ there.1)) [
-          | inl held ↦ (one_step rows ladder s k r at).1 (inl held.0)
-          | inr up ↦ (one_step rows ladder s k r at).1 (inr (above_carried rows (Marked mark) (CanDerive rows s) k r.octets r.origin (ladder.made k r at) (λ j less. (before j less).0) (above_marked rows mark k there.0 r.origin up.1).0))
+          | inl held ↦ (step k r at).1 (inl held.0)
+          | inr up ↦ (step k r at).1 (inr (above_carried rows (Marked mark) P k r.octets r.origin (ladder.made k r at) (λ j less. (before j less).0) (above_marked rows mark k there.0 r.origin up.1).0))
         ]
 
     itself : held_by s r ≡ true → Marked mark k
     itself held = marked k (local ∙ ap (λ b. held_first b k (above_mark rows mark k r.origin)) held)
 
-    by_above : Above rows (CanDerive rows s) k r.origin → (held_by s r ≡ true) ⊎ (held_by s r ≡ false) → Marked mark k
+    by_above : Above rows P k r.origin → (held_by s r ≡ true) ⊎ (held_by s r ≡ false) → Marked mark k
     by_above up (inl held) = itself held
     by_above up (inr free) =
-        let found = marked_above rows mark k r.origin (above_carried rows (CanDerive rows s) (Marked mark) k r.octets r.origin (ladder.made k r at) (λ j less. (before j less).1) up) in
+        let found = marked_above rows mark k r.origin (above_carried rows P (Marked mark) k r.octets r.origin (ladder.made k r at) (λ j less. (before j less).1) up) in
         let there = mark_there (mark found.0) found.2 in
         marked there.0 (local ∙ ap (λ b. held_first b k (above_mark rows mark k r.origin)) free ∙ found.3 ∙ there.1)
 
-    derive : CanDerive rows s k → Marked mark k
-    derive d = elim ((one_step rows ladder s k r at).0 d) [ inl held ↦ itself held | inr up ↦ by_above up (cases_Bool (held_by s r)) ]
+    derive : P k → Marked mark k
+    derive d = elim ((step k r at).0 d) [ inl held ↦ itself held | inr up ↦ by_above up (cases_Bool (held_by s r)) ]
 
-right_below : (rows : List LadderRow) → IsLadder rows → (mark : ℕ → Option ℕ) (s : ℕ) → MarksFit rows mark s → (n k : ℕ) → k < n → k < length rows → Marked mark k ↔ CanDerive rows s k
-right_below rows ladder mark s fits zero k below within = absurd (omega (arith, below))
-right_below rows ladder mark s fits (suc n) k below within =
+right_below : (rows : List LadderRow) → IsLadder rows → (mark : ℕ → Option ℕ) (s : ℕ) (P : ℕ → Type 0) → ByRows rows s P → MarksFit rows mark s → (n k : ℕ) → k < n → k < length rows → Marked mark k ↔ P k
+right_below rows ladder mark s P step fits zero k below within = absurd (omega (arith, below))
+right_below rows ladder mark s P step fits (suc n) k below within =
     let row = row_at rows k within in
-    right_one rows ladder mark s k row.0 row.1 (λ j less. right_below rows ladder mark s fits n j (omega (arith, less, below)) (omega (arith, less, within))) (fits k row.0 row.1)
+    right_one rows ladder mark s P step k row.0 row.1 (λ j less. right_below rows ladder mark s P step fits n j (omega (arith, less, below)) (omega (arith, less, within))) (fits k row.0 row.1)
 
--- a row has a mark exactly where the station can derive it
+-- a row has a mark exactly where that is so of it
+pub marks_by_rows : (rows : List LadderRow) → IsLadder rows → (mark : ℕ → Option ℕ) (s : ℕ) (P : ℕ → Type 0) → ByRows rows s P → MarksFit rows mark s → (k : ℕ) → k < length rows → Marked mark k ↔ P k
+marks_by_rows rows ladder mark s P step fits k within = right_below rows ladder mark s P step fits (suc k) k (omega arith) within
+
+-- so it has one exactly where the station can derive it
 pub marks_right : (rows : List LadderRow) → IsLadder rows → (mark : ℕ → Option ℕ) (s : ℕ) → MarksFit rows mark s → (k : ℕ) → k < length rows → Marked mark k ↔ CanDerive rows s k
-marks_right rows ladder mark s fits k within = right_below rows ladder mark s fits (suc k) k (omega arith) within
+marks_right rows ladder mark s fits k within = marks_by_rows rows ladder mark s (CanDerive rows s) (one_step rows ladder s) fits k within
 
 nearest_below : (rows : List LadderRow) → IsLadder rows → (mark : ℕ → Option ℕ) (s : ℕ) → MarksFit rows mark s → (n k x : ℕ) → k < n → k < length rows → mark k ≡ Some x → IsNearest rows s k x
 nearest_below rows ladder mark s fits zero k x below within is = absurd (omega (arith, below))

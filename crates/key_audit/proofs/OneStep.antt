@@ -16,22 +16,22 @@ use Rattle.key_audit.specs.Derives.{held_by, held_in, HeldTerms, CanDerive}
 use Rattle.key_audit.proofs.TermsOf.{term_is, one_row}
 
 -- what is derivable is in the set, or what it is made of is derivable
-root_in : {held : Term → Type 0} (n : ℕ) (octets : List ℕ) → Derivable held (Root n octets) → held (Root n octets)
+pub root_in : {held : Term → Type 0} (n : ℕ) (octets : List ℕ) → Derivable held (Root n octets) → held (Root n octets)
 root_in n octets (in_set h) = h
 
-kenb_in : {held : Term → Type 0} (r : Term) (n : ℕ) → Derivable held (Kenb r n) → held (Kenb r n) ⊎ Derivable held r
+pub kenb_in : {held : Term → Type 0} (r : Term) (n : ℕ) → Derivable held (Kenb r n) → held (Kenb r n) ⊎ Derivable held r
 kenb_in r n (in_set h) = inl h
 kenb_in r n (by_kenb d) = inr d
 
-nh_in : {held : Term → Type 0} (r t : Term) → Derivable held (Nh r t) → held (Nh r t) ⊎ (Derivable held r × Derivable held t)
+pub nh_in : {held : Term → Type 0} (r t : Term) → Derivable held (Nh r t) → held (Nh r t) ⊎ (Derivable held r × Derivable held t)
 nh_in r t (in_set h) = inl h
 nh_in r t (by_nh d e) = inr (d, e)
 
-star_in : {held : Term → Type 0} (t : Term) (pci earfcn : ℕ) → Derivable held (Star t pci earfcn) → held (Star t pci earfcn) ⊎ Derivable held t
+pub star_in : {held : Term → Type 0} (t : Term) (pci earfcn : ℕ) → Derivable held (Star t pci earfcn) → held (Star t pci earfcn) ⊎ Derivable held t
 star_in t pci earfcn (in_set h) = inl h
 star_in t pci earfcn (by_star d) = inr d
 
-alg_in : {held : Term → Type 0} (t : Term) (kind identity : ℕ) → Derivable held (Alg t kind identity) → held (Alg t kind identity) ⊎ Derivable held t
+pub alg_in : {held : Term → Type 0} (t : Term) (kind identity : ℕ) → Derivable held (Alg t kind identity) → held (Alg t kind identity) ⊎ Derivable held t
 alg_in t kind identity (in_set h) = inl h
 alg_in t kind identity (by_alg d) = inr d
 
