@@ -21,3 +21,4 @@ pub mod MadeKeys
 pub mod OneTerm
 pub mod Answered
 pub mod Telling
+pub mod Counting

@@ -1,6 +1,6 @@
 -- What the program keeps beside the actors: the records sent, the ladder and the uses, as those of a world.
 use Rattle.hmac_kdf.specs.declared.input.KdfInput.{KdfInput}
-use Rattle.std.specs.Prelude.{◌≡◌, ℕ, ◌<◌, ◌^◌, [], ◌∷◌, ◌++◌, List, map, Option, Some, None, Result, Ok, Err}
+use Rattle.std.specs.Prelude.{◌≡◌, ℕ, ◌+◌, ◌-◌, ◌*◌, ◌<◌, ◌≤◌, ◌^◌, [], ◌∷◌, ◌++◌, List, length, map, Option, Some, None, Result, Ok, Err}
 use Rattle.std.specs.Str.{bytes_eq}
 use Rattle.annex_a_keys.specs.declared.derived.Derived.{Derived}
 use Rattle.rec_base.specs.declared.uses.Use.{Use}
@@ -126,3 +126,17 @@ pub record Fits (w : World (List ℕ) ℕ Kept) (s : Stores) : Type 0 where
   pub uses : s.uses ≡ world_uses w
   pub calm : (ladder_of bytes_eq w.history).clash ≡ None
   pub rows : Keeps (ladder_of bytes_eq w.history).rows w.held s.rows
+
+-- HOW MANY RECORDS AND ROWS THERE ARE
+
+-- one event adds a record and 12 rows at the most
+abbrev pub Grows : Stores → Stores → Type 0
+Grows before after = (length after.records ≤ length before.records + 1) × (length after.rows ≤ length before.rows + 12)
+
+-- no more than so many events add
+abbrev pub Within : ℕ → Stores → Type 0
+Within events s = (length s.records ≤ events) × (length s.rows ≤ 12 * events)
+
+-- what one event more adds has a number of 32 bits
+abbrev pub HasPlace : Stores → Type 0
+HasPlace s = (length s.records < 2 ^ 32 - 1) × (length s.rows + 12 < 2 ^ 32)

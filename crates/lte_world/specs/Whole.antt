@@ -1,6 +1,6 @@
 -- The whole world as a caller sees it: what it started with, the events that it took, the coincidence that ended it, and whether
 -- there is room for one event more. The run in octets says all else.
-use Rattle.std.specs.Prelude.{◌≡◌, ℕ, ◌<◌, Bool, false, IsTrue, List, [], ◌∷◌, ◌++◌, length, Option, Some, None, Result, Ok, Err}
+use Rattle.std.specs.Prelude.{◌≡◌, ℕ, ◌+◌, ◌*◌, ◌<◌, ◌≤◌, Bool, false, IsTrue, List, [], ◌∷◌, ◌++◌, length, Option, Some, None, Result, Ok, Err}
 use Rattle.std.specs.Option.{option_map}
 use Rattle.lte_events.specs.Conditions.{CanStart, SetupFits, CanHappen, EventFits}
 use Rattle.lte_events.specs.declared.events.Event.{Event}
@@ -17,6 +17,7 @@ use Rattle.lte_machine.specs.StationState.{Station}
 use Rattle.lte_machine.specs.World.{World, station_of_id}
 use Rattle.ue_context.specs.Step.{kenb_of}
 use Rattle.run_stores.specs.Proofs.{proof_of, chance_of}
+use Rattle.run_stores.specs.Rows.{world_rows}
 use Rattle.lte_world.specs.declared.faults.WorldFault.{WorldFault}
 use Rattle.lte_world.specs.Systems.{octets, Actors, Are}
 
@@ -91,6 +92,15 @@ Goes (Stopped chance) actors steps = ⊥
 abbrev pub Stands : Option Proof → RunState (List ℕ) ℕ Kept → Actors → ℕ → Type 0
 Stands None run actors steps = Goes run actors steps
 Stands (Some proof) run actors steps = Unit {0}
+
+-- so many events send no more records, and derive no more than 12 times so many keys
+abbrev pub AreFew : ℕ → World (List ℕ) ℕ Kept → Type 0
+AreFew events w = (length w.sent ≤ events) × (length (world_rows w) ≤ 12 * events)
+
+-- of how many events something may be kept: that at which a coincidence ended the world is not in the journal
+abbrev pub events_kept : Option Proof → ℕ → ℕ
+events_kept None events = events
+events_kept (Some proof) events = events + 1
 
 -- GETTERS
 

@@ -1,11 +1,12 @@
 // What is kept beside the actors: the records sent, the ladder and the uses.
-ghost use Rattle.std.specs.Prelude.{◌≡◌, ◌+◌, ◌<◌, ◌≤◌, ◌^◌, [], ◌++◌, length, option_map, IsOkUnless, OnOk};
+ghost use Rattle.std.specs.Prelude.{◌≡◌, ◌+◌, ◌<◌, ◌≤◌, ◌^◌, [], ◌++◌, length, option_map, IsOkUnless, OnOk, OnErr};
 ghost use Rattle.key_terms.specs.Ladder.{IsHolder};
 ghost use Rattle.lte_machine.specs.Calls.{use_in, line_of_reply};
 ghost use Rattle.lte_machine.specs.Tuples.{tuple_chance};
 ghost use Rattle.std.specs.Str.{bytes_eq};
 ghost use Rattle.lte_machine.specs.Tuples as tuples;
 ghost use Rattle.lte_machine.specs.World.{class_of as class_at};
+ghost use Rattle.lte_world.specs.Networks.{Grows, HasPlace};
 ghost use Rattle.lte_world.specs.Systems.{HasRoom};
 ghost use Rattle.net_bag.specs.Bag.{first_sent};
 ghost use Rattle.lte_machine.specs.World.{record_at};
@@ -23,9 +24,6 @@ use net_bag::{Bag, BagView};
 use rec_base::{Use, UserText};
 use std::alloc::Global;
 use std::marker::Model;
-
-// Of 2^32 rows 12 are left.
-const MOST_ROWS: usize = 4_294_967_283;
 
 // The records that were sent, the ladder, and the uses of keys.
 #[derive(Drop)]
@@ -74,28 +72,37 @@ impl Network {
         }
     }
 
-    // Makes room for what one event gives out: a record, 12 derivations or a root, and 2 uses. Where memory runs out, or
-    // the last number, nothing changes but the room.
+    // Makes room for what one event gives out: a record, 12 derivations or a root, and 2 uses. Where memory runs out nothing
+    // changes but the room, and it runs out only where there was not this room.
     pub fn reserve(&mut self) -> Result<(), WorldFault>
+        requires { HasPlace self.old }
         ensures memory { IsOkUnless result WorldFault.Memory }
+        ensures lacking { OnErr result (HasRoom self.old → ⊥) }
         ensures room { OnOk result (HasRoom self.new) }
         ensures keeps { HasRoom self.old → HasRoom self.new }
         ensures records { self.new.records ≡ self.old.records }
         ensures rows { self.new.rows ≡ self.old.rows }
         ensures uses { self.new.uses ≡ self.old.uses }
     {
-        if self.bag.len() == u32::MAX || self.ladder.len() > MOST_ROWS {
-            return Err(WorldFault::Memory);
+        match self.bag.reserve() {
+            Ok(()) => {}
+            Err(_) => return Err(WorldFault::Memory),
         }
-        self.bag.reserve().map_err(|_| WorldFault::Memory)?;
-        self.ladder.reserve(12).map_err(|_| WorldFault::Memory)?;
-        self.uses.reserve(2).map_err(|_| WorldFault::Memory)
+        match self.ladder.reserve(12) {
+            Ok(()) => {}
+            Err(_) => return Err(WorldFault::Memory),
+        }
+        match self.uses.reserve(2) {
+            Ok(()) => Ok(()),
+            Err(_) => Err(WorldFault::Memory),
+        }
     }
 
     // Takes the KASME of an authentication, which phone and core then hold.
     pub fn enroll(&mut self, root: [u8; 32]) -> Enrolled
         requires { 0 < self.old.row_room }
-        ensures { EnrolledAs self.old self.new root result }
+        ensures enrolled { EnrolledAs self.old self.new root result }
+        ensures grows { Grows self.old self.new }
     {
         match self.ladder.root(root) {
             Ok(_) => {}
@@ -140,7 +147,8 @@ impl Network {
         requires uses { 2 ≤ self.old.use_room }
         requires holder { IsHolder holder }
         requires awaits { Settles self.old out.now }
-        ensures { SettledAs self.old self.new out.now sender holder who step result }
+        ensures settled { SettledAs self.old self.new out.now sender holder who step result }
+        ensures grows { Grows self.old self.new }
     {
         match accepted_so(out.accepted, sender) {
             Ok(()) => {}

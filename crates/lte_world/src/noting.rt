@@ -12,7 +12,8 @@ use key_terms::{Holder, Ladder, LadderFault, Proof, Row};
 pub(crate) fn add_all(ladder: &mut Ladder, derived: &[Derived]) -> Result<(), Proof>
     requires room { length derived.now ≤ ladder.old.spare }
     requires awaits { Awaits ladder.old.rows derived.now }
-    ensures { AddsAll ladder.old.rows ladder.new.rows derived.now result }
+    ensures added { AddsAll ladder.old.rows ladder.new.rows derived.now result }
+    ensures few { length ladder.new.rows ≤ length ladder.old.rows + length derived.now }
 {
     for made in derived {
         match add_one(ladder, made) {
@@ -28,6 +29,7 @@ fn add_one(ladder: &mut Ladder, made: &Derived) -> Result<(), Proof>
     requires room { 0 < ladder.old.spare }
     requires awaits { Awaits ladder.old.rows (made.now ∷ []) }
     ensures added { AddsAll ladder.old.rows ladder.new.rows (made.now ∷ []) result }
+    ensures one { length ladder.new.rows ≤ length ladder.old.rows + 1 }
     ensures spare { ladder.old.spare ≤ ladder.new.spare + 1 }
 {
     has_range(made.input);
@@ -62,6 +64,7 @@ pub(crate) fn hold_one(ladder: &mut Ladder, who: Holder, key: &[u8; 32])
     requires holder { IsHolder who }
     ensures held { HoldsOne who key.now ladder.old.rows ladder.new.rows }
     ensures rows { (k : List ℕ) → HasRow ladder.old.rows k → HasRow ladder.new.rows k }
+    ensures len { length ladder.new.rows ≡ length ladder.old.rows }
     ensures spare { ladder.new.spare ≡ ladder.old.spare }
 {
     if let Some(row) = ladder.find(key) {
@@ -75,6 +78,7 @@ pub(crate) fn hold_received(ladder: &mut Ladder, who: Holder, received: &Option<
     requires holder { IsHolder who }
     ensures held { HoldsAll who (keys_in received.now) ladder.old.rows ladder.new.rows }
     ensures rows { (k : List ℕ) → HasRow ladder.old.rows k → HasRow ladder.new.rows k }
+    ensures len { length ladder.new.rows ≡ length ladder.old.rows }
     ensures spare { ladder.new.spare ≡ ladder.old.spare }
 {
     if let Some(key) = received {
@@ -87,6 +91,7 @@ pub(crate) fn hold_all(ladder: &mut Ladder, who: Holder, derived: &[Derived])
     requires stand { HasRows ladder.old.rows derived.now }
     requires holder { IsHolder who }
     ensures held { HoldsAll who (map (λ d. d.out) derived.now) ladder.old.rows ladder.new.rows }
+    ensures len { length ladder.new.rows ≡ length ladder.old.rows }
     ensures spare { ladder.new.spare ≡ ladder.old.spare }
 {
     for made in derived {

@@ -30,9 +30,10 @@ impl<T: Drop> Shelf<T> {
         }
     }
 
-    // Makes room for so many items more. Where memory runs out nothing changes.
+    // Makes room for so many items more. Where memory runs out nothing changes, and there was not room for so many.
     pub fn reserve(&mut self, more: usize) -> Result<(), AllocError>
         ensures items { self.new.items ≡ self.old.items }
+        ensures lacking { OnErr result (self.old.spare < more) }
         ensures room { OnOk result (more ≤ self.new.spare) }
         ensures spare { self.old.spare ≤ self.new.spare }
         ensures err { OnErr result (self.new ≡ self.old) }

@@ -1,5 +1,5 @@
 // The actors, and what is kept beside them.
-ghost use Rattle.std.specs.Prelude.{◌≡◌, ◌≤◌, ◌<◌, ◌==◌, [], length, position, None, IsOkUnless, OnOk, IfSome};
+ghost use Rattle.std.specs.Prelude.{◌≡◌, ◌≤◌, ◌<◌, ◌==◌, [], length, position, None, IsOkUnless, OnOk, OnErr, IfSome};
 ghost use Rattle.lte_events.specs.Reply.{reply_of};
 ghost use Rattle.lte_events.specs.declared.events.Event.TheVariants.{Auth, Deliver, Inject};
 ghost use Rattle.lte_events.specs.declared.lines.Who.TheVariants.{World};
@@ -8,6 +8,7 @@ ghost use Rattle.enb_context.specs.Acts.{IsInput as IsStationInput, IsAct as IsS
 ghost use Rattle.mme_context.specs.Step.{IsInput as IsCoreInput};
 ghost use Rattle.lte_machine.specs.Calls.{line_of_reply};
 ghost use Rattle.lte_machine.specs.Ranges.{TakesInjected};
+ghost use Rattle.lte_world.specs.Networks.{Grows, HasPlace};
 ghost use Rattle.lte_world.specs.Systems.{ArrivalCan, Arrives, EventCan, Happens, HasRoom, MayHappen, PhoneTurns, PhoneCan, CoreTurns, CoreCan, StationTurns, StationCan, StepsAt, with_room};
 ghost use Rattle.lte_events.specs.declared.inputs.ActorIn.{ActorIn};
 ghost use Rattle.lte_world.specs.Replies.{input_at, replies_by, Tells};
@@ -73,6 +74,7 @@ impl System {
         requires can { PhoneCan self.old input }
         requires none { told.old ≡ [] }
         ensures turns { PhoneTurns self.old self.new input sender step result }
+        ensures grows { Grows self.old.stores self.new.stores }
         ensures told { told.new ≡ replies_by self.old.phone self.old.core self.old.stations (ActorIn.Phone input) }
     {
         let out = self.phone.step(&input);
@@ -96,6 +98,7 @@ impl System {
         requires can { CoreCan self.old input }
         requires none { told.old ≡ [] }
         ensures turns { CoreTurns self.old self.new input sender step result }
+        ensures grows { Grows self.old.stores self.new.stores }
         ensures told { told.new ≡ replies_by self.old.phone self.old.core self.old.stations (ActorIn.Core input) }
     {
         let out = self.core.step(&input);
@@ -113,6 +116,7 @@ impl System {
         requires can { EventCan self.old event.now }
         requires none { told.old ≡ [] }
         ensures happens { Happens self.old self.new event.now step result }
+        ensures grows { Grows self.old.stores self.new.stores }
         ensures told { OnOk result (Tells self.old event.now told.new) }
     {
         match event {
@@ -139,6 +143,7 @@ impl System {
         requires can { EventCan self.old (Auth ksi root caps) }
         requires none { told.old ≡ [] }
         ensures happens { Happens self.old self.new (Auth ksi root caps) step result }
+        ensures grows { Grows self.old.stores self.new.stores }
         ensures told { OnOk result (Tells self.old (Auth ksi root caps) told.new) }
     {
         match self.network.enroll(root) {
@@ -163,6 +168,7 @@ impl System {
         requires can { EventCan self.old (Event.Phone act.now) }
         requires none { told.old ≡ [] }
         ensures happens { Happens self.old self.new (Event.Phone act.now) step result }
+        ensures grows { Grows self.old.stores self.new.stores }
         ensures told { OnOk result (Tells self.old (Event.Phone act.now) told.new) }
     {
         let input = PhoneIn::Act(copied_phone_act(act));
@@ -182,6 +188,7 @@ impl System {
         requires can { EventCan self.old (Event.Station id act.now) }
         requires none { told.old ≡ [] }
         ensures happens { Happens self.old self.new (Event.Station id act.now) step result }
+        ensures grows { Grows self.old.stores self.new.stores }
         ensures told { OnOk result (Tells self.old (Event.Station id act.now) told.new) }
     {
         let input = StationIn::Act(copied_station_act(act));
@@ -194,6 +201,7 @@ impl System {
         requires can { EventCan self.old (Event.Core act.now) }
         requires none { told.old ≡ [] }
         ensures happens { Happens self.old self.new (Event.Core act.now) step result }
+        ensures grows { Grows self.old.stores self.new.stores }
         ensures told { OnOk result (Tells self.old (Event.Core act.now) told.new) }
     {
         let input = CoreIn::Act(copied_core_act(act));
@@ -206,6 +214,7 @@ impl System {
         requires can { EventCan self.old (Deliver i.now) }
         requires none { told.old ≡ [] }
         ensures happens { Happens self.old self.new (Deliver i.now) step result }
+        ensures grows { Grows self.old.stores self.new.stores }
         ensures told { OnOk result (Tells self.old (Deliver i.now) told.new) }
     {
         let Some(sent) = self.network.record_at(i) else {
@@ -227,6 +236,7 @@ impl System {
         requires can { EventCan self.old (Inject to.now octets.now) }
         requires none { told.old ≡ [] }
         ensures happens { Happens self.old self.new (Inject to.now octets.now) step result }
+        ensures grows { Grows self.old.stores self.new.stores }
         ensures told { OnOk result (Tells self.old (Inject to.now octets.now) told.new) }
     {
         if let Some(number) = self.network.found(class_of(to), octets.as_slice()) {
@@ -248,6 +258,7 @@ impl System {
         requires can { ArrivalCan self.old to.now octets.now }
         requires none { told.old ≡ [] }
         ensures arrives { Arrives self.old self.new to.now octets.now sender step result }
+        ensures grows { Grows self.old.stores self.new.stores }
         ensures told { told.new ≡ replies_by self.old.phone self.old.core self.old.stations (input_at to.now octets.now) }
     {
         let octets = copied(octets);
@@ -299,6 +310,7 @@ impl System {
         requires can { StationCan self.old id input }
         requires none { told.old ≡ [] }
         ensures turns { StationTurns self.old self.new id input sender step result }
+        ensures grows { Grows self.old.stores self.new.stores }
         ensures told { told.new ≡ replies_by self.old.phone self.old.core self.old.stations (ActorIn.Station id input) }
     {
         let Some(place) = place_of(self.ids.as_slice(), id) else {
@@ -312,9 +324,11 @@ impl System {
         line
     }
 
-    // Makes room for what one event gives out. Where memory runs out nothing changes but the room.
+    // Makes room for what one event gives out. Where memory runs out nothing changes but the room, and there was not this room.
     pub fn reserve(&mut self) -> Result<(), WorldFault>
+        requires { HasPlace self.old.stores }
         ensures memory { IsOkUnless result WorldFault.Memory }
+        ensures lacking { OnErr result (HasRoom self.old.stores → ⊥) }
         ensures room { OnOk result (HasRoom self.new.stores) }
         ensures keeps { HasRoom self.old.stores → HasRoom self.new.stores }
         ensures same { self.new ≡ with_room self.old self.new }

@@ -11,7 +11,7 @@ ghost use Rattle.lte_properties.specs.InOctets.{FarNeverThere};
 ghost use Rattle.lte_world.specs.InOctets.{answers_of, NoTwoEqual, IsJoined, CommandsShare, PacketsOpen};
 ghost use Rattle.lte_machine.specs.Ranges.{AllOf};
 ghost use Rattle.lte_world.specs.Replies.{RepliedLast, IsOfSetup};
-ghost use Rattle.lte_world.specs.Whole.{begun, run_of, told_of, turned, journal_after, CanBegin, CanApply, InRun, phone_kenb_in, station_kenb_in};
+ghost use Rattle.lte_world.specs.Whole.{begun, run_of, told_of, turned, journal_after, AreFew, CanBegin, CanApply, InRun, most_events, phone_kenb_in, station_kenb_in};
 
 use crate::WorldFault;
 use crate::shelf::Shelf;
@@ -44,7 +44,8 @@ impl Model for World {
     ghost use Rattle.lte_machine.specs.Ranges.{AllOf, IsEvent, IsSetup};
     ghost use Rattle.lte_world.specs.Systems.{HasRoom};
     ghost use Rattle.lte_world.specs.Replies.{RepliedLast, UnlessOver};
-    ghost use Rattle.lte_world.specs.Whole.{Whole, Stands};
+    ghost use Rattle.lte_world.specs.Networks.{Within};
+    ghost use Rattle.lte_world.specs.Whole.{Whole, Stands, events_kept};
 
     ghost Value = { Whole };
 
@@ -53,7 +54,8 @@ impl Model for World {
     ghost invariant = { λ w. IsSetup w.setup × AllOf IsEvent w.journal.items
         × (IsTrue w.ready → HasRoom w.system.stores × (0 < w.journal.spare))
         × Stands w.over (octet_run w.setup w.journal.items) w.system (length w.journal.items)
-        × UnlessOver w.over (RepliedLast w.setup w.journal.items w.replies) };
+        × UnlessOver w.over (RepliedLast w.setup w.journal.items w.replies)
+        × Within (events_kept w.over (length w.journal.items)) w.system.stores };
 }
 
 impl World {
@@ -124,17 +126,27 @@ impl World {
         }
     }
 
-    /// Makes room for one event. Where memory runs out nothing changes, and what is told of any event later is what it
-    /// would have been without this call.
+    /// Makes room for one event, which has fewer than 200,000 before it. Where memory runs out nothing changes, and what is told of
+    /// any event later is what it would have been without this call. It runs out only where there was not this room: each record
+    /// that the event sends has a number, and so has each key that it derives.
     pub fn reserve(&mut self) -> Result<(), WorldFault>
+        requires { length self.old.journal < most_events }
+        ensures few { InRun (AreFew (length self.old.journal)) (run_of self.old) }
         ensures memory { IsOkUnless result WorldFault.Memory }
+        ensures lacking { OnErr result (self.old.ready ≡ false) }
         ensures room { OnOk result (IsTrue self.new.ready) }
         ensures same { OnOk result (self.new ≡ record self.old { ready = true }) }
         ensures err { OnErr result (self.new ≡ self.old) }
         ensures told { (event : AnEvent) → told_of self.new event ≡ told_of self.old event }
     {
-        self.journal.reserve(1).map_err(|_| WorldFault::Memory)?;
-        self.system.reserve()?;
+        match self.journal.reserve(1) {
+            Ok(()) => {}
+            Err(_) => return Err(WorldFault::Memory),
+        }
+        match self.system.reserve() {
+            Ok(()) => {}
+            Err(fault) => return Err(fault),
+        }
         self.ready = true;
         Ok(())
     }

@@ -176,11 +176,11 @@ pub(crate) fn happen(rt: &impl Abort, world: &mut World, event: &Event) -> Resul
     requires fits { EventFits event.now }
     ensures { world.new.setup ≡ world.old.setup }
 {
+    assert!(rt; world.journal().len() < 200_000);
     if world.reserve() == Err(WorldFault::Memory) {
         // memory ran out once
         same(rt, world.reserve(), Ok(()));
     }
-    assert!(rt; world.journal().len() < 200_000);
     world.apply(event)
 }
 

@@ -7,3 +7,4 @@ invariant-loop-made l =
     (l.made-index ≤ length l.derived) × (l.ladder.spare ≡ l.fn.ladder.spare)
     × HoldsAll l.who (map (λ d. d.out) (take l.made-index l.derived)) l.fn.ladder.rows l.ladder.rows
     × HasRows l.ladder.rows (drop l.made-index l.derived)
+    × (length l.ladder.rows ≡ length l.fn.ladder.rows)

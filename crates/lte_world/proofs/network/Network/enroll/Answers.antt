@@ -2,8 +2,8 @@ use Rattle.std.proofs.Common.{refl, ap, ◌∙◌, Err}
 use Rattle.lte_world.proofs.Enrolling.{by_root, enrolled_before, enrolled_by_chance, enrolled_new, enrolled_from, root_has_row}
 use Rattle.lte_world.proofs.network.Network.enroll.Goals as goal
 
-pub returns-in-Err-RepeatedRoot : goal.returns-in-Err-RepeatedRoot
-returns-in-Err-RepeatedRoot c =
+pub returns-in-Err-RepeatedRoot-clause-enrolled : goal.returns-in-Err-RepeatedRoot-clause-enrolled
+returns-in-Err-RepeatedRoot-clause-enrolled c =
     enrolled_from _ c.args.self.now _ c.self.view_is c.args.root _
     (enrolled_before _ c.args.root c.root.new.self.rows c.root.result
     (by_root c.self.inside.ladder.rows c.root.new.self c.self.inside.ladder c.args.root c.root.result refl c.root.ensures.new c.root.ensures.repeated c.root.ensures.coincidence)
@@ -17,8 +17,8 @@ returns-in-Err-RepeatedRoot c =
       use_room = c.self.inside.uses.spare;
     }))
 
-pub returns-in-Err-Coincidence : goal.returns-in-Err-Coincidence
-returns-in-Err-Coincidence c =
+pub returns-in-Err-Coincidence-clause-enrolled : goal.returns-in-Err-Coincidence-clause-enrolled
+returns-in-Err-Coincidence-clause-enrolled c =
     enrolled_from _ c.args.self.now _ c.self.view_is c.args.root _
     (enrolled_by_chance _ c.args.root c.root.new.self.rows c.root.result
     (by_root c.self.inside.ladder.rows c.root.new.self c.self.inside.ladder c.args.root c.root.result refl c.root.ensures.new c.root.ensures.repeated c.root.ensures.coincidence)
@@ -37,8 +37,8 @@ hold_one-requires-2-clause-stands c =
     (by_root c.self.inside.ladder.rows c.root.new.self c.self.inside.ladder c.args.root c.root.result refl c.root.ensures.new c.root.ensures.repeated c.root.ensures.coincidence)
     c.in-Ok.field-0 c.in-Ok.is)
 
-pub returns : goal.returns
-returns c =
+pub returns-clause-enrolled : goal.returns-clause-enrolled
+returns-clause-enrolled c =
     enrolled_from _ c.args.self.now _ c.self.view_is c.args.root _
     (enrolled_new (record { records = c.self.inside.bag.records; rows = c.self.inside.ladder.rows; uses = c.self.inside.uses.items; record_room = c.self.inside.bag.spare; row_room = c.self.inside.ladder.spare; use_room = c.self.inside.uses.spare }) c.args.root c.root.new.self.rows c.root.result
     (by_root c.self.inside.ladder.rows c.root.new.self c.self.inside.ladder c.args.root c.root.result refl c.root.ensures.new c.root.ensures.repeated c.root.ensures.coincidence)

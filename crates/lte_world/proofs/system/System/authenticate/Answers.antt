@@ -12,28 +12,28 @@ use Rattle.lte_world.proofs.system.System.authenticate.Goals as goal
 pub returns-in-Repeated-clause-happens : goal.returns-in-Repeated-clause-happens
 returns-in-Repeated-clause-happens c =
     happens_from (record { phone = c.self.inside.phone; core = c.self.inside.core; stations = c.self.inside.stations.items; stores = c.self.inside.network }) c.args.self.now _ c.self.view_is (Event.Auth c.args.ksi c.args.root c.args.caps) c.args.step _
-    (auth_repeated (record { phone = c.self.inside.phone; core = c.self.inside.core; stations = c.self.inside.stations.items; stores = c.self.inside.network }) c.enroll.new.self c.args.ksi c.args.root c.args.caps c.args.step c.in-Repeated.row c.refused.result _ c.in-Repeated.ensures refl c.refused.ensures)
+    (auth_repeated (record { phone = c.self.inside.phone; core = c.self.inside.core; stations = c.self.inside.stations.items; stores = c.self.inside.network }) c.enroll.new.self c.args.ksi c.args.root c.args.caps c.args.step c.in-Repeated.row c.refused.result _ c.in-Repeated.ensures.enrolled refl c.refused.ensures)
 
 pub returns-in-Chance-clause-happens : goal.returns-in-Chance-clause-happens
 returns-in-Chance-clause-happens c =
     happens_from (record { phone = c.self.inside.phone; core = c.self.inside.core; stations = c.self.inside.stations.items; stores = c.self.inside.network }) c.args.self.now _ c.self.view_is (Event.Auth c.args.ksi c.args.root c.args.caps) c.args.step _
-    (auth_chance (record { phone = c.self.inside.phone; core = c.self.inside.core; stations = c.self.inside.stations.items; stores = c.self.inside.network }) c.enroll.new.self c.args.ksi c.args.root c.args.caps c.args.step c.in-Chance.proof _ c.in-Chance.ensures)
+    (auth_chance (record { phone = c.self.inside.phone; core = c.self.inside.core; stations = c.self.inside.stations.items; stores = c.self.inside.network }) c.enroll.new.self c.args.ksi c.args.root c.args.caps c.args.step c.in-Chance.proof _ c.in-Chance.ensures.enrolled)
 
 pub returns-clause-happens : goal.returns-clause-happens
 returns-clause-happens c =
     happens_from (record { phone = c.self.inside.phone; core = c.self.inside.core; stations = c.self.inside.stations.items; stores = c.self.inside.network }) c.args.self.now _ c.self.view_is (Event.Auth c.args.ksi c.args.root c.args.caps) c.args.step _
-    (auth_new (record { phone = c.self.inside.phone; core = c.self.inside.core; stations = c.self.inside.stations.items; stores = c.self.inside.network }) c.enroll.new.self c.args.ksi c.args.root c.args.caps c.args.step c.step-out.new.self c.step-out-2.new.self c.step-out.result c.step-out-2.result c.line.result c.in-New.ensures
+    (auth_new (record { phone = c.self.inside.phone; core = c.self.inside.core; stations = c.self.inside.stations.items; stores = c.self.inside.network }) c.enroll.new.self c.args.ksi c.args.root c.args.caps c.args.step c.step-out.new.self c.step-out-2.new.self c.step-out.result c.step-out-2.result c.line.result c.in-New.ensures.enrolled
     (c.step-out.ensures.step ∙ ap (λ k. phone_call c.self.inside.phone (PhoneIn.Auth c.args.ksi k)) c.of_octets-root.ensures)
     (c.step-out-2.ensures.step ∙ ap (λ k. core_call c.self.inside.core (CoreIn.Auth c.args.ksi k c.args.caps)) c.of_octets-root.ensures)
     (c.line.ensures ∙ ap (λ o. line_of_reply c.args.step Who.Both None o) c.of.ensures))
 
 pub returns-in-Repeated-clause-told : goal.returns-in-Repeated-clause-told
 returns-in-Repeated-clause-told c =
-    repeated_tells (record { phone = c.self.inside.phone; core = c.self.inside.core; stations = c.self.inside.stations.items; stores = c.self.inside.network }) c.args.self.now c.self.view_is _ c.enroll.new.self c.args.ksi c.args.root c.args.caps c.in-Repeated.row c.in-Repeated.ensures c.requires.none
+    repeated_tells (record { phone = c.self.inside.phone; core = c.self.inside.core; stations = c.self.inside.stations.items; stores = c.self.inside.network }) c.args.self.now c.self.view_is _ c.enroll.new.self c.args.ksi c.args.root c.args.caps c.in-Repeated.row c.in-Repeated.ensures.enrolled c.requires.none
 
 pub returns-clause-told : goal.returns-clause-told
 returns-clause-told c =
-    new_tells (record { phone = c.self.inside.phone; core = c.self.inside.core; stations = c.self.inside.stations.items; stores = c.self.inside.network }) c.args.self.now c.self.view_is _ c.enroll.new.self c.args.ksi c.args.root c.args.caps c.in-New.ensures
+    new_tells (record { phone = c.self.inside.phone; core = c.self.inside.core; stations = c.self.inside.stations.items; stores = c.self.inside.network }) c.args.self.now c.self.view_is _ c.enroll.new.self c.args.ksi c.args.root c.args.caps c.in-New.ensures.enrolled
     (two_told c.self.inside.phone c.self.inside.core c.args.ksi c.args.root c.of_octets-root.result c.of_octets-root.ensures c.args.caps
     c.step-out.new.self c.step-out.result c.step-out.ensures.step c.step-out-2.new.self c.step-out-2.result c.step-out-2.ensures.step
     _ _ _ c.requires.none c.push.ensures c.push-2.ensures)

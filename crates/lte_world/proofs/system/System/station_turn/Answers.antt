@@ -32,7 +32,7 @@ pub returns-clause-turns : goal.returns-clause-turns
 returns-clause-turns c =
     station_turns_from _ c.args.self.now c.self.view_is c.args.id c.self.inside.ids.items c.self.invariant.0 c.args.input c.in-Some.place
     (ap (position (λ x. x == c.args.id)) (sym c.as_slice.ensures.value) ∙ sym c.place_of.ensures.place ∙ c.in-Some.is)
-    c.step_at-out.new.stations.items c.step_at-out.result c.step_at-out.ensures c.self.invariant.1 c.args.sender c.args.step c.settle-line.result _ c.settle-line.ensures
+    c.step_at-out.new.stations.items c.step_at-out.result c.step_at-out.ensures c.self.invariant.1 c.args.sender c.args.step c.settle-line.result _ c.settle-line.ensures.settled
 
 pub returns-in_default-clause-told : goal.returns-in_default-clause-told
 returns-in_default-clause-told c =

@@ -1,6 +1,7 @@
 use Rattle.std.proofs.Common.{◌≡◌, sym, subst, None, rules, false}
 use Rattle.lte_world.specs.Systems.{Happens}
 use Rattle.lte_world.proofs.Applying.{may_happen}
+use Rattle.lte_world.proofs.Counting.{chance_within, line_within}
 use Rattle.lte_world.proofs.Standing.{event_fits, says_line, run_line, written_line, line_keeps, says_chance, run_chance}
 use Rattle.lte_world.specs.Replies.{RepliedLast, UnlessOver}
 use Rattle.lte_world.proofs.LastReplies.{next_replied, told_ok}
@@ -24,10 +25,21 @@ invariant_of-self-in-Ok c =
       keeps.3,
       subst (λ o. UnlessOver o (RepliedLast c.self.inside.setup c.put.new.self.items c.happen.new.told)) (sym is_none) (next_replied c.self.inside.setup c.self.inside.journal.items c.self.inside.over c.self.inside.system is_none c.self.invariant.3 c.args.event.now c.happen.new.told
           (told_ok c.happen.result c.in-Ok.is c.happen.ensures.told) c.copied.result c.copied.ensures c.put.new.self.items c.put.ensures.items),
+      line_within c.self.inside.over c.self.inside.journal.items c.put.new.self.items c.copied.result c.self.inside.system.stores c.happen.new.self.stores is_none c.put.ensures.items c.self.invariant.5 c.happen.ensures.grows,
     )
   where
     is_none : c.self.inside.over ≡ None
     is_none = search rules
+
+pub invariant_of-self-in-Err : goal.invariant_of-self-in-Err
+invariant_of-self-in-Err c = (
+  c.self.invariant.0,
+  c.self.invariant.1,
+  search rules,
+  tt,
+  tt,
+  chance_within c.self.inside.over c.in-Err.proof _ c.self.inside.system.stores c.happen.new.self.stores (search rules) c.self.invariant.5 c.happen.ensures.grows,
+)
 
 pub returns-in-Ok-clause-says : goal.returns-in-Ok-clause-says
 returns-in-Ok-clause-says c =
