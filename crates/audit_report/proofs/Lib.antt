@@ -1,3 +1,4 @@
 pub mod Coursing
 pub mod Growing
 pub mod Together
+mod Ends

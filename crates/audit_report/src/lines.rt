@@ -1,5 +1,6 @@
-ghost use Rattle.std.specs.Prelude.{◌≡◌, ◌≢◌, ℕ, List, ◌++◌, Err, length, IfOk, IsTrue};
+ghost use Rattle.std.specs.Prelude.{◌≡◌, ◌≢◌, ℕ, List, ◌++◌, true, Err, length, IfOk, IsTrue};
 ghost use Rattle.edge_io.specs.Cause.{NoFault};
+ghost use Rattle.edge_io.specs.Lines.{are_lines};
 ghost use Rattle.edge_io.specs.Used.{UsedAsSink};
 ghost use Rattle.key_audit.specs.Exact.{Exact};
 ghost use Rattle.key_audit.specs.Local.{exact_mark};
@@ -75,6 +76,7 @@ fn write_rows<W: Sink>(
 // Writes a line for which there was memory.
 fn write_line<W: Sink>(line: Result<Vec<u8>, AuditMemory>, out: &mut W) -> Result<(), Unwritten>
     requires out_ready { IsTrue (W.told out.old).ready }
+    requires lines { IfOk line (λ t. are_lines t.items ≡ true) }
     ensures text { (octets : List ℕ) → IfOk line (λ t. t.items ≡ octets) → Written octets result (W.told out.old) (W.told out.new) }
     ensures no_fault { result ≢ Err Unwritten.WriteFault → NoFault (W.told out.old) (W.told out.new) }
     ensures out { UsedAsSink (W.told out.old) (W.told out.new) }
@@ -87,6 +89,7 @@ fn write_line<W: Sink>(line: Result<Vec<u8>, AuditMemory>, out: &mut W) -> Resul
 
 fn write_octets<W: Sink>(octets: &[u8], out: &mut W) -> Result<(), Unwritten>
     requires out_ready { IsTrue (W.told out.old).ready }
+    requires lines { are_lines octets.now ≡ true }
     ensures text { Written octets.now result (W.told out.old) (W.told out.new) }
     ensures no_fault { result ≢ Err Unwritten.WriteFault → NoFault (W.told out.old) (W.told out.new) }
     ensures out { UsedAsSink (W.told out.old) (W.told out.new) }

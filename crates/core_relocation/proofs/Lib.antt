@@ -9,3 +9,4 @@ pub mod Adding
 pub mod Once
 pub mod Journal
 pub mod Promised
+mod Ends

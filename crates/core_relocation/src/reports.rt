@@ -1,6 +1,7 @@
 // The report of a run with two cores.
-ghost use Rattle.std.specs.Prelude.{◌≡◌, ◌≢◌, ◌<◌, ◌≤◌, [], ◌∷◌, ◌++◌, ℕ, List, false, Err, Ok, length, All, IfOk, IsTrue};
+ghost use Rattle.std.specs.Prelude.{◌≡◌, ◌≢◌, ◌<◌, ◌≤◌, [], ◌∷◌, ◌++◌, ℕ, List, false, true, Err, Ok, length, All, IfOk, IsTrue};
 ghost use Rattle.edge_io.specs.Cause.{NoFault};
+ghost use Rattle.edge_io.specs.Lines.{are_lines};
 ghost use Rattle.edge_io.specs.Used.{UsedAsSink};
 ghost use Rattle.lte_events.specs.Conditions.{CanHappen, EventFits};
 ghost use Rattle.lte_world.specs.Whole.{CanBegin, most_events};
@@ -90,9 +91,10 @@ fn write_answer<W: Sink>(
     }
 }
 
-// Writes a text for which there was memory.
+// Writes a text for which there was memory, which is whole lines.
 fn write_text<W: Sink>(text: Result<Vec<u8>, TextMemory>, out: &mut W) -> Result<(), Unwritten>
     requires out_ready { IsTrue (W.told out.old).ready }
+    requires lines { IfOk text (λ t. are_lines t.items ≡ true) }
     ensures text { (octets : List ℕ) → IfOk text (λ t. t.items ≡ octets) → Written octets result (W.told out.old) (W.told out.new) }
     ensures no_fault { result ≢ Err Unwritten.WriteFault → NoFault (W.told out.old) (W.told out.new) }
     ensures out { UsedAsSink (W.told out.old) (W.told out.new) }

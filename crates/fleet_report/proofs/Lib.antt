@@ -4,3 +4,4 @@ pub mod Holding
 pub mod Shown
 pub mod Looping
 pub mod Ending
+mod Ends

@@ -1,5 +1,6 @@
 ghost use Rattle.std.specs.Prelude.{◌≡◌, ◌≢◌, ℕ, ◌<◌, ◌≤◌, ◌++◌, ◌∷◌, [], List, true, false, None, Ok, Err, length, All, IfOk, IsTrue};
 ghost use Rattle.edge_io.specs.Cause.{NoFault};
+ghost use Rattle.edge_io.specs.Lines.{EndsLine, are_lines};
 ghost use Rattle.edge_io.specs.Used.{UsedAsSink};
 ghost use Rattle.lte_events.specs.Conditions.{CanHappen, EventFits};
 ghost use Rattle.lte_world.specs.Whole.{CanBegin, most_events, run_of};
@@ -200,7 +201,8 @@ fn write_line<W: Sink>(
     line: Result<Vec<u8>, TextMemory>,
     out: &mut W,
 ) -> Result<(), Unwritten>
-    requires { IsTrue (W.told out.old).ready }
+    requires ready { IsTrue (W.told out.old).ready }
+    requires ends { IfOk line (λ t. EndsLine t.items) }
     ensures text { (octets : List ℕ) → IfOk line (λ t. t.items ≡ octets) → Written (phone_text phone octets) result (W.told out.old) (W.told out.new) }
     ensures no_fault { result ≢ Err Unwritten.WriteFault → NoFault (W.told out.old) (W.told out.new) }
     ensures out { UsedAsSink (W.told out.old) (W.told out.new) }
@@ -211,9 +213,10 @@ fn write_line<W: Sink>(
     }
 }
 
-// Writes a text for which there was memory.
+// Writes a text for which there was memory, which is whole lines.
 fn write_text<W: Sink>(text: Result<Vec<u8>, TextMemory>, out: &mut W) -> Result<(), Unwritten>
-    requires { IsTrue (W.told out.old).ready }
+    requires ready { IsTrue (W.told out.old).ready }
+    requires lines { IfOk text (λ t. are_lines t.items ≡ true) }
     ensures text { (octets : List ℕ) → IfOk text (λ t. t.items ≡ octets) → Written octets result (W.told out.old) (W.told out.new) }
     ensures no_fault { result ≢ Err Unwritten.WriteFault → NoFault (W.told out.old) (W.told out.new) }
     ensures out { UsedAsSink (W.told out.old) (W.told out.new) }

@@ -3,3 +3,4 @@ pub mod Reports
 pub mod Writing
 pub mod Driving
 pub mod Audited
+pub mod Ends

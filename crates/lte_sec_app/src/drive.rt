@@ -115,6 +115,7 @@ fn drive_scenario<P: Peers, W: Sink>(
 }
 
 // Writes the line for a reply that differs.
+#[tactic(auto, using(crate::proofs::Ends::difference_is))]
 fn write_difference<W: Sink>(
     alloc: Global,
     step: Option<u32>,

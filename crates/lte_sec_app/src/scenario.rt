@@ -29,6 +29,7 @@ pub(crate) fn write_scenario<W: Sink>(alloc: Global, octets: &[u8], out: &mut W)
 }
 
 // Writes why a text is no scenario.
+#[tactic(auto, using(crate::proofs::Ends::refused_is))]
 pub(crate) fn write_refusal<W: Sink>(alloc: Global, fault: &ScenarioFault, out: &mut W) -> Status
     requires { IsTrue (W.told out.old).ready }
     ensures text { WritesAt (refusal_output fault.now) result (W.told out.old) (W.told out.new) }

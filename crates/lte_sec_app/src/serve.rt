@@ -34,6 +34,7 @@ pub(crate) fn serve<W: Sink, L: Port>(role: Role, out: &mut W, port: &mut L) -> 
 }
 
 // Writes the line for a frame that is none.
+#[tactic(auto, using(crate::proofs::Ends::bad_frame_is))]
 fn say_bad_frame<W: Sink>(place: u64, number: u8, out: &mut W) -> Status
     requires { IsTrue (W.told out.old).ready }
     ensures said { SaidAt (bad_frame_text place number) result (W.told out.old) (W.told out.new) }

@@ -1,5 +1,6 @@
-ghost use Rattle.std.specs.Prelude.{◌≡◌, ◌≢◌, ◌<◌, ◌≤◌, ℕ, List, [], ◌∷◌, ◌++◌, false, Ok, Err, length, All, IfOk, IsTrue};
+ghost use Rattle.std.specs.Prelude.{◌≡◌, ◌≢◌, ◌<◌, ◌≤◌, ℕ, List, [], ◌∷◌, ◌++◌, false, true, Ok, Err, length, All, IfOk, IsTrue};
 ghost use Rattle.edge_io.specs.Cause.{NoFault};
+ghost use Rattle.edge_io.specs.Lines.{are_lines};
 ghost use Rattle.edge_io.specs.Used.{UsedAsSink};
 ghost use Rattle.lte_events.specs.Conditions.{CanHappen, EventFits};
 ghost use Rattle.lte_machine.specs.Ranges.{AllOf, IsEvent, IsSetup};
@@ -144,12 +145,13 @@ pub fn write_end<W: Sink>(alloc: Global, world: &World, out: &mut W) -> Result<(
     }
 }
 
-// Writes a text for which there was memory.
+// Writes a text for which there was memory, which is whole lines.
 pub(crate) fn write_text<W: Sink>(
     text: Result<Vec<u8>, TextMemory>,
     out: &mut W,
 ) -> Result<(), Unwritten>
     requires out_ready { IsTrue (W.told out.old).ready }
+    requires lines { IfOk text (λ t. are_lines t.items ≡ true) }
     ensures text { (octets : List ℕ) → IfOk text (λ t. t.items ≡ octets) → Written octets result (W.told out.old) (W.told out.new) }
     ensures no_fault { result ≢ Err Unwritten.WriteFault → NoFault (W.told out.old) (W.told out.new) }
     ensures out { UsedAsSink (W.told out.old) (W.told out.new) }

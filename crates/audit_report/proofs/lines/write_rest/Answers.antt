@@ -1,8 +1,11 @@
-use Rattle.std.proofs.Common.{refl, sym, subst, [], ◌++◌, length, append-nil, rules}
+use Rattle.std.proofs.Common.{refl, sym, ap, subst, ◌∙◌, [], ◌++◌, length, append-nil, rules}
 use Rattle.key_audit.specs.Local.{exact_mark}
 use Rattle.key_audit.specs.Text.{row_lines, last_line}
 use Rattle.run_report.specs.Written.{Written}
 use Rattle.run_report.proofs.SoFar.{written_on, first_cut}
+use Rattle.edge_io.specs.Lines.{are_lines}
+use Rattle.edge_io.proofs.Ending.{is_lines}
+use Rattle.audit_report.proofs.Ends.{last_ends}
 use Rattle.audit_report.proofs.lines.write_rest.Goals as goal
 
 pub returns-in-Ok-clause-text : goal.returns-in-Ok-clause-text
@@ -20,3 +23,6 @@ returns-in-Err-clause-text g c =
     let rows = c.args.ladder.now.rows in
     let lines = row_lines rows (exact_mark rows) 0 (length rows) in
     first_cut (Unit {0}) c.in-Err.fault (lines ++ last_line) lines last_line (g.W.Edge.told c.args.out.now) (g.W.Edge.told c.write_rows.new.out) refl c.in-Err.ensures.text
+
+pub write_octets-requires-clause-lines : goal.write_octets-requires-clause-lines
+write_octets-requires-clause-lines g c = ap are_lines (sym c.last_line.ensures) ∙ is_lines _ last_ends

@@ -1,9 +1,11 @@
-use Rattle.std.proofs.Common.{◌≡◌, ◌++◌, refl, sym, ap, ◌∙◌, Err, [], length, append-nil, rules, arith}
+use Rattle.std.proofs.Common.{◌≡◌, ◌++◌, refl, sym, ap, subst, ◌∙◌, Err, [], length, append-nil, rules, arith}
 use Rattle.lte_world.specs.Whole.{run_of}
 use Rattle.report_text.specs.End.{end_text}
 use Rattle.fleet_report.specs.Lines.{texts, phone_text, row_outputs, end_outputs}
 use Rattle.fleet_report.proofs.Partly.{none_written, more_written, last_written, if_ok, no_fall}
 use Rattle.fleet_report.proofs.Telling.{end_is}
+use Rattle.edge_io.specs.Lines.{EndsLine}
+use Rattle.run_report.proofs.Ends.{end_ends}
 use Rattle.fleet_report.proofs.reports.write_end.Goals as goal
 
 pub overflow_cast-events : goal.overflow_cast-events
@@ -36,3 +38,6 @@ returns-in-Err-clause-text g c =
     let line = if_ok _ (λ t. t.items ≡ first) c.end.result (λ t e. e ∙ (λ j. end_text (length (c.journal.ensures j)) c.records.result (c.len-rows.ensures.len j))) c.end.ensures in
     last_written {A = Unit {0}} (Err c.in-Err.fault) whole whole (phone_text p first) left (g.W.Edge.told c.args.out.now) (g.W.Edge.told c.args.out.now) (g.W.Edge.told c.write_line.new.out)
     (none_written whole (g.W.Edge.told c.args.out.now)) is (λ a ok. cc) (no_fall (g.W.Edge.told c.args.out.now)) (c.in-Err.ensures.text first line)
+
+pub write_line-requires-clause-ends : goal.write_line-requires-clause-ends
+write_line-requires-clause-ends g c = if_ok _ (λ t. EndsLine t.items) c.end.result (λ t is. subst EndsLine (sym is) (end_ends _ _ _)) c.end.ensures

@@ -1,4 +1,4 @@
-use Rattle.std.proofs.Common.{◌≡◌, sym, ap, subst, ◌∙◌, length, Ok, Err, Bool, rules}
+use Rattle.std.proofs.Common.{◌≡◌, sym, ap, subst, ◌∙◌, length, Ok, Err, Bool, true, rules}
 use Rattle.edge_io.specs.Octets.{Grows}
 use Rattle.run_report.specs.Written.{Written}
 use Rattle.lte_world.specs.Whole.{Whole}
@@ -8,6 +8,8 @@ use Rattle.fleet_report.specs.Events.{ends_it, event_text, event_ends}
 use Rattle.fleet_report.specs.Lines.{output_text, answer_output}
 use Rattle.fleet_report.proofs.Partly.{if_ok}
 use Rattle.fleet_report.proofs.Shown.{fault_shown, fault_written, fault_ends, never_false}
+use Rattle.fleet_report.proofs.Ends.{told_is}
+use Rattle.edge_io.specs.Lines.{are_lines}
 use Rattle.fleet_report.proofs.reports.write_event.Goals as goal
 
 pub write_fault-requires-clause-shown : goal.write_fault-requires-clause-shown
@@ -68,3 +70,6 @@ returns-in-Err-clause-phones g c is = never_false _ c.write_fault.result c.write
 pub returns-in-Ok-write_text-clause-coincidence : goal.returns-in-Ok-write_text-clause-coincidence
 unfolding event_ends
 returns-in-Ok-write_text-clause-coincidence g c = ap ends_it (c.in-Ok.ensures.says (λ same. cc))
+
+pub write_text-requires-clause-lines : goal.write_text-requires-clause-lines
+write_text-requires-clause-lines g c = if_ok _ (λ t. are_lines t.items ≡ true) c.told_text.result (λ t is. ap are_lines (is 0) ∙ told_is _ 0 c.in-Ok.told) c.told_text.ensures

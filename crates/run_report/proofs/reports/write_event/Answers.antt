@@ -7,6 +7,8 @@ use Rattle.run_report.specs.Events.{told_of, event_text, is_coincidence}
 use Rattle.run_report.specs.Written.{Written}
 use Rattle.run_report.proofs.Telling.{a_line, a_chance}
 use Rattle.run_report.proofs.Shown.{shown_in}
+use Rattle.edge_io.proofs.Ending.{is_lines, text_is}
+use Rattle.run_report.proofs.Ends.{line_ends}
 use Rattle.run_report.proofs.reports.write_event.Goals as goal
 
 pub write_chance-requires-clause-string : goal.write_chance-requires-clause-string
@@ -47,3 +49,6 @@ returns-in-Err-write_chance-clause-text g c =
     let v = c.args.world.now in
     let is = a_chance (length v.journal) (told_of (run_of v) c.args.event.now) c.in-Err-Chance.proof (search rules) in
     subst (λ text. Written {A = Bool} text (Err c.in-Err-write_chance.fault) (g.W.Edge.told c.args.out.now) (g.W.Edge.told c.write_chance.new.out)) (search (rules, is)) c.in-Err-write_chance.ensures.text
+
+pub write_text-requires-clause-lines : goal.write_text-requires-clause-lines
+write_text-requires-clause-lines g c = text_is _ _ _ c.line.ensures (is_lines _ (line_ends _))

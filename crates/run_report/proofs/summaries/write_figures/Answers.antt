@@ -1,5 +1,7 @@
 use Rattle.std.proofs.Common.{rules}
 use Rattle.run_report.proofs.Figures.{figure_is, next_written, cut_at, all_written}
+use Rattle.edge_io.proofs.Ending.{is_lines, text_is}
+use Rattle.run_report.proofs.Ends.{figure_ends}
 use Rattle.run_report.proofs.summaries.write_figures.Goals as goal
 
 pub loop-figure-preserved : goal.loop-figure-preserved
@@ -18,3 +20,6 @@ returns-in-Err-clause-text g c =
 pub returns-clause-text : goal.returns-clause-text
 returns-clause-text g c =
     all_written c.args.tally.now c.args.rows c.loop-figure.figure-index (g.W.Edge.told c.args.out.now) (g.W.Edge.told c.loop-figure.out) c.loop-figure.invariant.so_far (search rules)
+
+pub write_text-requires-clause-lines : goal.write_text-requires-clause-lines
+write_text-requires-clause-lines g c = text_is _ _ _ c.summary_line.ensures (is_lines _ (figure_ends _ _ _))

@@ -1,0 +1,6 @@
+use Rattle.edge_io.proofs.Ending.{text_is}
+use Rattle.fleet_report.proofs.Ends.{fault_is}
+use Rattle.fleet_report.proofs.reports.write_fault.Goals as goal
+
+pub write_text-requires-clause-lines : goal.write_text-requires-clause-lines
+write_text-requires-clause-lines g c = text_is _ _ _ c.fault_text.ensures (fault_is _ _ _)

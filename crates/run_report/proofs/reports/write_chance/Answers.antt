@@ -1,0 +1,6 @@
+use Rattle.edge_io.proofs.Ending.{is_lines, text_is}
+use Rattle.run_report.proofs.Ends.{chance_ends}
+use Rattle.run_report.proofs.reports.write_chance.Goals as goal
+
+pub write_text-requires-clause-lines : goal.write_text-requires-clause-lines
+write_text-requires-clause-lines g c = text_is _ _ _ c.chance.ensures (is_lines _ (chance_ends _ _))
