@@ -29,13 +29,14 @@ use Rattle.lte_machine.proofs.KnownWorld.{first_grounds}
 use Rattle.lte_properties.specs.Packets.{OpensToSent}
 use Rattle.lte_properties.proofs.Opening.Opens.{by_uses_open}
 use Rattle.lte_properties.proofs.Opening.Sender.{roots_along}
-use Rattle.lte_properties.proofs.Opening.Whole.{second_case, packets_open}
+use Rattle.lte_properties.proofs.Opening.Whole.{second_case, all_reach, packets_open}
 use Rattle.lte_properties.proofs.Agreement.Whole.{agreement_over, chains_over}
 use Rattle.lte_properties.proofs.Freshness.Whole.{no_use_twice_by_terms, no_value_twice_by_terms}
 use Rattle.lte_properties.proofs.KeySeparation.Ever.{sharing_holds_by}
 use Rattle.lte_properties.proofs.Agreement.Openings.{OpensByTerms}
 use Rattle.lte_properties.proofs.SameKeys.{reflexive}
 use Rattle.lte_properties.specs.SecondCase.{SecondAtStarting}
+use Rattle.lte_properties.specs.Reach.{AllReach}
 
 -- each world on the way of a run that meets no coincidence is one of such a run
 on_the_way : {K C S : Type 0} (by_octets : Opening K → List ℕ → Outcome) (m : Machine K C S) (w : World K C S) (es : List Event) (u : World K C S)
@@ -138,3 +139,10 @@ module _ (c : Ciphers (List ℕ)) (good : AreCiphers c) (setup : Setup) (events 
         subst (SecondAtStarting (written_machine c)) (sym in_mixed)
         (second_case same_value reflexive terms (under_keys_ciphers value_of c good) written_in_values (by_terms terms) by_values setup set events are one
         (open_by_uses same_value terms))
+
+    -- and each record goes to a station of the setup, if it goes to a station
+    pub reach : AllReach setup w
+    reach =
+        let one = roots_along terms written_in_values (open_octets terms) (first_world setup) events w (first_grounds setup) refl is in
+        subst (AllReach setup) (sym in_mixed)
+        (all_reach same_value reflexive terms (under_keys_ciphers value_of c good) written_in_values (by_terms terms) by_values setup set events are one)

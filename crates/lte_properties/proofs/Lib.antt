@@ -5,10 +5,12 @@ pub mod EveryRun
 pub mod Freshness
 pub mod KeySeparation
 pub mod NasWalk
+pub mod Named
 pub mod Opening
 pub mod SameKeys
 pub mod AccountsHold
 pub mod StepByStep
+pub mod Reaching
 pub mod OctetLaws
 pub mod FarNever
 pub mod HeadlineHolds

@@ -12,4 +12,5 @@ pub mod Accounts
 pub mod BySteps
 pub mod InOctets
 pub mod SecondCase
+pub mod Reach
 pub mod Headline

@@ -162,119 +162,135 @@ module _ (top : ℕ → ℕ) (same : Term → Term → Bool) (s : Station Term �
   pub unread_step_kept : (on : Interface) (fault : RecFault) (outcome : Outcome) → StepKept top s (station_step (term_reading_by same) s (StationRecord on (Err fault)) outcome)
   unread_step_kept on fault outcome = station_does_kept top same s (OfRecord (RecordRefused (BadRecord fault))) None tt tt below above
 
--- THE PHONE SENDS NO PAIR
+-- THE PHONE SENDS NOTHING ON S1 AND X2
 
-authenticated_plain : (ksi : ℕ) (s : Phone Term ℕ) (o : Option Term) → Plainly (authenticated ksi s o).1.sent
-authenticated_plain ksi s None = ((λ top. tt), (λ u. tt))
-authenticated_plain ksi s (Some x) = ((λ top. tt), (λ u. tt))
+abbrev pub NotBetween : Option (Outgoing Term ℕ) → Type 0
+NotBetween (Some (Between to fields key)) = ⊥
+NotBetween other = ⊤
 
-rejected_under_plain : (answer : Answer) (cause : ℕ) (s : Phone Term ℕ) (o : Option (NasContext Term)) → Plainly (rejected_under answer cause s o).1.sent
-rejected_under_plain answer cause s None = ((λ top. tt), (λ u. tt))
-rejected_under_plain answer cause s (Some x) = ((λ top. tt), (λ u. tt))
+authenticated_plain : (ksi : ℕ) (s : Phone Term ℕ) (o : Option Term) → NotBetween (authenticated ksi s o).1.sent
+authenticated_plain ksi s None = tt
+authenticated_plain ksi s (Some x) = tt
 
-context_taken_plain : (same : Term → Term → Bool) (algs : Algs) (count : ℕ) (s : Phone Term ℕ) (o : Option (Partial Term)) → Plainly (context_taken (term_reading_by same) algs count s o).1.sent
-context_taken_plain same algs count s None = ((λ top. tt), (λ u. tt))
-context_taken_plain same algs count s (Some x) = ((λ top. tt), (λ u. tt))
+rejected_under_plain : (answer : Answer) (cause : ℕ) (s : Phone Term ℕ) (o : Option (NasContext Term)) → NotBetween (rejected_under answer cause s o).1.sent
+rejected_under_plain answer cause s None = tt
+rejected_under_plain answer cause s (Some x) = tt
 
-context_taken_connected_plain : (same : Term → Term → Bool) (algs : Algs) (count : ℕ) (s : Phone Term ℕ) (o : Option (Partial Term)) → Plainly (context_taken_connected (term_reading_by same) algs count s o).1.sent
-context_taken_connected_plain same algs count s None = ((λ top. tt), (λ u. tt))
-context_taken_connected_plain same algs count s (Some x) = ((λ top. tt), (λ u. tt))
+context_taken_plain : (same : Term → Term → Bool) (algs : Algs) (count : ℕ) (s : Phone Term ℕ) (o : Option (Partial Term)) → NotBetween (context_taken (term_reading_by same) algs count s o).1.sent
+context_taken_plain same algs count s None = tt
+context_taken_plain same algs count s (Some x) = tt
 
-nas_opened_plain : (count : ℕ) (text : List ℕ) (s : Phone Term ℕ) (o : Option (NasContext Term)) → Plainly (nas_opened count text s o).1.sent
-nas_opened_plain count text s None = ((λ top. tt), (λ u. tt))
-nas_opened_plain count text s (Some x) = ((λ top. tt), (λ u. tt))
+context_taken_connected_plain : (same : Term → Term → Bool) (algs : Algs) (count : ℕ) (s : Phone Term ℕ) (o : Option (Partial Term)) → NotBetween (context_taken_connected (term_reading_by same) algs count s o).1.sent
+context_taken_connected_plain same algs count s None = tt
+context_taken_connected_plain same algs count s (Some x) = tt
 
-link_secured_plain : (same : Term → Term → Bool) (station air : ℕ) (algs : Algs) (count : ℕ) (s : Phone Term ℕ) (radio : Radio Term ℕ) → Plainly (link_secured (term_reading_by same) station air algs count s radio).1.sent
-link_secured_plain same station air algs count s Idle = ((λ top. tt), (λ u. tt))
-link_secured_plain same station air algs count s (Connecting x) = ((λ top. tt), (λ u. tt))
-link_secured_plain same station air algs count s (Connected l) = ((λ top. tt), (λ u. tt))
+nas_opened_plain : (count : ℕ) (text : List ℕ) (s : Phone Term ℕ) (o : Option (NasContext Term)) → NotBetween (nas_opened count text s o).1.sent
+nas_opened_plain count text s None = tt
+nas_opened_plain count text s (Some x) = tt
 
-handed_over_plain : (same : Term → Term → Bool) (cell : Place) (steps : ℕ) (algs : Algs) (station air : ℕ) (s : Phone Term ℕ) (radio : Radio Term ℕ) → Plainly (handed_over (term_reading_by same) cell steps algs station air s radio).1.sent
-handed_over_plain same cell steps algs station air s Idle = ((λ top. tt), (λ u. tt))
-handed_over_plain same cell steps algs station air s (Connecting x) = ((λ top. tt), (λ u. tt))
-handed_over_plain same cell steps algs station air s (Connected l) = ((λ top. tt), (λ u. tt))
+link_secured_plain : (same : Term → Term → Bool) (station air : ℕ) (algs : Algs) (count : ℕ) (s : Phone Term ℕ) (radio : Radio Term ℕ) → NotBetween (link_secured (term_reading_by same) station air algs count s radio).1.sent
+link_secured_plain same station air algs count s Idle = tt
+link_secured_plain same station air algs count s (Connecting x) = tt
+link_secured_plain same station air algs count s (Connected l) = tt
 
-key_changed_plain : (same : Term → Term → Bool) (cell : Place) (algs : Algs) (station air : ℕ) (s : Phone Term ℕ) (radio : Radio Term ℕ) (o : Option (NasContext Term)) → Plainly (key_changed (term_reading_by same) cell algs station air s radio o).1.sent
-key_changed_plain same cell algs station air s Idle o = ((λ top. tt), (λ u. tt))
-key_changed_plain same cell algs station air s (Connecting x) o = ((λ top. tt), (λ u. tt))
-key_changed_plain same cell algs station air s (Connected l) None = ((λ top. tt), (λ u. tt))
+handed_over_plain : (same : Term → Term → Bool) (cell : Place) (steps : ℕ) (algs : Algs) (station air : ℕ) (s : Phone Term ℕ) (radio : Radio Term ℕ) → NotBetween (handed_over (term_reading_by same) cell steps algs station air s radio).1.sent
+handed_over_plain same cell steps algs station air s Idle = tt
+handed_over_plain same cell steps algs station air s (Connecting x) = tt
+handed_over_plain same cell steps algs station air s (Connected l) = tt
+
+key_changed_plain : (same : Term → Term → Bool) (cell : Place) (algs : Algs) (station air : ℕ) (s : Phone Term ℕ) (radio : Radio Term ℕ) (o : Option (NasContext Term)) → NotBetween (key_changed (term_reading_by same) cell algs station air s radio o).1.sent
+key_changed_plain same cell algs station air s Idle o = tt
+key_changed_plain same cell algs station air s (Connecting x) o = tt
+key_changed_plain same cell algs station air s (Connected l) None = tt
 key_changed_plain same cell algs station air s (Connected l) (Some c) = by_same (same c.root l.chain.root)
   where
-    by_same : (b : Bool) → Plainly (changed_unless (term_reading_by same) cell algs station air s (before_of l) c.root b).1.sent
-    by_same true = ((λ top. tt), (λ u. tt))
-    by_same false = ((λ top. tt), (λ u. tt))
+    by_same : (b : Bool) → NotBetween (changed_unless (term_reading_by same) cell algs station air s (before_of l) c.root b).1.sent
+    by_same true = tt
+    by_same false = tt
 
-rrc_opened_plain : (srb : Srb) (count : ℕ) (text : List ℕ) (s : Phone Term ℕ) (radio : Radio Term ℕ) → Plainly (rrc_opened srb count text s radio).1.sent
-rrc_opened_plain srb count text s Idle = ((λ top. tt), (λ u. tt))
-rrc_opened_plain srb count text s (Connecting x) = ((λ top. tt), (λ u. tt))
-rrc_opened_plain srb count text s (Connected l) = ((λ top. tt), (λ u. tt))
+rrc_opened_plain : (srb : Srb) (count : ℕ) (text : List ℕ) (s : Phone Term ℕ) (radio : Radio Term ℕ) → NotBetween (rrc_opened srb count text s radio).1.sent
+rrc_opened_plain srb count text s Idle = tt
+rrc_opened_plain srb count text s (Connecting x) = tt
+rrc_opened_plain srb count text s (Connected l) = tt
 
-packet_opened_plain : (drb : Drb) (count : ℕ) (text : List ℕ) (s : Phone Term ℕ) (radio : Radio Term ℕ) → Plainly (packet_opened drb count text s radio).1.sent
-packet_opened_plain drb count text s Idle = ((λ top. tt), (λ u. tt))
-packet_opened_plain drb count text s (Connecting x) = ((λ top. tt), (λ u. tt))
-packet_opened_plain drb count text s (Connected l) = ((λ top. tt), (λ u. tt))
+packet_opened_plain : (drb : Drb) (count : ℕ) (text : List ℕ) (s : Phone Term ℕ) (radio : Radio Term ℕ) → NotBetween (packet_opened drb count text s radio).1.sent
+packet_opened_plain drb count text s Idle = tt
+packet_opened_plain drb count text s (Connecting x) = tt
+packet_opened_plain drb count text s (Connected l) = tt
 
-service_requested_plain : (same : Term → Term → Bool) (s : Phone Term ℕ) (o : Option (NasContext Term)) → Plainly (service_requested (term_reading_by same) s o).1.sent
-service_requested_plain same s None = ((λ top. tt), (λ u. tt))
-service_requested_plain same s (Some x) = ((λ top. tt), (λ u. tt))
+service_requested_plain : (same : Term → Term → Bool) (s : Phone Term ℕ) (o : Option (NasContext Term)) → NotBetween (service_requested (term_reading_by same) s o).1.sent
+service_requested_plain same s None = tt
+service_requested_plain same s (Some x) = tt
 
-complete_resent_plain : (s : Phone Term ℕ) (radio : Radio Term ℕ) → Plainly (complete_resent s radio).1.sent
-complete_resent_plain s Idle = ((λ top. tt), (λ u. tt))
-complete_resent_plain s (Connecting x) = ((λ top. tt), (λ u. tt))
-complete_resent_plain s (Connected l) = ((λ top. tt), (λ u. tt))
+complete_resent_plain : (s : Phone Term ℕ) (radio : Radio Term ℕ) → NotBetween (complete_resent s radio).1.sent
+complete_resent_plain s Idle = tt
+complete_resent_plain s (Connecting x) = tt
+complete_resent_plain s (Connected l) = tt
 
-packet_sent_plain : (drb : Drb) (text : List ℕ) (s : Phone Term ℕ) (radio : Radio Term ℕ) → Plainly (packet_sent drb text s radio).1.sent
-packet_sent_plain drb text s Idle = ((λ top. tt), (λ u. tt))
-packet_sent_plain drb text s (Connecting x) = ((λ top. tt), (λ u. tt))
-packet_sent_plain drb text s (Connected l) = ((λ top. tt), (λ u. tt))
+packet_sent_plain : (drb : Drb) (text : List ℕ) (s : Phone Term ℕ) (radio : Radio Term ℕ) → NotBetween (packet_sent drb text s radio).1.sent
+packet_sent_plain drb text s Idle = tt
+packet_sent_plain drb text s (Connecting x) = tt
+packet_sent_plain drb text s (Connected l) = tt
 
-rrc_sent_plain : (srb : Srb) (text : List ℕ) (s : Phone Term ℕ) (radio : Radio Term ℕ) → Plainly (rrc_sent srb text s radio).1.sent
-rrc_sent_plain srb text s Idle = ((λ top. tt), (λ u. tt))
-rrc_sent_plain srb text s (Connecting x) = ((λ top. tt), (λ u. tt))
-rrc_sent_plain srb text s (Connected l) = ((λ top. tt), (λ u. tt))
+rrc_sent_plain : (srb : Srb) (text : List ℕ) (s : Phone Term ℕ) (radio : Radio Term ℕ) → NotBetween (rrc_sent srb text s radio).1.sent
+rrc_sent_plain srb text s Idle = tt
+rrc_sent_plain srb text s (Connecting x) = tt
+rrc_sent_plain srb text s (Connected l) = tt
 
-nas_sent_plain : (text : List ℕ) (s : Phone Term ℕ) (o : Option (NasContext Term)) → Plainly (nas_sent text s o).1.sent
-nas_sent_plain text s None = ((λ top. tt), (λ u. tt))
-nas_sent_plain text s (Some x) = ((λ top. tt), (λ u. tt))
+nas_sent_plain : (text : List ℕ) (s : Phone Term ℕ) (o : Option (NasContext Term)) → NotBetween (nas_sent text s o).1.sent
+nas_sent_plain text s None = tt
+nas_sent_plain text s (Some x) = tt
 
-nas_skipped_plain : (n : ℕ) (s : Phone Term ℕ) (o : Option (NasContext Term)) → Plainly (nas_skipped n s o).1.sent
-nas_skipped_plain n s None = ((λ top. tt), (λ u. tt))
-nas_skipped_plain n s (Some x) = ((λ top. tt), (λ u. tt))
+nas_skipped_plain : (n : ℕ) (s : Phone Term ℕ) (o : Option (NasContext Term)) → NotBetween (nas_skipped n s o).1.sent
+nas_skipped_plain n s None = tt
+nas_skipped_plain n s (Some x) = tt
 
-bearer_skipped_plain : (bearer : Which) (n : ℕ) (s : Phone Term ℕ) (radio : Radio Term ℕ) → Plainly (bearer_skipped bearer n s radio).1.sent
-bearer_skipped_plain bearer n s Idle = ((λ top. tt), (λ u. tt))
-bearer_skipped_plain bearer n s (Connecting x) = ((λ top. tt), (λ u. tt))
-bearer_skipped_plain bearer n s (Connected l) = ((λ top. tt), (λ u. tt))
+bearer_skipped_plain : (bearer : Which) (n : ℕ) (s : Phone Term ℕ) (radio : Radio Term ℕ) → NotBetween (bearer_skipped bearer n s radio).1.sent
+bearer_skipped_plain bearer n s Idle = tt
+bearer_skipped_plain bearer n s (Connecting x) = tt
+bearer_skipped_plain bearer n s (Connected l) = tt
 
-nas_does_plain : (same : Term → Term → Bool) (row : NasRow) (s : Phone Term ℕ) → Plainly (nas_does (term_reading_by same) row s).1.sent
-nas_does_plain same (NasRefused answer) s = ((λ top. tt), (λ u. tt))
-nas_does_plain same (RejectedPlain answer cause) s = ((λ top. tt), (λ u. tt))
+nas_does_plain : (same : Term → Term → Bool) (row : NasRow) (s : Phone Term ℕ) → NotBetween (nas_does (term_reading_by same) row s).1.sent
+nas_does_plain same (NasRefused answer) s = tt
+nas_does_plain same (RejectedPlain answer cause) s = tt
 nas_does_plain same (RejectedUnder answer cause) s = rejected_under_plain answer cause s s.context
 nas_does_plain same (ContextTaken algs count) s = context_taken_plain same algs count s s.partial
 nas_does_plain same (ContextTakenConnected algs count) s = context_taken_connected_plain same algs count s s.partial
 nas_does_plain same (NasOpened count text) s = nas_opened_plain count text s s.context
 
-air_does_plain : (same : Term → Term → Bool) (row : AirRow) (s : Phone Term ℕ) → Plainly (air_does (term_reading_by same) row s).1.sent
-air_does_plain same (AirRefused answer) s = ((λ top. tt), (λ u. tt))
+air_does_plain : (same : Term → Term → Bool) (row : AirRow) (s : Phone Term ℕ) → NotBetween (air_does (term_reading_by same) row s).1.sent
+air_does_plain same (AirRefused answer) s = tt
 air_does_plain same (LinkSecured station air algs count) s = link_secured_plain same station air algs count s s.radio
 air_does_plain same (HandedOver cell steps algs station air) s = handed_over_plain same cell steps algs station air s s.radio
 air_does_plain same (KeyChanged cell algs station air) s = key_changed_plain same cell algs station air s s.radio s.context
 air_does_plain same (RrcOpened srb count text) s = rrc_opened_plain srb count text s s.radio
 air_does_plain same (PacketOpened drb count text) s = packet_opened_plain drb count text s s.radio
 
-act_does_plain : (same : Term → Term → Bool) (row : ActRow) (s : Phone Term ℕ) → Plainly (act_does (term_reading_by same) row s).1.sent
-act_does_plain same (ActRefused answer) s = ((λ top. tt), (λ u. tt))
+act_does_plain : (same : Term → Term → Bool) (row : ActRow) (s : Phone Term ℕ) → NotBetween (act_does (term_reading_by same) row s).1.sent
+act_does_plain same (ActRefused answer) s = tt
 act_does_plain same ServiceRequested s = service_requested_plain same s s.context
 act_does_plain same CompleteResent s = complete_resent_plain s s.radio
-act_does_plain same WentIdle s = ((λ top. tt), (λ u. tt))
+act_does_plain same WentIdle s = tt
 act_does_plain same (PacketSent drb text) s = packet_sent_plain drb text s s.radio
 act_does_plain same (RrcSent srb text) s = rrc_sent_plain srb text s s.radio
 act_does_plain same (NasSent text) s = nas_sent_plain text s s.context
 act_does_plain same (NasSkipped n) s = nas_skipped_plain n s s.context
 act_does_plain same (BearerSkipped bearer n) s = bearer_skipped_plain bearer n s s.radio
 
+pub phone_sends_none : (same : Term → Term → Bool) (row : PhoneRow) (root : Option Term) (s : Phone Term ℕ) → NotBetween (phone_does (term_reading_by same) row root s).1.sent
+phone_sends_none same (OfAuth (Authenticated ksi)) root s = authenticated_plain ksi s root
+phone_sends_none same (OfNas row) root s = nas_does_plain same row s
+phone_sends_none same (OfAir row) root s = air_does_plain same row s
+phone_sends_none same (OfAct row) root s = act_does_plain same row s
+
+-- and so no pair
+none_between : (o : Option (Outgoing Term ℕ)) → NotBetween o → Plainly o
+none_between None h = ((λ top. tt), (λ u. tt))
+none_between (Some (SealedNas dir header u e text)) h = ((λ top. tt), (λ u. tt))
+none_between (Some (PlainNas octets)) h = ((λ top. tt), (λ u. tt))
+none_between (Some (SealedRrc dir station air srb u e text)) h = ((λ top. tt), (λ u. tt))
+none_between (Some (UserPacket dir station air drb e text)) h = ((λ top. tt), (λ u. tt))
+none_between (Some (Between to fields key)) h = absurd h
+
 pub phone_does_plain : (same : Term → Term → Bool) (row : PhoneRow) (root : Option Term) (s : Phone Term ℕ) → Plainly (phone_does (term_reading_by same) row root s).1.sent
-phone_does_plain same (OfAuth (Authenticated ksi)) root s = authenticated_plain ksi s root
-phone_does_plain same (OfNas row) root s = nas_does_plain same row s
-phone_does_plain same (OfAir row) root s = air_does_plain same row s
-phone_does_plain same (OfAct row) root s = act_does_plain same row s
+phone_does_plain same row root s = none_between (phone_does (term_reading_by same) row root s).1.sent (phone_sends_none same row root s)

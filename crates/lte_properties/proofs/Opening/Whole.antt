@@ -58,6 +58,10 @@ use Rattle.lte_properties.proofs.Freshness.PhoneRun.{phone_always_in_order}
 use Rattle.lte_properties.proofs.Agreement.Whole.{new_kenb}
 use Rattle.lte_properties.proofs.Opening.Heard.{always_heard}
 use Rattle.lte_properties.proofs.Opening.Second.{second_at}
+use Rattle.lte_machine.specs.Ranges.{HasId}
+use Rattle.lte_properties.specs.Reach.{AllReach}
+use Rattle.lte_properties.proofs.Named.Reaches.{sites, first_named}
+use Rattle.lte_properties.proofs.Named.World.{run_named, addresses_named}
 
 module _ (same : Term → Term → Bool) (sender : Option (Outgoing Term ℕ) → Option (KeyUse Term)) (opener : Opening Term → List ℕ → Option (Outgoing Term ℕ) → Outcome) (c : Ciphers Term) (good : AreCiphers c) (between : Fields → Option (NumberedKey Term ℕ) → List ℕ) (cells : List Site) where
   abbrev q : Reading Term ℕ
@@ -185,34 +189,39 @@ pub first_stands : (setup : Setup) → IsSetup setup → (k : Conns) × WorldOk 
 first_stands setup is =
     (no_conns setup, first_ok setup is, ((λ n. choice_of [] (record { eea = 0; eia = 0 })), record { core = (tt, refl, tt); phone = (tt, tt); nas = tt; air = tt }))
 
--- in every world of a run of a machine whose opener compares the uses of SRB records as terms, and whose NAS messages come
--- of the KASME under which they are accepted, an opener that opens what comes under the uses it was sealed with opens
--- packets to what was sent
-pub packets_open : (same : Term → Term → Bool) → IsReflexive same → (c : Ciphers Term) → AreCiphers c → (between : Fields → Option (NumberedKey Term ℕ) → List ℕ) (opener : Opening Term → List ℕ → Option (Outgoing Term ℕ) → Outcome) → OpensByTerms c opener
-    → (setup : Setup) → IsSetup setup → (events : List Event) → ranges.AllOf IsEvent events
-    → Along (SameRoot (record (machine_over same c between) { opener = opener })) (record (machine_over same c between) { opener = opener }) (first_world setup) events
-    → (back : Opening Term → List ℕ → Option (Outgoing Term ℕ) → Outcome) → OpensBack c back
-    → OpensToSent (record (machine_over same c between) { opener = back }) (run (record (machine_over same c between) { opener = opener }) (first_world setup) events)
-packets_open same itself c good between opener by_terms setup is events are one back opens =
-    let u = run (record (machine_over same c between) { opener = opener }) (first_world setup) events in
-    let honest = honest_along same Root (octets_of c between) sender_of opener c by_terms (first_world setup) events in
-    let calm = calm_over same itself c good between opener by_terms setup is events are in
-    let settled = settled_from_first same itself (octets_of c between) sender_of opener setup is events are in
-    let s = run_stands same sender_of opener c good between setup.cells (cells_of setup is) (λ conn. 0) (first_world setup) events (first_holds setup) (first_stands setup is) are settled honest calm one in
-    opens_where_fits same Root sender_of back c good opens between u (packets_fit setup.cells s.0 s.2.0 u s.1 s.2.1)
+-- of a machine whose opener compares the uses of SRB records as terms, and whose NAS messages come of the KASME under which they
+-- are accepted
+module _ (same : Term → Term → Bool) (itself : IsReflexive same) (c : Ciphers Term) (good : AreCiphers c) (between : Fields → Option (NumberedKey Term ℕ) → List ℕ) (opener : Opening Term → List ℕ → Option (Outgoing Term ℕ) → Outcome) (by_terms : OpensByTerms c opener)
+    (setup : Setup) (is : IsSetup setup) (events : List Event) (are : ranges.AllOf IsEvent events)
+    (one : Along (SameRoot (record (machine_over same c between) { opener = opener })) (record (machine_over same c between) { opener = opener }) (first_world setup) events) where
+  abbrev over : Machine Term ℕ (Outgoing Term ℕ)
+  over = record (machine_over same c between) { opener = opener }
 
--- and the second case of opening comes at a starting station alone, whatever opener the event has
-pub second_case : (same : Term → Term → Bool) → IsReflexive same → (c : Ciphers Term) → AreCiphers c → (between : Fields → Option (NumberedKey Term ℕ) → List ℕ) (opener : Opening Term → List ℕ → Option (Outgoing Term ℕ) → Outcome) → OpensByTerms c opener
-    → (setup : Setup) → IsSetup setup → (events : List Event) → ranges.AllOf IsEvent events
-    → Along (SameRoot (record (machine_over same c between) { opener = opener })) (record (machine_over same c between) { opener = opener }) (first_world setup) events
-    → (back : Opening Term → List ℕ → Option (Outgoing Term ℕ) → Outcome)
-    → SecondAtStarting (record (machine_over same c between) { opener = back }) (run (record (machine_over same c between) { opener = opener }) (first_world setup) events)
-second_case same itself c good between opener by_terms setup is events are one back =
-    let m = record (machine_over same c between) { opener = opener } in
-    let u = run m (first_world setup) events in
-    let honest = honest_along same Root (octets_of c between) sender_of opener c by_terms (first_world setup) events in
-    let calm = calm_over same itself c good between opener by_terms setup is events are in
-    let settled = settled_from_first same itself (octets_of c between) sender_of opener setup is events are in
-    let s = run_stands same sender_of opener c good between setup.cells (cells_of setup is) (λ conn. 0) (first_world setup) events (first_holds setup) (first_stands setup is) are settled honest calm one in
-    let new = new_kenb u.phone.radio u.took (phone_always_in_order same itself (octets_of c between) sender_of opener setup events).1 in
-    second_at same sender_of back c good between setup.cells s.2.0 s.0 u s.1 s.2.1 (always_heard m setup events) new
+  abbrev last : TheWorld
+  last = run over (first_world setup) events
+
+  -- both invariants hold in every world of a run
+  stands : Stands same sender_of opener c good between setup.cells last
+  stands =
+      run_stands same sender_of opener c good between setup.cells (cells_of setup is) (λ conn. 0) (first_world setup) events (first_holds setup) (first_stands setup is) are
+      (settled_from_first same itself (octets_of c between) sender_of opener setup is events are)
+      (honest_along same Root (octets_of c between) sender_of opener c by_terms (first_world setup) events)
+      (calm_over same itself c good between opener by_terms setup is events are) one
+
+  -- an opener that opens what comes under the uses it was sealed with opens packets to what was sent
+  pub packets_open : (back : Opening Term → List ℕ → Option (Outgoing Term ℕ) → Outcome) → OpensBack c back → OpensToSent (record (machine_over same c between) { opener = back }) last
+  packets_open back opens = opens_where_fits same Root sender_of back c good opens between last (packets_fit setup.cells stands.0 stands.2.0 last stands.1 stands.2.1)
+
+  -- the second case of opening comes at a starting station alone, by whatever opener
+  pub second_case : (back : Opening Term → List ℕ → Option (Outgoing Term ℕ) → Outcome) → SecondAtStarting (record (machine_over same c between) { opener = back }) last
+  second_case back =
+      second_at same sender_of back c good between setup.cells stands.2.0 stands.0 last stands.1 stands.2.1 (always_heard over setup events)
+      (new_kenb last.phone.radio last.took (phone_always_in_order same itself (octets_of c between) sender_of opener setup events).1)
+
+  -- and each record goes to a station of the setup, if it goes to a station
+  pub all_reach : AllReach setup last
+  all_reach =
+      addresses_named (λ id. HasId id setup.stations) setup.cells (sites setup is) stands.0 last
+      (run_named (λ id. HasId id setup.stations) setup.cells (sites setup is) same Root (octets_of c between) sender_of opener (first_world setup) events (first_named setup is))
+      last.sent (run_named (λ id. HasId id setup.stations) setup.cells (sites setup is) same Root (octets_of c between) sender_of opener (first_world setup) events (first_named setup is)).sent
+      stands.1.sent stands.2.1.air

@@ -1,0 +1,246 @@
+-- A station names the stations of its state, of the record that came, and of its cells alone, in its state and in what it sends.
+use Rattle.std.proofs.Common.{◌≡◌, refl, ℕ, Bool, List, [], ◌∷◌, ◌++◌, Option, Some, None, option_map, Ok, Err}
+use Rattle.std.specs.Prelude.{filter, not, nat_le}
+use Rattle.alg_choice.specs.declared.algs.Algs.{Algs}
+use Rattle.alg_choice.specs.declared.caps.Caps.{Caps}
+use Rattle.annex_a_keys.specs.Cell.{Place}
+use Rattle.key_model.specs.HandoverTable.{NumberedKey}
+use Rattle.key_model.specs.Reading.{Reading, term_reading_by}
+use Rattle.key_model.specs.Term.{Term}
+use Rattle.ho_prep.specs.Prep.{Prep, at_air, is_of}
+use Rattle.x2_handover.specs.declared.orders.Order.{Order}
+use Rattle.lte_machine.specs.Bearers.{Srb, Drb}
+use Rattle.lte_machine.specs.Opening.{Outcome}
+use Rattle.lte_machine.specs.Reply.{Origin, Reply, unseen}
+use Rattle.lte_machine.specs.StationState.{Station, Context, Attempt, OverX2, OverS1, Within, X2Open, X2Ready, X2Commanded, S1Open, S1Ready, S1Commanded, StationInput, StationActs, AirPdu, StationRecord, map_context, map_attempt, map_preps, map_station_input, Renewal, Renewing}
+use Rattle.lte_machine.specs.StationRows.{Wanted, RecordRow, RecordRefused, ContextGiven, ContextReleased, PairTaken, PreparedByS1, PreparedByX2, AckedByS1, AckedByX2, PreparationCancelled, SourceReleased, AirRow, AirRefused, SecurityStarted, RrcOpened, PacketOpened, CompletedByS1, CompletedWithin, CompletedByX2, ActRow, ActRefused, StartedByX2, StartedByS1, StartedWithin, HandoverCommanded, CancelledByX2, CancelledByS1, CancelledWithin, PathSwitchAsked, PacketSent, RrcSent, BearerSkipped, StationRow, OfRecord, OfAir, OfAct, KeyRenewed, ChangeCommanded}
+use Rattle.lte_machine.specs.StationKeys.{commanded, given_up, with_security, with_rrc_taken, with_packet_taken, with_skipped, completed_by_s1, completed_within, completed_by_x2, started_by_x2, started_by_s1, started_within, commands, asks_again, sends_packet, sends_rrc, air_does, act_does, station_does, commands_change}
+use Rattle.lte_machine.specs.StationRecords.{s1_acked, x2_acked, with_pair, with_s1_ack, with_x2_ack, source_release, context_given, pair_taken, prepared_by_s1, prepared_by_x2, record_does, key_renewed}
+use Rattle.lte_machine.specs.StationStep.{plain_station, station_row_of, station_key, station_step}
+use Rattle.lte_machine.specs.Reply.{Made}
+use Rattle.lte_events.specs.Site.{Site, station_of}
+use Rattle.std.specs.Prelude.{⊤}
+use Rattle.lte_properties.specs.ChainBelow.{AllOf}
+use Rattle.lte_properties.proofs.ChainNumbers.Lists.{all_append, all_filter}
+use Rattle.lte_properties.proofs.Named.Facts.{OriginNamed, PrepNamed, PrepIs, AttemptNamed, ContextNamed, StationNamed, SentNamed, InputNamed}
+use Rattle.lte_properties.proofs.Named.Choice.{RecordRowNamed, AirRowNamed, ActRowNamed, RowNamed, found_prep, row_named}
+
+module _ (P : ℕ → Type 0) (cells : List Site) (sites : (cell : Place) (id : ℕ) → station_of cell cells ≡ Some id → P id) where
+  -- WITHOUT KEYS
+
+  attempt_plain : {K C : Type 0} (r : Reading K C) (o : Option (Attempt K C)) → AttemptNamed P o → AttemptNamed P (option_map (map_attempt unseen r.ncc) o)
+  attempt_plain r None h = tt
+  attempt_plain r (Some (OverX2 (X2Open start))) h = h
+  attempt_plain r (Some (OverX2 (X2Ready acked))) h = h
+  attempt_plain r (Some (OverX2 (X2Commanded sent))) h = tt
+  attempt_plain r (Some (OverS1 state)) h = tt
+  attempt_plain r (Some (Within state)) h = tt
+  attempt_plain r (Some (Renewing renewal)) h = tt
+
+  context_plain : {K C : Type 0} (r : Reading K C) (o : Option (Context K C)) → ContextNamed P o → ContextNamed P (option_map (map_context unseen r.ncc) o)
+  context_plain r None h = tt
+  context_plain r (Some c) h = (attempt_plain r c.attempt h.0, h.1)
+
+  preps_plain : {K C : Type 0} (r : Reading K C) (ps : List (Prep K C)) → AllOf (λ p. PrepNamed P p) ps → AllOf (λ p. PrepNamed P p) (map_preps unseen r.ncc ps)
+  preps_plain r [] h = tt
+  preps_plain r (p ∷ ps) h = (h.0, preps_plain r ps h.1)
+
+  station_plain : {K C : Type 0} (r : Reading K C) (s : Station K C) → StationNamed P cells s → StationNamed P cells (plain_station r s)
+  station_plain r s h = (h.0, h.1, context_plain r s.context h.2, preps_plain r s.preps h.3)
+
+  input_plain : {K C : Type 0} (r : Reading K C) (i : StationInput K C) → InputNamed P i → InputNamed P (map_station_input unseen r.ncc i)
+  input_plain r (StationActs act) h = tt
+  input_plain r (AirPdu air bearer pdu) h = tt
+  input_plain r (StationRecord interface (Ok content)) h = h
+  input_plain r (StationRecord interface (Err fault)) h = tt
+
+  -- CONTEXTS
+
+  with_named : (f : Context Term ℕ → Context Term ℕ) → ((c : Context Term ℕ) → ContextNamed P (Some c) → ContextNamed P (Some (f c))) → (o : Option (Context Term ℕ))
+      → ContextNamed P o → ContextNamed P (option_map f o)
+  with_named f k None h = tt
+  with_named f k (Some c) h = k c h
+
+  s1_acked_named : (ncc : ℕ) (algs : Algs) (air : ℕ) (o : Option (Attempt Term ℕ)) → AttemptNamed P o → AttemptNamed P (option_map (s1_acked ncc algs air) o)
+  s1_acked_named ncc algs air None h = tt
+  s1_acked_named ncc algs air (Some (OverX2 state)) h = h
+  s1_acked_named ncc algs air (Some (Within state)) h = tt
+  s1_acked_named ncc algs air (Some (Renewing renewal)) h = tt
+  s1_acked_named ncc algs air (Some (OverS1 (S1Open start))) h = tt
+  s1_acked_named ncc algs air (Some (OverS1 (S1Ready acked))) h = tt
+  s1_acked_named ncc algs air (Some (OverS1 (S1Commanded sent))) h = tt
+
+  x2_acked_named : (algs : Algs) (air : ℕ) (o : Option (Attempt Term ℕ)) → AttemptNamed P o → AttemptNamed P (option_map (x2_acked algs air) o)
+  x2_acked_named algs air None h = tt
+  x2_acked_named algs air (Some (OverS1 state)) h = tt
+  x2_acked_named algs air (Some (Within state)) h = tt
+  x2_acked_named algs air (Some (Renewing renewal)) h = tt
+  x2_acked_named algs air (Some (OverX2 (X2Open start))) h = h
+  x2_acked_named algs air (Some (OverX2 (X2Ready acked))) h = h
+  x2_acked_named algs air (Some (OverX2 (X2Commanded sent))) h = tt
+
+  commanded_named : (order : Order) (o : Option (Attempt Term ℕ)) → AttemptNamed P o → AttemptNamed P (option_map (commanded order) o)
+  commanded_named order None h = tt
+  commanded_named order (Some (OverX2 (X2Open start))) h = h
+  commanded_named order (Some (OverX2 (X2Ready acked))) h = tt
+  commanded_named order (Some (OverX2 (X2Commanded sent))) h = tt
+  commanded_named order (Some (OverS1 state)) h = tt
+  commanded_named order (Some (Within state)) h = tt
+  commanded_named order (Some (Renewing renewal)) h = tt
+
+  origin_within : (o : Option Origin) → OriginNamed P o
+      → OriginNamed P (option_map (λ (p : ℕ × ℕ). record { source = p.0; attempt = p.1 }) (option_map (λ a. (a.source, a.attempt)) o))
+  origin_within None h = tt
+  origin_within (Some a) h = h
+
+  -- WHAT A ROW DOES
+
+  abbrev pub MadeNamed : Option (Made Term ℕ) → Type 0
+  MadeNamed None = ⊤
+  MadeNamed (Some m) = P m.station
+
+  -- the station, what it sends, and what it makes; its number stays
+  abbrev pub Done : Station Term ℕ → Station Term ℕ × Reply Term ℕ → Type 0
+  Done s d = StationNamed P cells d.0 × SentNamed P d.1.sent × MadeNamed d.1.made × (d.0.id ≡ s.id)
+
+  module _ (same : Term → Term → Bool) where
+    abbrev r : Reading Term ℕ
+    r = term_reading_by same
+
+    -- by a record
+
+    given : (conn : ℕ) (cell : Place) (caps : Caps) (algs : Algs) (air : ℕ) (key : Option (NumberedKey Term ℕ)) (s : Station Term ℕ) → StationNamed P cells s → Done s (context_given r conn cell caps algs air key s)
+    given conn cell caps algs air None s h = (h, tt, tt, refl)
+    given conn cell caps algs air (Some received) s h = ((h.0, h.1, (tt, tt), tt), tt, h.0, refl)
+
+    released : (conn : ℕ) (origin : Option Origin) → OriginNamed P origin → SentNamed P (source_release {K = Term} {C = ℕ} conn origin)
+    released conn None h = tt
+    released conn (Some o) h = (h, tt)
+
+    pair : (conn : ℕ) (origin : Option Origin) (key : Option (NumberedKey Term ℕ)) (s : Station Term ℕ) → OriginNamed P origin → StationNamed P cells s → Done s (pair_taken conn origin key s)
+    pair conn origin None s f h = (h, tt, tt, refl)
+    pair conn origin (Some key) s f h = ((h.0, h.1, with_named (with_pair key) (λ c k. k) s.context h.2, h.3), released conn origin f, tt, refl)
+
+    wanted_preps : (w : Wanted) (p : Prep Term ℕ) (ps : List (Prep Term ℕ)) → PrepNamed P p → AllOf (λ p. PrepNamed P p) ps
+        → AllOf (λ p. PrepNamed P p) (filter (λ q. nat_le w.conn q.conn) ps ++ p ∷ [])
+    wanted_preps w p ps f h =
+        all_append (λ p. PrepNamed P p) (filter (λ q. nat_le w.conn q.conn) ps) (p ∷ []) (all_filter (λ p. PrepNamed P p) (λ q. nat_le w.conn q.conn) ps h) (f, tt)
+
+    by_s1 : (w : Wanted) (key : Option (NumberedKey Term ℕ)) (s : Station Term ℕ) → P w.from.source → StationNamed P cells s → Done s (prepared_by_s1 r w key s)
+    by_s1 w None s f h = (h, tt, tt, refl)
+    by_s1 w (Some key) s f h = ((h.0, h.1, h.2, wanted_preps w _ s.preps (f, tt) h.3), (tt, f), h.0, refl)
+
+    by_x2 : (w : Wanted) (key : Option (NumberedKey Term ℕ)) (s : Station Term ℕ) → P w.from.source → StationNamed P cells s → Done s (prepared_by_x2 r w key s)
+    by_x2 w None s f h = (h, tt, tt, refl)
+    by_x2 w (Some star) s f h = ((h.0, h.1, h.2, wanted_preps w _ s.preps (f, tt) h.3), (f, tt), h.0, refl)
+
+    renewed : (conn number air count : ℕ) (o : Option (Context Term ℕ)) (key : Option (NumberedKey Term ℕ)) (s : Station Term ℕ) → ContextNamed P o → StationNamed P cells s
+        → Done s (key_renewed r conn number air count o key s)
+    renewed conn number air count None key s c h = (h, tt, tt, refl)
+    renewed conn number air count (Some d) None s c h = (h, tt, tt, refl)
+    renewed conn number air count (Some d) (Some kenb) s c h = ((h.0, h.1, (tt, c.1), ((h.0, origin_within d.origin c.1), tt)), tt, h.0, refl)
+
+    record_does_named : (row : RecordRow) (key : Option (NumberedKey Term ℕ)) (s : Station Term ℕ) → RecordRowNamed P cells sites row → StationNamed P cells s → Done s (record_does r row key s)
+    record_does_named (RecordRefused answer) key s f h = (h, tt, tt, refl)
+    record_does_named (ContextGiven conn cell caps algs air) key s f h = given conn cell caps algs air key s h
+    record_does_named ContextReleased key s f h = ((h.0, h.1, tt, tt), tt, tt, refl)
+    record_does_named (PairTaken conn origin) key s f h = pair conn origin key s f h
+    record_does_named (PreparedByS1 w) key s f h = by_s1 w key s f h
+    record_does_named (PreparedByX2 w) key s f h = by_x2 w key s f h
+    record_does_named (AckedByS1 ncc algs air) key s f h =
+        ((h.0, h.1, with_named (with_s1_ack ncc algs air) (λ c k. (s1_acked_named ncc algs air c.attempt k.0, k.1)) s.context h.2, h.3), tt, tt, refl)
+    record_does_named (AckedByX2 algs air) key s f h =
+        ((h.0, h.1, with_named (with_x2_ack algs air) (λ c k. (x2_acked_named algs air c.attempt k.0, k.1)) s.context h.2, h.3), tt, tt, refl)
+    record_does_named (PreparationCancelled from) key s f h =
+        ((h.0, h.1, h.2, all_filter (λ p. PrepNamed P p) (λ p. not (is_of from.source from.attempt p)) s.preps h.3), tt, tt, refl)
+    record_does_named SourceReleased key s f h = ((h.0, h.1, tt, h.3), tt, tt, refl)
+    record_does_named (KeyRenewed conn number air count) key s f h = renewed conn number air count s.context key s h.2 h
+
+    -- by a PDU
+
+    done_by_s1 : (count : ℕ) (o : Option (Prep Term ℕ)) (s : Station Term ℕ) → PrepIs P o → StationNamed P cells s → Done s (completed_by_s1 r count o s)
+    done_by_s1 count None s p h = (h, tt, tt, refl)
+    done_by_s1 count (Some q) s p h = ((h.0, h.1, (tt, tt), tt), (tt, h.0), tt, refl)
+
+    done_within : (count : ℕ) (origin : Option Origin) (o : Option (Prep Term ℕ)) (s : Station Term ℕ) → OriginNamed P origin → PrepIs P o → StationNamed P cells s
+        → Done s (completed_within r count origin o s)
+    done_within count origin None s f p h = (h, tt, tt, refl)
+    done_within count origin (Some q) s f p h = ((h.0, h.1, (tt, f), tt), tt, tt, refl)
+
+    done_by_x2 : (count number : ℕ) (o : Option (Prep Term ℕ)) (s : Station Term ℕ) → PrepIs P o → StationNamed P cells s → Done s (completed_by_x2 r count number o s)
+    done_by_x2 count number None s p h = (h, tt, tt, refl)
+    done_by_x2 count number (Some q) s p h = ((h.0, h.1, (tt, p.0), tt), (tt, h.0), tt, refl)
+
+    air_does_named : (row : AirRow) (s : Station Term ℕ) → AirRowNamed P cells sites row → StationNamed P cells s → Done s (air_does r row s)
+    air_does_named (AirRefused answer) s f h = (h, tt, tt, refl)
+    air_does_named (SecurityStarted count) s f h = ((h.0, h.1, with_named (with_security count) (λ c k. k) s.context h.2, h.3), tt, tt, refl)
+    air_does_named (RrcOpened srb count text) s f h = ((h.0, h.1, with_named (with_rrc_taken srb count) (λ c k. k) s.context h.2, h.3), tt, tt, refl)
+    air_does_named (PacketOpened drb count text) s f h = ((h.0, h.1, with_named (with_packet_taken drb count) (λ c k. k) s.context h.2, h.3), tt, tt, refl)
+    air_does_named (CompletedByS1 air count) s f h = done_by_s1 count (at_air air s.preps) s (found_prep P cells sites air s.preps h.3) h
+    air_does_named (CompletedWithin air count origin) s f h = done_within count origin (at_air air s.preps) s f (found_prep P cells sites air s.preps h.3) h
+    air_does_named (CompletedByX2 air count number) s f h = done_by_x2 count number (at_air air s.preps) s (found_prep P cells sites air s.preps h.3) h
+
+    -- by an act
+
+    x2_start : (number target : ℕ) (cell : Place) (o : Option (Context Term ℕ)) (s : Station Term ℕ) → P target → ContextNamed P o → StationNamed P cells s → Done s (started_by_x2 r number target cell o s)
+    x2_start number target cell None s f c h = (h, tt, tt, refl)
+    x2_start number target cell (Some d) s f c h = ((h.0, h.1, (f, c.1), h.3), (f, h.0), tt, refl)
+
+    s1_start : (number target : ℕ) (cell : Place) (o : Option (Context Term ℕ)) (s : Station Term ℕ) → ContextNamed P o → StationNamed P cells s → Done s (started_by_s1 number target cell o s)
+    s1_start number target cell None s c h = (h, tt, tt, refl)
+    s1_start number target cell (Some d) s c h = ((h.0, h.1, (tt, c.1), h.3), (tt, h.0), tt, refl)
+
+    within_start : (number air : ℕ) (cell : Place) (o : Option (Context Term ℕ)) (s : Station Term ℕ) → ContextNamed P o → StationNamed P cells s → Done s (started_within r number air cell o s)
+    within_start number air cell None s c h = (h, tt, tt, refl)
+    within_start number air cell (Some d) s c h =
+        ((h.0, h.1, (tt, c.1), all_append (λ p. PrepNamed P p) s.preps _ h.3 ((h.0, origin_within d.origin c.1), tt)), tt, h.0, refl)
+
+    command : (order : Order) (count : ℕ) (o : Option (Context Term ℕ)) (s : Station Term ℕ) → ContextNamed P o → StationNamed P cells s → Done s (commands order count o s)
+    command order count None s c h = (h, tt, tt, refl)
+    command order count (Some d) s c h = ((h.0, h.1, (commanded_named order d.attempt c.0, c.1), h.3), tt, tt, refl)
+
+    change : (renewal : Renewal) (count : ℕ) (o : Option (Context Term ℕ)) (s : Station Term ℕ) → ContextNamed P o → StationNamed P cells s → Done s (commands_change renewal count o s)
+    change renewal count None s c h = (h, tt, tt, refl)
+    change renewal count (Some d) s c h = ((h.0, h.1, c, h.3), tt, tt, refl)
+
+    ask : (number : ℕ) (o : Option (Context Term ℕ)) (s : Station Term ℕ) → ContextNamed P o → StationNamed P cells s → Done s (asks_again number o s)
+    ask number None s c h = (h, tt, tt, refl)
+    ask number (Some d) s c h = ((h.0, h.1, c, h.3), (tt, h.0), tt, refl)
+
+    packet : (drb : Drb) (count : ℕ) (text : List ℕ) (o : Option (Context Term ℕ)) (s : Station Term ℕ) → ContextNamed P o → StationNamed P cells s → Done s (sends_packet drb count text o s)
+    packet drb count text None s c h = (h, tt, tt, refl)
+    packet drb count text (Some d) s c h = ((h.0, h.1, c, h.3), tt, tt, refl)
+
+    rrc : (srb : Srb) (count : ℕ) (text : List ℕ) (o : Option (Context Term ℕ)) (s : Station Term ℕ) → ContextNamed P o → StationNamed P cells s → Done s (sends_rrc srb count text o s)
+    rrc srb count text None s c h = (h, tt, tt, refl)
+    rrc srb count text (Some d) s c h = ((h.0, h.1, c, h.3), tt, tt, refl)
+
+    gave_up : (o : Option (Context Term ℕ)) → ContextNamed P o → ContextNamed P (option_map given_up o)
+    gave_up o h = with_named given_up (λ c k. (tt, k.1)) o h
+
+    act_does_named : (row : ActRow) (s : Station Term ℕ) → ActRowNamed P cells sites row → StationNamed P cells s → Done s (act_does r row s)
+    act_does_named (ActRefused answer) s f h = (h, tt, tt, refl)
+    act_does_named (StartedByX2 number target cell) s f h = x2_start number target cell s.context s f h.2 h
+    act_does_named (StartedByS1 number target cell) s f h = s1_start number target cell s.context s h.2 h
+    act_does_named (StartedWithin number air cell) s f h = within_start number air cell s.context s h.2 h
+    act_does_named (HandoverCommanded order count) s f h = command order count s.context s h.2 h
+    act_does_named (ChangeCommanded renewal count) s f h = change renewal count s.context s h.2 h
+    act_does_named (CancelledByX2 conn number target) s f h = ((h.0, h.1, gave_up s.context h.2, h.3), (f, tt), tt, refl)
+    act_does_named (CancelledByS1 conn number cell) s f h = ((h.0, h.1, gave_up s.context h.2, h.3), (tt, tt), tt, refl)
+    act_does_named (CancelledWithin number) s f h =
+        ((h.0, h.1, gave_up s.context h.2, all_filter (λ p. PrepNamed P p) (λ p. not (is_of s.id number p)) s.preps h.3), tt, tt, refl)
+    act_does_named (PathSwitchAsked number) s f h = ask number s.context s h.2 h
+    act_does_named (PacketSent drb count text) s f h = packet drb count text s.context s h.2 h
+    act_does_named (RrcSent srb count text) s f h = rrc srb count text s.context s h.2 h
+    act_does_named (BearerSkipped on n) s f h = ((h.0, h.1, with_named (with_skipped on n) (λ c k. k) s.context h.2, h.3), tt, tt, refl)
+
+    station_does_named : (row : StationRow) (key : Option (NumberedKey Term ℕ)) (s : Station Term ℕ) → RowNamed P cells sites row → StationNamed P cells s → Done s (station_does r row key s)
+    station_does_named (OfRecord row) key s f h = record_does_named row key s f h
+    station_does_named (OfAir row) key s f h = air_does_named row s f h
+    station_does_named (OfAct row) key s f h = act_does_named row s f h
+
+    -- one step
+    pub station_step_named : (s : Station Term ℕ) (i : StationInput Term ℕ) (outcome : Outcome) → StationNamed P cells s → InputNamed P i → Done s (station_step r s i outcome)
+    station_step_named s i outcome h f =
+        station_does_named (station_row_of r s i outcome) (station_key i) s
+        (row_named P cells sites (plain_station r s) (map_station_input unseen r.ncc i) outcome (station_plain r s h) (input_plain r i f)) h

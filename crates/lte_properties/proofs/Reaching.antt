@@ -1,0 +1,54 @@
+-- Each step of a legal run reaches an actor of its setup.
+use Rattle.std.proofs.Common.{◌≡◌, sym, subst, ℕ, List, take, Some}
+use Rattle.std.specs.Prelude.{All}
+use Rattle.lte_events.specs.Conditions.{CanStart, CanHappen, SetupFits, EventFits}
+use Rattle.lte_events.specs.declared.events.Event.{Event}
+use Rattle.lte_events.specs.declared.setups.Setup.{Setup}
+use Rattle.key_model.specs.Term.{Term, Root}
+use Rattle.key_model.specs.Value.{same_value}
+use Rattle.lte_machine.specs.BothRuns.{annex_b_terms}
+use Rattle.lte_machine.specs.ByEvent.{IsStep}
+use Rattle.lte_machine.specs.Ciphers.{annex_b, octets_of}
+use Rattle.lte_machine.specs.Machines.{sender_of, written_machine, written_in_values}
+use Rattle.lte_machine.specs.Opening.{open_octets, open_by_uses}
+use Rattle.lte_machine.specs.Ranges.{AllOf, IsEvent, IsSetup, HasId}
+use Rattle.lte_machine.specs.Run.{run, first_world}
+use Rattle.lte_machine.specs.StationState.{Station}
+use Rattle.lte_machine.specs.Wire.{Outgoing}
+use Rattle.lte_machine.specs.World.{World, Line, station_of_id}
+use Rattle.lte_machine.proofs.AnnexB.{annex_b_ciphers}
+use Rattle.lte_machine.proofs.EventByEvent.{step_happens, each_of_first}
+use Rattle.lte_machine.proofs.Fitting.{all_of, setup_fits, events_fit}
+use Rattle.lte_machine.proofs.StillRun.{still_is_run}
+use Rattle.lte_machine.proofs.KnownLists.{OfSome, all_get}
+use Rattle.lte_properties.specs.Reach.{AllReach, ReachesActor}
+use Rattle.lte_properties.proofs.EveryRun.{reach}
+use Rattle.lte_properties.proofs.Named.Reaches.{sites, first_named, first_here, happens_reaches}
+use Rattle.lte_properties.proofs.Named.World.{run_here}
+
+abbrev TheWorld : Type 0
+TheWorld = World Term ℕ (Outgoing Term ℕ)
+
+module _ (setup : Setup) (events : List Event) (fits : SetupFits setup) (can : CanStart setup) (happen : All (λ e. EventFits e × CanHappen setup e) events) where
+  set : IsSetup setup
+  set = setup_fits setup fits can
+
+  are : AllOf IsEvent events
+  are = events_fit setup events happen
+
+  -- the stations of the setup are there after any events
+  here : (es : List Event) (id : ℕ) → HasId id setup.stations → (s : Station Term ℕ) × (station_of_id id (run (written_machine annex_b) (first_world setup) es).stations ≡ Some s)
+  here es id h =
+      run_here (λ n. HasId n setup.stations) setup.cells (sites setup set) same_value Root (octets_of annex_b_terms written_in_values) sender_of (open_by_uses same_value annex_b_terms)
+      (first_world setup) es (first_named setup set) id (first_here setup.cells setup.stations id h)
+
+  pub step_reaches : (k : ℕ) (w : TheWorld) (e : Event) (u : TheWorld) (line : Line Term) → IsStep setup events k w e u line → ReachesActor line
+  step_reaches k w e u line is =
+      let at : w ≡ run (written_machine annex_b) (first_world setup) (take k events) = still_is_run (open_octets annex_b_terms) (written_machine annex_b) (first_world setup) (take k events) w is.before in
+      let all : AllReach setup w = reach annex_b annex_b_ciphers setup (take k events) w is.before set (each_of_first k events are) in
+      let stay : (id : ℕ) → HasId id setup.stations → (s : Station Term ℕ) × (station_of_id id w.stations ≡ Some s) =
+      λ id h. subst (λ (v : TheWorld). (s : Station Term ℕ) × (station_of_id id v.stations ≡ Some s)) (sym at) (here (take k events) id h) in
+      let can_e : CanHappen setup e =
+      (subst (OfSome (λ x. EventFits x × CanHappen setup x)) is.event (all_get (λ x. EventFits x × CanHappen setup x) events k (all_of (λ x. EventFits x × CanHappen setup x) events happen))).1 in
+      subst (λ (d : TheWorld × Line Term). ReachesActor d.1) (sym (step_happens setup events k w e u line is))
+      (happens_reaches setup set same_value Root (octets_of annex_b_terms written_in_values) sender_of (open_by_uses same_value annex_b_terms) w all stay e can_e)
