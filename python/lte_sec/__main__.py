@@ -1,0 +1,145 @@
+"""The words of the launcher that read traces: check-trace, explain, wireshark, repeats."""
+from __future__ import annotations
+
+import sys
+from collections.abc import Callable
+from pathlib import Path
+
+from .captures import read_all
+from .cells import Cells, Site, read_cells
+from .derive import proved_calls
+from .explain import Explanation, keys_of, told
+from .repeats import first_repeat
+from .report import NOTE, status
+from .terms import Derivations, TraceError, kasmes_of
+from .trace import Trace, check
+from .wireshark import rows
+
+USAGE = {
+    "check-trace": "check-trace [--plain] [--cells FILE] CAPTURE.. KASME..   judges each key and NAS message of a capture",
+    "explain": "explain [--cells FILE] [--cell PCI,EARFCN].. [--counts N] [--depth N] [--keys FILE] KASME..   says which derivation each key of a text is",
+    "wireshark": "wireshark [--cells FILE] CAPTURE.. KASME..   prints the PDCP keys of a capture as Wireshark's table",
+    "repeats": "repeats [FILE]   tells the first key, bearer, direction and COUNT that come twice",
+}
+READ, BAD_WORDS = 2, 2
+
+
+class Words:
+    """The words of a call: options with a value, flags, and the rest, which are KASMEs (64 hex digits) or files."""
+
+    def __init__(self, words: list[str], valued: tuple[str, ...] = (), flags: tuple[str, ...] = ()):
+        self.options: dict[str, list[str]] = {}
+        self.kasmes: list[str] = []
+        self.files: list[Path] = []
+        rest = iter(words)
+        for word in rest:
+            name, equals, value = word.partition("=")
+            if word in flags:
+                self.options[word] = [""]
+            elif name in valued:
+                value = value if equals else next(rest, "")
+                if not value:
+                    raise TraceError(f"{name} wants a value")
+                self.options.setdefault(name, []).append(value)
+            elif word.startswith("--"):
+                raise TraceError(f"there is no option {word}; there are: {' '.join([*valued, *flags])}")
+            elif is_kasme(word):
+                self.kasmes.append(word)
+            else:
+                self.files.append(Path(word))
+
+    def number(self, name: str, usual: int, most: int) -> int:
+        text = self.options.get(name, [str(usual)])[-1]
+        if not text.isdigit() or not 0 < int(text) <= most:
+            raise TraceError(f"{name} is 1 to {most}: {text}")
+        return int(text)
+
+    def cells(self) -> Cells:
+        sites = [site for file in self.options.get("--cells", []) for site in read_cells(Path(file))]
+        for place, text in enumerate(self.options.get("--cell", [])):
+            pci, comma, earfcn = text.partition(",")
+            if not (comma and pci.isdigit() and earfcn.isdigit() and int(pci) <= 503 and int(earfcn) <= 262143):
+                raise TraceError(f"--cell is PCI,EARFCN-DL, as 301,1575: {text}")
+            sites.append(Site((1 << 28) - 1 - place, int(pci), int(earfcn)))
+        return Cells(sites)
+
+
+def is_kasme(word: str) -> bool:
+    digits = word.rpartition("=")[2]
+    return len(digits) == 64 and not set(digits.lower()) - set("0123456789abcdef")
+
+
+def traced(words: Words) -> Trace:
+    if not words.files or not words.kasmes:
+        raise TraceError("a capture and the KASMEs of its phones are wanted: CAPTURE KASME.., a KASME as 64 hex digits")
+    messages = read_all(words.files)
+    return check(Derivations(proved_calls(), kasmes_of(words.kasmes)), words.cells(), messages)
+
+
+def check_trace(words: list[str]) -> int:
+    given = Words(words, ("--cells",), ("--plain",))
+    lines = traced(given).lines
+    for line in lines:
+        plain = f" plain {line.plain.hex()}" if "--plain" in given.options and line.plain is not None else ""
+        print(f"{line}{plain}")
+    if all(line.verdict == NOTE for line in lines):
+        print("lte_sec: the capture has no key and no protected NAS message", file=sys.stderr)
+        return 3
+    return status(lines)
+
+
+def explain(words: list[str]) -> int:
+    given = Words(words, ("--cells", "--cell", "--counts", "--depth", "--keys"))
+    if not given.kasmes or given.files:
+        raise TraceError(f"a KASME is 64 hex digits: {given.files[0] if given.files else 'there is none'}")
+    files = given.options.get("--keys", [])
+    text = [line for file in files for line in opened(Path(file))] if files else sys.stdin.readlines()
+    derivations = Derivations(proved_calls(), kasmes_of(given.kasmes))
+    explanation = Explanation(derivations, given.cells(), given.number("--counts", 300, (1 << 24) - 1), given.number("--depth", 16, 4096))
+    found = explanation.of(keys_of(text))
+    for one in found:
+        print(told(derivations, one))
+    return 0 if all(one.key for one in found) else 1
+
+
+def wireshark(words: list[str]) -> int:
+    for row in rows(traced(Words(words, ("--cells",)))):
+        print(row)
+    return 0
+
+
+def repeats(words: list[str]) -> int:
+    given = Words(words)
+    if len(given.files) > 1 or given.kasmes:
+        raise TraceError("one file of uses is wanted, or none, for standard input")
+    found = first_repeat(opened(given.files[0]) if given.files else sys.stdin)
+    print(found or "none")
+    return 1 if found else 0
+
+
+def opened(file: Path) -> list[str]:
+    try:
+        return file.read_text(encoding="utf-8", errors="replace").splitlines()
+    except OSError as fault:
+        raise TraceError(f"{file} cannot be read: {fault.strerror}") from None
+
+
+COMMANDS: dict[str, Callable[[list[str]], int]] = {"check-trace": check_trace, "explain": explain, "wireshark": wireshark, "repeats": repeats}
+
+
+def main(words: list[str]) -> int:
+    if not words or words[0] not in COMMANDS:
+        print("lte_sec: the words are:", *USAGE.values(), sep="\n    ", file=sys.stderr)
+        return BAD_WORDS
+    try:
+        return COMMANDS[words[0]](words[1:])
+    except TraceError as fault:
+        print(f"lte_sec: {words[0]}: {fault}", file=sys.stderr)
+        return READ
+    except BrokenPipeError:
+        sys.stderr.close()
+        return 0
+
+
+if __name__ == "__main__":
+    sys.exit(main(sys.argv[1:]))

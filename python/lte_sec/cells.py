@@ -1,0 +1,122 @@
+"""Cells and stations: from a file, and from what a trace itself tells of them (X2 Setup, S1 Setup, handover commands)."""
+from __future__ import annotations
+
+from collections.abc import Iterable, Iterator
+from dataclasses import dataclass
+from pathlib import Path
+
+from .terms import TraceError
+
+WIDE, DOWN_EXTENSION, TDD_EXTENSION = 65535, 96, 94  # TS 36.423 9.3.7: id-DL-EARFCNExtension, id-eARFCNExtension
+
+
+@dataclass(frozen=True)
+class Site:
+    """A cell: its identity (28 bits), PCI, EARFCN-DL, and EARFCN-UL where it is told."""
+
+    eci: int
+    pci: int
+    earfcn: int
+    up: int | None = None
+    station: str = ""
+
+
+class Cells:
+    """The cells that are known, and which station has which cell and address."""
+
+    def __init__(self, sites: Iterable[Site] = ()):
+        self.sites: dict[int, Site] = {}
+        self.given: set[int] = set()
+        self.names: dict[int, str] = {}  # by eNB identity
+        self.addresses: dict[str, str] = {}
+        for site in sites:
+            self.learn(site)
+            self.given.add(site.eci)
+
+    def learn(self, site: Site) -> None:
+        """Takes a cell in; what a file says stays, and what a station says of its own cells rather than of a neighbour's."""
+        if site.eci not in self.given and (site.up is not None or site.eci not in self.sites):
+            self.sites[site.eci] = site
+            if site.station:
+                self.names.setdefault(site.eci >> 8, site.station)
+
+    def station(self, eci: int | None) -> str:
+        """The name of the station that has a cell."""
+        if eci is None:
+            return ""
+        site = self.sites.get(eci)
+        return site.station if site and site.station else self.names.get(eci >> 8) or self.names.get(eci) or f"eNB {eci >> 8:x}"
+
+    def of(self, station: str) -> list[Site]:
+        return [site for site in self.sites.values() if self.station(site.eci) == station]
+
+    def pcis(self) -> list[int]:
+        return sorted({site.pci for site in self.sites.values()})
+
+    def earfcns(self) -> list[int]:
+        """EARFCN-DLs, and what is taken in their place: EARFCN-ULs, and of wide ones the low 16 bits and 65535."""
+        down = {site.earfcn for site in self.sites.values()}
+        wide = {earfcn for earfcn in down if earfcn > WIDE}
+        return sorted(down | {site.up for site in self.sites.values() if site.up is not None} | {e & WIDE for e in wide} | ({WIDE} if wide else set()))
+
+    def pairs(self) -> set[tuple[int, int]]:
+        return {(site.pci, site.earfcn) for site in self.sites.values()}
+
+
+def read_cells(file: Path) -> list[Site]:
+    """The cells of a file: in each line the station, ECI in hex, PCI, EARFCN-DL and, if wanted, EARFCN-UL; `#` begins a remark."""
+    try:
+        lines = file.read_text(encoding="utf-8").splitlines()
+    except (OSError, UnicodeDecodeError) as fault:
+        raise TraceError(f"the cells {file} cannot be read: {fault}") from None
+    found = []
+    for place, line in enumerate(lines, 1):
+        words = line.partition("#")[0].split()
+        if not words:
+            continue
+        try:
+            station, eci, pci, earfcn, *more = words
+            site = Site(int(eci, 16), int(pci), int(earfcn), int(more[0]) if more else None, station)
+        except ValueError:
+            raise TraceError(f"{file}:{place}: a cell is: station, ECI in hex, PCI, EARFCN-DL, EARFCN-UL") from None
+        if not (0 <= site.pci <= 503 and 0 <= site.earfcn <= 262143 and site.eci < 1 << 28):
+            raise TraceError(f"{file}:{place}: PCI is 0 to 503, EARFCN-DL 0 to 262143, ECI has 28 bits")
+        found.append(site)
+    return found
+
+
+def sites_of(pairs: list) -> Iterator[Site]:
+    """The cells that an X2AP message tells: those that a station serves, and their neighbours."""
+    for name, value in pairs:
+        if not (isinstance(value, list) and value and isinstance(value[0], tuple)):
+            continue
+        if name in ("x2ap.servedCellInfo_element", "x2ap.Neighbour_Information_item_element"):
+            site = site_of(value)
+            if site:
+                yield site
+        else:
+            yield from sites_of(value)
+
+
+def site_of(pairs: list) -> Site | None:
+    found: dict[str, int] = {}
+
+    def walk(below: list, ie: int) -> None:
+        for name, value in below:
+            ie = int(value) if name == "x2ap.id" else ie
+            if isinstance(value, list) and value and isinstance(value[0], tuple):
+                walk(value, ie)
+            elif name == "x2ap.eUTRANcellIdentifier":
+                found.setdefault(name, int(str(value).replace(":", ""), 16) >> 4)
+            elif name == "x2ap.EARFCNExtension":
+                found[f"wide {ie}"] = int(value)
+            elif name in ("x2ap.pCI", "x2ap.dL_EARFCN", "x2ap.uL_EARFCN", "x2ap.eARFCN"):
+                found.setdefault(name, int(value))
+
+    walk(pairs, -1)
+    earfcn = found.get("x2ap.dL_EARFCN", found.get("x2ap.eARFCN"))
+    if earfcn == WIDE:
+        earfcn = found.get(f"wide {DOWN_EXTENSION}", found.get(f"wide {TDD_EXTENSION}", earfcn))
+    if earfcn is None or "x2ap.pCI" not in found or "x2ap.eUTRANcellIdentifier" not in found:
+        return None
+    return Site(found["x2ap.eUTRANcellIdentifier"], found["x2ap.pCI"], earfcn, found.get("x2ap.uL_EARFCN"))

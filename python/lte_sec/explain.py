@@ -1,0 +1,117 @@
+"""Which derivation gives a key: for each key of a text the term, or `none`.
+
+Keys are 64 hex digits, or 32 (the half of an algorithm key that is used), or hexdumps of 16 octets a line, as products log them.
+"""
+from __future__ import annotations
+
+import re
+from collections.abc import Iterable, Iterator
+from dataclasses import dataclass
+
+from .cells import Cells
+from .search import Search
+from .terms import RRC_ENCRYPTION, Derivations, Key
+
+TOKEN = re.compile(r"(?<![0-9a-fA-F])(?:[0-9a-fA-F]{64}|[0-9a-fA-F]{32})(?![0-9a-fA-F])")
+DUMP = re.compile(r"^(?:.*?[^0-9a-fA-F]|)((?:[0-9a-fA-F]{2}[ :]+){15}[0-9a-fA-F]{2})(?![0-9a-fA-F])")
+NAS_TYPES, STATION_TYPES, IDENTITIES = (1, 2), (3, 4, 5, 6), range(16)
+COMMON = range(4)  # identities that algorithms have today
+
+
+@dataclass(frozen=True)
+class Found:
+    value: bytes
+    key: Key | None
+    mixed: bool = False
+
+
+def keys_of(lines: Iterable[str]) -> list[bytes]:
+    """The keys of a text, in their order."""
+    found: list[bytes] = []
+    half: bytes | None = None
+    for line in lines:
+        tokens = TOKEN.findall(line)
+        dump = DUMP.match(line) if not tokens else None
+        if dump:
+            row = bytes.fromhex(re.sub(r"[ :]", "", dump[1]))
+            if half is None:
+                half = row
+            else:
+                found.append(half + row)
+                half = None
+            continue
+        if half is not None:
+            found.append(half)
+            half = None
+        found += [bytes.fromhex(token) for token in tokens]
+    return found + ([half] if half is not None else [])
+
+
+class Explanation:
+    """The search for many keys at once, from what is likely to what is far; it ends when all are found."""
+
+    def __init__(self, derivations: Derivations, cells: Cells, counts: int, depth: int):
+        self.search = Search(derivations, cells, counts, depth)
+        self.derivations, self.cells = derivations, cells
+        self.found: dict[bytes, Key] = {}
+        self.open: set[bytes] = set()
+
+    def of(self, keys: list[bytes]) -> list[Found]:
+        self.open = set(keys)
+        roots = [Key(kasme.value, "kasme", "", place) for place, kasme in enumerate(self.derivations.kasmes)]
+        self.take([*roots, *(key for root in roots for key in self.algorithms(root, NAS_TYPES, IDENTITIES))])
+        self.take(self.search.roots())
+        self.spread()
+        for stage in (lambda: self.search.stars(self.search.roots(), 1), self.of_kenbs, self.of_stars, lambda: self.search.stars(self.search.roots(), 3)):
+            if self.open:
+                self.take(stage())
+                self.spread()
+        mixed = self.search.mixed()
+        return [Found(key, self.found.get(key), any(f",{pci},{earfcn})" in self.found[key].form for pci, earfcn in mixed) if key in self.found else False) for key in keys]
+
+    def take(self, candidates: Iterable[Key]) -> None:
+        for key in candidates:
+            for value in (key.value, key.value[16:]) if key.form.startswith("alg(") else (key.value,):
+                if value in self.open:
+                    self.open.discard(value)
+                    self.found[value] = key
+            if not self.open:
+                return
+
+    def spread(self) -> None:
+        """What the KeNBs that were found give: their chains, KeNB*s three deep, and all algorithm keys of these."""
+        done: set[bytes] = set()
+        while self.open:
+            bases = {(key.kasme, key.base) for key in self.found.values() if key.base.startswith("kenb(")}
+            fresh = [self.derivations.kenb(kasme, int(base[5:-1])) for kasme, base in sorted(bases)]
+            fresh = [key for key in fresh if key.value not in done]
+            if not fresh:
+                return
+            done |= {key.value for key in fresh}
+            keys = [key for kenb in fresh for key in (kenb, *self.search.chain(kenb.kasme, kenb))]
+            self.take(self.search.stars(keys, self.search.deep))
+            found = [key for key in self.found.values() if key.form.startswith(("kenb(", "star("))]
+            self.take(key for parent in [*found, *fresh] for key in self.algorithms(parent, STATION_TYPES, IDENTITIES))
+            stars = self.search.stars(keys, 2)
+            self.take(key for parent in stars for key in self.algorithms(parent, STATION_TYPES, COMMON))
+
+    def algorithms(self, parent: Key, types: Iterable[int], identities: Iterable[int]) -> Iterator[Key]:
+        return (self.derivations.algorithm(parent, type, identity) for type in types for identity in identities)
+
+    def of_kenbs(self) -> Iterator[Key]:
+        return (key for parent in self.search.kenbs() for key in self.algorithms(parent, STATION_TYPES, IDENTITIES))
+
+    def of_stars(self) -> Iterator[Key]:
+        stars = self.search.stars(self.search.roots(), 1)
+        return (self.derivations.algorithm(parent, type, identity) for parent in stars for type in range(RRC_ENCRYPTION, 6) for identity in (1, 2, 3))
+
+
+def told(derivations: Derivations, found: Found) -> str:
+    """The line of a key: its octets, and the derivation with KeNB and KASME where they do not stand in it."""
+    key = found.key
+    if key is None:
+        return f"{found.value.hex()} none"
+    text = key.form + (f" on {key.base}" if key.base and key.base not in key.form else "")
+    if len(derivations.kasmes) > 1:
+        text += f" of {derivations.kasmes[key.kasme].name}"
+    return f"{found.value.hex()} {text}" + (" mixed cell" if found.mixed else "")

@@ -1,0 +1,115 @@
+"""The search for a derivation that gives a key: what it is where it is not what was wanted.
+
+The search goes from the likely to the far: from keys at hand (in use, stored, sent before), their chains and their KeNB*s, then from all
+KeNBs up to a COUNT. Cells are those known, and each PCI with each EARFCN (a mixed cell), at most once in a key.
+"""
+from __future__ import annotations
+
+from collections.abc import Iterable, Iterator
+
+from .cells import Cells
+from .terms import Derivations, Key
+
+PCIS, EARFCNS = 504, 65536
+BUDGET = 2_000_000  # derivations that one trace may spend on far searches
+
+
+class Search:
+    """Bounds: COUNTs up to `counts`, chains up to `depth`, KeNB* of KeNB* up to `deep`."""
+
+    def __init__(self, derivations: Derivations, cells: Cells, counts: int = 300, depth: int = 16, deep: int = 3):
+        self.derivations, self.cells = derivations, cells
+        self.counts, self.depth, self.deep = counts, depth, deep
+        self.budget = BUDGET
+        self._chains: dict[tuple[int, bytes], list[Key]] = {}
+
+    # -- candidates
+
+    def chain(self, kasme: int, base: Key) -> list[Key]:
+        """The NHs from a KeNB, or from what was taken for one."""
+        found = self._chains.get((kasme, base.value))
+        if found is None:
+            found, sync = [], base
+            for _ in range(self.depth):
+                sync = self.derivations.next_nh(kasme, sync)
+                found.append(sync)
+            self._chains[kasme, base.value] = found
+        return found
+
+    def kenbs(self) -> Iterator[Key]:
+        for kasme in range(len(self.derivations.kasmes)):
+            for count in range(self.counts + 1):
+                yield self.derivations.kenb(kasme, count)
+
+    def roots(self) -> Iterator[Key]:
+        """All KeNBs, and all NHs of their chains."""
+        for kenb in self.kenbs():
+            yield kenb
+        for kenb in self.kenbs():
+            yield from self.chain(kenb.kasme, kenb)
+
+    def mixed(self) -> set[tuple[int, int]]:
+        return {(pci, earfcn) for pci in self.cells.pcis() for earfcn in self.cells.earfcns()} - self.cells.pairs()
+
+    def stars(self, keys: Iterable[Key], deep: int) -> Iterator[Key]:
+        """The KeNB*s of keys, up to so many one after the other, with at most one mixed cell each."""
+        plain, odd = list(keys), list[Key]()
+        real, mixed = sorted(self.cells.pairs()), sorted(self.mixed())
+        star = self.derivations.star
+        for _ in range(deep):
+            next_plain = [star(key, *cell) for key in plain for cell in real]
+            yield from next_plain
+            next_odd = [star(key, *cell) for key in plain for cell in mixed]
+            next_odd += [star(key, *cell) for key in odd for cell in real]
+            yield from next_odd
+            plain, odd = next_plain, next_odd
+
+    def syncs(self, keys: Iterable[Key]) -> Iterator[Key]:
+        """NHs whose SYNC-input is one of these keys, under each KASME, and two more of each such chain."""
+        for key in keys:
+            for kasme in range(len(self.derivations.kasmes)):
+                sync = key
+                for _ in range(3):
+                    sync = self.derivations.next_nh(kasme, sync)
+                    yield sync
+
+    def near(self, keys: list[Key], target: int | None) -> Iterator[Key]:
+        """What the keys at hand give; `target` is the PCI that a KeNB* is for."""
+        chains = [nh for key in keys if key.form.startswith("kenb(") for nh in self.chain(key.kasme, key)]
+        yield from keys
+        yield from chains
+        yield from self.stars(keys, 1)
+        yield from self.syncs(keys)
+        yield from self.stars(chains, 1)
+        firsts = list(self.stars(keys, 1))
+        yield from self.stars(firsts, 1)
+        yield from self.syncs(firsts)
+        for key in keys[:2]:
+            for earfcn in self.cells.earfcns():
+                for pci in range(PCIS):
+                    yield self.derivations.star(key, pci, earfcn)
+        for key in keys[:1] if target is not None else ():
+            for earfcn in range(EARFCNS):
+                yield self.derivations.star(key, target or 0, earfcn)
+
+    def far(self, keys: list[Key]) -> Iterator[Key]:
+        """What any KeNB gives, and what the keys at hand give deeper."""
+        yield from self.roots()
+        yield from self.stars(self.roots(), 1)
+        yield from self.stars(keys, self.deep)
+
+    # -- one key of a trace
+
+    def find(self, value: bytes, at_hand: Iterable[Key], target: int | None = None) -> Key | None:
+        """The first derivation that gives these octets, or None; `target` is the PCI that a KeNB* is for."""
+        keys = list({key.value: key for key in at_hand if key.known}.values())
+        for key in self.near(keys, target):
+            if key.value == value:
+                return key
+        for key in self.far(keys):
+            self.budget -= 1
+            if key.value == value:
+                return key
+            if self.budget <= 0:
+                return None
+        return None

@@ -1,0 +1,108 @@
+"""Keys as terms: the octets of a key with the derivation that gives them, in the notation of the pages.
+
+    kenb(5)               KeNB at the uplink NAS COUNT 5                      TS 33.401 A.3
+    nh(2)                 the second NH of a KeNB's chain                     A.4
+    star(nh(2),10,100)    KeNB* from it for the cell with PCI 10, EARFCN 100  A.5
+    alg(kenb(5),3,2)      the key of algorithm type 3, identity 2             A.7
+"""
+from __future__ import annotations
+
+from collections.abc import Iterable
+from dataclasses import dataclass
+from typing import Protocol
+
+DOWN, UP = 1, 0
+NAS_ENCRYPTION, NAS_INTEGRITY, RRC_ENCRYPTION, RRC_INTEGRITY, UP_ENCRYPTION = 1, 2, 3, 4, 5  # TS 33.401 A.7
+
+
+class TraceError(Exception):
+    """What cannot be read, in one line that says what to do."""
+
+
+class Calls(Protocol):
+    """The calls that all keys and ciphers come from: octets in, octets out."""
+
+    def kenb(self, kasme: bytes, count: int) -> bytes: ...
+    def nh(self, kasme: bytes, sync: bytes) -> bytes: ...
+    def kenb_star(self, key: bytes, pci: int, earfcn: int) -> bytes: ...
+    def algorithm_key(self, key: bytes, type: int, identity: int) -> bytes: ...
+    def eea2(self, key: bytes, count: int, bearer: int, direction: int, text: bytes) -> bytes: ...
+    def eia2(self, key: bytes, count: int, bearer: int, direction: int, text: bytes) -> bytes: ...
+
+
+@dataclass(frozen=True, slots=True)
+class Key:
+    """A key and its derivation: `base` is the KeNB of its chain, `kasme` the place of its KASME among those given."""
+
+    value: bytes
+    form: str
+    base: str = ""
+    kasme: int = -1
+
+    @property
+    def known(self) -> bool:
+        return self.form != NONE
+
+
+NONE = "none"
+
+
+@dataclass(frozen=True)
+class Kasme:
+    name: str
+    value: bytes
+
+
+class Derivations:
+    """The derivations of Annex A from the KASMEs given, each made once."""
+
+    def __init__(self, calls: Calls, kasmes: Iterable[Kasme]):
+        self.calls, self.kasmes = calls, list(kasmes)
+        self._kenbs: dict[tuple[int, int], Key] = {}
+        self._nas_keys: dict[tuple[int, int, int], bytes] = {}
+
+    def kenb(self, kasme: int, count: int) -> Key:
+        key = self._kenbs.get((kasme, count))
+        if key is None:
+            form = f"kenb({count})"
+            key = self._kenbs[kasme, count] = Key(self.calls.kenb(self.kasmes[kasme].value, count), form, form, kasme)
+        return key
+
+    def next_nh(self, kasme: int, sync: Key) -> Key:
+        """The NH whose SYNC-input is this key: the next of a chain, or the first of the chain that begins here."""
+        number, base = (int(sync.form[3:-1]) + 1, sync.base) if sync.form.startswith("nh(") else (1, sync.form)
+        return Key(self.calls.nh(self.kasmes[kasme].value, sync.value), f"nh({number})", base, kasme)
+
+    def star(self, key: Key, pci: int, earfcn: int) -> Key:
+        return Key(self.calls.kenb_star(key.value, pci, earfcn), f"star({key.form},{pci},{earfcn})", key.base, key.kasme)
+
+    def algorithm(self, key: Key, type: int, identity: int) -> Key:
+        return Key(self.calls.algorithm_key(key.value, type, identity), f"alg({key.form},{type},{identity})", key.base, key.kasme)
+
+    def nas_key(self, kasme: int, type: int, identity: int) -> bytes:
+        """The 16 octets of a NAS key that are used."""
+        found = self._nas_keys.get((kasme, type, identity))
+        if found is None:
+            found = self.calls.algorithm_key(self.kasmes[kasme].value, type, identity)[16:]
+            self._nas_keys[kasme, type, identity] = found
+        return found
+
+    def shown(self, key: Key, beside: Key | None = None) -> str:
+        """The form of a key, with its base where it is another than that of the key beside it, and its KASME among several."""
+        text = key.form
+        if beside is not None and key.base != beside.base and key.base not in ("", key.form) and beside.known:
+            text += f" on {key.base}"
+        if key.known and len(self.kasmes) > 1 and key.kasme >= 0:
+            text += f" of {self.kasmes[key.kasme].name}"
+        return text
+
+
+def kasmes_of(words: Iterable[str]) -> list[Kasme]:
+    """KASMEs from words: 64 hex digits each, or a name, `=` and 64 hex digits."""
+    found: list[Kasme] = []
+    for word in words:
+        name, _, digits = word.rpartition("=")
+        if len(digits) != 64 or set(digits.lower()) - set("0123456789abcdef"):
+            raise TraceError(f"a KASME has 64 hex digits, with NAME= before them or not: {word}")
+        found.append(Kasme(name or f"KASME {len(found) + 1}", bytes.fromhex(digits)))
+    return found
