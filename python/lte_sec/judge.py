@@ -106,7 +106,7 @@ class KeyJudge:
             return self.unjudged(message, "key change", "the cell of the phone is not known; name it with --cells")
         held = [Held(self.derivations.star(key, *cell), 0) for key in keys]
         connection.held[connection.station] = held
-        attempt = Attempt("change", message.frame, connection.station, connection.eci, held, [0], cell, True)
+        attempt = Attempt("change", message.frame, connection.station, connection.eci, held, [0], cell, change=True)
         connection.attempts.append(attempt)
         connection.keys.append((message.frame, connection.station, held[0].key))
         connection.phone = attempt.phone = renewed(self.derivations, phone, cell) if phone.known else None
@@ -322,7 +322,7 @@ class KeyJudge:
             self.lines.append(Line(attempt.frame, "handover", "agreement", UNKNOWN, text, station.form))
         elif phone.key.value == station.value:
             text = f"{where}: phone and {attempt.station} agree on {self.show(station)}"
-            self.lines.append(Line(attempt.frame, "handover", "agreement", RIGHT, text, station.form, phone.key.form, station.value.hex()))
+            self.lines.append(Line(attempt.frame, "handover", "agreement", RIGHT, text, station.form, phone.key.form, hex=station.value.hex()))
             connection.parted = False
         else:
             self.apart(connection, attempt.frame, attempt.station, phone.key, station)
@@ -331,7 +331,7 @@ class KeyJudge:
         how = "are still apart" if connection.parted else "come apart here"
         text = f"frame {frame} phone and {name} {how}: the phone takes {self.show(phone, station)}, {name} has {self.show(station, phone)}"
         connection.parted = True
-        self.lines.append(Line(frame, "handover", "agreement", DIFFERS, text, station.form, phone.form, station.value.hex()))
+        self.lines.append(Line(frame, "handover", "agreement", DIFFERS, text, station.form, phone.form, hex=station.value.hex()))
 
     def note(self, frame: str, text: str) -> None:
         self.lines.append(Line(frame, "", "", NOTE, f"frame {frame} {text}"))
