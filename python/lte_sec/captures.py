@@ -120,9 +120,9 @@ def member(pairs: Pairs, name: str) -> object:
 
 
 def last(layers: Pairs, layer: str, name: str) -> str:
-    """A field of the innermost layer of that name."""
+    """A field of the innermost layer of that name that has it (with bundled messages SCTP is shown in pieces)."""
     found = [member(value, name) for key, value in layers if key == layer and is_tree(value)]  # type: ignore[arg-type]
-    return str(found[-1]) if found else ""
+    return next((str(value) for value in reversed(found) if value is not None), "")
 
 
 def messages(lines: Iterable[str], label: str = "") -> Iterator[Message]:

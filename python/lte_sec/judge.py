@@ -3,10 +3,11 @@ from __future__ import annotations
 
 from .captures import Command, Message
 from .cells import Cells
+from .nas import NasBook
 from .report import DIFFERS, NOTE, RIGHT, UNKNOWN, Line, key_line, unknown_line
 from .search import Search
 from .state import CHAIN, Attempt, Chain, Connection, Held, renewed
-from .terms import NONE, Derivations, Key
+from .terms import NONE, UP, Derivations, Key
 
 FAR = 6  # so many steps of the chain ahead of the phone the core is warned of; at eight they come apart
 FIRST = (2, 1)  # the number of the first NH that a core sends: 2 by the note of TS 33.401 7.2.8.1.1, 1 of other cores
@@ -15,8 +16,9 @@ FIRST = (2, 1)  # the number of the first NH that a core sends: 2 by the note of
 class KeyJudge:
     """Judges each key when it is sent, and goes on from what was sent."""
 
-    def __init__(self, derivations: Derivations, cells: Cells, search: Search, firsts: dict[str, int]):
-        self.derivations, self.cells, self.search, self.firsts = derivations, cells, search, firsts
+    def __init__(self, book: NasBook, cells: Cells, search: Search, firsts: dict[str, int]):
+        self.book, self.cells, self.search, self.firsts = book, cells, search, firsts
+        self.derivations = book.derivations
         self.lines: list[Line] = []
         self.seen_firsts: dict[str, list[int]] = {}
 
@@ -56,11 +58,13 @@ class KeyJudge:
 
     def wanted_kenbs(self, connection: Connection) -> list[Key]:
         """The KeNB that is due: at the COUNT of the trigger; where its MAC is wrong, also at the COUNT that was to come."""
-        trigger = connection.side.trigger
-        if trigger is None:
-            return []
-        counts = [trigger.count] if trigger.sure else [trigger.count, trigger.context.next[0]]
-        return [self.derivations.kenb(trigger.context.kasme, count) for count in dict.fromkeys(counts)]
+        trigger, pending = connection.side.trigger, connection.side.pending
+        counts = [] if trigger is None else [(trigger.context.kasme, trigger.count)]
+        if trigger is not None and not trigger.sure:
+            counts.append((trigger.context.kasme, trigger.context.next[UP]))
+        if pending is not None:  # the Security Mode Complete has not come yet, or the trace lacks it
+            counts.append((pending.kasme, pending.next[UP]))
+        return [self.derivations.kenb(*one) for one in dict.fromkeys(counts)]
 
     def kenb(self, connection: Connection, message: Message) -> tuple[Key, list[Key]]:
         """Judges a KeNB; answers what the phone takes, and what may have been sent: as it is, then as it was wanted."""
@@ -69,6 +73,8 @@ class KeyJudge:
         match = next((key for key in wanted if key.value == message.key), None)
         if match is not None:
             self.judged(message, "KeNB", match, match)
+            if connection.side.pending is not None and match.kasme == connection.side.pending.kasme:
+                self.book.complete(connection.side)
             return match, [match]
         found = self.named(message.key, connection, wanted)
         if not wanted:

@@ -239,6 +239,13 @@ class NasBook:
                 seen = self.found(context, direction, pdu, count)
                 self.takes(side, context, complete, direction, count, True)
                 return seen
+        fresh = self.uncommanded(pdu) if complete else None
+        if fresh is not None:
+            self.follows(side.current, fresh)
+            side.current = side.pending = fresh
+            seen = self.found(fresh, direction, pdu, pdu[5])
+            self.takes(side, fresh, complete, direction, pdu[5], True)
+            return seen
         if not held:
             return self.nothing(direction, pdu)
         context = held[0]
@@ -274,6 +281,23 @@ class NasBook:
                     return [context]
         side.missed += 1
         return []
+
+    def complete(self, side: NasSide) -> None:
+        """The pending context is in use: KeNB is made at the COUNT of the Complete that the trace shows later, or lacks."""
+        if side.pending is not None:
+            side.trigger = Trigger(side.pending, side.pending.next[UP], True)
+            self.follows(side.current, side.pending)
+            side.current, side.pending = side.pending, None
+            self.contexts[side.current.kasme] = side.current
+
+    def uncommanded(self, pdu: bytes) -> NasContext | None:
+        """The context of a Security Mode Complete whose Command the trace lacks."""
+        for kasme in range(len(self.derivations.kasmes)):
+            context = NasContext(kasme)
+            if self.mac(context, UP, pdu[5], pdu[5:]) == pdu[1:5]:
+                context.eea = 0 if pdu[6:8] == b"\x07\x5e" else 2
+                return context
+        return None
 
     def whose(self, context: NasContext, direction: int, pdu: bytes, count: int) -> str:
         """What else a wrong MAC is right for, in words, or nothing."""

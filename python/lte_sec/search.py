@@ -5,22 +5,24 @@ KeNBs up to a COUNT. Cells are those known, and each PCI with each EARFCN (a mix
 """
 from __future__ import annotations
 
+import itertools
 from collections.abc import Iterable, Iterator
 
 from .cells import Cells
 from .terms import Derivations, Key
 
 PCIS, EARFCNS = 504, 65536
-BUDGET = 2_000_000  # derivations that one trace may spend on far searches
+BUDGET = 400_000  # derivations that one trace may spend beyond the keys at hand
+FEW = 6  # of the keys at hand, so many are taken further
 
 
 class Search:
     """Bounds: COUNTs up to `counts`, chains up to `depth`, KeNB* of KeNB* up to `deep`."""
 
-    def __init__(self, derivations: Derivations, cells: Cells, counts: int = 300, depth: int = 16, deep: int = 3):
+    def __init__(self, derivations: Derivations, cells: Cells, counts: int = 300, depth: int = 16, deep: int = 3, budget: int = BUDGET):
         self.derivations, self.cells = derivations, cells
         self.counts, self.depth, self.deep = counts, depth, deep
-        self.budget = BUDGET
+        self.budget = budget
         self._chains: dict[tuple[int, bytes], list[Key]] = {}
 
     # -- candidates
@@ -73,17 +75,20 @@ class Search:
                     sync = self.derivations.next_nh(kasme, sync)
                     yield sync
 
-    def near(self, keys: list[Key], target: int | None) -> Iterator[Key]:
-        """What the keys at hand give; `target` is the PCI that a KeNB* is for."""
+    def near(self, keys: list[Key]) -> Iterator[Key]:
+        """What the keys at hand give."""
         chains = [nh for key in keys if key.form.startswith("kenb(") for nh in self.chain(key.kasme, key)]
         yield from keys
         yield from chains
         yield from self.stars(keys, 1)
         yield from self.syncs(keys)
         yield from self.stars(chains, 1)
-        firsts = list(self.stars(keys, 1))
+        firsts = list(self.stars(keys[:FEW], 1))
         yield from self.stars(firsts, 1)
         yield from self.syncs(firsts)
+
+    def swept(self, keys: list[Key], target: int | None) -> Iterator[Key]:
+        """The likeliest keys with each PCI, and with each EARFCN for the PCI that a KeNB* is for."""
         for key in keys[:2]:
             for earfcn in self.cells.earfcns():
                 for pci in range(PCIS):
@@ -103,13 +108,13 @@ class Search:
     def find(self, value: bytes, at_hand: Iterable[Key], target: int | None = None) -> Key | None:
         """The first derivation that gives these octets, or None; `target` is the PCI that a KeNB* is for."""
         keys = list({key.value: key for key in at_hand if key.known}.values())
-        for key in self.near(keys, target):
-            if key.value == value:
-                return key
-        for key in self.far(keys):
+        found = next((key for key in self.near(keys) if key.value == value), None)
+        if found is not None:
+            return found
+        for key in itertools.chain(self.swept(keys, target), self.far(keys)):
+            if self.budget <= 0:
+                return None
             self.budget -= 1
             if key.value == value:
                 return key
-            if self.budget <= 0:
-                return None
         return None

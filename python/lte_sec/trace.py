@@ -9,7 +9,7 @@ from .cells import Cells, Site
 from .judge import KeyJudge
 from .nas import NasBook, NasSeen
 from .report import DIFFERS, RIGHT, UNKNOWN, Line
-from .search import Search
+from .search import BUDGET, Search
 from .state import Attempt, Connection, Held
 from .terms import DOWN, NONE, UP, Derivations, Key
 
@@ -30,10 +30,10 @@ Leg = tuple[str, int | None]
 class Trace:
     """The messages of a trace in their order, and what became of each connection."""
 
-    def __init__(self, derivations: Derivations, cells: Cells, firsts: dict[str, int]):
+    def __init__(self, derivations: Derivations, cells: Cells, firsts: dict[str, int], budget: int = BUDGET):
         self.cells, self.derivations = cells, derivations
         self.book = NasBook(derivations)
-        self.judge = KeyJudge(derivations, cells, Search(derivations, cells), firsts)
+        self.judge = KeyJudge(self.book, cells, Search(derivations, cells, budget=budget), firsts)
         self.lines = self.judge.lines
         self.legs: dict[Leg, Connection] = {}  # by station's end of S1 and eNB-UE-S1AP-ID
         self.mmes: dict[int, dict[str, Connection]] = {}  # by MME-UE-S1AP-ID and core's end
@@ -127,6 +127,8 @@ class Trace:
         if message.name == "HandoverRequestAcknowledge" and at_core in self.targets:
             connection = self.targets[at_core][0]
         self.binds(connection, leg, at_core)
+        if message.name in ("UplinkNASTransport", "HandoverRequired", "PathSwitchRequestAcknowledge"):
+            self.arrived(connection, station)
         if handler:
             handler(connection, message, station, at_core)
         self.nas(connection, message, place)
@@ -138,6 +140,12 @@ class Trace:
         if at_core[1] is not None:
             self.mmes.setdefault(at_core[1], {})[at_core[0]] = connection
             connection.mme = connection.mme or at_core[0]
+
+    def arrived(self, connection: Connection, station: str) -> None:
+        """The phone is at the target of a handover whose end the trace lacks."""
+        there = [attempt for attempt in connection.open_attempts() if attempt.station == station]
+        if station != connection.station and there:
+            self.judge.moved(connection, there[-1])
 
     def nas(self, connection: Connection, message: Message, place: int) -> None:
         direction = UP if message.name in FROM_PHONE else DOWN
@@ -315,8 +323,9 @@ class Trace:
         station = self.cells.station(message.source_eci) if message.source_eci is not None else self.cells.addresses.get(message.source, "")
         known = list(self.mmes.get(message.mme_id, {}).values()) if message.mme_id is not None else []
         there = [one for one in known if one.station == station]
-        connection = there[-1] if there else known[0] if len(known) == 1 else None
-        return connection or self.new(station, message.source_eci)
+        connection = there[-1] if there else known[0] if len(known) == 1 else self.new(station, message.source_eci)
+        self.arrived(connection, station)
+        return connection
 
     # -- RRC
 
@@ -374,14 +383,14 @@ def learn(cells: Cells, messages: Iterable[Message]) -> None:
             cells.learn(Site(eci, told.pci, told.earfcn))
 
 
-def check(derivations: Derivations, cells: Cells, messages: list[Message]) -> Trace:
+def check(derivations: Derivations, cells: Cells, messages: list[Message], budget: int = BUDGET) -> Trace:
     """Reads a trace. Which NH a core sends first is seen in the whole trace: where both are, the more frequent one is wanted."""
     learn(cells, messages)
-    trace = Trace(derivations, cells, {})
+    trace = Trace(derivations, cells, {}, budget)
     trace.read(messages)
     seen = trace.judge.seen_firsts
     if any(len(set(numbers)) > 1 for numbers in seen.values()):
         firsts = {mme: 1 if numbers.count(1) > numbers.count(2) else 2 for mme, numbers in seen.items()}
-        trace = Trace(derivations, cells, firsts)
+        trace = Trace(derivations, cells, firsts, budget)
         trace.read(messages)
     return trace
