@@ -32,17 +32,18 @@ class Calc:
 
     def told(self, *words: object) -> bytes:
         assert self.program.stdin is not None and self.program.stdout is not None
-        line = " ".join(word.hex() if isinstance(word, bytes) else str(word) for word in words)
+        line = " ".join((word.hex() or "-") if isinstance(word, bytes) else str(word) for word in words)
         try:
             self.program.stdin.write(line + "\n")
             self.program.stdin.flush()
-            return bytes.fromhex(self.program.stdout.readline())
+            return bytes.fromhex(self.program.stdout.readline().strip().removeprefix("-"))
         except (OSError, ValueError):
             raise TraceError(f"calc does not answer the line: {line[:60]}") from None
 
     def close(self) -> None:
-        if self.program.stdin is not None:
-            self.program.stdin.close()
+        for pipe in (self.program.stdin, self.program.stdout):
+            if pipe is not None:
+                pipe.close()
         self.program.wait(10)
 
     def kenb(self, kasme: bytes, count: int) -> bytes:
@@ -58,7 +59,7 @@ class Calc:
         return self.told("alg", key, type, identity)
 
     def eea2(self, key: bytes, count: int, bearer: int, direction: int, text: bytes) -> bytes:
-        return self.told("eea2", key, count, bearer, WAYS[direction], text) if text else b""
+        return self.told("eea2", key, count, bearer, WAYS[direction], text)
 
     def eia2(self, key: bytes, count: int, bearer: int, direction: int, text: bytes) -> bytes:
         return self.told("eia2", key, count, bearer, WAYS[direction], text)

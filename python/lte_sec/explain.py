@@ -10,7 +10,7 @@ from dataclasses import dataclass
 
 from .cells import Cells
 from .search import Search
-from .terms import RRC_ENCRYPTION, Derivations, Key
+from .terms import Derivations, Key
 
 TOKEN = re.compile(r"(?<![0-9a-fA-F])(?:[0-9a-fA-F]{64}|[0-9a-fA-F]{32})(?![0-9a-fA-F])")
 DUMP = re.compile(r"^(?:.*?[^0-9a-fA-F]|)((?:[0-9a-fA-F]{2}[ :]+){15}[0-9a-fA-F]{2})(?![0-9a-fA-F])")
@@ -56,18 +56,21 @@ class Explanation:
         self.found: dict[bytes, Key] = {}
         self.open: set[bytes] = set()
 
-    def of(self, keys: list[bytes]) -> list[Found]:
+    def find(self, keys: list[bytes]) -> list[Found]:
         self.open = set(keys)
         roots = [Key(kasme.value, "kasme", "", place) for place, kasme in enumerate(self.derivations.kasmes)]
         self.take([*roots, *(key for root in roots for key in self.algorithms(root, NAS_TYPES, IDENTITIES))])
         self.take(self.search.roots())
         self.spread()
-        for stage in (lambda: self.search.stars(self.search.roots(), 1), self.of_kenbs, self.of_stars, lambda: self.search.stars(self.search.roots(), 3)):
+        for stage in (lambda: self.search.stars(self.search.roots(), 1), lambda: self.of(self.search.kenbs()), lambda: self.of(self.search.stars(self.search.roots(), 1))):
             if self.open:
                 self.take(stage())
                 self.spread()
-        mixed = self.search.mixed()
-        return [Found(key, self.found.get(key), any(f",{pci},{earfcn})" in self.found[key].form for pci, earfcn in mixed) if key in self.found else False) for key in keys]
+        return [Found(key, self.found.get(key), self.is_mixed(self.found.get(key))) for key in keys]
+
+    def is_mixed(self, key: Key | None) -> bool:
+        """Whether a key is for a PCI and an EARFCN of two cells."""
+        return key is not None and any(f",{pci},{earfcn})" in key.form for pci, earfcn in self.search.mixed())
 
     def take(self, candidates: Iterable[Key]) -> None:
         for key in candidates:
@@ -79,31 +82,30 @@ class Explanation:
                 return
 
     def spread(self) -> None:
-        """What the KeNBs that were found give: their chains, KeNB*s three deep, and all algorithm keys of these."""
+        """What the keys that were found give, again and again: their chains, KeNB*s and algorithm keys."""
         done: set[bytes] = set()
         while self.open:
+            found = [key for key in self.found.values() if key.form.startswith(("kenb(", "nh(", "star("))]
             bases = {(key.kasme, key.base) for key in self.found.values() if key.base.startswith("kenb(")}
-            fresh = [self.derivations.kenb(kasme, int(base[5:-1])) for kasme, base in sorted(bases)]
-            fresh = [key for key in fresh if key.value not in done]
+            kenbs = [self.derivations.kenb(kasme, int(base[5:-1])) for kasme, base in sorted(bases)]
+            chains = [key for kenb in kenbs for key in (kenb, *self.search.chain(kenb.kasme, kenb))]
+            fresh = [key for key in {key.value: key for key in [*found, *chains]}.values() if key.value not in done]
             if not fresh:
                 return
             done |= {key.value for key in fresh}
-            keys = [key for kenb in fresh for key in (kenb, *self.search.chain(kenb.kasme, kenb))]
-            self.take(self.search.stars(keys, self.search.deep))
-            found = [key for key in self.found.values() if key.form.startswith(("kenb(", "star("))]
-            self.take(key for parent in [*found, *fresh] for key in self.algorithms(parent, STATION_TYPES, IDENTITIES))
-            stars = self.search.stars(keys, 2)
-            self.take(key for parent in stars for key in self.algorithms(parent, STATION_TYPES, COMMON))
+            stars = list(self.search.stars(fresh, 1))
+            self.take(stars)
+            self.take(self.of(parent for parent in [*fresh, *stars] if not parent.form.startswith("nh(")))
+            if self.open:
+                self.take(self.search.stars(fresh, self.search.deep))
 
     def algorithms(self, parent: Key, types: Iterable[int], identities: Iterable[int]) -> Iterator[Key]:
         return (self.derivations.algorithm(parent, type, identity) for type in types for identity in identities)
 
-    def of_kenbs(self) -> Iterator[Key]:
-        return (key for parent in self.search.kenbs() for key in self.algorithms(parent, STATION_TYPES, IDENTITIES))
-
-    def of_stars(self) -> Iterator[Key]:
-        stars = self.search.stars(self.search.roots(), 1)
-        return (self.derivations.algorithm(parent, type, identity) for parent in stars for type in range(RRC_ENCRYPTION, 6) for identity in (1, 2, 3))
+    def of(self, parents: Iterable[Key]) -> Iterator[Key]:
+        """The keys of a station's algorithms: from KeNBs with each identity, from KeNB*s with those that algorithms have."""
+        for parent in parents:
+            yield from self.algorithms(parent, STATION_TYPES, IDENTITIES if parent.form.startswith("kenb(") else COMMON)
 
 
 def told(derivations: Derivations, found: Found) -> str:

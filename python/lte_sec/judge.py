@@ -46,7 +46,7 @@ class KeyJudge:
 
     def judged(self, message: Message, what: str, found: Key, wanted: Key, ncc: tuple[int, int] | None = None, why: str = "") -> None:
         differs = found.value != wanted.value
-        line = key_line(message.frame, title(message), what, self.show(found, wanted if differs else None), self.show(wanted, found if differs else None), differs, ncc, why)
+        line = key_line(message.frame, title(message), what, self.show(found, wanted if differs else None), self.derivations.form(wanted, found) + self.derivations.whose(wanted), differs, ncc, why)
         line.found, line.wanted, line.base, line.hex = found.form, wanted.form, found.base, found.value.hex()
         line.kasme = self.derivations.kasmes[found.kasme].name if found.kasme >= 0 else ""
         self.lines.append(line)
@@ -105,7 +105,7 @@ class KeyJudge:
         """UEContextModificationRequest with a key: KASME changes on the fly; the station makes KeNB* for the cell (7.2.9.2)."""
         connection.before = (connection.core, dict(connection.held), connection.phone)
         phone, keys = self.kenb(connection, message)
-        cell = self.cell(connection.eci)
+        cell = self.cell(connection.eci if connection.told_eci is None else connection.told_eci)
         connection.core, connection.asked, connection.missed = self.chains(connection, keys), 0, set()
         if cell is None:
             connection.held, connection.phone = {}, None
@@ -158,7 +158,9 @@ class KeyJudge:
             self.unjudged(message, "NH", "the trace does not show where the chain begins" if found.known else "no KASME that was given fits", found)
             connection.core = [Chain(found.kasme, found, number)] if number else []
             return [(found, message.ncc)]
-        wanted = next((chain for chain in tried if chain.sync.base != NONE), tried[0])
+        # Several numbers may be due where requests have no answer. A key that nothing explains leaves NCC to tell.
+        likely = [chain for chain in tried if not found.known and chain.number % CHAIN == message.ncc] + tried
+        wanted = next((chain for chain in likely if chain.sync.base != NONE), likely[0])
         self.judged(message, "NH", found, wanted.sync, (message.ncc, wanted.number % CHAIN))
         same = found.base == wanted.sync.base and found.kasme == wanted.kasme
         numbers = [number, wanted.number] if same and number else [wanted.number, number]
@@ -221,8 +223,9 @@ class KeyJudge:
 
     def after_unseen(self, connection: Connection, held: list[Held], message: Message) -> list[Held]:
         """Where the source names another own cell than the known one, there was a handover within it that the trace lacks."""
-        eci = message.source_eci
+        eci = message.source_eci if message.source_eci is not None else connection.told_eci
         cell = self.cell(eci)
+        connection.eci = eci if connection.eci is None else connection.eci
         if eci is None or cell is None or eci == connection.eci or self.cells.station(eci) != connection.station or not held:
             return held
         if any(attempt.kind == "within" and attempt.eci == eci for attempt in connection.attempts[-1:]):
@@ -335,7 +338,7 @@ class KeyJudge:
 
     def apart(self, connection: Connection, frame: str, name: str, phone: Key, station: Key) -> None:
         how = "are still apart" if connection.parted else "come apart here"
-        text = f"frame {frame} phone and {name} {how}: the phone takes {self.show(phone, station)}, {name} has {self.show(station, phone)}"
+        text = f"frame {frame} phone and {name} {how}: the phone takes {self.show(phone, station)}, {name} has {self.derivations.form(station, phone)}{self.derivations.whose(station)}"
         connection.parted = True
         self.lines.append(Line(frame, "handover", "agreement", DIFFERS, text, station.form, phone.form, hex=station.value.hex()))
 
@@ -348,7 +351,7 @@ class KeyJudge:
             self.phone_takes(connection, attempt, attempt.nccs[0], attempt.cell)
         self.agreement(connection, attempt)
         connection.held[attempt.station] = attempt.held
-        connection.station, connection.eci = attempt.station, attempt.eci
+        connection.station, connection.eci, connection.told_eci = attempt.station, attempt.eci, None
         connection.phone = attempt.phone or connection.phone
         if attempt.held:
             connection.keys.append((attempt.frame, attempt.station, attempt.held[0].key))

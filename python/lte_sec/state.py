@@ -94,6 +94,7 @@ class Connection:
     legs: dict[tuple[str, int | None], int | None] = field(default_factory=dict)  # MME-UE-S1AP-ID by end and eNB-UE-S1AP-ID
     station: str = ""
     eci: int | None = None
+    told_eci: int | None = None  # the cell that the station last told
     held: dict[str, list[Held]] = field(default_factory=dict)
     core: list[Chain] = field(default_factory=list)
     asked: int = 0  # requests to step the chain that have no answer yet

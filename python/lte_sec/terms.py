@@ -89,12 +89,17 @@ class Derivations:
 
     def shown(self, key: Key, beside: Key | None = None) -> str:
         """The form of a key, with its base where it is another than that of the key beside it, and its KASME among several."""
-        text = key.form
-        if beside is not None and key.base != beside.base and key.base not in ("", key.form) and beside.known:
-            text += f" on {key.base}"
-        if key.known and len(self.kasmes) > 1 and key.kasme >= 0:
-            text += f" of {self.kasmes[key.kasme].name}"
-        return text
+        same = beside is not None and beside.kasme == key.kasme
+        return self.form(key, beside) + ("" if same else self.whose(key))
+
+    def form(self, key: Key, beside: Key | None = None) -> str:
+        if key.known and key.base == NONE:
+            return key.form + " on the key sent before"
+        other = beside is not None and beside.known and key.base not in ("", key.form, beside.base)
+        return f"{key.form} on {key.base}" if other else key.form
+
+    def whose(self, key: Key) -> str:
+        return f" of {self.kasmes[key.kasme].name}" if key.known and key.kasme >= 0 and len(self.kasmes) > 1 else ""
 
 
 def kasmes_of(words: Iterable[str]) -> list[Kasme]:

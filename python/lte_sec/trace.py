@@ -129,6 +129,8 @@ class Trace:
         self.binds(connection, leg, at_core)
         if message.name in ("UplinkNASTransport", "HandoverRequired", "PathSwitchRequestAcknowledge"):
             self.arrived(connection, station)
+        if message.name == "UplinkNASTransport" and station == connection.station:
+            connection.told_eci = message.eci
         if handler:
             handler(connection, message, station, at_core)
         self.nas(connection, message, place)

@@ -17,7 +17,7 @@ from lte_sec.trace import check
 
 from .standin import StandIn
 
-TRACES = Path(__file__).parent / "traces"
+TRACES = Path(__file__).resolve().parents[2] / "examples" / "traces"
 NAMES = ("A", "B1-star-earfcn", "B2-nh-twice", "C")
 EVERY = 1 if os.environ.get("EVERY_PLACE") else 7  # the gate tries a sample
 KEY = re.compile(r'"(s1ap\.SecurityKey|s1ap\.nextHopParameter|x2ap\.key_eNodeB_star)": "')

@@ -15,7 +15,7 @@ from lte_sec.trace import Trace, check
 
 from .standin import StandIn
 
-TRACES = Path(__file__).parent / "traces"
+TRACES = Path(__file__).resolve().parents[2] / "examples" / "traces"
 NAMES = ("A", "B1-star-earfcn", "B2-nh-twice", "C")
 TSHARK = shutil.which("tshark") is not None
 

@@ -96,7 +96,7 @@ def explain(words: list[str]) -> int:
     text = [line for file in files for line in opened(Path(file))] if files else sys.stdin.readlines()
     derivations = Derivations(proved_calls(), kasmes_of(given.kasmes))
     explanation = Explanation(derivations, given.cells(), given.number("--counts", 300, (1 << 24) - 1), given.number("--depth", 16, 4096))
-    found = explanation.of(keys_of(text))
+    found = explanation.find(keys_of(text))
     for one in found:
         print(told(derivations, one))
     return 0 if all(one.key for one in found) else 1
@@ -134,7 +134,7 @@ def main(words: list[str]) -> int:
     try:
         return COMMANDS[words[0]](words[1:])
     except TraceError as fault:
-        print(f"lte_sec: {words[0]}: {fault}", file=sys.stderr)
+        print(f"lte_sec: status 2: {words[0]}: {fault}", file=sys.stderr)
         return READ
     except BrokenPipeError:
         sys.stderr.close()

@@ -1,0 +1,132 @@
+"""The words of the launcher, the seam to the proved calls, repeated uses, and Wireshark's table."""
+from __future__ import annotations
+
+import contextlib
+import io
+import json
+import os
+import sys
+import tempfile
+import textwrap
+import unittest
+from pathlib import Path
+from unittest import mock
+
+from lte_sec import derive, words
+from lte_sec.captures import read
+from lte_sec.repeats import first_repeat
+from lte_sec.terms import TraceError
+from lte_sec.wireshark import rows
+
+from .standin import StandIn
+from .test_traces import TRACES, traced
+
+KASME = json.loads((TRACES / "A.truth.json").read_text())["kasme"][0]["hex"]
+
+
+def run(*given: str, text: str = "") -> tuple[int, str, str]:
+    """The status of a call of the launcher, and what it writes."""
+    out, err = io.StringIO(), io.StringIO()
+    with mock.patch.object(words, "proved_calls", StandIn), mock.patch.object(sys, "stdin", io.StringIO(text)):
+        with contextlib.redirect_stdout(out), contextlib.redirect_stderr(err):
+            status = words.main(list(given))
+    return status, out.getvalue(), err.getvalue()
+
+
+class Words(unittest.TestCase):
+    def test_statuses_of_a_trace(self) -> None:
+        cells = ["--cells", str(TRACES / "A.cells.txt")]
+        for name, kasme, status in (("A", KASME, 0), ("B1-star-earfcn", KASME, 1), ("A", "00" * 32, 3)):
+            got, out, err = run("check-trace", *cells, str(TRACES / f"{name}.json.gz"), kasme)
+            self.assertEqual((got, err), (status, ""), out)
+
+    def test_plain_texts(self) -> None:
+        _, out, _ = run("check-trace", "--plain", str(TRACES / "A.json.gz"), f"ue1={KASME}")
+        self.assertIn("frame 26 NAS up COUNT 1 header 2 MAC right Attach complete plain 074300035200c2\n", out)
+
+    def test_what_is_wrong_is_told_in_one_line(self) -> None:
+        there = str(TRACES / "A.json.gz")
+        for given, line in (
+            ((), "the words are:"), (("check-trace", there), "the KASMEs of its phones"), (("check-trace", "none.pcapng", KASME), "there is no capture none.pcapng"),
+            (("check-trace", "--cells", "none", there, KASME), "the cells none cannot be read"), (("explain", "ff"), "a KASME is 64 hex digits"),
+            (("explain", "--counts", "0", KASME), "--counts is 1 to"), (("explain", "--cell", "504,1", KASME), "--cell is PCI,EARFCN-DL"),
+            (("check-trace", "--what", there, KASME), "there is no option --what"), (("repeats", "none"), "none cannot be read"),
+            (("check-trace", "--cells", str(TRACES / "A.truth.json"), there, KASME), "A.truth.json:1: a cell is"),
+        ):
+            status, out, err = run(*given)
+            self.assertEqual((status, out), (2, ""), given)
+            self.assertIn(line, err)
+            self.assertNotIn("Traceback", err)
+
+    def test_explain_reads_a_log(self) -> None:
+        log = (TRACES.parents[1] / "docs/cookbook/handover.log").read_text()
+        kasme = "6f1d9a0c55e2473bb8a4c07e12f3d96a80bc4e7719d2053fe6a1b8c4d7720e95"
+        status, out, _ = run("explain", "--cell", "301,1575", "--cell=87,3100", kasme, text=log)
+        self.assertEqual(status, 0)
+        self.assertIn(" star(nh(2),301,3100) on kenb(5) mixed cell\n", out)
+
+    def test_repeated_uses(self) -> None:
+        self.assertIsNone(first_repeat(["# a", "7 1 0 5", "7 1 1 5", "7,2,0,5", "8 1 0 5", ""]))
+        self.assertIsNone(first_repeat(["7 1 0 5 00:11", "7 1 0 0x5 0011"]))
+        self.assertEqual(first_repeat(["7 1 0 5 0011", "7 1 0 5 0012"]), "lines 1 and 2: key 7, bearer 1, direction 0, COUNT 5 are used twice")
+        for bad in ("7 1 0", "7 1 0 five"):
+            with self.assertRaises(TraceError):
+                first_repeat([bad])
+        self.assertEqual(run("repeats", text="a 1 0 1\na 1 0 1\n")[0], 1)
+        self.assertEqual(run("repeats", text="a 1 0 1\na 1 0 2\n")[:2], (0, "none\n"))
+
+    def test_the_table_has_the_keys_in_use(self) -> None:
+        for name in ("A", "C"):
+            truth = json.loads((TRACES / f"{name}.truth.json").read_text())
+            changed = [(one["key"]["kasme"], one["key"]["form"]) for one in truth["messages"] if one["message"] == "UEContextModificationRequest"]
+            used: dict[tuple[str, str, str], dict[str, str]] = {}
+            for one in truth["keys"]:  # the KeNB of a key change is no key of PDCP: that is the KeNB* made from it
+                if one["form"][:5] in ("alg(3", "alg(4", "alg(5") and (one["kasme"], one["parent"]) not in changed:
+                    used.setdefault((one["kasme"], one["base"], one["parent"]), {})[one["form"][4]] = one["used"]
+            table = list(rows(traced(name, list(read(TRACES / f"{name}.json.gz")))))
+            wanted = {(keys["3"], keys["5"], keys["4"]) for keys in used.values()}
+            got = {tuple(json.loads(f"[{row}]")[1:]) for row in table if not row.startswith("#")}
+            self.assertEqual(got, wanted)
+
+
+class Seam(unittest.TestCase):
+    def test_calc_is_told_lines(self) -> None:
+        program = textwrap.dedent("""
+            import sys
+            for line in sys.stdin:
+                print({"eia2": "0a0b0c0d", "eea2": "-", "bad": "bad word"}.get(line.split()[0], "11" * 32), flush=True)
+                print(line, end="", file=open(sys.argv[1], "a"))
+        """)
+        with tempfile.TemporaryDirectory() as room:
+            told = Path(room) / "told"
+            calc = derive.Calc([sys.executable, "-c", program, str(told)])
+            key = bytes(16)
+            self.assertEqual(calc.kenb(bytes(32), 7), b"\x11" * 32)
+            self.assertEqual(calc.kenb_star(bytes(32), 10, 70000), b"\x11" * 32)
+            self.assertEqual(calc.algorithm_key(bytes(32), 3, 2), b"\x11" * 32)
+            self.assertEqual(calc.nh(bytes(32), bytes(32)), b"\x11" * 32)
+            self.assertEqual(calc.eia2(key, 1, 0, 1, b"\xab"), b"\x0a\x0b\x0c\x0d")
+            self.assertEqual(calc.eea2(key, 1, 0, 0, b""), b"")
+            with self.assertRaises(TraceError):
+                calc.told("bad")
+            calc.close()
+            self.assertEqual(told.read_text().splitlines(), [
+                f"kenb {'00' * 32} 7", f"star {'00' * 32} 10 70000", f"alg {'00' * 32} 3 2", f"nh {'00' * 32} {'00' * 32}",
+                f"eia2 {'00' * 16} 1 0 downlink ab", f"eea2 {'00' * 16} 1 0 uplink -", "bad",
+            ])
+
+    def test_the_proved_calls_are_those_of_the_stand_in(self) -> None:
+        try:
+            calls = derive.proved_calls()
+        except TraceError as fault:
+            self.skipTest(str(fault))
+        key, text = os.urandom(32), os.urandom(45)
+        for name, given in (
+            ("kenb", (key, 77)), ("nh", (key, bytes(32))), ("kenb_star", (key, 503, 70000)), ("kenb_star", (key, 0, 65535)),
+            ("algorithm_key", (key, 4, 2)), ("eea2", (key[:16], 1 << 20, 5, 1, text)), ("eia2", (key[:16], 9, 0, 0, text)),
+        ):
+            self.assertEqual(getattr(calls, name)(*given), getattr(StandIn(), name)(*given), name)
+
+
+if __name__ == "__main__":
+    unittest.main()
