@@ -104,6 +104,12 @@ class NasBook:
         self.contexts: dict[int, NasContext] = {}
         self.phones: dict[int, int] = {}  # KASME by M-TMSI
         self.tmsis: dict[int, set[int]] = {}
+        self.turn = 0  # KASMEs are mostly given in the order of their authentications, so the search goes on from the last
+
+    def kasmes(self) -> list[int]:
+        """The places of all KASMEs, from the one after that which was taken last."""
+        every = range(len(self.derivations.kasmes))
+        return [*every[self.turn:], *every[:self.turn]]
 
     # -- MACs and texts
 
@@ -192,7 +198,7 @@ class NasBook:
         plain, seq = pdu[6:], pdu[5]
         octet, ksi = (plain[2], plain[3] & 7) if len(plain) >= 4 else (0x22, None)
         eea, eia = octet >> 4 & 7, octet & 7
-        fresh = [NasContext(kasme, eea, eia, ksi) for kasme in range(len(self.derivations.kasmes))]
+        fresh = [NasContext(kasme, eea, eia, ksi) for kasme in self.kasmes()]
         context = next((one for one in fresh if eia == 2 and self.mac(one, DOWN, seq, pdu[5:]) == pdu[1:5]), None)
         old = self.contexts.get(context.kasme) if context else side.current
         if old is not None and eia == 2:  # a context in use may go on under other algorithms: its COUNTs do too
@@ -201,7 +207,7 @@ class NasBook:
                 side.pending = replace(old, eea=eea, eia=eia, ksi=ksi)
                 return self.found(side.pending, DOWN, pdu, count)
         if context is not None:
-            side.pending = context
+            side.pending, self.turn = context, context.kasme + 1
             return self.found(context, DOWN, pdu, seq)
         context = next((one for one in fresh if self.evidence(one, later)), None)
         if context is None:
@@ -267,6 +273,8 @@ class NasBook:
     def likely(self, side: NasSide, direction: int, pdu: bytes) -> list[NasContext]:
         """The contexts of a connection that has none yet: by identity, else by the MAC; at last as one that began before the trace."""
         known = self.contexts.get(self.phones.get(side.tmsi, -1)) if side.tmsi is not None else None
+        if known is not None and self.opens(known, direction, pdu) is not None:
+            return [known]
         right = [one for one in self.contexts.values() if self.opens(one, direction, pdu) is not None]
         if right or known or side.missed >= PATIENCE:
             return [*right, *([known] if known else [])]
@@ -342,6 +350,10 @@ class NasBook:
     def serves(self, side: NasSide, pdu: bytes, ksi: int, low: int, later: Later) -> tuple[NasContext, int] | None:
         """The context and COUNT of a Service Request: the MAC has 16 bits, so identity, KSI and the KeNB that follows count too."""
         known = side.current or self.contexts.get(self.phones.get(side.tmsi if side.tmsi is not None else -1, -1))
+        if known is not None:
+            count = estimate(known.next[UP], low, SHORT_WRAP)
+            if self.short_mac(known, count, pdu) == pdu[2:4]:
+                return known, count
         tried = [(one, estimate(one.next[UP], low, SHORT_WRAP) + SHORT_WRAP * wrap) for wrap in range(TRIES) for one in self.contexts.values()]
         right = [(one, count) for one, count in tried if self.short_mac(one, count, pdu) == pdu[2:4]]
         for fits in (lambda one: one is known, lambda one: known is None and one.ksi == ksi, lambda one: known is None):

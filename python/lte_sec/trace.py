@@ -118,7 +118,8 @@ class Trace:
         elif message.name == "HandoverRequest":
             return self.handover_request(message, core, end)
         else:
-            connection = self.legs.get(leg) if message.enb_id is not None else None
+            new_leg = message.name == "PathSwitchRequest"  # its eNB-UE-S1AP-ID is a fresh one
+            connection = self.legs.get(leg) if message.enb_id is not None and not new_leg else None
             connection = connection or self.mmes.get(-1 if message.mme_id is None else message.mme_id, {}).get(core)
         if connection is None:
             if message.enb_id is None and message.mme_id is None:
