@@ -1,0 +1,190 @@
+"""Tests of the launcher's scripts: python3 launcher/tests.py. They run the built program by ./lte_sec."""
+import concurrent.futures
+import pathlib
+import re
+import subprocess
+import sys
+import tempfile
+import tomllib
+import unittest
+
+sys.dont_write_bytecode = True
+HERE = pathlib.Path(__file__).resolve().parent
+TOP = HERE.parent
+import document  # noqa: E402
+import fields  # noqa: E402
+import ladder  # noqa: E402
+import scenario  # noqa: E402
+import verdict  # noqa: E402
+
+EXAMPLES = TOP / "examples"
+SETUP = 'phone = { caps = "a020" }\nstation = [{ id = 0, cells = [[10, 100]] }, { id = 1, cells = [[11, 101]] }]\n'
+
+
+def launched(*words: object, given: bytes | None = None) -> subprocess.CompletedProcess:
+    given = {"stdin": subprocess.DEVNULL} if given is None else {"input": given}
+    return subprocess.run([TOP / "lte_sec", *words], capture_output=True, **given)
+
+
+def mistakes() -> list[tuple[str, str, str, str]]:
+    """Of each block of the file `mistakes` the word, the program's line, the launcher's and the text."""
+    blocks = []
+    for line in (HERE / "mistakes").read_text().splitlines():
+        if line.startswith("    "):
+            blocks[-1][3] += SETUP if line.strip() == ".." else line[4:] + "\n"
+        elif line and not line.startswith("#"):
+            blocks.append([*(part.strip() for part in line.split("|", 2)), ""])
+    return [tuple(block) for block in blocks]
+
+
+def plain(value: document.Value) -> object:
+    if isinstance(value.is_, dict):
+        return {name: plain(entry.value) for name, entry in value.is_.items()}
+    return [plain(it) for it in value.is_] if isinstance(value.is_, list) else value.is_
+
+
+def kinds_of(field: fields.Field) -> list:
+    """The kinds that a field may have."""
+    return list(field.kind[1].values()) if isinstance(field.kind, tuple) else [field.kind]
+
+
+class Mistakes(unittest.TestCase):
+    def test_each_mistake_is_answered_by_what_to_do(self):
+        with tempfile.TemporaryDirectory() as room, concurrent.futures.ThreadPoolExecutor() as pool:
+            files = [pathlib.Path(room) / str(number) for number in range(len(mistakes()))]
+            for file, (*_, text) in zip(files, mistakes()):
+                file.write_text(text)
+            runs = pool.map(launched, [word for word, *_ in mistakes()], files)
+            for (word, line, reason, text), ran in zip(mistakes(), runs):
+                with self.subTest(word=word, text=text):
+                    said = f"lte_sec: {reason}\n" if reason else ""
+                    self.assertEqual((3, f"{line}\n", said), (ran.returncode, ran.stdout.decode(), ran.stderr.decode()))
+
+    def test_a_text_in_a_pipe_is_answered_as_one_in_a_file(self):
+        word, line, reason, text = mistakes()[1]
+        ran = launched(word, given=text.encode())
+        self.assertEqual((f"{line}\n", f"lte_sec: {reason}\n"), (ran.stdout.decode(), ran.stderr.decode()))
+
+    def test_octets_that_are_no_text_are_named(self):
+        ran = launched("run", given=b"phone = \xff")
+        self.assertEqual((b"refused text\n", b"lte_sec: line 1, column 9: octet ff is no text in UTF-8\n"), (ran.stdout, ran.stderr))
+
+    def test_a_text_that_is_read_from_its_middle_is_not_judged(self):
+        with tempfile.TemporaryFile() as file:
+            file.write(b"#\nphon = 1\n")
+            file.seek(2)
+            ran = subprocess.run([TOP / "lte_sec", "run"], stdin=file, capture_output=True)
+        self.assertEqual((b"refused setup unknown\n", b""), (ran.stdout, ran.stderr))
+
+
+class Texts(unittest.TestCase):
+    """What the program takes is no mistake here."""
+
+    def test_documents_are_those_of_tomllib(self):
+        for file in [*EXAMPLES.glob("*/*.toml"), *TOP.glob("docs/cookbook/*.toml")]:
+            self.assertEqual(tomllib.loads(file.read_text()), plain(document.read(file.read_bytes())), file)
+
+    def test_inline_tables_may_go_over_lines(self):
+        self.assertEqual({"a": {"b": 1, "c": "\x1b"}}, plain(document.read(b'a = { b = 1, # of TOML 1.1\n  c = "\\e",\n}\n')))
+
+    def test_examples_have_no_fault(self):
+        for room, kind in (("run", scenario.RUN), ("worked", scenario.RUN), ("fleet", scenario.FLEET), ("two", scenario.TWO)):
+            for file in EXAMPLES.glob(f"{room}/*.toml"):
+                self.assertIsNone(scenario.first_fault(document.read(file.read_bytes()), kind), file)
+        for name in ("first", "chain", "algorithms"):
+            self.assertIsNone(ladder.first_fault((EXAMPLES / "ladder" / f"{name}.txt").read_bytes()), name)
+
+    def test_a_ladder_text_has_4096_lines_at_most(self):
+        text = b"root " + b"0" * 64 + b"\n" + b"".join(b"kenb 0 %d\n" % count for count in range(4096))
+        self.assertEqual("refused line 4097", ladder.first_fault(text).line)
+        self.assertIsNone(ladder.first_fault(text[:text.rindex(b"kenb")]))
+
+
+class Page(unittest.TestCase):
+    """The table of fields says what docs/SCENARIOS.md does."""
+
+    def rows(self, head: str) -> list[list[str]]:
+        page = (TOP / "docs" / "SCENARIOS.md").read_text()
+        lines = page[page.index(head):].split("\n\n")[0].splitlines()[2:]
+        return [[cell.strip() for cell in line.strip("|").split(" | ")] for line in lines]
+
+    def tell(self, told: list[fields.Field], cell: str, where: str) -> None:
+        """A cell of the page names these fields in order, and for each that it says more of its words and numbers."""
+        names = [field.name for field in told]
+        named = [code for code in dict.fromkeys(re.findall(r"`(\w+)`", cell)) if code in names]
+        words = {word for field in told for kind in kinds_of(field) for word in getattr(kind, "words", ())}
+        ordered = [name for name in names if name not in words]  # `station` is a word of other fields, too
+        self.assertEqual((set(names), ordered), (set(named), [name for name in named if name not in words]), where)
+        for part in cell.split(";"):
+            codes = re.findall(r"`(\w+)`", part)
+            numbers = [int(number.replace(",", "")) for number in re.findall(r"\b\d[\d,]*", re.sub(r"`[^`]*`", "", part))]
+            of = [number for field in told if field.name in codes for kind in kinds_of(field) for number in kind.numbers]
+            self.assertLessEqual({code for code in codes if code not in names}, words | set(fields.STEPS), where)
+            self.assertIn(numbers, ([], of), where)
+            self.assertEqual("or those of" in part, any(field.may_lack for field in told if field.name in codes), where)
+
+    def test_each_step_has_the_fields_of_the_page(self):
+        seen = []
+        for words, _, cell in self.rows("| `do` | what happens | fields"):
+            for word in re.findall(r"`(\w+)`", words):
+                seen.append(word)
+                self.tell(fields.STEPS[word], cell, word)
+        self.assertEqual(sorted(fields.STEPS), sorted(seen))
+
+    def test_the_setup_has_the_fields_of_the_page(self):
+        tables = {"[phone]": fields.PHONE, "[core]": fields.CORE, "[[station]]": fields.STATIONS}
+        seen: dict[str, list[str]] = {name: [] for name in tables}
+        table = ""
+        for name, field, cell, lacking in self.rows("| table | field | value"):
+            table = next((it for it in [*tables, "[[step]]"] if it in name), table)
+            if table == "[[step]]":
+                continue
+            of = next(it for it in tables[table] if f"`{it.name}`" == field)
+            seen[table].append(of.name)
+            self.assertEqual("refused" not in lacking, of.may_lack, field)
+            if "as for" not in cell and of.name != "caps":
+                self.assertLessEqual(set(map(str, of.kind.numbers)), set(re.findall(r"\d+", cell)), field)
+        self.assertEqual({name: [field.name for field in told] for name, told in tables.items()}, seen)
+
+
+class Verdicts(unittest.TestCase):
+    def test_the_word_reads_a_report_and_ends_so(self):
+        for name, status, last in (
+            ("seven-ahead", 0, ["steps 59 to 63: phone and station 0 have one key", "all agree"]),
+            ("eight-ahead", 1, ["steps 66 to 69: phone and station 1 have different keys; 8 steps ahead", "keys differ"]),
+        ):
+            ran = launched("verdict", EXAMPLES / "run" / f"{name}.out")
+            self.assertEqual((status, last), (ran.returncode, ran.stdout.decode().splitlines()[-2:]), name)
+        ran = launched("verdict", EXAMPLES / "fleet" / "two-phones.out")
+        self.assertEqual((3, b"lte_sec: this is no report of run: it is one of fleet; sed -n 's/^0 //p' gives that of phone 0\n"), (ran.returncode, ran.stderr))
+
+    def test_only_these_of_the_kept_runs_differ(self):
+        differ = set()
+        for file in [*EXAMPLES.glob("run/*.out"), *EXAMPLES.glob("worked/*.out"), *EXAMPLES.glob("two/*.out")]:
+            if file.stem in ("coincidence", "no-scenario"):
+                self.assertRaises(verdict.NoReport, verdict.judged, file.read_text())
+            else:
+                status, _ = verdict.judged(file.read_text())
+                self.assertIn(status, (0, 1), file)
+                differ |= {file.stem} if status else set()
+        self.assertEqual({"eight-ahead", "eight-preparations", "key-change-overtaken"}, differ)
+
+    def test_each_handover_and_key_change_is_told(self):
+        for name, lines in (
+            ("run/ordinary", ["steps 11 to 15: phone and station 1 have one key", "steps 20 to 24: phone and station 0 have one key", "all agree"]),
+            ("run/eight-preparations", ["steps 52 to 56: phone and station 1 have different keys; 8 steps ahead", "keys differ"]),
+            ("run/two-preparations", ["steps 12 to 17: phone and station 1 have one key", "all agree"]),
+            ("run/wrong-ksi", ["no handover and no key change", "all agree"]),
+            ("worked/within-a-station", ["steps 8 to 11: phone and station 0 have one key", "all agree"]),
+            ("worked/key-change-overtaken", ["steps 12 to 16: phone and station 0 have different keys; of different KASMEs", "keys differ"]),
+        ):
+            self.assertEqual(lines, verdict.judged((EXAMPLES / f"{name}.out").read_text())[1], name)
+
+    def test_other_texts_are_no_reports(self):
+        ordinary = (EXAMPLES / "run" / "ordinary.out").read_text()
+        for text in ("", "end 0 0\n", ordinary[:500], ordinary.replace("\n5 station", "\n7 station"), ordinary[:-200], ordinary.replace("row 5", "row 6")):
+            self.assertRaises(verdict.NoReport, verdict.judged, text)
+
+
+if __name__ == "__main__":
+    unittest.main()
