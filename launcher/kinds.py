@@ -1,7 +1,7 @@
 """The kinds of values that fields of a scenario may have.
 
 Of each kind: what may stand (`may`), the numbers with which docs/SCENARIOS.md says it (`numbers`), and what is wrong with a
-value in a scenario with this setup (`wrong`, or None).
+value in a scenario with this setup (`wrong`, or None). What is right of the number and the cells of a station joins the setup.
 """
 import dataclasses
 
@@ -54,7 +54,7 @@ class Number:
     def numbers(self) -> list[int]:
         return [self.low, self.high]
 
-    def wrong(self, value: Value, setup: "Setup") -> str | None:
+    def wrong(self, value: Value, setup: Setup) -> str | None:
         return None if is_whole(value, self.low, self.high) else f"is {shown(value)}"
 
 
@@ -62,7 +62,7 @@ class Number:
 class Integer:
     may, numbers = "a number, counted from 0, or back from the newest, which is -1", []
 
-    def wrong(self, value: Value, setup: "Setup") -> str | None:
+    def wrong(self, value: Value, setup: Setup) -> str | None:
         return None if type(value.is_) is int else f"is {shown(value)}"
 
 
@@ -81,7 +81,7 @@ class Hex:
     def numbers(self) -> list[int]:
         return [2 * self.octets if self.exactly else self.octets]
 
-    def wrong(self, value: Value, setup: "Setup") -> str | None:
+    def wrong(self, value: Value, setup: Setup) -> str | None:
         if not isinstance(value.is_, str):
             return f"is {shown(value)}"
         other = [letter for letter in value.is_ if letter not in "0123456789abcdefABCDEF"]
@@ -101,7 +101,7 @@ class Words:
     def may(self) -> str:
         return one_of([f'"{word}"' for word in self.words])
 
-    def wrong(self, value: Value, setup: "Setup") -> str | None:
+    def wrong(self, value: Value, setup: Setup) -> str | None:
         return None if isinstance(value.is_, str) and value.is_ in self.words else f"is {shown(value)}"
 
 
@@ -109,7 +109,7 @@ class Words:
 class Priority:
     may, numbers = "one or two different ones of 0 (EEA0) and 2 (128-EEA2), as [2, 0]", [0, 2]
 
-    def wrong(self, value: Value, setup: "Setup") -> str | None:
+    def wrong(self, value: Value, setup: Setup) -> str | None:
         algorithms = [it.is_ for it in value.is_ if type(it.is_) is int] if isinstance(value.is_, list) else []
         return None if algorithms in ([0], [2], [0, 2], [2, 0]) and len(algorithms) == len(value.is_) else f"is {shown(value)}"
 
@@ -118,7 +118,7 @@ class Priority:
 class Cell:
     may, numbers = f"[PCI, EARFCN], PCI 0 to {PCI} and EARFCN 0 to {EARFCN}", []
 
-    def wrong(self, value: Value, setup: "Setup") -> str | None:
+    def wrong(self, value: Value, setup: Setup) -> str | None:
         pair = value.is_ if isinstance(value.is_, list) else []
         if len(pair) != 2:
             return f"is {shown(value)}"
@@ -132,7 +132,7 @@ class Cell:
 class Cells:
     may, numbers = f"1 to {MOST_CELLS} cells [PCI, EARFCN] that no station has yet, PCI 0 to {PCI} and EARFCN 0 to {EARFCN}", [1, MOST_CELLS, 0, PCI, 0, EARFCN]
 
-    def wrong(self, value: Value, setup: "Setup") -> str | None:
+    def wrong(self, value: Value, setup: Setup) -> str | None:
         if not isinstance(value.is_, list) or not 1 <= len(value.is_) <= MOST_CELLS:
             return f"is {shown(value)}" if not isinstance(value.is_, list) else f"has {len(value.is_)} cells"
         for cell in value.is_:
@@ -150,7 +150,7 @@ class Cells:
 class NewStation:
     may, numbers = "a number 0 to 7 that no station before it has", [0, 7]
 
-    def wrong(self, value: Value, setup: "Setup") -> str | None:
+    def wrong(self, value: Value, setup: Setup) -> str | None:
         if not is_whole(value, 0, 7) or value.is_ in setup.stations:
             return f"is {shown(value)}"
         setup.stations.append(value.is_)
@@ -161,8 +161,8 @@ class NewStation:
 class Station:
     may, numbers = "a station of the scenario", []
 
-    def wrong(self, value: Value, setup: "Setup") -> str | None:
+    def wrong(self, value: Value, setup: Setup) -> str | None:
         if type(value.is_) is int and value.is_ in setup.stations:
             return None
         stations = [str(number) for number in setup.stations]
-        return f"is {shown(value)}, and {'stations are' if len(stations) > 1 else 'the only station is'} {one_of(stations, 'and')}"
+        return f"is {shown(value)}, and {'the stations are' if len(stations) > 1 else 'the only station is'} {one_of(stations, 'and')}"

@@ -4,7 +4,7 @@ A fault is the line that the program prints for it, the place in the text, and t
 """
 import dataclasses
 import difflib
-from collections.abc import Callable, Iterator
+from collections.abc import Iterator
 
 from document import Entry, Value
 from fields import CORE, Field, OF_CORE, PHONE, STATIONS, STEPS, THE_FLEET
@@ -29,6 +29,11 @@ def nearest(word: str, words: list[str]) -> str:
     return f"; did you mean {found[0]}?" if found else ""
 
 
+def only(where: str | None) -> str:
+    """Where alone a key may stand, as the end of a sentence."""
+    return f"; only {where} has it" if where else ""
+
+
 class Table:
     """A table of the document with the fields that it may have, and the words of the program for a fault in it."""
 
@@ -44,24 +49,24 @@ class Table:
         entry = self.table.entries().get(name)
         return entry is None or other.kind_in(self.table).wrong(entry.value, self.setup) is not None or entry.value.is_ in words
 
-    def faults(self, unknown: Callable[[str], str] = lambda key: "") -> Iterator[Fault]:
-        """Keys that are none of the fields, and then the fields in order."""
+    def faults(self, elsewhere: dict[str, str] | None = None) -> Iterator[Fault]:
+        """Keys that are none of the fields, and then the fields in order; `elsewhere` says which keys other tables have."""
         entries = self.table.entries()
         known = [field.name for field in self.fields if self.applies(field)]
         for key, entry in entries.items():
             if key not in known:
-                yield Fault(f"{self.line} unknown", entry.place, f"{self.name} takes no {key}{self.ruled_out(key) or unknown(key) or nearest(key, known)}")
+                more = self.ruled_out(key) or only((elsewhere or {}).get(key)) or nearest(key, known)
+                yield Fault(f"{self.line} unknown", entry.place, f"{self.name} takes no {key}{more}")
         for field in self.fields:
-            if not self.applies(field):
-                continue
-            entry, kind = entries.get(field.name), field.kind_in(self.table)
-            if entry is None:
-                if not field.may_lack:
-                    yield Fault(f"{self.line} missing {field.name}", self.table.place, f"{self.name} has no {field.name}, which is {kind.may}")
-                continue
-            wrong = kind.wrong(entry.value, self.setup)
-            if wrong:
-                yield Fault(f"{self.line} wrong {field.name}", entry.value.place, f"{self.name}: {field.name} {wrong}; it must be {kind.may}")
+            if self.applies(field):
+                yield from self.fault_of(field, entries.get(field.name), field.kind_in(self.table))
+
+    def fault_of(self, field: Field, entry: Entry | None, kind: object) -> Iterator[Fault]:
+        if entry is None:
+            if not field.may_lack:
+                yield Fault(f"{self.line} missing {field.name}", self.table.place, f"{self.name} has no {field.name}, which is {kind.may}")
+        elif wrong := kind.wrong(entry.value, self.setup):
+            yield Fault(f"{self.line} wrong {field.name}", entry.value.place, f"{self.name}: {field.name} {wrong}; it must be {kind.may}")
 
     def ruled_out(self, key: str) -> str:
         """Why a key that is a field of such tables stands here in vain."""
@@ -81,55 +86,52 @@ def section(top: Value, name: str, fields: list[Field], setup: Setup, may_lack: 
         yield from Table(f"[{name}]", "refused setup", entry.value, fields, setup).faults()
 
 
-def tables_of(top: Value, name: str) -> tuple[Entry | None, list[Value]]:
-    """An array of tables: its entry, and the tables, or none where it is no such array."""
-    entry = top.entries().get(name)
-    tables = entry.value.is_ if entry and isinstance(entry.value.is_, list) else []
-    return entry, tables if all(isinstance(it.is_, dict) for it in tables) else []
-
-
-def is_list_of_tables(entry: Entry) -> bool:
-    return isinstance(entry.value.is_, list) and all(isinstance(it.is_, dict) for it in entry.value.is_)
+def tables_of(entry: Entry | None) -> list[Value] | None:
+    """The tables of an array of tables, none where there is no entry, and None where it is another value."""
+    tables = entry.value.is_ if entry else []
+    return tables if isinstance(tables, list) and all(isinstance(it.is_, dict) for it in tables) else None
 
 
 def station_faults(top: Value, kind: str, setup: Setup) -> Iterator[Fault]:
-    entry, tables = tables_of(top, "station")
-    if entry is None or entry.value.is_ == []:
-        yield Fault("refused setup missing station", entry.value.place if entry else 0, "there is no station, as [[station]] id = 0, cells = [[10, 100]]")
-        return
-    if not is_list_of_tables(entry):
+    entry = top.entries().get("station")
+    tables = tables_of(entry)
+    if tables is None:
         yield Fault("refused setup wrong station", entry.value.place, f"station is {shown(entry.value)}; each station is a table [[station]]")
-        return
-    if len(tables) > MOST_STATIONS:
+    elif not tables:
+        yield Fault("refused setup missing station", entry.value.place if entry else 0, "there is no station, as [[station]] id = 0, cells = [[10, 100]]")
+    elif len(tables) > MOST_STATIONS:
         yield Fault("refused setup wrong station", tables[MOST_STATIONS].place, f"there are {len(tables)} stations; there may be 1 to {MOST_STATIONS}")
-        return
-    fields = STATIONS + ([OF_CORE] if kind == TWO else [])
-    for table in tables:
-        yield from Table("[[station]]", "refused setup", table, fields, setup).faults(lambda key: "; only a scenario of two cores has it" if key == "core" else "")
+    else:
+        fields = STATIONS + ([OF_CORE] if kind == TWO else [])
+        for table in tables:
+            yield from Table("[[station]]", "refused setup", table, fields, setup).faults({"core": "a scenario of two cores"})
 
 
 def step_faults(top: Value, kind: str, setup: Setup) -> Iterator[Fault]:
-    entry, tables = tables_of(top, "step")
-    if entry is None:
-        return
-    if not is_list_of_tables(entry):
+    entry = top.entries().get("step")
+    tables = tables_of(entry)
+    if tables is None:
         yield Fault("refused setup wrong step", entry.value.place, f"step is {shown(entry.value)}; each step is a table [[step]]")
-        return
-    if len(tables) > MOST_STEPS:
+    elif len(tables) > MOST_STEPS:
         yield Fault("refused steps", tables[MOST_STEPS].place, f"there are {len(tables):,} steps; there may be {MOST_STEPS:,}")
-        return
-    whose = [Field("phone", Number(0, setup.phones - 1), may_lack=True)] if kind == FLEET else []
-    for number, table in enumerate(tables):
-        do, line = table.entries().get("do"), f"refused step {number}"
-        if do is None:
-            yield Fault(f"{line} missing do", table.place, f"step {number} has no do, which says what happens")
-        elif not isinstance(do.value.is_, str) or do.value.is_ not in STEPS:
-            meant = nearest(do.value.is_, list(STEPS)) if isinstance(do.value.is_, str) else ""
-            yield Fault(f"{line} wrong do", do.value.place, f"step {number}: do is {shown(do.value)}{meant or '; it may be ' + one_of(list(STEPS))}")
-        else:
-            fields = [Field("do", Words((do.value.is_,))), *whose, *STEPS[do.value.is_]]
-            name = f"step {number} ({do.value.is_})"
-            yield from Table(name, line, table, fields, setup).faults(lambda key: "; only a step of a fleet has it" if key == "phone" else "")
+    else:
+        whose = [Field("phone", Number(0, setup.phones - 1), may_lack=True)] if kind == FLEET else []
+        for number, table in enumerate(tables):
+            yield from faults_of_step(number, table, whose, setup)
+
+
+def faults_of_step(number: int, table: Value, whose: list[Field], setup: Setup) -> Iterator[Fault]:
+    """The faults of one step: `do` first, and then the fields that go with it, those of a fleet before the others."""
+    entry, line = table.entries().get("do"), f"refused step {number}"
+    do = entry.value.is_ if entry else None
+    if entry is None:
+        yield Fault(f"{line} missing do", table.place, f"step {number} has no do, which says what happens")
+    elif not isinstance(do, str) or do not in STEPS:
+        meant = nearest(do, list(STEPS)) if isinstance(do, str) else ""
+        yield Fault(f"{line} wrong do", entry.value.place, f"step {number}: do is {shown(entry.value)}{meant or '; it must be ' + one_of(list(STEPS))}")
+    else:
+        fields = [Field("do", Words((do,))), *whose, *STEPS[do]]
+        yield from Table(f"step {number} ({do})", line, table, fields, setup).faults({"phone": "a step of a fleet"})
 
 
 def faults(top: Value, kind: str) -> Iterator[Fault]:
@@ -139,7 +141,7 @@ def faults(top: Value, kind: str) -> Iterator[Fault]:
     known = ["phone", "core", "station", "step"] + (["fleet"] if kind == FLEET else [])
     for key, entry in top.entries().items():
         if key not in known:
-            more = "; only a scenario of a fleet has it" if key == "fleet" else nearest(key, known)
+            more = only("a scenario of a fleet" if key == "fleet" else None) or nearest(key, known)
             yield Fault("refused setup unknown", entry.place, f"there is no {key} at the top of this scenario{more}")
     if kind == FLEET:
         yield from section(top, "fleet", THE_FLEET, setup)
