@@ -3,6 +3,8 @@ pub mod Lines
 pub mod Cause
 pub mod Octets
 pub mod PortLine
+pub mod Opening
+pub mod Serving
 pub mod Peers
 pub mod RoleWords
 pub mod Script

@@ -1,90 +1,124 @@
-ghost use Rattle.std.specs.Prelude.{◌≡◌, ◌+◌, ◌-◌, ◌^◌, ◌≤◌, min, length, IfOk, IfSome, IsErrOf, OnOk, OnErr, None};
+ghost use Rattle.std.specs.Prelude.{◌≡◌, ◌+◌, ◌-◌, ◌^◌, ◌≤◌, ◌⊎◌, min, length, take, IfOk, IfErr, IfSome, IsSomeAnd, IsErrOf, OnOk, OnErr, None, Some};
 ghost use Rattle.std.specs.Option.{option_map};
+ghost use Rattle.std.specs.List.{slice_get};
 ghost use Rattle.edge_io.specs.Cause.{Rose};
 ghost use Rattle.edge_io.specs.Peers.{started};
+ghost use Rattle.edge_io.specs.Serving.{IsServed, NotServed, program_of, start_of};
 
 use crate::failed::Failed;
+use crate::host::Host;
+use crate::network::Network;
+use crate::peer_fault::PeerFault;
 use crate::peers::{Peers, Role, StartFault};
-use crate::served_child::ServedChild;
+use crate::programs::Programs;
+use crate::reader::Reader;
+use crate::served_child::{ServedChild, StartError};
 use std::alloc::Global;
-use std::net::Net;
-use std::path::PathBuf;
-use std::process::Processes;
 
-/// Peers that are programs started here, each with the words `serve` and its role, and reached over
-/// TCP on 127.0.0.1 at the port that it says. It counts each error but want of memory, and tells
-/// nothing of the peers.
+/// How many octets of what a peer has still to say are kept: those of the greatest reply.
+const REST: usize = 4098;
+
+/// Peers that are programs started here, each with the words of its role, and reached over TCP on
+/// 127.0.0.1 at the port that it says. It counts each error but want of memory, and tells nothing of
+/// the peers.
 #[derive(Drop)]
-pub struct ChildPeers<H: Net + Processes + Drop> {
-    /// The path of the program. Where there is none, each start fails.
-    pub program: Option<PathBuf>,
-    host: H,
+pub struct ChildPeers<H: Host + Drop> {
+    /// What starts and reaches the programs.
+    pub host: H,
+    /// The programs.
+    pub programs: Programs,
+    /// The peers that were started, by their numbers.
+    pub peers: Vec<ServedChild<H>>,
+    /// What failed last, and at which role.
+    pub failed: Option<(Role, PeerFault)>,
+    /// What a peer had still to say when it was stopped, by its role: at most 4,098 octets.
+    pub rests: Vec<(Role, Vec<u8>)>,
     alloc: Global,
-    peers: Vec<Option<ServedChild<H>>>,
     faults: u64,
 }
 
-impl<H: Net + Processes + Drop> ChildPeers<H> {
+impl<H: Host + Drop> ChildPeers<H> {
     /// Peers of which none is started. Any program can be named that serves a role by frames.
-    pub fn new(host: H, alloc: Global, program: Option<PathBuf>) -> ChildPeers<H>
+    pub fn new(host: H, alloc: Global, programs: Programs) -> ChildPeers<H>
         ensures told { ⟦<ChildPeers<H> as Peers>⟧.told result ≡ None }
         ensures faults { ⟦<ChildPeers<H> as Peers>⟧.faults result ≡ 0 }
-        ensures program { result.program ≡ program }
+        ensures host { result.host ≡ host }
+        ensures programs { result.programs ≡ programs }
     {
         ChildPeers {
-            program,
             host,
-            alloc,
+            programs,
             peers: Vec::new(alloc),
+            failed: None,
+            rests: Vec::new(alloc),
+            alloc,
             faults: 0,
+        }
+    }
+
+    // A fault at a role is counted.
+    fn count_fault(&mut self, role: Role, fault: PeerFault)
+        ensures counts { ⟦<ChildPeers<H> as Peers>⟧.faults self.old ≤ ⟦<ChildPeers<H> as Peers>⟧.faults self.new }
+        ensures count { ⟦<ChildPeers<H> as Peers>⟧.faults self.new
+            ≡ min (⟦<ChildPeers<H> as Peers>⟧.faults self.old + 1) (2 ^ 64 - 1) }
+        ensures failed { self.new.failed ≡ Some (role, fault) }
+        ensures peers { self.new.peers ≡ self.old.peers }
+        ensures programs { self.new.programs ≡ self.old.programs }
+    {
+        self.failed = Some((role, fault));
+        self.faults = self.faults.saturating_add(1);
+    }
+
+    // Keeps what a peer had still to say, as far as there is memory for it.
+    fn keep_rest(&mut self, role: Role, octets: &[u8])
+        ensures faults { ⟦<ChildPeers<H> as Peers>⟧.faults self.new ≡ ⟦<ChildPeers<H> as Peers>⟧.faults self.old }
+    {
+        if let Ok(octets) = octets.to_vec(self.alloc) {
+            let _ = self.rests.push((role, octets));
         }
     }
 }
 
-// A fault is counted.
-fn count_fault(faults: &mut u64) -> Failed
-    ensures counts { faults.old ≤ faults.new }
-    ensures count { faults.new ≡ min (faults.old + 1) (2 ^ 64 - 1) }
-{
-    *faults = faults.saturating_add(1);
-    Failed
-}
-
 // Starts the next peer.
-fn start_next<H: Net + Processes>(
+fn start_next<H: Host>(
     host: &H,
     alloc: Global,
-    program: &Option<PathBuf>,
+    programs: &Programs,
     role: Role,
-    peers: &mut Vec<Option<ServedChild<H>>>,
-) -> Result<u8, StartFault>
-    ensures no_program { program.now ≡ None → result ≡ Err StartFault.Failed }
+    peers: &mut Vec<ServedChild<H>>,
+) -> Result<u8, StartError>
     ensures place { IfOk result (λ place. place ≡ length peers.old.items) }
-    ensures added { OnOk result (length peers.new.items ≡ length peers.old.items + 1) }
-    ensures kept { OnErr result (peers.new.items ≡ peers.old.items) }
+    ensures others { take (length peers.old.items) peers.new.items ≡ peers.old.items }
+    ensures served { OnOk result (IsSomeAnd (program_of role programs.now) (λ program.
+        IsSomeAnd (slice_get peers.new.items (length peers.old.items)) (λ child. (child.role ≡ role) × IsSomeAnd child.connection
+        (IsServed (start_of (H.starts host.now) program role) H.Said.remaining (H.connects host.now) child.process child.said)))) }
+    ensures no_program { program_of role programs.now ≡ None → result ≡ Err (StartError.Peer PeerFault.NotStarted) }
+    ensures failed { IfErr result (λ e. (fault : PeerFault) → e ≡ StartError.Peer fault → (256 ≤ length peers.old.items)
+        ⊎ IfSome (program_of role programs.now) (λ program. NotServed (start_of (H.starts host.now) program role)
+        H.kills H.waits H.Said.answers H.Said.remaining (H.connects host.now) fault)) }
 {
-    let Some(program) = program else {
-        return Err(StartFault::Failed);
+    let Some(program) = programs.of(role) else {
+        return Err(StartError::Peer(PeerFault::NotStarted));
     };
     let Ok(place) = u8::try_from(peers.len()) else {
-        return Err(StartFault::Failed);
+        return Err(StartError::Peer(PeerFault::NotStarted));
     };
     let Ok(()) = peers.reserve(1) else {
-        return Err(StartFault::Memory);
+        return Err(StartError::Memory);
     };
     let child = ServedChild::start(host, alloc, program, role)?;
-    peers.push(Some(child)).unwrap();
+    peers.push(child).unwrap();
     Ok(place)
 }
 
-impl<H: Net + Processes + Drop> Peers for ChildPeers<H> {
+impl<H: Host + Drop> Peers for ChildPeers<H> {
     ghost use Rattle.std.proofs.Common.{rules};
 
     ghost faults = { λ p. p.faults };
 
     ghost told = { λ _. None };
 
-    /// It starts the program, reads the line with its port and connects to it. It fails past 256
+    /// It starts the program of the role, reads the line with its port and connects to it. It fails past 256
     /// peers.
     fn start(&mut self, role: Role) -> Result<u8, StartFault>
         ensures place { IfOk result (λ place.
@@ -97,40 +131,67 @@ impl<H: Net + Processes + Drop> Peers for ChildPeers<H> {
             Rose (⟦<ChildPeers<H> as Peers>⟧.faults self.old) (⟦<ChildPeers<H> as Peers>⟧.faults self.new) }
         ensures no_fault { OnOk result (⟦<ChildPeers<H> as Peers>⟧.faults self.new ≡ ⟦<ChildPeers<H> as Peers>⟧.faults self.old) }
         ensures count { ⟦<ChildPeers<H> as Peers>⟧.faults self.old ≤ ⟦<ChildPeers<H> as Peers>⟧.faults self.new }
-        ensures no_program { self.old.program ≡ None → result ≡ Err StartFault.Failed }
-        ensures program { self.new.program ≡ self.old.program }
+
+        // The peer is the program of the role, started with the words of the role, and reached on 127.0.0.1 at the port that it said.
+        ensures served { OnOk result (IsSomeAnd (program_of role self.old.programs) (λ program.
+            IsSomeAnd (slice_get self.new.peers.items (length self.old.peers.items)) (λ child. (child.role ≡ role) × IsSomeAnd child.connection
+            (IsServed (start_of (H.starts self.old.host) program role) H.Said.remaining (H.connects self.old.host) child.process child.said)))) }
+        ensures others { take (length self.old.peers.items) self.new.peers.items ≡ self.old.peers.items }
+        ensures programs { self.new.programs ≡ self.old.programs }
+
+        // Why it fails. A program that was started is then ended.
+        ensures no_program { program_of role self.old.programs ≡ None → result ≡ Err StartFault.Failed }
+        ensures failed { IsErrOf result StartFault.Failed → (256 ≤ length self.old.peers.items)
+            ⊎ IfSome (program_of role self.old.programs) (λ program. IsSomeAnd self.new.failed (λ failed. (failed.0 ≡ role)
+            × NotServed (start_of (H.starts self.old.host) program role) H.kills H.waits H.Said.answers H.Said.remaining (H.connects self.old.host) failed.1)) }
     {
-        let started = start_next(&self.host, self.alloc, &self.program, role, &mut self.peers);
-        if let Err(StartFault::Failed) = started {
-            count_fault(&mut self.faults);
+        match start_next(&self.host, self.alloc, &self.programs, role, &mut self.peers) {
+            Ok(place) => Ok(place),
+            Err(StartError::Memory) => Err(StartFault::Memory),
+            Err(StartError::Peer(fault)) => {
+                self.count_fault(role, fault);
+                Err(StartFault::Failed)
+            }
         }
-        started
     }
 
     fn send(&mut self, peer: u8, octets: &[u8]) -> Result<(), Failed> {
-        if let Some(Some(child)) = self.peers.get_mut(peer as usize) {
-            if let Ok(()) = child.send(octets) {
-                return Ok(());
-            }
+        let Some(child) = self.peers.get_mut(peer as usize) else {
+            self.faults = self.faults.saturating_add(1);
+            return Err(Failed);
+        };
+        if let Ok(()) = child.send(octets) {
+            return Ok(());
         }
-        Err(count_fault(&mut self.faults))
+        let role = child.role;
+        self.count_fault(role, PeerFault::NotSent);
+        Err(Failed)
     }
 
     fn receive(&mut self, peer: u8, buf: &mut [u8]) -> Result<(), Failed> {
-        if let Some(Some(child)) = self.peers.get_mut(peer as usize) {
-            if let Ok(()) = child.receive(buf) {
-                return Ok(());
-            }
+        let Some(child) = self.peers.get_mut(peer as usize) else {
+            self.faults = self.faults.saturating_add(1);
+            return Err(Failed);
+        };
+        if let Ok(()) = child.receive(buf) {
+            return Ok(());
         }
-        Err(count_fault(&mut self.faults))
+        let role = child.role;
+        self.count_fault(role, PeerFault::NoReply);
+        Err(Failed)
     }
 
-    /// It closes the connection, ends the program and waits until it has ended.
+    /// It closes the connection, ends the program and waits until it has ended. What the program had still to
+    /// say is kept.
     fn stop(&mut self, peer: u8) {
-        if let Some(child) = self.peers.get_mut(peer as usize) {
-            if let Some(child) = child.take() {
-                child.stop();
-            }
+        let Some(child) = self.peers.get_mut(peer as usize) else {
+            return;
+        };
+        let mut rest = [0u8; REST];
+        let count = child.stop(&mut rest);
+        if count > 0 {
+            let role = child.role;
+            self.keep_rest(role, &rest[..count]);
         }
     }
 

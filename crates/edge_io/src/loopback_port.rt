@@ -4,38 +4,43 @@ ghost use Rattle.edge_io.specs.Told.{HasEnded, connection_told};
 ghost use Rattle.edge_io.specs.Cause.{HasCause, NoCountFell, NoFault};
 ghost use Rattle.edge_io.specs.Lines.{with_piece};
 ghost use Rattle.edge_io.specs.Octets.{Gives, Grows, MetNoEnd, octets_of};
-ghost use Rattle.edge_io.specs.PortLine.{SaysPort};
+ghost use Rattle.edge_io.specs.Opening.{IsOpened, OpenFails};
+ghost use Rattle.edge_io.specs.Tries.{LastAnswers, GivesUp};
 
 use crate::edge::Edge;
 use crate::failed::Failed;
+use crate::network::Network;
 use crate::port::Port;
+use crate::port_line::{on_loopback, port_line};
 use crate::reader_source::{MOST, read_once};
 use crate::sink::Sink;
 use crate::source::Source;
 use crate::writer_sink::write_once;
-use std::io::{self, Write};
-use std::net::{Ipv4Addr, Net, OpenListener, SocketAddrV4, TcpListener};
+use crate::writing::write_all;
 
 /// A port over one TCP connection on 127.0.0.1. It counts each error of the network, and tells
 /// nothing of the octets. It gives at most 2^62 octets: a read past them fails.
 #[derive(Drop)]
-pub struct LoopbackPort<N: Net + Drop, W: Write + Drop> {
+pub struct LoopbackPort<N: Network + Drop, K: Sink + Drop> {
     /// The one connection, once it was accepted.
     pub connection: Option<N::Stream>,
     /// Where the number of the port is written.
-    pub out: W,
-    net: N,
+    pub out: K,
+    /// The network.
+    pub net: N,
     most: usize,
     ended: bool,
     read_faults: u64,
     write_faults: u64,
     open_faults: u64,
+    ghost out_ready: { IsTrue (K.told out).ready },
 }
 
-impl<N: Net + Drop, W: Write + Drop> LoopbackPort<N, W> {
+impl<N: Network + Drop, K: Sink + Drop> LoopbackPort<N, K> {
     /// A port that is not open. It will be bound by `net`, and its number written to `out`.
-    pub fn new(net: N, out: W) -> LoopbackPort<N, W>
-        ensures told { ⟦<LoopbackPort<N, W> as Edge>⟧.told result
+    pub fn new(net: N, out: K) -> LoopbackPort<N, K>
+        requires { IsTrue (K.told out).ready }
+        ensures told { ⟦<LoopbackPort<N, K> as Edge>⟧.told result
             ≡ connection_told false (2 ^ 62) false 0 0 0 }
     {
         LoopbackPort {
@@ -51,36 +56,43 @@ impl<N: Net + Drop, W: Write + Drop> LoopbackPort<N, W> {
     }
 }
 
-impl<N: Net + Drop, W: Write + Drop> Edge for LoopbackPort<N, W> {
+impl<N: Network + Drop, K: Sink + Drop> Edge for LoopbackPort<N, K> {
     ghost told = { λ p. connection_told (is_some p.connection) p.most p.ended p.read_faults p.write_faults p.open_faults };
 }
 
-impl<N: Net + Drop, W: Write + Drop> Source for LoopbackPort<N, W> {
+impl<N: Network + Drop, K: Sink + Drop> Source for LoopbackPort<N, K> {
     ghost use Rattle.std.proofs.Common.{rules};
 
     /// It hands on what the connection gives.
     fn read(&mut self, buf: &mut [u8]) -> Result<usize, Failed>
-        requires { IsTrue (⟦<LoopbackPort<N, W> as Edge>⟧.told self.old).ready }
-        ensures ready { IsTrue (⟦<LoopbackPort<N, W> as Edge>⟧.told self.new).ready }
+        requires { IsTrue (⟦<LoopbackPort<N, K> as Edge>⟧.told self.old).ready }
+        ensures ready { IsTrue (⟦<LoopbackPort<N, K> as Edge>⟧.told self.new).ready }
         ensures count { IfOk result (λ n. n ≤ length buf.old) }
-        ensures octets { Gives (⟦<LoopbackPort<N, W> as Edge>⟧.told self.old).left
-            (⟦<LoopbackPort<N, W> as Edge>⟧.told self.new).left (octets_of result buf.new) }
+        ensures octets { Gives (⟦<LoopbackPort<N, K> as Edge>⟧.told self.old).left
+            (⟦<LoopbackPort<N, K> as Edge>⟧.told self.new).left (octets_of result buf.new) }
         ensures end { IfOk result (λ n. n ≡ 0 → 0 < length buf.old →
-            HasEnded (⟦<LoopbackPort<N, W> as Edge>⟧.told self.new)) }
-        ensures no_end { MetNoEnd result (⟦<LoopbackPort<N, W> as Edge>⟧.told self.old)
-            (⟦<LoopbackPort<N, W> as Edge>⟧.told self.new) }
-        ensures most { (⟦<LoopbackPort<N, W> as Edge>⟧.told self.new).most
-            + length (octets_of result buf.new) ≤ (⟦<LoopbackPort<N, W> as Edge>⟧.told self.old).most }
-        ensures written { (⟦<LoopbackPort<N, W> as Edge>⟧.told self.new).written
-            ≡ (⟦<LoopbackPort<N, W> as Edge>⟧.told self.old).written }
-        ensures cause { HasCause (⟦<LoopbackPort<N, W> as Edge>⟧.told self.old).read_faults
-            (⟦<LoopbackPort<N, W> as Edge>⟧.told self.new).read_faults result }
-        ensures no_fault { OnOk result (NoFault (⟦<LoopbackPort<N, W> as Edge>⟧.told self.old)
-            (⟦<LoopbackPort<N, W> as Edge>⟧.told self.new)) }
-        ensures counts { NoCountFell (⟦<LoopbackPort<N, W> as Edge>⟧.told self.old)
-            (⟦<LoopbackPort<N, W> as Edge>⟧.told self.new) }
+            HasEnded (⟦<LoopbackPort<N, K> as Edge>⟧.told self.new)) }
+        ensures no_end { MetNoEnd result (⟦<LoopbackPort<N, K> as Edge>⟧.told self.old)
+            (⟦<LoopbackPort<N, K> as Edge>⟧.told self.new) }
+        ensures most { (⟦<LoopbackPort<N, K> as Edge>⟧.told self.new).most
+            + length (octets_of result buf.new) ≤ (⟦<LoopbackPort<N, K> as Edge>⟧.told self.old).most }
+        ensures written { (⟦<LoopbackPort<N, K> as Edge>⟧.told self.new).written
+            ≡ (⟦<LoopbackPort<N, K> as Edge>⟧.told self.old).written }
+        ensures cause { HasCause (⟦<LoopbackPort<N, K> as Edge>⟧.told self.old).read_faults
+            (⟦<LoopbackPort<N, K> as Edge>⟧.told self.new).read_faults result }
+        ensures no_fault { OnOk result (NoFault (⟦<LoopbackPort<N, K> as Edge>⟧.told self.old)
+            (⟦<LoopbackPort<N, K> as Edge>⟧.told self.new)) }
+        ensures counts { NoCountFell (⟦<LoopbackPort<N, K> as Edge>⟧.told self.old)
+            (⟦<LoopbackPort<N, K> as Edge>⟧.told self.new) }
         ensures passed { IfSome self.old.connection (λ old. IfSome self.new.connection (λ new.
             ReadConsumes (N.Stream.remaining old) (N.Stream.remaining new) result buf.new)) }
+
+        // What is answered is what the connection answered. A read fails by itself only past 2^62 octets.
+        ensures answered { IfOk result (λ n. IfSome self.old.connection (λ old. IfSome self.new.connection (λ new.
+            LastAnswers (N.Stream.Reader.answers (min (length buf.old) (⟦<LoopbackPort<N, K> as Edge>⟧.told self.old).most)) (Ok n) old new))) }
+        ensures failed { OnErr result (IfSome self.old.connection (λ old. IfSome self.new.connection (λ new.
+            GivesUp (N.Stream.Reader.answers (min (length buf.old) (⟦<LoopbackPort<N, K> as Edge>⟧.told self.old).most)) old new))
+            ⊎ ((⟦<LoopbackPort<N, K> as Edge>⟧.told self.old).most ≡ 0)) }
     {
         let Some(connection) = &mut self.connection else {
             unreachable!()
@@ -102,31 +114,39 @@ impl<N: Net + Drop, W: Write + Drop> Source for LoopbackPort<N, W> {
     ghost told_within = { Prim.search rules };
 }
 
-impl<N: Net + Drop, W: Write + Drop> Sink for LoopbackPort<N, W> {
+impl<N: Network + Drop, K: Sink + Drop> Sink for LoopbackPort<N, K> {
     /// It hands on to the connection, which takes what this answers.
     fn write(&mut self, piece: &[u8]) -> Result<usize, Failed>
-        requires { IsTrue (⟦<LoopbackPort<N, W> as Edge>⟧.told self.old).ready }
-        ensures ready { IsTrue (⟦<LoopbackPort<N, W> as Edge>⟧.told self.new).ready }
+        requires { IsTrue (⟦<LoopbackPort<N, K> as Edge>⟧.told self.old).ready }
+        ensures ready { IsTrue (⟦<LoopbackPort<N, K> as Edge>⟧.told self.new).ready }
         ensures count { IfOk result (λ n. n ≤ length piece.now) }
         ensures some { IfOk result (λ n. 0 < length piece.now → 0 < n) }
-        ensures octets { Grows (⟦<LoopbackPort<N, W> as Edge>⟧.told self.old).written
-            (⟦<LoopbackPort<N, W> as Edge>⟧.told self.new).written (octets_of result piece.now) }
-        ensures lines { (⟦<LoopbackPort<N, W> as Edge>⟧.told self.new).lines
-            ≡ with_piece piece.now (⟦<LoopbackPort<N, W> as Edge>⟧.told self.old).lines }
-        ensures left { (⟦<LoopbackPort<N, W> as Edge>⟧.told self.new).left
-            ≡ (⟦<LoopbackPort<N, W> as Edge>⟧.told self.old).left }
-        ensures most { (⟦<LoopbackPort<N, W> as Edge>⟧.told self.new).most
-            ≡ (⟦<LoopbackPort<N, W> as Edge>⟧.told self.old).most }
-        ensures ended { (⟦<LoopbackPort<N, W> as Edge>⟧.told self.new).ended
-            ≡ (⟦<LoopbackPort<N, W> as Edge>⟧.told self.old).ended }
-        ensures cause { HasCause (⟦<LoopbackPort<N, W> as Edge>⟧.told self.old).write_faults
-            (⟦<LoopbackPort<N, W> as Edge>⟧.told self.new).write_faults result }
-        ensures no_fault { OnOk result (NoFault (⟦<LoopbackPort<N, W> as Edge>⟧.told self.old)
-            (⟦<LoopbackPort<N, W> as Edge>⟧.told self.new)) }
-        ensures counts { NoCountFell (⟦<LoopbackPort<N, W> as Edge>⟧.told self.old)
-            (⟦<LoopbackPort<N, W> as Edge>⟧.told self.new) }
+        ensures octets { Grows (⟦<LoopbackPort<N, K> as Edge>⟧.told self.old).written
+            (⟦<LoopbackPort<N, K> as Edge>⟧.told self.new).written (octets_of result piece.now) }
+        ensures lines { (⟦<LoopbackPort<N, K> as Edge>⟧.told self.new).lines
+            ≡ with_piece piece.now (⟦<LoopbackPort<N, K> as Edge>⟧.told self.old).lines }
+        ensures left { (⟦<LoopbackPort<N, K> as Edge>⟧.told self.new).left
+            ≡ (⟦<LoopbackPort<N, K> as Edge>⟧.told self.old).left }
+        ensures most { (⟦<LoopbackPort<N, K> as Edge>⟧.told self.new).most
+            ≡ (⟦<LoopbackPort<N, K> as Edge>⟧.told self.old).most }
+        ensures ended { (⟦<LoopbackPort<N, K> as Edge>⟧.told self.new).ended
+            ≡ (⟦<LoopbackPort<N, K> as Edge>⟧.told self.old).ended }
+        ensures cause { HasCause (⟦<LoopbackPort<N, K> as Edge>⟧.told self.old).write_faults
+            (⟦<LoopbackPort<N, K> as Edge>⟧.told self.new).write_faults result }
+        ensures no_fault { OnOk result (NoFault (⟦<LoopbackPort<N, K> as Edge>⟧.told self.old)
+            (⟦<LoopbackPort<N, K> as Edge>⟧.told self.new)) }
+        ensures counts { NoCountFell (⟦<LoopbackPort<N, K> as Edge>⟧.told self.old)
+            (⟦<LoopbackPort<N, K> as Edge>⟧.told self.new) }
         ensures passed { IfSome self.old.connection (λ old. IfSome self.new.connection (λ new.
             WriteAppends (N.Stream.contents old) (N.Stream.contents new) result piece.now)) }
+
+        // What is answered is what the connection answered. Only a write that took nothing fails besides.
+        ensures answered { IfOk result (λ n. IfSome self.old.connection (λ old. IfSome self.new.connection (λ new.
+            LastAnswers (N.Stream.Writer.answers piece.now) (Ok n) old new))) }
+        ensures failed { OnErr result (IfSome self.old.connection (λ old. IfSome self.new.connection (λ new.
+            GivesUp (N.Stream.Writer.answers piece.now) old new
+            ⊎ (LastAnswers (N.Stream.Writer.answers piece.now) (Ok 0) old new
+            × (0 < length piece.now))))) }
     {
         let Some(connection) = &mut self.connection else {
             unreachable!()
@@ -141,28 +161,33 @@ impl<N: Net + Drop, W: Write + Drop> Sink for LoopbackPort<N, W> {
     }
 }
 
-impl<N: Net + Drop, W: Write + Drop> Port for LoopbackPort<N, W> {
+impl<N: Network + Drop, K: Sink + Drop> Port for LoopbackPort<N, K> {
     /// It binds a free port on 127.0.0.1, writes its number as one line, and waits for one
     /// connection.
     fn open(&mut self) -> Result<(), Failed>
-        requires { (⟦<LoopbackPort<N, W> as Edge>⟧.told self.old).ready ≡ false }
-        ensures opened { OnOk result (IsTrue (⟦<LoopbackPort<N, W> as Edge>⟧.told self.new).ready) }
-        ensures closed { OnErr result ((⟦<LoopbackPort<N, W> as Edge>⟧.told self.new).ready ≡ false) }
-        ensures left { (⟦<LoopbackPort<N, W> as Edge>⟧.told self.new).left
-            ≡ (⟦<LoopbackPort<N, W> as Edge>⟧.told self.old).left }
-        ensures most { (⟦<LoopbackPort<N, W> as Edge>⟧.told self.new).most
-            ≡ (⟦<LoopbackPort<N, W> as Edge>⟧.told self.old).most }
-        ensures ended { (⟦<LoopbackPort<N, W> as Edge>⟧.told self.new).ended
-            ≡ (⟦<LoopbackPort<N, W> as Edge>⟧.told self.old).ended }
-        ensures written { (⟦<LoopbackPort<N, W> as Edge>⟧.told self.new).written
-            ≡ (⟦<LoopbackPort<N, W> as Edge>⟧.told self.old).written }
-        ensures cause { HasCause (⟦<LoopbackPort<N, W> as Edge>⟧.told self.old).open_faults
-            (⟦<LoopbackPort<N, W> as Edge>⟧.told self.new).open_faults result }
-        ensures no_fault { OnOk result (NoFault (⟦<LoopbackPort<N, W> as Edge>⟧.told self.old)
-            (⟦<LoopbackPort<N, W> as Edge>⟧.told self.new)) }
-        ensures counts { NoCountFell (⟦<LoopbackPort<N, W> as Edge>⟧.told self.old)
-            (⟦<LoopbackPort<N, W> as Edge>⟧.told self.new) }
-        ensures said { OnOk result (SaysPort (W.contents self.old.out) (W.contents self.new.out)) }
+        requires { (⟦<LoopbackPort<N, K> as Edge>⟧.told self.old).ready ≡ false }
+        ensures opened { OnOk result (IsTrue (⟦<LoopbackPort<N, K> as Edge>⟧.told self.new).ready) }
+        ensures closed { OnErr result ((⟦<LoopbackPort<N, K> as Edge>⟧.told self.new).ready ≡ false) }
+        ensures left { (⟦<LoopbackPort<N, K> as Edge>⟧.told self.new).left
+            ≡ (⟦<LoopbackPort<N, K> as Edge>⟧.told self.old).left }
+        ensures most { (⟦<LoopbackPort<N, K> as Edge>⟧.told self.new).most
+            ≡ (⟦<LoopbackPort<N, K> as Edge>⟧.told self.old).most }
+        ensures ended { (⟦<LoopbackPort<N, K> as Edge>⟧.told self.new).ended
+            ≡ (⟦<LoopbackPort<N, K> as Edge>⟧.told self.old).ended }
+        ensures written { (⟦<LoopbackPort<N, K> as Edge>⟧.told self.new).written
+            ≡ (⟦<LoopbackPort<N, K> as Edge>⟧.told self.old).written }
+        ensures cause { HasCause (⟦<LoopbackPort<N, K> as Edge>⟧.told self.old).open_faults
+            (⟦<LoopbackPort<N, K> as Edge>⟧.told self.new).open_faults result }
+        ensures no_fault { OnOk result (NoFault (⟦<LoopbackPort<N, K> as Edge>⟧.told self.old)
+            (⟦<LoopbackPort<N, K> as Edge>⟧.told self.new)) }
+        ensures counts { NoCountFell (⟦<LoopbackPort<N, K> as Edge>⟧.told self.old)
+            (⟦<LoopbackPort<N, K> as Edge>⟧.told self.new) }
+
+        // What the calls on the network answered.
+        ensures by { OnOk result (IfSome self.new.connection
+            (IsOpened (N.binds self.old.net) N.has_port N.accepts (K.told self.old.out) (K.told self.new.out))) }
+        ensures failed { OnErr result
+            (OpenFails (N.binds self.old.net) N.has_port N.accepts (K.told self.old.out) (K.told self.new.out)) }
     {
         match accepted(&self.net, &mut self.out) {
             Ok(connection) => {
@@ -178,14 +203,21 @@ impl<N: Net + Drop, W: Write + Drop> Port for LoopbackPort<N, W> {
 }
 
 // Binds a port that is free, writes its number as one line, and accepts one connection.
-fn accepted<N: Net, W: Write>(net: &N, out: &mut W) -> io::Result<N::Stream>
-    ensures said { OnOk result (SaysPort (W.contents out.old) (W.contents out.new)) }
+fn accepted<N: Network, K: Sink>(net: &N, out: &mut K) -> Result<N::Stream, Failed>
+    requires { IsTrue (K.told out.old).ready }
+    ensures ready { IsTrue (K.told out.new).ready }
+    ensures by { IfOk result (IsOpened (N.binds net.now) N.has_port N.accepts (K.told out.old) (K.told out.new)) }
+    ensures failed { OnErr result (OpenFails (N.binds net.now) N.has_port N.accepts (K.told out.old) (K.told out.new)) }
 {
-    let any = SocketAddrV4::new(Ipv4Addr::LOCALHOST, 0);
-    let listener = TcpListener::bind(net, any)?;
-    let number = listener.local_addr()?.port();
-    writeln!(out, "{number}")?;
-    out.flush()?;
-    let (connection, _) = listener.accept()?;
-    Ok(connection)
+    let Ok(listener) = net.listen_at(on_loopback(0)) else {
+        return Err(Failed);
+    };
+    let Ok(number) = N::port_of(&listener) else {
+        return Err(Failed);
+    };
+    write_all(out, port_line(number).as_slice())?;
+    match N::accept_at(&listener) {
+        Ok(connection) => Ok(connection),
+        Err(_) => Err(Failed),
+    }
 }

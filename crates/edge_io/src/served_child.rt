@@ -1,132 +1,201 @@
-ghost use Rattle.std.specs.Prelude.{◌≡◌, ◌↔◌, IfOk, IfSome};
-ghost use Rattle.std.specs.IoError.{error_kind};
-ghost use Rattle.std.specs.Process.{command_program, command_args};
-ghost use Rattle.std.specs.Path.{path_buf_bytes};
-ghost use Rattle.edge_io.specs.RoleWords.{role_words};
+ghost use Rattle.std.specs.Prelude.{◌≡◌, ◌⊎◌, ◌≤◌, length, Ok, IfOk, IfErr, IfSome, IsSomeAnd, OnOk, OnErr, None};
+ghost use Rattle.std.specs.Io.KnownBytes.{Appends, Consumes};
+ghost use Rattle.edge_io.specs.Opening.{loopback};
+ghost use Rattle.edge_io.specs.Serving.{IsEnded, IsServed, LastCallFails, NotFound, NotServed, Says, start_of};
 
-use crate::peers::{Role, StartFault};
-use std::alloc::{AllocError, Global};
-use std::io::{self, ErrorKind, Read, Write};
-use std::net::{Ipv4Addr, Net, SocketAddrV4, TcpStream};
-use std::path::PathBuf;
-use std::process::{Child, Command, OpenProcess, Processes, Stdio};
+use crate::failed::Failed;
+use crate::host::Host;
+use crate::network::Network;
+use crate::peer_fault::PeerFault;
+use crate::peers::Role;
+use crate::port_line::on_loopback;
+use crate::port_said::port_said;
+use crate::programs::{Program, command_of};
+use crate::reader::Reader;
+use crate::reader_source::read_once;
+use crate::writer::Writer;
+use crate::writer_sink::write_once;
+use std::alloc::Global;
+use std::io::{Error, ErrorKind};
 
 /// A program that serves a role, and the connection to it.
 #[derive(Drop)]
-pub(crate) struct ServedChild<H: Net + Processes> {
-    process: Child<H::Started>,
-    connection: H::Stream,
+pub struct ServedChild<H: Host> {
+    /// Its role.
+    pub role: Role,
+    /// The program.
+    pub process: H::Process,
+    /// What it says on its standard output.
+    pub said: H::Said,
+    /// The connection, until it is stopped.
+    pub connection: Option<H::Stream>,
 }
 
-impl<H: Net + Processes> ServedChild<H> {
+/// Why a program is not served.
+#[derive(Drop)]
+pub(crate) enum StartError {
+    Memory,
+    Peer(PeerFault),
+}
+
+impl<H: Host> ServedChild<H> {
     /// Starts this program in this role, reads the line with its port and connects to it. A program
     /// that was started and is not reached is ended.
     pub(crate) fn start(
         host: &H,
         alloc: Global,
-        program: &PathBuf,
+        program: &Program,
         role: Role,
-    ) -> Result<ServedChild<H>, StartFault> {
-        let Ok(mut command) = command_of(alloc, program, role) else {
-            return Err(StartFault::Memory);
+    ) -> Result<ServedChild<H>, StartError>
+        ensures role { IfOk result (λ child. child.role ≡ role) }
+        ensures served { IfOk result (λ child. IsSomeAnd child.connection
+            (IsServed (start_of (H.starts host.now) program.now role) H.Said.remaining (H.connects host.now) child.process child.said)) }
+        ensures failed { IfErr result (λ e. (fault : PeerFault) → e ≡ StartError.Peer fault →
+            NotServed (start_of (H.starts host.now) program.now role) H.kills H.waits H.Said.answers H.Said.remaining (H.connects host.now) fault) }
+    {
+        let Ok(command) = command_of(alloc, program, role) else {
+            return Err(StartError::Memory);
         };
-        let mut process = command.spawn(host).map_err(fault_of)?;
-        match reached(host, &mut process) {
+        let (mut process, mut said) = match host.start(command) {
+            Ok(started) => started,
+            Err(e) => return Err(error_of(e, PeerFault::NotStarted)),
+        };
+        match reached(host, &mut said) {
             Ok(connection) => Ok(ServedChild {
+                role,
                 process,
-                connection,
+                said,
+                connection: Some(connection),
             }),
             Err(e) => {
-                end(&mut process);
-                Err(fault_of(e))
+                end::<H>(&mut process);
+                Err(e)
             }
         }
     }
 
-    pub(crate) fn send(&mut self, octets: &[u8]) -> io::Result<()> {
-        self.connection.write_all(octets)
+    /// Sends all these octets. `Failed` where the connection is closed, or a write failed or took nothing.
+    pub(crate) fn send(&mut self, octets: &[u8]) -> Result<(), Failed>
+        ensures sent { OnOk result (IfSome self.old.connection (λ old. IfSome self.new.connection (λ new.
+            Appends (H.Stream.contents old) (H.Stream.contents new) octets.now))) }
+        ensures failed { OnErr result (self.old.connection ≡ None
+            ⊎ IfSome self.new.connection (LastCallFails H.Stream.Writer.answers)) }
+    {
+        match &mut self.connection {
+            Some(connection) => send_all(connection, octets),
+            None => Err(Failed),
+        }
     }
 
-    pub(crate) fn receive(&mut self, buf: &mut [u8]) -> io::Result<()> {
-        self.connection.read_exact(buf)
+    /// Fills the buffer with the next octets. `Failed` where the connection is closed, or ends before that, or a
+    /// read failed.
+    pub(crate) fn receive(&mut self, buf: &mut [u8]) -> Result<(), Failed>
+        ensures filled { OnOk result (IfSome self.old.connection (λ old. IfSome self.new.connection (λ new.
+            Consumes (H.Stream.remaining old) (H.Stream.remaining new) buf.new))) }
+        ensures failed { OnErr result (self.old.connection ≡ None
+            ⊎ IfSome self.new.connection (LastCallFails H.Stream.Reader.answers)) }
+    {
+        match &mut self.connection {
+            Some(connection) => fill(connection, buf),
+            None => Err(Failed),
+        }
     }
 
-    /// Closes the connection, ends the program and waits until it has ended.
-    pub(crate) fn stop(self) {
-        let ServedChild {
-            mut process,
-            connection,
-        } = self;
-        drop(connection);
-        end(&mut process);
+    /// Closes the connection, ends the program and waits until it has ended. What it had still to say is put
+    /// into `rest`, as far as that has room and it says it in time; the answer is how many octets that is.
+    pub(crate) fn stop(&mut self, rest: &mut [u8]) -> usize
+        ensures closed { self.new.connection ≡ None }
+        ensures ended { IsEnded H.kills H.waits self.old.process self.new.process }
+        ensures count { result ≤ length rest.old }
+    {
+        let mut count = 0;
+        if let Some(mut connection) = self.connection.take() {
+            H::finish(&connection);
+            count = still_said(&mut connection, rest);
+        }
+        end::<H>(&mut self.process);
+        count
     }
 }
 
-// The program with the words for a role. What it says is read.
-fn command_of(alloc: Global, program: &PathBuf, role: Role) -> Result<Command, AllocError>
-    ensures program { IfOk result (λ c. command_program c ≡ path_buf_bytes program.now) }
-    ensures words { IfOk result (λ c. command_args c ≡ role_words role) }
+// A connection to the port that a program says.
+fn reached<H: Host>(host: &H, said: &mut H::Said) -> Result<H::Stream, StartError>
+    ensures reached { IfOk result (λ connection.
+        Says H.Said.remaining said.old said.new (λ number. H.connects host.now loopback number (Ok connection))) }
+    ensures failed { IfErr result (λ e. (fault : PeerFault) → e ≡ StartError.Peer fault →
+        NotFound H.Said.answers H.Said.remaining (H.connects host.now) said.old said.new fault) }
 {
-    let mut command = Command::new(alloc, program)?;
-    command.arg("serve")?;
-    match role {
-        Role::Phone => command.arg("phone")?,
-        Role::Station(number) => command.arg("station")?.arg(format!(in alloc; "{number}")?)?,
-        Role::Core => command.arg("core")?,
+    let number = match port_said(said) {
+        Ok(number) => number,
+        Err(_) => return Err(StartError::Peer(PeerFault::NoPort)),
     };
-    command.stdin(Stdio::null());
-    command.stdout(Stdio::piped());
-    Ok(command)
-}
-
-// A connection to the port that the program says.
-fn reached<H: Net + Processes>(host: &H, process: &mut Child<H::Started>) -> io::Result<H::Stream> {
-    let Some(said) = &mut process.stdout else {
-        return Err(ErrorKind::InvalidData.into());
-    };
-    let number = port_said(said)?;
-    TcpStream::connect(host, SocketAddrV4::new(Ipv4Addr::LOCALHOST, number))
-}
-
-/// The greatest number of digits of a port.
-const DIGITS: usize = 5;
-
-// The number of a port, which is the next line.
-fn port_said<R: Read>(said: &mut R) -> io::Result<u16> {
-    let mut number = 0u16;
-    let mut octet = [0u8];
-    for digits in 0..=DIGITS {
-        said.read_exact(&mut octet)?;
-        let [code] = octet;
-        if code == b'\n' && digits > 0 {
-            return Ok(number);
-        }
-        if !code.is_ascii_digit() {
-            return Err(ErrorKind::InvalidData.into());
-        }
-        number = match number
-            .checked_mul(10)
-            .and_then(|tens| tens.checked_add(u16::from(code - b'0')))
-        {
-            Some(more) => more,
-            None => return Err(ErrorKind::InvalidData.into()),
-        };
+    match host.connect_to(on_loopback(number)) {
+        Ok(connection) => Ok(connection),
+        Err(e) => Err(error_of(e, PeerFault::NotReached)),
     }
-    Err(ErrorKind::InvalidData.into())
 }
 
-// What the start of a program answers at an error.
-fn fault_of(e: io::Error) -> StartFault
-    ensures memory { (result ≡ StartFault.Memory) ↔ (error_kind e ≡ ErrorKind.OutOfMemory) }
+// The answer at an error of std: want of memory is no fault of the peer.
+fn error_of(e: Error, fault: PeerFault) -> StartError
+    ensures fault { (other : PeerFault) → result ≡ StartError.Peer other → other ≡ fault }
 {
     if e.kind() == ErrorKind::OutOfMemory {
-        StartFault::Memory
+        StartError::Memory
     } else {
-        StartFault::Failed
+        StartError::Peer(fault)
     }
 }
 
-fn end<P: OpenProcess>(process: &mut Child<P>) {
-    let _ = process.kill();
-    let _ = process.wait();
+// Ends a program, and waits until it has ended.
+fn end<H: Host>(process: &mut H::Process)
+    ensures { IsEnded H.kills H.waits process.old process.new }
+{
+    H::kill(process);
+    H::wait(process);
+}
+
+// Writes all these octets.
+fn send_all<W: Writer>(stream: &mut W, octets: &[u8]) -> Result<(), Failed>
+    ensures sent { OnOk result (Appends (W.contents stream.old) (W.contents stream.new) octets.now) }
+    ensures failed { OnErr result (LastCallFails W.answers stream.new) }
+{
+    let mut sent = 0;
+    'pieces: while sent < octets.len() {
+        let count = write_once(stream, &octets[sent..])?;
+        if count == 0 {
+            return Err(Failed);
+        }
+        sent += count;
+    }
+    Ok(())
+}
+
+// Fills the buffer.
+fn fill<R: Reader>(stream: &mut R, buf: &mut [u8]) -> Result<(), Failed>
+    ensures filled { OnOk result (Consumes (R.remaining stream.old) (R.remaining stream.new) buf.new) }
+    ensures failed { OnErr result (LastCallFails R.answers stream.new) }
+{
+    let mut filled = 0;
+    'pieces: while filled < buf.len() {
+        let count = read_once(stream, &mut buf[filled..])?;
+        if count == 0 {
+            return Err(Failed);
+        }
+        filled += count;
+    }
+    Ok(())
+}
+
+// Reads until the end, a read that fails, or a full buffer, and answers how many octets came.
+fn still_said<R: Reader>(stream: &mut R, buf: &mut [u8]) -> usize
+    ensures { result ≤ length buf.old }
+{
+    let mut count = 0;
+    'pieces: while count < buf.len() {
+        match read_once(stream, &mut buf[count..]) {
+            Ok(more) if more > 0 => count += more,
+            _ => break,
+        }
+    }
+    count
 }

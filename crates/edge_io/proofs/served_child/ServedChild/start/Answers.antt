@@ -1,0 +1,7 @@
+use Rattle.std.proofs.Common.{rules}
+use Rattle.edge_io.proofs.Served.{not_served}
+use Rattle.edge_io.proofs.served_child.ServedChild.start.Goals as goal
+
+pub returns-in-Err-reached-clause-failed : goal.returns-in-Err-reached-clause-failed
+returns-in-Err-reached-clause-failed g c fault is =
+    not_served _ _ _ _ _ (g.H.Network.connects c.args.host.now) _ _ _ _ fault (search rules) c.end.ensures (c.in-Err-reached.ensures.failed fault is)

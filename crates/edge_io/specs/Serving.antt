@@ -1,0 +1,82 @@
+-- Which program serves a role, and how it is started, reached and ended, by what each call on the host answers.
+use Rattle.std.specs.Prelude.{◌≡◌, ◌⊎◌, ℕ, Option, Some, None, List, ◌++◌, map, string_bytes, Result, Ok, Err}
+use Rattle.std.specs.Option.{option_flatten}
+use Rattle.std.specs.List.{slice_get}
+use Rattle.std.specs.Path.{path_buf_bytes}
+use Rattle.std.specs.declared.io.Error.{Error}
+use Rattle.edge_io.specs.Opening.{Fails, loopback}
+use Rattle.edge_io.specs.PortLine.{ReadsPort, ReadsNoPort}
+use Rattle.edge_io.specs.RoleWords.{role_words}
+use Rattle.edge_io.specs.Tries.{GivesUp, LastAnswers}
+use Rattle.edge_io.specs.declared.peers.Role.{Role}
+use Rattle.edge_io.specs.declared.peers.Role.TheVariants.{Phone, Station, Core}
+use Rattle.edge_io.specs.declared.programs.Program.{Program}
+use Rattle.edge_io.specs.declared.programs.Programs.{Programs}
+use Rattle.edge_io.specs.declared.peer_fault.PeerFault.{PeerFault}
+use Rattle.edge_io.specs.declared.peer_fault.PeerFault.TheVariants.{NotStarted, NoPort, NotReached}
+
+-- the program of a role
+abbrev pub program_of : Role → Programs → Option Program
+program_of Phone programs = programs.phone
+program_of (Station number) programs = option_flatten (slice_get programs.stations.items number)
+program_of Core programs = programs.core
+
+-- Here `starts` is what the start of a program may answer, of the octets of its path and of its words; `kills` and
+-- `waits` are what a kill and a wait do to it; `remaining` and `answers` are what it has still to say, and what a
+-- read of that may answer; `connects` is what a connection may answer, at the octets of an address and a port.
+
+-- the start of this program in this role
+abbrev pub start_of : {A : Type 1} → (List ℕ → List (List ℕ) → A) → Program → Role → A
+start_of starts program role = starts (path_buf_bytes program.path) (map string_bytes program.words.items ++ role_words role)
+
+-- a program was killed, and waited for
+pub record IsEnded {P : Type 0} (kills waits : P → P → Type 0) (before after : P) : Type 0 where
+  pub killed : P
+  pub kill : kills before killed
+  pub wait : waits killed after
+
+-- a program was started, and this is so of it
+pub record Started {P S : Type 0} (start : Result (P × S) Error → Type 0) (Holds : P → S → Type 0) : Type 0 where
+  pub process : P
+  pub said : S
+  pub started : start (Ok (process, said))
+  pub holds : Holds process said
+
+-- it said its port as its first line, and this is so of the port
+pub record Says {S : Type 0} (remaining : S → Option (List ℕ)) (before after : S) (Holds : ℕ → Type 0) : Type 0 where
+  pub number : ℕ
+  pub port : ReadsPort number (remaining before) (remaining after)
+  pub holds : Holds number
+
+-- a program that was started was ended
+pub record Stopped {P : Type 0} (kills waits : P → P → Type 0) (process : P) : Type 0 where
+  pub after : P
+  pub ended : IsEnded kills waits process after
+
+-- what it said was read, and this is so of what it has still to say
+pub record Heard {S : Type 0} (Holds : S → Type 0) : Type 0 where
+  pub after : S
+  pub holds : Holds after
+
+-- A program was started, said its port, and this is a connection to it.
+abbrev pub IsServed : {P S C : Type 0} → (Result (P × S) Error → Type 0) → (S → Option (List ℕ)) → (List ℕ → ℕ → Result C Error → Type 0) → P → S → C → Type 0
+IsServed start remaining connects process said connection =
+    Started start (λ p s. (p ≡ process) × Says remaining s said (λ number. connects loopback number (Ok connection)))
+
+-- Why a program that was started is not reached: it said no port, or nothing took a connection there.
+abbrev pub NotFound : {S C : Type 0} → (ℕ → S → Result ℕ Error → S → Type 0) → (S → Option (List ℕ)) → (List ℕ → ℕ → Result C Error → Type 0) → S → S → PeerFault → Type 0
+NotFound answers remaining connects said after NoPort = ReadsNoPort answers remaining said after
+NotFound answers remaining connects said after NotReached = Says remaining said after (λ number. Fails (connects loopback number))
+NotFound answers remaining connects said after other = ⊥
+
+-- Why a program is not served: its start failed, or it was not reached, and ended.
+abbrev pub NotServed : {P S C : Type 0} → (Result (P × S) Error → Type 0) → (P → P → Type 0) → (P → P → Type 0) → (ℕ → S → Result ℕ Error → S → Type 0) → (S → Option (List ℕ)) → (List ℕ → ℕ → Result C Error → Type 0) → PeerFault → Type 0
+NotServed start kills waits answers remaining connects NotStarted = Fails start
+NotServed start kills waits answers remaining connects fault =
+    Started start (λ process said. Stopped kills waits process × Heard (λ after. NotFound answers remaining connects said after fault))
+
+-- The last call on a connection was given up, or gave or took nothing. Here `answers` is what a call may answer.
+pub record LastCallFails {C X : Type 0} (answers : X → C → Result ℕ Error → C → Type 0) (after : C) : Type 0 where
+  pub asked : X
+  pub before : C
+  pub fails : GivesUp (answers asked) before after ⊎ LastAnswers (answers asked) (Ok 0) before after
