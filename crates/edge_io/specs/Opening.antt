@@ -1,5 +1,5 @@
 -- How a port on the network is opened, by what each call on the network answers.
-use Rattle.std.specs.Prelude.{ℕ, ◌⊎◌, Option, List, [], ◌∷◌, Result, Ok, Err}
+use Rattle.std.specs.Prelude.{ℕ, ◌⊎◌, List, [], ◌∷◌, Result, Ok, Err}
 use Rattle.std.specs.declared.io.Error.{Error}
 use Rattle.edge_io.specs.Cause.{Rose}
 use Rattle.edge_io.specs.PortLine.{SaysPort}

@@ -1,5 +1,5 @@
 -- Which program serves a role, and how it is started, reached and ended, by what each call on the host answers.
-use Rattle.std.specs.Prelude.{◌≡◌, ◌⊎◌, ℕ, Option, Some, None, List, ◌++◌, map, string_bytes, Result, Ok, Err}
+use Rattle.std.specs.Prelude.{◌≡◌, ◌⊎◌, ℕ, Option, List, ◌++◌, map, string_bytes, Result, Ok}
 use Rattle.std.specs.Option.{option_flatten}
 use Rattle.std.specs.List.{slice_get}
 use Rattle.std.specs.Path.{path_buf_bytes}

@@ -145,7 +145,13 @@ impl<H: Host + Drop> Peers for ChildPeers<H> {
             ⊎ IfSome (program_of role self.old.programs) (λ program. IsSomeAnd self.new.failed (λ failed. (failed.0 ≡ role)
             × NotServed (start_of (H.starts self.old.host) program role) H.kills H.waits H.Said.answers H.Said.remaining (H.connects self.old.host) failed.1)) }
     {
-        match start_next(&self.host, self.alloc, &self.programs, role, &mut self.peers) {
+        match start_next(
+            &self.host,
+            self.alloc,
+            &self.programs,
+            role,
+            &mut self.peers,
+        ) {
             Ok(place) => Ok(place),
             Err(StartError::Memory) => Err(StartFault::Memory),
             Err(StartError::Peer(fault)) => {

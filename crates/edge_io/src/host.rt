@@ -4,7 +4,6 @@ ghost use Rattle.std.specs.declared.io.Error.{Error};
 
 use crate::network::{Network, PATIENCE};
 use crate::reader::Reader;
-
 use std::io;
 use std::net::{Net, OpenStream, Shutdown};
 use std::os::fd::OwnedFd;
@@ -23,7 +22,9 @@ pub trait Host: Network {
     // What a start may answer, of the octets of a path and of words; and what a kill and a wait do to a
     // program.
     ghost starts: { Self → List ℕ → List (List ℕ) → Result (Self.Process × Self.Said) Error → Type 0 };
+
     ghost kills: { Self.Process → Self.Process → Type 0 };
+
     ghost waits: { Self.Process → Self.Process → Type 0 };
 
     /// Starts a program. Its input is empty, and what it says is read here.

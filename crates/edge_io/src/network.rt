@@ -23,8 +23,11 @@ pub trait Network {
     // What a call may answer: a bind and a connection, at the octets of an IPv4 address and a port; the
     // port of a listener; the next connection to a listener.
     ghost binds: { Self → List ℕ → ℕ → Result Self.Listener Error → Type 0 };
+
     ghost connects: { Self → List ℕ → ℕ → Result Self.Stream Error → Type 0 };
+
     ghost has_port: { Self.Listener → Result ℕ Error → Type 0 };
+
     ghost accepts: { Self.Listener → Result Self.Stream Error → Type 0 };
 
     /// A listener at this address. Port 0 is one that the system chooses.

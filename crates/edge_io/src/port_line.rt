@@ -18,7 +18,8 @@ pub(crate) fn port_line(number: u16) -> ArrayVec<u8, LINE>
 {
     let mut digits = Buffer::new();
     let mut line = ArrayVec::new();
-    line.try_extend_from_slice(digits.format(number).as_bytes()).unwrap();
+    line.try_extend_from_slice(digits.format(number).as_bytes())
+        .unwrap();
     line.push(b'\n');
     line
 }

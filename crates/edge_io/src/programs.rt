@@ -44,7 +44,11 @@ impl Programs {
 }
 
 // The command that starts a program in a role.
-pub(crate) fn command_of(alloc: Global, program: &Program, role: Role) -> Result<Command, AllocError>
+pub(crate) fn command_of(
+    alloc: Global,
+    program: &Program,
+    role: Role,
+) -> Result<Command, AllocError>
     ensures program { IfOk result (λ c. command_program c ≡ path_buf_bytes program.now.path) }
     ensures words { IfOk result (λ c. command_args c ≡ map string_bytes program.now.words.items ++ role_words role) }
 {

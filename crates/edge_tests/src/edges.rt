@@ -4,9 +4,9 @@ mod loopback;
 
 use crate::values::{same, same_at};
 use edge_io::{
-    ChildPeers, DropSink, Failed, LoopbackPort, MemPeers, MemPort, MemSink, MemSource, Peers, Port,
-    ReadAll, ReaderSource, Role, Sink, SliceSource, Source, StartFault, WriterSink, read_all,
-    read_fill, write_all,
+    ChildPeers, DropSink, Failed, LoopbackPort, MemPeers, MemPort, MemSink, MemSource, PeerFault,
+    Peers, Port, Program, Programs, ReadAll, ReaderSource, Role, Sink, SliceSource, Source,
+    StartFault, WriterSink, read_all, read_fill, write_all,
 };
 use std::io::{self, ErrorKind, Read};
 use std::test::Fail;

@@ -8,21 +8,25 @@ mod drive;
 mod fleet;
 mod generated;
 mod ladder;
+mod programs;
 mod reading;
 mod roles;
 mod scenario;
 mod serve;
 mod status;
+mod telling;
 #[cfg(test)]
 mod tests;
 mod text;
 mod two;
 
 use edge_io::{ChildPeers, LoopbackPort, ReaderSource, WriterSink};
+use programs::programs_of;
 use status::Status;
 use std::process::ExitCode;
 use std::rt::Env;
 use std::{env, io};
+use telling::{tell_fault, tell_rest};
 
 fn main(rt: HostRuntime) -> ExitCode {
     ExitCode::from(status_of(&rt).code())
@@ -34,13 +38,23 @@ fn status_of(rt: &HostRuntime) -> Status {
         Err(e) if e.kind() == io::ErrorKind::OutOfMemory => return Status::Memory,
         Err(_) => return Status::BadWords,
     };
+    let programs = match programs_of(rt) {
+        Ok(programs) => programs,
+        Err(_) => return Status::Memory,
+    };
     let alloc = rt.alloc();
-    let program = env::current_exe(rt).ok();
-    let mut peers = ChildPeers::new(rt, alloc, program);
-    let mut port = LoopbackPort::new(rt, io::writer(rt));
+    let mut peers = ChildPeers::new(rt, alloc, programs);
+    let mut port = LoopbackPort::new(rt, WriterSink::new(io::writer(rt)));
     let mut input = ReaderSource::new(rt.reader());
     let mut out = WriterSink::new(io::writer(rt));
-    app::run(alloc, &words, &mut input, &mut out, &mut peers, &mut port)
+    let status = app::run(alloc, &words, &mut input, &mut out, &mut peers, &mut port);
+    if let Some((role, fault)) = peers.failed {
+        tell_fault(rt, role, fault);
+    }
+    for (role, octets) in &peers.rests {
+        tell_rest(rt, *role, octets);
+    }
+    status
 }
 
 // The words after the program's name.

@@ -1,4 +1,4 @@
-use Rattle.std.proofs.Common.{rules, ◌≡◌, ℕ, List, ◌∙◌, ap, sym, subst}
+use Rattle.std.proofs.Common.{rules, ◌≡◌, ◌∙◌, ap, sym}
 use Rattle.std.specs.Fmt.{decimal}
 use Rattle.edge_io.proofs.Numbers.{decimal_text, decimal_reads, decimal_number}
 use Rattle.edge_io.proofs.port_line.port_number.Goals as goal

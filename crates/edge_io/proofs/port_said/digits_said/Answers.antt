@@ -5,7 +5,7 @@ use Rattle.edge_io.proofs.port_said.digits_said.Goals as goal
 pub returns-clause-failed : goal.returns-clause-failed
 returns-clause-failed g c =
     inr (record {
-        octets = c.line.digits.items;
-        taken = c.line.invariant.0;
-        other = no_line c.line.digits.items c.line.invariant.1 (search rules);
-      })
+      octets = c.line.digits.items;
+      taken = c.line.invariant.0;
+      other = no_line c.line.digits.items c.line.invariant.1 (search rules);
+    })

@@ -1,4 +1,4 @@
-use Rattle.std.proofs.Common.{refl, rules}
+use Rattle.std.proofs.Common.{rules}
 use Rattle.edge_io.specs.Serving.{NotServed, start_of}
 use Rattle.edge_io.proofs.Served.{named}
 use Rattle.edge_io.proofs.child_peers.ChildPeersPeers.start.Goals as goal
