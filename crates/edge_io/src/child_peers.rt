@@ -31,6 +31,8 @@ pub struct ChildPeers<H: Host + Drop> {
     pub peers: Vec<ServedChild<H>>,
     /// What failed last, and at which role.
     pub failed: Option<(Role, PeerFault)>,
+    /// The role of the peer that was heard last.
+    pub heard: Option<Role>,
     /// What a peer had still to say when it was stopped, by its role: at most 4,098 octets.
     pub rests: Vec<(Role, Vec<u8>)>,
     alloc: Global,
@@ -50,6 +52,7 @@ impl<H: Host + Drop> ChildPeers<H> {
             programs,
             peers: Vec::new(alloc),
             failed: None,
+            heard: None,
             rests: Vec::new(alloc),
             alloc,
             faults: 0,
@@ -166,12 +169,12 @@ impl<H: Host + Drop> Peers for ChildPeers<H> {
             self.faults = self.faults.saturating_add(1);
             return Err(Failed);
         };
-        if let Ok(()) = child.send(octets) {
-            return Ok(());
-        }
         let role = child.role;
-        self.count_fault(role, PeerFault::NotSent);
-        Err(Failed)
+        let sent = child.send(octets);
+        if let Err(Failed) = sent {
+            self.count_fault(role, PeerFault::NotSent);
+        }
+        sent
     }
 
     fn receive(&mut self, peer: u8, buf: &mut [u8]) -> Result<(), Failed> {
@@ -179,12 +182,13 @@ impl<H: Host + Drop> Peers for ChildPeers<H> {
             self.faults = self.faults.saturating_add(1);
             return Err(Failed);
         };
-        if let Ok(()) = child.receive(buf) {
-            return Ok(());
-        }
         let role = child.role;
-        self.count_fault(role, PeerFault::NoReply);
-        Err(Failed)
+        let received = child.receive(buf);
+        self.heard = Some(role);
+        if let Err(Failed) = received {
+            self.count_fault(role, PeerFault::NoReply);
+        }
+        received
     }
 
     /// It closes the connection, ends the program and waits until it has ended. What the program had still to

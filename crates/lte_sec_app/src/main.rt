@@ -26,7 +26,7 @@ use status::Status;
 use std::process::ExitCode;
 use std::rt::Env;
 use std::{env, io};
-use telling::{tell_fault, tell_rest};
+use telling::{tell_difference, tell_fault, tell_rest};
 
 fn main(rt: HostRuntime) -> ExitCode {
     ExitCode::from(status_of(&rt).code())
@@ -50,6 +50,9 @@ fn status_of(rt: &HostRuntime) -> Status {
     let status = app::run(alloc, &words, &mut input, &mut out, &mut peers, &mut port);
     if let Some((role, fault)) = peers.failed {
         tell_fault(rt, role, fault);
+    }
+    if let (Status::Differs, Some(role)) = (status, peers.heard) {
+        tell_difference(rt, role);
     }
     for (role, octets) in &peers.rests {
         tell_rest(rt, *role, octets);

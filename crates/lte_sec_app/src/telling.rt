@@ -15,6 +15,11 @@ pub(crate) fn tell_fault(rt: &HostRuntime, role: Role, fault: PeerFault) {
     tell(rt, role, text);
 }
 
+// Says whose reply is not the local actor's.
+pub(crate) fn tell_difference(rt: &HostRuntime, role: Role) {
+    tell(rt, role, "its reply differs");
+}
+
 // Says what a peer had still to say.
 pub(crate) fn tell_rest(rt: &HostRuntime, role: Role, octets: &[u8]) {
     if let Ok(text) = rest_text(rt, octets) {
