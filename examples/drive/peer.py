@@ -36,6 +36,8 @@ def answered(connection, reply, how):
     """Replies so, and says whether the session goes on."""
     if how == "closes":
         return False
+    if how == "hangs":
+        signal.pause()
     if how == "cuts":
         connection.sendall(reply[:-1])
         return False
@@ -70,8 +72,9 @@ def main():
         sys.exit(2)
     if role != wrong:
         number, how = 0, "is right"
-    if how == "says no port":
-        print("port", flush=True)
+    if how in ("says no port", "says nothing"):
+        if how == "says no port":
+            print("port", flush=True)
         signal.pause()
     elif how != "is silent":
         with contextlib.suppress(ConnectionError):

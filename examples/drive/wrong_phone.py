@@ -1,0 +1,42 @@
+"""The phone of `examples/actor`, which is wrong in one way where RRC security begins. Its words are a folder, into which it puts the
+numbers of its processes, and what is wrong; and then those of `serve`."""
+import dataclasses
+import os
+import pathlib
+import signal
+import subprocess
+import sys
+
+sys.dont_write_bytecode = True
+sys.path.insert(0, str(pathlib.Path(__file__).resolve().parent.parent / "actor"))
+import phone  # noqa: E402
+import serving  # noqa: E402
+
+FOLDER, HOW = sys.argv[1:3]
+
+
+class WrongPhone(phone.Phone):
+    def secured(self, pdu):
+        reply = super().secured(pdu)
+        if HOW == "dies":
+            os._exit(1)
+        if HOW == "hangs":
+            signal.pause()
+        if HOW == "changes":
+            return dataclasses.replace(reply, record=reply.record[:-1] + bytes([reply.record[-1] ^ 1]))
+        return dataclasses.replace(reply, record=reply.record + b"\0") if HOW == "lengthens" else reply
+
+
+def main():
+    # A process of its own below it, as a product's program may have: it is not to be left either.
+    helper = subprocess.Popen(["sleep", "60"])
+    for number in (os.getpid(), helper.pid):
+        open(f"{FOLDER}/{number}", "w").close()
+    if HOW == "says no port":
+        signal.pause()
+    sys.argv[1:3] = []
+    serving.main("phone", WrongPhone)
+
+
+if __name__ == "__main__":
+    main()

@@ -1,0 +1,42 @@
+"""What is told of a reply that differs, and the variables of commands."""
+import os
+import unittest
+from unittest import mock
+
+from lte_sec import drive
+
+DONE = "00088000000000000000"
+
+
+class Drive(unittest.TestCase):
+    def test_a_reply_of_the_same_length_is_in_the_line(self) -> None:
+        line = f"3 differs {DONE} 00088001000000000000\n".encode()
+        self.assertEqual(drive.told_of(line, b"core", b""), ["step 3, core: answer: wanted 0 (done), got 1 (NoContext)"])
+
+    def test_one_of_another_length_is_read_as_far_as_its_length_says(self) -> None:
+        got = bytes.fromhex("001480050c0000000701020304050607080000000000")
+        line = f"setup differs {DONE} {got[:2].hex()}\n".encode()
+        self.assertEqual(drive.told_of(line, b"station 1", got[2:] + b"more"),
+                         ["setup, station 1: answer: wanted 0 (done), got 5 (MacFails count=7 wanted=01020304 got=05060708)"])
+
+    def test_one_that_is_cut_is_told_as_it_came(self) -> None:
+        told = drive.told_of(f"7 differs {DONE} 0014\n".encode(), b"phone", b"\x80")
+        self.assertEqual(told[-1], "step 7, phone: octets: wanted none, got 001480")
+
+    def test_commands_become_variables_with_a_word_in_each_line(self) -> None:
+        with mock.patch("shutil.which", lambda name: f"/bin/{name}"):
+            found = drive.variables(["--phone", "actor 'two words'", "--station", "3=actor", "--station", "any", "--core", "a b"])
+        self.assertEqual(found, {"LTE_SEC_PHONE": "/bin/actor\ntwo words", "LTE_SEC_STATION_3": "/bin/actor", "LTE_SEC_STATION": "/bin/any", "LTE_SEC_CORE": "/bin/a\nb"})
+
+    def test_wrong_commands_are_told(self) -> None:
+        for command in ("", "'", "no-such-program-anywhere", "a\nb"):
+            with self.assertRaises(drive.WrongWords):
+                drive.variables(["--core", command])
+
+    def test_a_path_is_made_whole(self) -> None:
+        with mock.patch("shutil.which", lambda name: name):
+            self.assertEqual(drive.variables(["--phone", "./a"])["LTE_SEC_PHONE"], os.path.abspath("a"))
+
+
+if __name__ == "__main__":
+    unittest.main()
