@@ -35,5 +35,5 @@ returns-in-Err-clause-text g c =
 pub write_text-requires-clause-lines : goal.write_text-requires-clause-lines
 write_text-requires-clause-lines g c = text_is _ _ _ c.end.ensures (is_lines _ (end_ends _ _ _))
 
-pub write_text-in-Ok-requires-clause-lines : goal.write_text-in-Ok-requires-clause-lines
-write_text-in-Ok-requires-clause-lines g c = text_is _ _ _ c.ladder_text.ensures (ladder_is _)
+pub write_text-requires-in-Ok-clause-lines : goal.write_text-requires-in-Ok-clause-lines
+write_text-requires-in-Ok-clause-lines g c = text_is _ _ _ c.ladder_text.ensures (ladder_is _)
