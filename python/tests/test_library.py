@@ -11,7 +11,10 @@ from pathlib import Path
 TOP = Path(__file__).resolve().parents[2]
 sys.path.insert(0, str(TOP / "python"))
 
-from lte_sec import library  # noqa: E402
+try:
+    from lte_sec import library
+except ImportError as fault:
+    raise unittest.SkipTest(str(fault)) from None
 
 CASES = 2000
 KASME = bytes(range(32))
