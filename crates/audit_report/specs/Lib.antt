@@ -2,3 +2,4 @@ pub mod AuditReport
 pub mod Course
 pub mod Alone
 pub mod Audited
+pub mod OfRun

@@ -8,6 +8,8 @@ ghost use Rattle.run_report.specs.Written.{Written};
 ghost use Rattle.audit_report.specs.Alone.{EachAlone};
 ghost use Rattle.audit_report.specs.Audited.{IsExact, AuditIsExact};
 ghost use Rattle.audit_report.specs.AuditReport.{audit_report_of};
+ghost use Rattle.audit_report.specs.OfRun.{AuditIsOfRun};
+ghost use Rattle.key_terms.specs.Ladder.{IsLadder};
 
 use crate::courses::{Course, run_through};
 use crate::lines::write_checked;
@@ -41,6 +43,9 @@ pub fn write_audit<W: Sink>(
     ensures alone { EachAlone setup.now events.now }
     // And the audit that was written is exact.
     ensures exact { result ≡ Ok false → AuditIsExact setup.now events.now }
+    // It is that of the written run: a mark stands at a row and a station exactly where the key of the row in that run is derivable
+    // from what the station held in it.
+    ensures of_run { result ≡ Ok false → AuditIsOfRun setup.now events.now }
     ensures no_fault { result ≢ Err Unwritten.WriteFault → NoFault (W.told out.old) (W.told out.new) }
     ensures out { UsedAsSink (W.told out.old) (W.told out.new) }
 {
@@ -67,6 +72,7 @@ fn audit_run<W: Sink>(
     ensures report { Written (audit_report_of world.old.setup events.now).text result (W.told out.old) (W.told out.new) }
     ensures coincidence { IfOk result (λ coincides. coincides ≡ (audit_report_of world.old.setup events.now).coincides) }
     ensures exact { result ≡ Ok false → AuditIsExact world.old.setup events.now }
+    ensures of_run { result ≡ Ok false → AuditIsOfRun world.old.setup events.now }
     ensures no_fault { result ≢ Err Unwritten.WriteFault → NoFault (W.told out.old) (W.told out.new) }
     ensures out { UsedAsSink (W.told out.old) (W.told out.new) }
 {
@@ -89,6 +95,7 @@ fn write_ladder<W: Sink>(alloc: Global, ladder: &Ladder, out: &mut W) -> Result<
     requires out_ready { IsTrue (W.told out.old).ready }
     ensures text { Written (audit_text ladder.now.rows) result (W.told out.old) (W.told out.new) }
     ensures exact { IsExact ladder.now.rows }
+    ensures ladder { IsLadder ladder.now.rows }
     ensures no_fault { result ≢ Err Unwritten.WriteFault → NoFault (W.told out.old) (W.told out.new) }
     ensures out { UsedAsSink (W.told out.old) (W.told out.new) }
 {

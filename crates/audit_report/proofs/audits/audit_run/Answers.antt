@@ -5,6 +5,7 @@ use Rattle.run_report.specs.Report.{Report}
 use Rattle.run_report.specs.Written.{Written}
 use Rattle.audit_report.specs.Course.{ComesOut}
 use Rattle.lte_machine.specs.BothRuns.{octet_run}
+use Rattle.audit_report.proofs.OfRun.{audit_of_run}
 use Rattle.audit_report.proofs.Together.{exact_in}
 use Rattle.audit_report.proofs.Coursing.{audit_ended, audit_chance}
 use Rattle.audit_report.proofs.audits.audit_run.Goals as goal
@@ -62,3 +63,11 @@ returns-in-Ok-clause-exact g c = λ _.
     let run = run_of c.run_through.new.world in
     let ended = subst (ComesOut setup events run) c.in-Ok-Ended.field-0-is c.in-Ok-Ended.ensures in
     exact_in c.ladder.result.now.rows run (octet_run setup events) ended.state c.ladder.ensures c.write_ladder.ensures.exact
+
+pub returns-in-Ok-clause-of_run : goal.returns-in-Ok-clause-of_run
+returns-in-Ok-clause-of_run g c = λ _.
+    let setup = c.args.world.now.setup in
+    let events = c.args.events.now in
+    let run = run_of c.run_through.new.world in
+    let ended = subst (ComesOut setup events run) c.in-Ok-Ended.field-0-is c.in-Ok-Ended.ensures in
+    audit_of_run setup events run c.ladder.result.now.rows c.requires.begins c.requires.can c.requires.fit ended.state c.ladder.ensures c.write_ladder.ensures.ladder
