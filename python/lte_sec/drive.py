@@ -1,4 +1,4 @@
-"""`./lte_sec drive` with actors of one's own: `PROGRAM [--phone CMD] [--station [N=]CMD] [--core CMD]`, with the scenario as input.
+"""`./lte_sec drive` with actors of one's own: `[--phone CMD] [--station [N=]CMD] [--core CMD] -- PROGRAM drive`, with the scenario as input.
 
 The program takes an actor's command from a variable, a word in a line (docs/COOKBOOK.md). Its output and status stay as they are.
 A reply that differs is told in parts on standard error. Nothing that was started is left behind.
@@ -52,9 +52,9 @@ def variables(words: list[str]) -> dict[str, str]:
 class Driven:
     """The program, in a group of processes of its own, so that it ends with all that it started."""
 
-    def __init__(self, program: str, more: dict[str, str]):
+    def __init__(self, command: list[str], more: dict[str, str]):
         self.last, self.whose, self.rest = b"", b"", b""
-        self.process = subprocess.Popen([program, "drive"], stdout=subprocess.PIPE, stderr=subprocess.PIPE, env=os.environ | more, start_new_session=True)
+        self.process = subprocess.Popen(command, stdout=subprocess.PIPE, stderr=subprocess.PIPE, env=os.environ | more, start_new_session=True)
 
     def print_on(self, source: BinaryIO, to: BinaryIO) -> None:
         """Hands on what the program prints, and keeps its last line. Where that fails the program is to see it."""
@@ -104,13 +104,13 @@ def told_of(line: bytes, whose: bytes, rest: bytes) -> list[str]:
 
 
 def main() -> int:
-    program, *words = sys.argv[1:]
+    parts = sys.argv.index("--")
     try:
-        more = variables(words)
+        more = variables(sys.argv[1:parts])
     except WrongWords as why:
         print(f"lte_sec: status 2: {why}", file=sys.stderr)
         return 2
-    driven = Driven(program, more)
+    driven = Driven(sys.argv[parts + 1:], more)
 
     def stopped(number: int, _: object) -> None:
         driven.end()
@@ -121,10 +121,6 @@ def main() -> int:
     status = driven.run()
     for line in told_of(driven.last, driven.whose, driven.rest) if status == 8 else ():
         print(f"lte_sec: {line}", file=sys.stderr)
-    meant = {1: "memory ran out", 4: "the input failed while it was read", 5: "the output failed while it was written",
-             6: "a peer failed", 9: "the input has more than 16,777,216 octets"}
-    if status in meant:
-        print(f"lte_sec: status {status}: {meant[status]}", file=sys.stderr)
     return status
 
 
