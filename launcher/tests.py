@@ -181,6 +181,8 @@ class Verdicts(unittest.TestCase):
             self.assertEqual(lines, verdict.judged((EXAMPLES / f"{name}.out").read_text())[1], name)
 
     def test_other_texts_are_no_reports(self):
+        scenario_text = (EXAMPLES / "run" / "ordinary.toml").read_text()
+        self.assertRaisesRegex(verdict.NoReport, "it is a scenario", verdict.judged, scenario_text)
         ordinary = (EXAMPLES / "run" / "ordinary.out").read_text()
         for text in ("", "end 0 0\n", ordinary[:500], ordinary.replace("\n5 station", "\n7 station"), ordinary[:-200], ordinary.replace("row 5", "row 6")):
             self.assertRaises(verdict.NoReport, verdict.judged, text)

@@ -1,4 +1,5 @@
 """What is wrong with the words that the launcher or a program was given, and what may stand there."""
+import os
 import re
 
 from scenario import nearest
@@ -37,6 +38,8 @@ def of_serve(words: list[str]) -> str | None:
 def reason(words: list[str], known: list[str]) -> str | None:
     """Why these words are none, where the known words are those of the launcher; None where no reason is found."""
     word, *behind = words or [""]
+    if word not in known and os.path.isfile(word):
+        return f"a word stands before a file, as run {word}; ./lte_sec --help lists them"
     if word not in known:
         return f"there is no word '{word}'{nearest(word, known) or '; ./lte_sec --help lists them'}"
     of = {"gen": of_gen, "serve": of_serve}.get(word)

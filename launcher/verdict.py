@@ -71,6 +71,8 @@ def read(text: str) -> Report:
     lines = text.splitlines()
     if lines and re.match(r"\d+ 0 (both|phone|core|world|station)", lines[0]):
         raise NoReport("it is one of fleet; sed -n 's/^0 //p' gives that of phone 0")
+    if re.search(r"^(phone *=|\[phone\])", text, re.MULTILINE):
+        raise NoReport("it is a scenario; ./lte_sec run writes its report")
     end = next((place for place, line in enumerate(lines) if re.fullmatch(r"end \d+ \d+ \d+", line)), None)
     if end is None:
         raise NoReport("it has no line `end`: it is cut, or ends at a coincidence or at a reply that differs")
