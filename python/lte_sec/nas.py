@@ -356,10 +356,11 @@ class NasBook:
                 return known, count
         tried = [(one, estimate(one.next[UP], low, SHORT_WRAP) + SHORT_WRAP * wrap) for wrap in range(TRIES) for one in self.contexts.values()]
         right = [(one, count) for one, count in tried if self.short_mac(one, count, pdu) == pdu[2:4]]
+        proved = [pair for pair in right if self.gives(*pair, later)]  # by short MAC and KeNB both
+        if proved:
+            return proved[0]
         for fits in (lambda one: one is known, lambda one: known is None and one.ksi == ksi, lambda one: known is None):
-            fitting = [(one, count) for one, count in right if fits(one)]
-            if len(fitting) > 1:
-                fitting = [pair for pair in fitting if self.gives(*pair, later)] or fitting
+            fitting = [pair for pair in right if fits(pair[0])]
             if fitting:
                 return fitting[0]
         followed = [pair for pair in tried if self.gives(*pair, later)]

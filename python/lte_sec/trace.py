@@ -1,11 +1,11 @@
 """A trace message by message: which connection of which phone each belongs to, and what is judged of it."""
 from __future__ import annotations
 
-from collections.abc import Iterable, Iterator
+from collections.abc import Iterator
 from dataclasses import replace
 
 from .captures import Message
-from .cells import Cells, Site
+from .cells import Cells
 from .judge import KeyJudge
 from .nas import NasBook, NasSeen
 from .report import DIFFERS, RIGHT, UNKNOWN, Line
@@ -149,6 +149,13 @@ class Trace:
         there = [attempt for attempt in connection.open_attempts() if attempt.station == station]
         if station != connection.station and there:
             self.judge.moved(connection, there[-1])
+            self.unasked(connection, there[-1])
+
+    def unasked(self, connection: Connection, attempt: Attempt) -> None:
+        """A handover over X2 is done and the trace shows no path switch for it yet: the core was asked all the same."""
+        if attempt.kind == "X2":
+            connection.asked += 1
+            attempt.over = "unasked"
 
     def nas(self, connection: Connection, message: Message, place: int) -> None:
         direction = UP if message.name in FROM_PHONE else DOWN
@@ -229,8 +236,10 @@ class Trace:
 
     def steps_to(self, message: Message) -> Connection | None:
         """The connection that waits for a handover over S1 and whose next NH this is, where no container tells."""
+        station = self.cells.station(message.source_eci)
         for connection in self.connections:
-            if connection.asked and any(chain.step(self.derivations, steps).sync.value == message.nh for chain in connection.core for steps in self.judge.steps(connection, chain)):
+            waits = connection.station == station if station else connection.asked
+            if waits and any(chain.step(self.derivations, steps).sync.value == message.nh for chain in connection.core for steps in self.judge.steps(connection, chain)):
                 return connection
         return None
 
@@ -288,7 +297,10 @@ class Trace:
             connection.attempts.append(attempt)
             self.judge.note(message.frame, f"a handover to {station} without messages between the stations in the trace")
             self.judge.moved(connection, attempt)
-        connection.asked += 1
+        if connection.attempts and connection.attempts[-1].over == "unasked" and connection.attempts[-1].station == station:
+            connection.attempts[-1].over = "done"
+        else:
+            connection.asked += 1
 
     def s1_PathSwitchRequestAcknowledge(self, connection: Connection, message: Message, station: str, at_core: Leg) -> None:
         if message.nh is None:
@@ -320,6 +332,7 @@ class Trace:
             pair[1].over = "cancelled"
         elif message.name == "UEContextRelease":
             self.judge.moved(*pair)
+            self.unasked(*pair)
 
     def serving(self, message: Message) -> Connection:
         """The connection that a source hands over: by the core's identity for it, at the source's station."""
@@ -360,40 +373,3 @@ def first_after(places: list[int], place: int) -> int:
         middle = (low + high) // 2
         low, high = (middle + 1, high) if places[middle] <= place else (low, middle)
     return low
-
-
-def learn(cells: Cells, messages: Iterable[Message]) -> None:
-    """Takes in the cells that a trace tells: X2 Setup first, and of the others what the commands to go there say."""
-    asked: dict[object, int] = {}
-    said: list[tuple[int, Message]] = []
-    for message in messages:
-        for site in message.sites:
-            cells.learn(site)
-        eci = None
-        if message.link == "X2" and message.name == "HandoverRequest" and message.eci is not None:
-            asked[message.source, message.target, message.old_x2] = message.eci
-        elif message.link == "X2" and message.name == "HandoverRequestAcknowledge":
-            eci = asked.get((message.target, message.source, message.old_x2))
-        elif message.name == "HandoverRequired" and message.eci is not None:
-            asked[message.source, message.enb_id] = message.eci
-        elif message.name == "HandoverCommand":
-            eci = asked.get((message.target, message.enb_id))
-        if eci is not None:
-            said.append((eci, message))
-    for eci, message in said:
-        told = message.command
-        if eci not in cells.sites and told is not None and told.pci is not None and told.earfcn is not None:
-            cells.learn(Site(eci, told.pci, told.earfcn))
-
-
-def check(derivations: Derivations, cells: Cells, messages: list[Message], budget: int = BUDGET) -> Trace:
-    """Reads a trace. Which NH a core sends first is seen in the whole trace: where both are, the more frequent one is wanted."""
-    learn(cells, messages)
-    trace = Trace(derivations, cells, {}, budget)
-    trace.read(messages)
-    seen = trace.judge.seen_firsts
-    if any(len(set(numbers)) > 1 for numbers in seen.values()):
-        firsts = {mme: 1 if numbers.count(1) > numbers.count(2) else 2 for mme, numbers in seen.items()}
-        trace = Trace(derivations, cells, firsts, budget)
-        trace.read(messages)
-    return trace

@@ -12,7 +12,8 @@ from .explain import Explanation, keys_of, told
 from .repeats import first_repeat
 from .report import NOTE, status
 from .terms import Derivations, TraceError, kasmes_of
-from .trace import Trace, check
+from .trace import Trace
+from .verdict import check
 from .wireshark import rows
 
 USAGE = {

@@ -11,7 +11,8 @@ from lte_sec.captures import Message, read, read_all
 from lte_sec.cells import Cells, read_cells
 from lte_sec.report import DIFFERS, NOTE, Line, status
 from lte_sec.terms import Derivations, Kasme
-from lte_sec.trace import Trace, check
+from lte_sec.trace import Trace
+from lte_sec.verdict import check
 
 from .standin import StandIn
 
