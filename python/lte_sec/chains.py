@@ -10,6 +10,7 @@ from .state import CHAIN, Chain, Connection
 from .terms import NONE, UP, Derivations, Key
 
 FAR = 6  # so many steps of the chain ahead of the phone the core is warned of; at eight they come apart
+OTHERS = 16  # contexts of other phones whose KeNBs are at hand for the search
 FIRST = (2, 1)  # the number of the first NH that a core sends: 2 by the note of TS 33.401 7.2.8.1.1, 1 of other cores
 
 
@@ -33,9 +34,11 @@ class ChainJudge:
         keys += [key for _, _, key in connection.keys[-8:]]
         bases = [self.derivations.kenb(key.kasme, int(key.base[5:-1])) for key in keys if key.known and key.base.startswith("kenb(") and key.kasme >= 0]
         context = connection.side.current
-        near = sorted({max(0, context.next[0] - back) for back in range(4)}) if context else []
-        others = [self.derivations.kenb(kasme, count) for kasme in range(len(self.derivations.kasmes)) for count in near]
-        return [*keys, *bases, *others]
+        own = [(context.kasme, context.next[UP])] if context else []
+        others = [(one.kasme, one.next[UP]) for one in list(self.book.contexts.values())[-OTHERS:]]
+        others += [(kasme, context.next[UP]) for kasme in range(len(self.derivations.kasmes))[:OTHERS] if context]
+        near = dict.fromkeys((kasme, max(0, count - back)) for kasme, count in [*own, *others] for back in range(4))
+        return [*keys, *bases, *(self.derivations.kenb(*one) for one in near)]
 
     def named(self, value: bytes, connection: Connection, more: list[Key], cell: tuple[int, int] | None = None) -> Key:
         """The term of a key that is not the wanted one."""

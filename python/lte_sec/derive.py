@@ -19,6 +19,8 @@ WAYS = ("uplink", "downlink")
 class Library:
     """The binding to the library of proved calls (`library`), as it stands in this package."""
 
+    budget = 400_000  # derivations that the searches of one trace may make beyond the keys at hand
+
     def __init__(self, binding: ModuleType):
         for name in NAMES:
             setattr(self, name, getattr(binding, name))
@@ -26,6 +28,8 @@ class Library:
 
 class Calc:
     """The program `calc`: one line in, one line out."""
+
+    budget = 60_000  # as a line in and out takes longer than a call
 
     def __init__(self, words: list[str]):
         self.program = subprocess.Popen(words, stdin=subprocess.PIPE, stdout=subprocess.PIPE, stderr=subprocess.DEVNULL, text=True, encoding="ascii")
@@ -68,13 +72,10 @@ class Calc:
 def proved_calls() -> Calls:
     """The proved calls that are built here: the library, else the program."""
     try:
-        binding = importlib.import_module(".library", __package__)
-        library = Library(binding)
-        library.kenb(bytes(32), 0)  # type: ignore[attr-defined]
-        return library  # type: ignore[return-value]
-    except Exception:  # the binding says in its own way that the library is not there
+        return Library(importlib.import_module(".library", __package__))  # type: ignore[return-value]
+    except (ImportError, OSError, AttributeError):  # it is not built here
         pass
     launcher = TOP / "lte_sec"
     if (TOP / "crates" / "lte_calc").is_dir() and launcher.exists():
         return Calc([str(launcher), "calc"])
-    raise TraceError("the proved calls are not built here: ./lte_sec library builds them")
+    raise TraceError("the proved calls are not built here: run ./lte_sec library")

@@ -24,6 +24,7 @@ NAMES = {
 GUTI = re.compile(rb"\x0b\xf6.{6}(.{4})", re.DOTALL)  # TS 24.301 9.9.3.12, with its length
 PLAIN, COMMAND, COMPLETE, SERVICE_REQUEST = 0, 3, 4, 12
 CIPHERED = (2, 4)
+HEADERS = {0x5D: COMMAND, 0x5E: COMPLETE}  # the header types that these messages have (TS 24.301 5.4.3)
 WRAP, SHORT_WRAP = 256, 32  # of a sequence number, and of that of a Service Request
 LIMIT = 1 << 24
 TRIES = 8  # wraps of the sequence number that a trace may lack
@@ -175,7 +176,9 @@ class NasBook:
         if direction == DOWN and plain:
             for tmsi in GUTI.findall(plain) if plain[:2] in (b"\x07\x42", b"\x07\x49", b"\x07\x50") else ():
                 self.knows(int.from_bytes(tmsi, "big"), context.kasme)
-        verdict = "wrong" if note.startswith("COUNT") else "right"
+        due = HEADERS.get(plain[1], header) if plain and plain[0] == 7 and len(plain) > 1 else header
+        note = note if due == header else f"header type differs: is {header}, wanted {due}"
+        verdict = "wrong" if note.startswith(("COUNT", "header")) else "right"
         return NasSeen(direction, header, verdict, pdu[1:5].hex(), count, "", context.kasme, plain, note)
 
     def refused(self, context: NasContext, direction: int, pdu: bytes, count: int, note: str = "") -> NasSeen:
@@ -261,13 +264,14 @@ class NasBook:
 
     def takes(self, side: NasSide, context: NasContext, complete: bool, direction: int, count: int, sure: bool) -> None:
         """What a message changes: a Complete, or a right message under the pending context, puts that in use."""
-        if context is side.pending and (complete or sure):
+        was_pending = context is side.pending
+        if was_pending and (complete or sure):
             self.follows(side.current, context)
             side.current, side.pending = context, None
         elif side.current is None:
             side.current = context
         self.contexts[context.kasme] = side.current or context
-        if direction == UP and (complete or side.trigger is None):
+        if direction == UP and (complete or was_pending or side.trigger is None):
             side.trigger = Trigger(context, count, sure)
 
     def likely(self, side: NasSide, direction: int, pdu: bytes) -> list[NasContext]:

@@ -12,14 +12,13 @@ from .cells import Cells
 from .terms import Derivations, Key
 
 PCIS, EARFCNS = 504, 65536
-BUDGET = 400_000  # derivations that one trace may spend beyond the keys at hand
 FEW = 6  # of the keys at hand, so many are taken further
 
 
 class Search:
     """Bounds: COUNTs up to `counts`, chains up to `depth`, KeNB* of KeNB* up to `deep`."""
 
-    def __init__(self, derivations: Derivations, cells: Cells, counts: int = 300, depth: int = 16, deep: int = 3, budget: int = BUDGET):
+    def __init__(self, derivations: Derivations, cells: Cells, counts: int = 300, depth: int = 16, deep: int = 3, budget: int = 0):
         self.derivations, self.cells = derivations, cells
         self.counts, self.depth, self.deep = counts, depth, deep
         self.budget = budget

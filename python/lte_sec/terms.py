@@ -20,7 +20,9 @@ class TraceError(Exception):
 
 
 class Calls(Protocol):
-    """The calls that all keys and ciphers come from: octets in, octets out."""
+    """The calls that all keys and ciphers come from: octets in, octets out. `budget` says how far a search may go with them."""
+
+    budget: int
 
     def kenb(self, kasme: bytes, count: int) -> bytes: ...
     def nh(self, kasme: bytes, sync: bytes) -> bytes: ...

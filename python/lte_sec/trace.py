@@ -9,7 +9,7 @@ from .cells import Cells
 from .judge import KeyJudge
 from .nas import NasBook, NasSeen
 from .report import DIFFERS, RIGHT, UNKNOWN, Line
-from .search import BUDGET, Search
+from .search import Search
 from .state import Attempt, Connection, Held
 from .terms import DOWN, NONE, UP, Derivations, Key
 
@@ -30,7 +30,7 @@ Leg = tuple[str, int | None]
 class Trace:
     """The messages of a trace in their order, and what became of each connection."""
 
-    def __init__(self, derivations: Derivations, cells: Cells, firsts: dict[str, int], budget: int = BUDGET):
+    def __init__(self, derivations: Derivations, cells: Cells, firsts: dict[str, int], budget: int):
         self.cells, self.derivations = cells, derivations
         self.book = NasBook(derivations)
         self.judge = KeyJudge(self.book, cells, Search(derivations, cells, budget=budget), firsts)

@@ -5,7 +5,6 @@ from collections.abc import Iterable
 
 from .captures import Message
 from .cells import Cells, Site
-from .search import BUDGET
 from .terms import Derivations
 from .trace import Trace
 
@@ -34,9 +33,10 @@ def learn(cells: Cells, messages: Iterable[Message]) -> None:
             cells.learn(Site(eci, told.pci, told.earfcn))
 
 
-def check(derivations: Derivations, cells: Cells, messages: list[Message], budget: int = BUDGET) -> Trace:
+def check(derivations: Derivations, cells: Cells, messages: list[Message], budget: int | None = None) -> Trace:
     """Reads a trace. Which NH a core sends first is seen in the whole trace: where both are, the more frequent one is wanted."""
     learn(cells, messages)
+    budget = derivations.calls.budget if budget is None else budget
     trace = Trace(derivations, cells, {}, budget)
     trace.read(messages)
     seen = trace.judge.seen_firsts

@@ -72,6 +72,8 @@ def kdf(key: bytes, code: int, *parts: bytes) -> bytes:
 class StandIn:
     """The six calls (TS 33.401 Annexes A and B)."""
 
+    budget = 100_000
+
     def kenb(self, kasme: bytes, count: int) -> bytes:
         return kdf(kasme, 0x11, count.to_bytes(4, "big"))
 

@@ -217,6 +217,27 @@ def nas_with(**planted: object) -> Callable[[], World]:
     return made
 
 
+def complete_with_header_2() -> World:
+    world, phone = attached()
+    phone.kasme, phone.ksi, phone.up, phone.down = KASMES[1], 1, 0, 0
+    world.nas_down(phone, bytes([7, 0x5D, 0x22, 1, 2, 0xF0, 0x70]), 3)
+    phone.trigger = 0
+    world.fault(world.nas_up(phone, b"\x07\x5e", 2))
+    world.change_key(phone)
+    world.nas_up(phone)
+    return world
+
+
+def key_of_another_handover() -> World:
+    """KeNB* that is right for another phone."""
+    world, phone = attached()
+    other = Phone("other", KASMES[1])
+    world.attach(other, ENB1)
+    world.x2(phone, ENB2, key=star(other.own.key, ENB2))
+    world.x2(phone, ENB1)
+    return world
+
+
 def wrapped_without_overflow() -> World:
     world, phone = attached()
     while phone.up < 256:
@@ -246,12 +267,14 @@ BROKEN: dict[str, tuple[Callable[[], World], str]] = {
     "NH of another KASME": (at_second_handover(nh=lambda has: CALLS.nh(KASMES[1], has["nh"])), "is nh(3) of k1, wanted nh(3) of k0"),
     "KeNB of another COUNT": (at_service(lambda phone: CALLS.kenb(KASMES[0], phone.up + 1)), "is kenb(3), wanted kenb(2) of k0"),
     "KeNB of another phone": (at_service(lambda phone: CALLS.kenb(KASMES[1], phone.up)), "is kenb(2) of k1, wanted kenb(2) of k0"),
+    "KeNB* of another phone": (key_of_another_handover, "is star(kenb(0),301,6300) of k1, wanted star(kenb(0),301,6300) of k0"),
     "the old KASME at a key change": (old_kasme_at_the_change, "is kenb(2) of k0, wanted kenb(0) of k1"),
     "the old chain after a key change": (old_chain_after_the_change, "is nh(3) of k0, wanted nh(2) of k1"),
     "another cell in the command over S1": (s1_with(told=Command(3, 10, 6300, False, b"")), "command differs: cell is (10,6300), wanted (10,100)"),
     "another NCC beside NH over S1": (s1_with(ncc=6), "NCC differs: is 6, wanted 3"),
     "a key that nothing gives": (s1_with(nh=bytes(32)), "NH differs: is none, wanted nh(3)"),
     "a MAC of another KASME": (nas_with(kasme=KASMES[2], count=2), "it is that of k2 at COUNT 2"),
+    "a Complete with another header type": (complete_with_header_2, "header type differs: is 2, wanted 4"),
     "a COUNT used twice": (nas_with(count=1), "COUNT used twice"),
     "COUNT without its overflow": (wrapped_without_overflow, "COUNT used twice"),
 }
