@@ -19,7 +19,7 @@ WAYS = ("uplink", "downlink")
 class Library:
     """The binding to the library of proved calls (`library`), as it stands in this package."""
 
-    budget = 400_000  # derivations that the searches of one trace may make beyond the keys at hand
+    budget = 200_000  # derivations that the searches of one trace may make beyond the keys at hand
 
     def __init__(self, binding: ModuleType):
         for name in NAMES:

@@ -13,7 +13,7 @@ from .repeats import first_repeat
 from .report import NOTE, status
 from .terms import Derivations, TraceError, kasmes_of
 from .trace import Trace
-from .verdict import check
+from .reading import check
 from .wireshark import rows
 
 USAGE = {

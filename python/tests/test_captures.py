@@ -10,7 +10,7 @@ from lte_sec.captures import Command, Message, command, messages, pdu
 from lte_sec.cells import Cells, Site, read_cells, sites_of
 from lte_sec.terms import Derivations, TraceError
 from lte_sec.trace import Trace
-from lte_sec.verdict import learn
+from lte_sec.reading import learn
 
 from .standin import StandIn
 from .test_traces import TRACES

@@ -10,7 +10,7 @@ from lte_sec.captures import Command
 from lte_sec.cells import Cells
 from lte_sec.report import DIFFERS, UNKNOWN, Line
 from lte_sec.terms import Derivations, Kasme
-from lte_sec.verdict import check
+from lte_sec.reading import check
 
 from .simulated import CALLS, CELLS, Phone, World, cell_of
 

@@ -13,7 +13,7 @@ from lte_sec.captures import Message, messages
 from lte_sec.cells import Cells, read_cells
 from lte_sec.report import DIFFERS, NOTE, Line
 from lte_sec.terms import Derivations, Kasme
-from lte_sec.verdict import check
+from lte_sec.reading import check
 
 from .standin import StandIn
 

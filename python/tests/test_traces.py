@@ -12,7 +12,7 @@ from lte_sec.cells import Cells, read_cells
 from lte_sec.report import DIFFERS, NOTE, Line, status
 from lte_sec.terms import Derivations, Kasme
 from lte_sec.trace import Trace
-from lte_sec.verdict import check
+from lte_sec.reading import check
 
 from .standin import StandIn
 
