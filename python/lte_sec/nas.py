@@ -7,22 +7,13 @@ from __future__ import annotations
 
 import re
 from collections.abc import Callable, Iterable
-from dataclasses import dataclass, field, replace
+from dataclasses import replace
 
+from .contexts import SERVICE_REQUEST, NasContext, NasSeen, NasSide, Trigger
 from .terms import DOWN, NAS_ENCRYPTION, NAS_INTEGRITY, UP, Derivations
 
-NAMES = {
-    0x41: "Attach request", 0x42: "Attach accept", 0x43: "Attach complete", 0x44: "Attach reject", 0x45: "Detach request",
-    0x46: "Detach accept", 0x48: "Tracking area update request", 0x49: "Tracking area update accept",
-    0x4A: "Tracking area update complete", 0x4B: "Tracking area update reject", 0x4C: "Extended service request",
-    0x4D: "Control plane service request", 0x4E: "Service reject", 0x4F: "Service accept", 0x50: "GUTI reallocation command",
-    0x51: "GUTI reallocation complete", 0x52: "Authentication request", 0x53: "Authentication response", 0x54: "Authentication reject",
-    0x55: "Identity request", 0x56: "Identity response", 0x5C: "Authentication failure", 0x5D: "Security mode command",
-    0x5E: "Security mode complete", 0x5F: "Security mode reject", 0x60: "EMM status", 0x61: "EMM information",
-    0x62: "Downlink NAS transport", 0x63: "Uplink NAS transport",
-}
 GUTI = re.compile(rb"\x0b\xf6.{6}(.{4})", re.DOTALL)  # TS 24.301 9.9.3.12, with its length
-PLAIN, COMMAND, COMPLETE, SERVICE_REQUEST = 0, 3, 4, 12
+PLAIN, COMMAND, COMPLETE = 0, 3, 4  # security header types (TS 24.301 9.3.1)
 CIPHERED = (2, 4)
 HEADERS = {0x5D: COMMAND, 0x5E: COMPLETE}  # the header types that these messages have (TS 24.301 5.4.3)
 WRAP, SHORT_WRAP = 256, 32  # of a sequence number, and of that of a Service Request
@@ -31,62 +22,6 @@ TRIES = 8  # wraps of the sequence number that a trace may lack
 COLD = 256  # wraps that are tried where a trace begins within a context
 PATIENCE = 3  # messages of a connection for which such a beginning is sought
 AHEAD = 16  # messages of a connection that are looked at for a KASME
-
-
-@dataclass
-class NasContext:
-    """An EPS security context: KASME, algorithms, KSI, and the next COUNT of each direction."""
-
-    kasme: int
-    eea: int = 2
-    eia: int = 2
-    ksi: int | None = None
-    next: dict[int, int] = field(default_factory=lambda: {UP: 0, DOWN: 0})
-    seen: dict[tuple[int, int], bytes] = field(default_factory=dict)
-
-
-@dataclass
-class Trigger:
-    """The uplink message that KeNB is made at: its context and COUNT, and whether its MAC is right."""
-
-    context: NasContext
-    count: int
-    sure: bool
-
-
-@dataclass
-class NasSide:
-    """What a connection has of NAS: the context in use, the one that a Security Mode Command brought, and the trigger."""
-
-    current: NasContext | None = None
-    pending: NasContext | None = None
-    trigger: Trigger | None = None
-    tmsi: int | None = None
-    missed: int = 0  # messages for which no KASME was found
-
-
-@dataclass
-class NasSeen:
-    """What was found of a protected message. `verdict` is right, wrong or unknown."""
-
-    direction: int
-    header: int
-    verdict: str
-    mac: str
-    count: int | None = None
-    wanted: str = ""
-    kasme: int | None = None
-    plain: bytes | None = None
-    note: str = ""
-    ksi: tuple[int, int] | None = None  # the KSI that was told, and that of the context, where they differ
-
-    @property
-    def name(self) -> str:
-        if self.header >= SERVICE_REQUEST:
-            return "Service request"
-        text = self.plain or b""
-        return NAMES.get(text[1], "") if len(text) > 1 and text[0] == 7 else ""
-
 
 # What comes later in the same connection: NAS messages with their directions, and KeNBs.
 Later = Callable[[], Iterable[tuple[int, bytes] | bytes]]
@@ -213,15 +148,17 @@ class NasBook:
             side.pending, self.turn = context, context.kasme + 1
             return self.found(context, DOWN, pdu, seq)
         context = next((one for one in fresh if self.evidence(one, later)), None)
-        if context is None:
-            side.pending = None
-            return self.nothing(DOWN, pdu)
         side.pending = context
+        if context is None:
+            return self.nothing(DOWN, pdu)
         context.next[DOWN] = seq + 1
-        return self.refused(context, DOWN, pdu, seq)
+        seen = self.refused(context, DOWN, pdu, seq)
+        if context.eia == 2:  # what a message with a wrong MAC says of its context is not believed
+            context.ksi, context.eea = None, context.eea if context.eea == 0 else 2
+        return seen
 
     def evidence(self, context: NasContext, later: Later) -> bool:
-        """Whether what comes later in the connection stands under this new context."""
+        """Whether what comes later in the connection stands under this new context; a MAC that is right tells 128-EIA2."""
         for place, one in enumerate(later()):
             if place == AHEAD:
                 break
@@ -233,6 +170,7 @@ class NasBook:
             if len(pdu) >= 7 and pdu[0] >> 4 == COMMAND:
                 break
             if len(pdu) >= 7 and pdu[0] & 15 == 7 and 1 <= pdu[0] >> 4 <= 4 and self.mac(context, direction, pdu[5], pdu[5:]) == pdu[1:5]:
+                context.eia = 2
                 return True
         return False
 
@@ -268,10 +206,11 @@ class NasBook:
         if was_pending and (complete or sure):
             self.follows(side.current, context)
             side.current, side.pending = context, None
-        elif side.current is None:
+        elif side.current is None and not was_pending:
             side.current = context
-        self.contexts[context.kasme] = side.current or context
-        if direction == UP and (complete or was_pending or side.trigger is None):
+        if side.current is context:
+            self.contexts[context.kasme] = context
+        if direction == UP and (complete or was_pending or side.initial and side.trigger is None):
             side.trigger = Trigger(context, count, sure)
 
     def likely(self, side: NasSide, direction: int, pdu: bytes) -> list[NasContext]:

@@ -8,7 +8,7 @@ from __future__ import annotations
 from dataclasses import dataclass, field, replace
 
 from .captures import Command
-from .nas import NasSide
+from .contexts import NasSide
 from .terms import Derivations, Key
 
 CHAIN = 8  # NCC has three bits

@@ -6,8 +6,9 @@ from dataclasses import replace
 
 from .captures import Message
 from .cells import Cells
+from .contexts import NasSeen
 from .judge import KeyJudge
-from .nas import NasBook, NasSeen
+from .nas import NasBook
 from .report import DIFFERS, RIGHT, UNKNOWN, Line
 from .search import Search
 from .state import Attempt, Connection, Held
@@ -113,7 +114,7 @@ class Trace:
         if message.name == "InitialUEMessage":
             connection: Connection | None = self.new(station, message.eci)
             assert connection is not None
-            connection.side.tmsi = message.tmsi
+            connection.side.tmsi, connection.side.initial = message.tmsi, True
             self.legs[leg] = connection
         elif message.name == "HandoverRequest":
             return self.handover_request(message, core, end)

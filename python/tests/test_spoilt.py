@@ -49,7 +49,7 @@ def places(lines: list[str]) -> Iterator[tuple[int, str, str]]:
             yield number, "MAC", flipped(line, 2 if short else 1 + number % 4, number % 8)
             if not short:
                 yield number, "sequence number", flipped(line, 5, number % 8)
-                yield number, "text", flipped(line, -1 - number % 2 + len(nas[1].split(":")), number % 8)
+                yield number, "text", flipped(line, 6 + number % (len(nas[1].split(":")) - 6), number % 8)
 
 
 def frame_of(lines: list[str], number: int) -> str:
