@@ -2,6 +2,7 @@
 from __future__ import annotations
 
 from .captures import Command, Message
+from .cells import Site
 from .chains import ChainJudge, title
 from .report import DIFFERS, RIGHT, UNKNOWN, Line
 from .state import CHAIN, Attempt, Connection, Held, renewed
@@ -210,6 +211,15 @@ class KeyJudge(ChainJudge):
             connection.keys.append((attempt.frame, attempt.station, attempt.held[0].key))
         for other in connection.open_attempts():
             other.over = "done" if other is attempt else "left"
+
+    def within(self, connection: Connection, message: Message, told: Command, site: Site) -> None:
+        """A handover within a station, which RRC alone shows (7.2.8.4.1)."""
+        cell = (site.pci, site.earfcn)
+        held = [Held(self.derivations.star(one.base()[0], *cell), one.base()[1]) for one in connection.held[connection.station]]
+        attempt = Attempt("within", message.frame, connection.station, site.eci, held, [one.ncc for one in held], cell)
+        connection.attempts.append(attempt)
+        self.command(connection, attempt, message, told)
+        self.moved(connection, attempt)
 
     def unseen(self, connection: Connection, station: str, eci: int | None) -> Attempt:
         """A handover whose messages between the stations the trace lacks: as the standard has it."""

@@ -360,11 +360,24 @@ class Trace:
         near = sorted((pair for pair in waiting if alike(pair) >= 4), key=alike, reverse=True)
         chosen = (same or near or [None])[0]
         if chosen is None:
-            self.lines.append(Line(message.frame, "RRC", "command", UNKNOWN, f"frame {message.frame} RRC command not judged: no handover of the trace has this cell"))
-            return
+            return self.rrc_within(message)
         chosen[1].aired = True
         self.commands = [pair for pair in self.commands if not pair[1].aired][-64:]
         self.judge.command(*chosen, message, told)
+
+
+    def rrc_within(self, message: Message) -> None:
+        """A command that belongs to no handover between stations: one within the station, of its only phone."""
+        told = message.command
+        assert told is not None
+        active = list({id(one): one for one in self.legs.values()}.values())
+        for connection in active:
+            sites = [site for site in self.cells.of(connection.station) if site.pci == told.pci and told.earfcn in (None, site.earfcn)]
+            others = [one for one in active if one.station == connection.station]
+            if sites and len(others) == 1 and connection.held.get(connection.station) and not told.key_change:
+                return self.judge.within(connection, message, told, sites[0])
+        text = f"frame {message.frame} RRC command not judged: it is not clear which handover or phone it is of"
+        self.lines.append(Line(message.frame, "RRC", "command", UNKNOWN, text))
 
 
 def first_after(places: list[int], place: int) -> int:

@@ -273,3 +273,19 @@ class World:
         self.up(phone, "HandoverNotify", mme_id=new_mme)
         self.release(old)
         return request
+
+    def within(self, phone: Phone, eci: int, ncc: int | None = None) -> Message:
+        """A handover within a station, which only RRC shows."""
+        site = cell_of(eci)
+        side = phone.stations[site.station]
+        base, number = side.pair or (side.key, side.ncc)
+        told = Command(number if ncc is None else ncc, site.pci, site.earfcn, False, b"within")
+        message = self.add("RRC", "RrcConnectionReconfiguration", "", "", command=told)
+        if ncc is not None:
+            self.fault(message)
+        key = CALLS.kenb_star(base, site.pci, site.earfcn)
+        phone.own, phone.eci = self.command(phone, told.ncc or 0, site.pci, site.earfcn), eci
+        phone.stations[site.station] = Side(key, number)
+        if phone.own.key != key:
+            self.apart.append(message.frame)
+        return message

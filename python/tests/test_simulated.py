@@ -130,10 +130,23 @@ def without_the_complete() -> World:
     return world
 
 
+def within_a_station(shown: bool, ncc: int | None = None) -> World:
+    """A handover to another cell of the station; the trace shows its command, or the next handover names the cell."""
+    world, phone = attached()
+    world.x2(phone, ENB2)
+    message = world.within(phone, ENB2_SECOND, ncc)
+    if not shown:
+        world.messages.remove(message)
+    world.x2(phone, ENB1)
+    world.x2(phone, ENB3)
+    return world
+
+
 SOUND: dict[str, Callable[[], World]] = {
     "handovers, a core that begins with 2": lambda: handovers(2), "handovers, a core that begins with 1": lambda: handovers(1),
     "handovers that are cancelled or refused": cancelled, "six lost answers": lambda: lost_answers(6), "seven lost answers": lambda: lost_answers(7),
-    "a late answer": late_answer, "new KASMEs": new_kasme, "COUNTs that wrap, EEA2": lambda: counts_that_wrap(2),
+    "a late answer": late_answer, "a handover within a station": lambda: within_a_station(True),
+    "the same without RRC": lambda: within_a_station(False), "new KASMEs": new_kasme, "COUNTs that wrap, EEA2": lambda: counts_that_wrap(2),
     "COUNTs that wrap, EEA0": lambda: counts_that_wrap(0), "a trace without Security Mode messages": without_the_complete,
 }
 
@@ -272,6 +285,7 @@ BROKEN: dict[str, tuple[Callable[[], World], str]] = {
     "the old chain after a key change": (old_chain_after_the_change, "is nh(3) of k0, wanted nh(2) of k1"),
     "another cell in the command over S1": (s1_with(told=Command(3, 10, 6300, False, b"")), "command differs: cell is (10,6300), wanted (10,100)"),
     "another NCC beside NH over S1": (s1_with(ncc=6), "NCC differs: is 6, wanted 3"),
+    "another NCC over the air": (lambda: within_a_station(True, 6), "RRC command differs: NCC is 6, wanted 2"),
     "a key that nothing gives": (s1_with(nh=bytes(32)), "NH differs: is none, wanted nh(3)"),
     "a MAC of another KASME": (nas_with(kasme=KASMES[2], count=2), "it is that of k2 at COUNT 2"),
     "a Complete with another header type": (complete_with_header_2, "header type differs: is 2, wanted 4"),
