@@ -1,5 +1,3 @@
-pub mod Numerals
-pub mod Lines
 pub mod Reading
 pub mod Same
 pub mod Rows

@@ -24,6 +24,7 @@ use Rattle.ladder_text.specs.declared.ending.Ending.TheVariants.{Done, Memory, R
 use Rattle.ladder_text.specs.Text.{same, meets, with_row, AreGood}
 use Rattle.ladder_text.specs.Report.{KeyRow, key_at, derived_in, octets_in, kind_of, row_text, coincidence_text, Place, Again, Anew, Taken, place_by_octets, place_in, rows_after, ends_at, text_at, Output, then_rest, output_from, IsReported, TextAt, Writes}
 use Rattle.ladder_text.specs.Rows.{StandsFor, answer_at}
+use Rattle.text_lines.proofs.Ended.{none_passes}
 use Rattle.ladder_text.proofs.Rows.{row_in}
 use Rattle.ladder_text.proofs.Placing.{again_key, number_or_none}
 
@@ -124,16 +125,6 @@ line_stands rows line k found =
     let first = position-Some (λ (r : KeyRow). same r.line line) rows k d found in
     let at : get_or (map (λ r. r.line) rows) k line ≡ (get_or rows k d).line = get_or-map (λ r. r.line) rows k d line first.0 in
     list_any_at (λ earlier. same earlier line) (map (λ r. r.line) rows) k line (omega (arith, first.0, length-map rows (λ r. r.line))) (ap (λ l. same l line) at ∙ first.1)
-
-first_fails : (b : Bool) (n m : ℕ) → cond (not b) (1 + n) 0 ≡ suc m → (b ≡ false) × (n ≡ m)
-first_fails true n m e = absurd (omega arith)
-first_fails false n m e = (refl, omega arith)
-
-none_passes : {X : Type 0} (p : X → Bool) (xs : List X) → position_or_len p xs ≡ length xs → list_any p xs ≡ false
-none_passes p [] past = refl
-none_passes p (x ∷ xs) past =
-    let first = first_fails (p x) (position_or_len p xs) (length xs) past in
-    rw first.0 (none_passes p xs first.1)
 
 any_mapped : {X Y : Type 0} (f : X → Y) (p : Y → Bool) (xs : List X) → list_any p (map f xs) ≡ list_any (λ x. p (f x)) xs
 any_mapped f p [] = refl

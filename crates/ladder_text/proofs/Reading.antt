@@ -5,7 +5,9 @@ use Rattle.std.proofs.lemmas.Option.{none-some}
 use Rattle.std.specs.List.{fold}
 use Rattle.std.specs.Option.{option_map_or, option_and_then}
 use Rattle.ladder_text.specs.declared.line.LadderLine.{LadderLine}
-use Rattle.ladder_text.specs.Text.{lines_of, words_of, line_of, meets, with_row, rows_of, next_line, reading_from, reading_of, AreGood}
+use Rattle.text_lines.specs.Lines.{lines_of}
+use Rattle.text_lines.specs.Words.{words_of}
+use Rattle.ladder_text.specs.Text.{line_of, meets, with_row, rows_of, next_line, reading_from, reading_of, AreGood}
 
 pub reading_begins : (text : List ℕ) (lines : List LadderLine) → lines ≡ [] → reading_of text ≡ reading_from lines (lines_of text)
 unfolding reading_of

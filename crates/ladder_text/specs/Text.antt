@@ -1,12 +1,10 @@
 -- What a ladder text is: which lines it has, and which line is the first bad one.
 use Rattle.std.specs.Prelude.{◌≡◌, ℕ, ◌+◌, ◌^◌, ◌==◌, nat_lt, nat_le, ◌&&◌, ◌||◌, not, Bool, true, false, if◌then◌else◌, Option, Some, None, Result, Ok, Err, List, [], ◌∷◌, ◌++◌, length, codes, slice_get}
-use Rattle.std.specs.List.{slice_split, onto_first, fold, list_any, list_all}
-use Rattle.std.specs.Char.{is_ascii_digit}
+use Rattle.std.specs.List.{fold, list_any}
 use Rattle.std.specs.Option.{option_map, option_map_or, option_and_then}
-use Rattle.std.specs.Result.{result_ok}
 use Rattle.std.specs.Str.{bytes_eq}
-use Rattle.std.specs.Str.Parse.{digits_value}
-use Rattle.hex.specs.Hex.{decode_sized}
+use Rattle.text_lines.specs.Lines.{lines_of}
+use Rattle.text_lines.specs.Words.{words_of, number_of, hex_octets}
 use Rattle.annex_a_keys.specs.Cell.{Place, greatest_pci, greatest_earfcn}
 use Rattle.annex_a_keys.specs.AlgType.{distinguisher}
 use Rattle.annex_a_keys.specs.declared.alg_type.AlgType.{AlgType}
@@ -15,35 +13,6 @@ use Rattle.key_terms.specs.declared.row.Row.{Row}
 use Rattle.key_terms.specs.Ladder.{row}
 use Rattle.ladder_text.specs.declared.line.LadderLine.{LadderLine}
 use Rattle.ladder_text.specs.declared.line.LadderLine.TheVariants.{Root, Kenb, Nh, Star, Alg}
-
-abbrev pub is_feed : ℕ → Bool
-is_feed octet = octet == 10
-
--- the lines of a text: each ends with a line feed, which the last may lack
-unfoldable pub lines_of : List ℕ → List (List ℕ)
-lines_of [] = []
-lines_of (octet ∷ octets) = if is_feed octet then [] ∷ lines_of octets else onto_first octet (lines_of octets)
-
--- the words of a line, parted by one space each
-abbrev pub is_space : ℕ → Bool
-is_space octet = octet == 32
-
-abbrev pub words_of : List ℕ → List (List ℕ)
-words_of line = slice_split is_space line
-
--- a first digit that is no leading zero: 0 stands alone
-abbrev pub starts_well : List ℕ → Bool
-starts_well [] = false
-starts_well (digit ∷ []) = true
-starts_well (first ∷ second ∷ digits) = not (first == 48)
-
--- decimal digits with no sign and no leading zero
-abbrev pub is_numeral : List ℕ → Bool
-is_numeral word = starts_well word && list_all is_ascii_digit word
-
--- the number that a word is, below 2 ^ 32
-unfoldable pub number_of : List ℕ → Option ℕ
-number_of word = if is_numeral word && nat_lt (digits_value 10 word) (2 ^ 32) then Some (digits_value 10 word) else None
 
 -- the row that a word names
 abbrev pub row_of : List ℕ → Option Row
@@ -82,13 +51,9 @@ takes encryption id = id == 0 || id == 2
 abbrev pub identity_of : AlgType → List ℕ → Option ℕ
 identity_of type word = option_and_then (λ id. if takes type id then Some id else None) (number_of word)
 
--- a key of 32 octets in 64 hex digits of either case
-unfoldable pub key_of : List ℕ → Option (List ℕ)
-key_of word = result_ok (decode_sized word 32)
-
 -- the line of two words, of three and of four
 unfoldable pub line_of_two : List ℕ → List ℕ → Option LadderLine
-line_of_two name key = if bytes_eq name (codes "root") then option_map Root (key_of key) else None
+line_of_two name key = if bytes_eq name (codes "root") then option_map Root (hex_octets 32 key) else None
 
 unfoldable pub line_of_three : List ℕ → List ℕ → List ℕ → Option LadderLine
 line_of_three name r word =

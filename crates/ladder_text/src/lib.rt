@@ -12,4 +12,4 @@ mod text;
 
 pub use answer::write_answer;
 pub use ending::Ending;
-pub use line::{LadderLine, number};
+pub use line::LadderLine;

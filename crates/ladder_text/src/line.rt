@@ -1,13 +1,12 @@
-ghost use Rattle.std.specs.Prelude.{◌≡◌, true, ◌^◌, ◌<◌, ℕ, map, take, IfOk};
-ghost use Rattle.std.specs.Char.{is_ascii_digit};
-ghost use Rattle.std.specs.List.{list_all};
-ghost use Rattle.ladder_text.specs.Text.{words_of, starts_well, is_numeral, number_of, row_of, count_of, cell_of, type_of, takes, identity_of, key_of, line_of_two, line_of_three, line_of_four, line_of};
+ghost use Rattle.std.specs.Prelude.{◌≡◌, map, IfOk};
+ghost use Rattle.text_lines.specs.Words.{words_of};
+ghost use Rattle.ladder_text.specs.Text.{row_of, count_of, cell_of, type_of, takes, identity_of, line_of_two, line_of_three, line_of_four, line_of};
 
 use crate::key::LineKey;
 use annex_a_keys::{AlgType, Cell};
-use hex::FromHex;
 use key_terms::Row;
 use std::alloc::{AllocError, Global};
+use text_lines::{first_words, hex_octets, number};
 
 /// A line of a ladder text. Rows are named by the number that their line printed.
 #[derive(Clone, Copy, Debug, PartialEq, Eq)]
@@ -54,11 +53,11 @@ impl LadderLine {
         }
     }
 
-    // The line that a text spells, whatever rows there are.
+    // The line that a text spells, whatever rows there are. No line has more than four words.
     pub(crate) fn read(alloc: Global, line: &[u8]) -> Result<Option<LadderLine>, AllocError>
         ensures { IfOk result (λ read. read ≡ line_of (words_of line.now)) }
     {
-        let words = first_words(alloc, line)?;
+        let words = first_words(alloc, line, 5)?;
         Ok(line_from(words.as_slice()))
     }
 }
@@ -81,7 +80,7 @@ fn line_of_two(name: &[u8], word: &[u8]) -> Option<LadderLine>
     ensures { result ≡ line_of_two name.now word.now }
 {
     if name == b"root".as_slice() {
-        return Some(LadderLine::Root(key(word)?));
+        return Some(LadderLine::Root(hex_octets(word)?));
     }
     None
 }
@@ -121,21 +120,6 @@ fn line_of_four(name: &[u8], from: &[u8], first: &[u8], second: &[u8]) -> Option
         return Some(LadderLine::Alg { key, kind, id });
     }
     None
-}
-
-// The words of a line, of which no line has more than four, up to the fifth.
-fn first_words(alloc: Global, line: &[u8]) -> Result<Vec<&[u8]>, AllocError>
-    ensures { IfOk result (λ words. map (λ word. word.now) words.items ≡ take 5 (words_of line.now)) }
-{
-    line.split(|octet| *octet == b' ').take(5).collect(alloc)
-}
-
-// A key in 64 hex digits.
-#[tactic(auto, unfolding(crate::specs::Text::key_of))]
-fn key(word: &[u8]) -> Option<[u8; 32]>
-    ensures { result ≡ key_of word.now }
-{
-    <[u8; 32]>::from_hex(word).ok()
 }
 
 // The row that a word names.
@@ -195,48 +179,5 @@ fn takes(kind: AlgType, id: u32) -> bool
     match kind {
         AlgType::NasInt | AlgType::RrcInt => id == 2,
         AlgType::NasEnc | AlgType::RrcEnc | AlgType::UpEnc => id == 0 || id == 2,
-    }
-}
-
-/// The number that a word is, below 2^32: decimal digits with no sign and no leading zero, except `0` itself.
-pub fn number(word: &[u8]) -> Option<u32>
-    ensures { result ≡ number_of word.now }
-{
-    if !is_numeral(word) {
-        return None;
-    }
-    digits(word).parse().ok()
-}
-
-// The text of a word that is digits.
-fn digits(word: &[u8]) -> &str
-    requires { is_numeral word.now ≡ true }
-    ensures { result.now ≡ word.now }
-{
-    str::from_utf8(word).unwrap()
-}
-
-// Whether a word is digits with no sign and no leading zero, except `0` itself.
-fn is_numeral(word: &[u8]) -> bool
-    ensures { result ≡ is_numeral word.now }
-{
-    starts_well(word) && all_digits(word)
-}
-
-// Whether each octet of a word is a digit.
-fn all_digits(word: &[u8]) -> bool
-    ensures { result ≡ list_all is_ascii_digit word.now }
-{
-    word.iter().all(|octet| octet.is_ascii_digit())
-}
-
-// Whether a word has a first digit that is no leading zero.
-fn starts_well(word: &[u8]) -> bool
-    ensures { result ≡ starts_well word.now }
-{
-    match word {
-        [] => false,
-        [_] => true,
-        [first, ..] => *first != b'0',
     }
 }

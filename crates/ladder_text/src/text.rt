@@ -1,11 +1,14 @@
 ghost use Rattle.std.specs.Prelude.{◌≡◌, ℕ, ◌<◌, ◌≤◌, ◌∷◌, [], length, IfOk, IfSome, Ok, Err, position};
-ghost use Rattle.ladder_text.specs.Text.{is_feed, lines_of, words_of, is_root, is_hop_of, has_star, is_kenb, has_alg, stands_as, meets, rows_of, next_line, reading_of, AreGood};
+ghost use Rattle.text_lines.specs.Lines.{lines_of};
+ghost use Rattle.text_lines.specs.Words.{words_of};
+ghost use Rattle.ladder_text.specs.Text.{is_root, is_hop_of, has_star, is_kenb, has_alg, stands_as, meets, rows_of, next_line, reading_of, AreGood};
 
 use crate::derivations::Derivations;
 use crate::line::LadderLine;
 use annex_a_keys::AlgType;
 use key_terms::Row;
 use std::alloc::{AllocError, AllocFailed, Global};
+use text_lines::first_line;
 
 /// Why a ladder text was not read.
 #[derive(Debug, Drop)]
@@ -77,26 +80,6 @@ fn read_next(
         Some(line) if meets(rows, &line) => Some(line),
         _ => None,
     })
-}
-
-// The first line of a text, and what is behind it.
-fn first_line(text: &[u8]) -> (&[u8], &[u8])
-    requires { 0 < length text.now }
-    ensures lines { lines_of text.now ≡ result.0.now ∷ lines_of result.1.now }
-    ensures shorter { length result.1.now < length text.now }
-{
-    match first_feed(text) {
-        Some(end) => (&text[..end], &text[end + 1..]),
-        None => (text, &[]),
-    }
-}
-
-// The place of the first line feed.
-fn first_feed(text: &[u8]) -> Option<usize>
-    ensures feed { result ≡ position is_feed text.now }
-    ensures within { IfSome result (λ end. end < length text.now) }
-{
-    text.iter().position(|octet| *octet == b'\n')
 }
 
 // Whether a line's need is met.

@@ -4,7 +4,7 @@ use Rattle.std.specs.declared.alloc.Global.{Global}
 use Rattle.std.specs.Option.{option_map, option_and_then}
 use Rattle.std.specs.Str.{bytes_eq}
 use Rattle.std.specs.String.{string_bytes}
-use Rattle.ladder_text.specs.Text.{number_of}
+use Rattle.text_lines.specs.Words.{number_of}
 use Rattle.lte_sec_app.specs.declared.command.Command.{Command}
 use Rattle.lte_sec_app.specs.declared.command.Command.TheVariants.{Text, Drive, Serve, Gen}
 use Rattle.lte_sec_app.specs.declared.command.TextCommand.{TextCommand}

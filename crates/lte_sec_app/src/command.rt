@@ -4,7 +4,7 @@ ghost use Rattle.lte_sec_app.specs.Command.{generator_of, generator_by, named, o
 
 use crate::roles::role_of;
 use edge_io::Role;
-use ladder_text::number;
+use text_lines::number;
 
 /// The greatest number of steps of a generated scenario.
 pub const MOST_STEPS: u32 = 100_000;

@@ -1,5 +1,6 @@
 use Rattle.std.proofs.Common.{◌≡◌, [], ◌∷◌, ◌++◌, length, length-append, Some, sym, ◌∙◌, ap, subst, rules, arith}
-use Rattle.ladder_text.specs.Text.{words_of, with_row, next_line, rows_of, AreGood}
+use Rattle.text_lines.specs.Words.{words_of}
+use Rattle.ladder_text.specs.Text.{with_row, next_line, rows_of, AreGood}
 use Rattle.ladder_text.proofs.Reading.{reading_begins, reading_next, reading_ends, next_meets, rows_next, good_next}
 use Rattle.ladder_text.proofs.text.read_lines.Goals as goal
 

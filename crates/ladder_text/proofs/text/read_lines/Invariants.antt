@@ -1,5 +1,6 @@
 use Rattle.std.proofs.Common.{◌≡◌, ◌≤◌, [], length}
-use Rattle.ladder_text.specs.Text.{lines_of, rows_of, reading_of, reading_from, AreGood}
+use Rattle.text_lines.specs.Lines.{lines_of}
+use Rattle.ladder_text.specs.Text.{rows_of, reading_of, reading_from, AreGood}
 use Rattle.ladder_text.proofs.text.read_lines.Given as goal
 
 abbrev pub invariant-loop-rest : goal.invariant-loop-rest

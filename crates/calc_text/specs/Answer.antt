@@ -1,0 +1,96 @@
+-- The answer to a line.
+use Rattle.std.specs.Prelude.{ℕ, ◌<◌, ◌≤◌, ◌==◌, Bool, true, false, if◌then◌else◌, Result, Ok, Err, List, [], ◌∷◌, ◌++◌, length, codes}
+use Rattle.hex.specs.Hex.{encode_lower}
+use Rattle.hmac_kdf.specs.Kdf.{kdf}
+use Rattle.hmac_kdf.specs.declared.input.KdfInput.TheVariants as input
+use Rattle.ctr_eea2.specs.Eea2 as cipher
+use Rattle.cmac_eia2.specs.Eia2 as integrity
+use Rattle.text_lines.specs.Words.{words_of}
+use Rattle.calc_text.specs.declared.fields.Field.{Field}
+use Rattle.calc_text.specs.declared.fields.Field.TheVariants as field
+use Rattle.calc_text.specs.declared.requests.Request.{Request}
+use Rattle.calc_text.specs.declared.requests.Request.TheVariants.{Kenb, Nh, Star, Alg, Eea2, Eia2, Nas, SealNas, ServiceRequest, Srb, SealSrb, Drb, SealDrb, Reach}
+use Rattle.calc_text.specs.PduAnswer.{written, nas_keys, srb_keys, drb_keys, nas_line, service_line, srb_line, drb_line, reach_line}
+use Rattle.alg_choice.specs.declared.algs.Eea.TheVariants.{Eea0}
+use Rattle.nas_guard.specs.Seal.{sealed}
+use Rattle.pdu_guard.specs.ShortMacs.{service_checked}
+use Rattle.pdu_guard.specs.Srb.{srb_pdu}
+use Rattle.pdu_guard.specs.Drb.{drb_pdu}
+use Rattle.calc_text.specs.Reading.{request_of}
+
+-- the ranges of what a line asks for: BEARER of 5 bits, a NAS COUNT of 24, a header type 1 to 4, an NCC of 3 bits
+abbrev pub IsRequest : Request → Type 0
+IsRequest (Eea2 c) = c.inputs.bearer < 32
+IsRequest (Eia2 c) = c.inputs.bearer < 32
+IsRequest (Nas n) = n.inputs.count < 0x1000000
+IsRequest (SealNas n) = (n.inputs.count < 0x1000000) × (1 ≤ n.header) × (n.header ≤ 4)
+IsRequest (ServiceRequest kasme count pdu) = count < 0x1000000
+IsRequest (Srb s) = (s.inputs.bearer < 32) × (length s.octets ≤ 8193)
+IsRequest (SealSrb s) = s.inputs.bearer < 32
+IsRequest (Drb d) = d.inputs.bearer < 32
+IsRequest (SealDrb d) = d.inputs.bearer < 32
+IsRequest (Reach phone ncc cell) = (phone.ncc ≤ 7) × (ncc ≤ 7)
+IsRequest other = Unit {0}
+
+-- what a line gives
+abbrev pub gives : Request → List ℕ
+gives (Kenb kasme count) = written (kdf kasme (input.Kenb count))
+gives (Nh kasme sync) = written (kdf kasme (input.Nh sync))
+gives (Star key cell) = written (kdf key (input.Star cell.pci cell.earfcn))
+gives (Alg key a) = written (kdf key (input.Alg a.kind a.id))
+gives (Eea2 c) = written (cipher.eea2_of c.inputs.key c.inputs.count c.inputs.bearer c.inputs.dir c.text)
+gives (Eia2 c) = written (integrity.eia2_of c.inputs.key c.inputs.count c.inputs.bearer c.inputs.dir c.text)
+gives (Nas n) = nas_line n.inputs n.pdu
+gives (SealNas n) = written (sealed (nas_keys n.inputs.kasme n.inputs.eea) n.header n.inputs.count n.inputs.dir n.text)
+gives (ServiceRequest kasme count pdu) = service_line (service_checked (nas_keys kasme Eea0).int count pdu)
+gives (Srb s) = srb_line s.inputs s.octets
+gives (SealSrb s) = written (srb_pdu (srb_keys s.inputs) s.inputs.count s.inputs.dir s.octets)
+gives (Drb d) = drb_line (drb_keys d.inputs d.numbers) d.inputs.count d.inputs.dir d.octets
+gives (SealDrb d) = written (drb_pdu (drb_keys d.inputs d.numbers) d.inputs.count d.inputs.dir d.octets)
+gives (Reach phone ncc cell) = reach_line phone ncc cell
+
+-- what is bad in a line
+abbrev pub name_of : Field → List ℕ
+name_of field.Word = codes "word"
+name_of field.Fields = codes "fields"
+name_of field.Kasme = codes "kasme"
+name_of field.Sync = codes "sync"
+name_of field.Key = codes "key"
+name_of field.Type = codes "type"
+name_of field.Id = codes "id"
+name_of field.Count = codes "count"
+name_of field.Bearer = codes "bearer"
+name_of field.Direction = codes "direction"
+name_of field.Pci = codes "pci"
+name_of field.Earfcn = codes "earfcn"
+name_of field.Text = codes "text"
+name_of field.Eea = codes "eea"
+name_of field.Pdu = codes "pdu"
+name_of field.Bits = codes "bits"
+name_of field.NccInUse = codes "ncc-in-use"
+name_of field.Ncc = codes "ncc"
+
+-- what is written for a line, and whether it is a good one
+pub record Answer : Type 0 where
+  pub text : List ℕ
+  pub good : Bool
+
+unfoldable pub bad_text : Field → List ℕ
+bad_text field = codes "bad " ++ name_of field
+
+-- a line of the output
+abbrev pub line : List ℕ → List ℕ
+line text = text ++ codes "\n"
+
+abbrev pub answered : Result Request Field → Answer
+answered (Ok request) = record { text = line (gives request); good = true }
+answered (Err field) = record { text = line (bad_text field); good = false }
+
+-- a line that is empty or begins with `#` says nothing
+abbrev pub is_silent : List ℕ → Bool
+is_silent [] = true
+is_silent (first ∷ octets) = first == 35
+
+-- the answer to a line
+unfoldable pub answer_to : List ℕ → Answer
+answer_to octets = if is_silent octets then record { text = []; good = true } else answered (request_of (words_of octets))

@@ -1,0 +1,80 @@
+-- What a word of a line is as the value of a field, or which field is bad.
+use Rattle.std.specs.Prelude.{◌≡◌, ℕ, ◌==◌, ◌^◌, nat_lt, nat_le, ◌&&◌, if◌then◌else◌, Option, Some, None, Result, Ok, Err, List, [], length, codes}
+use Rattle.std.specs.Option.{ok_or, option_and_then}
+use Rattle.std.specs.Result.{result_ok}
+use Rattle.std.specs.Str.{bytes_eq}
+use Rattle.hex.specs.Hex.{decode_of}
+use Rattle.alg_choice.specs.declared.algs.Eea.{Eea}
+use Rattle.alg_choice.specs.declared.algs.Eea.TheVariants.{Eea0, Eea2}
+use Rattle.annex_a_keys.specs.Cell.{Place}
+use Rattle.pdu_guard.specs.declared.drb.Numbers.{Numbers}
+use Rattle.pdu_guard.specs.Drb.{numbers_of}
+use Rattle.rec_base.specs.declared.uses.Dir.{Dir}
+use Rattle.rec_base.specs.declared.uses.Dir.TheVariants.{Up, Down}
+use Rattle.text_lines.specs.Words.{number_of, hex_octets}
+use Rattle.calc_text.specs.declared.fields.Field.{Field}
+use Rattle.calc_text.specs.declared.fields.LineFault.{LineFault}
+use Rattle.calc_text.specs.declared.fields.LineFault.TheVariants.{Bad, Memory}
+use Rattle.calc_text.specs.declared.fields.Field.TheVariants as field
+
+-- the first bad field, in the order in which the fields stand
+infixl 10 ◌>>=◌
+abbrev pub ◌>>=◌ : {A B : Type 0} → Result A Field → (A → Result B Field) → Result B Field
+(Ok x) >>= f = f x
+(Err e) >>= f = Err e
+
+-- a fault of a line is the first bad field; want of memory says nothing of it
+abbrev pub Refuses : {A : Type 0} → LineFault → Result A Field → Type 0
+Refuses (Bad field) reading = reading ≡ Err field
+Refuses Memory reading = Unit {0}
+
+-- a key of so many octets
+abbrev pub key_in : ℕ → Field → List ℕ → Result (List ℕ) Field
+key_in n field word = ok_or (hex_octets n word) field
+
+-- a number from the least to the greatest
+unfoldable pub number_in : ℕ → ℕ → Field → List ℕ → Result ℕ Field
+number_in least greatest field word =
+    ok_or (option_and_then (λ n. if nat_le least n && nat_le n greatest then Some n else None) (number_of word)) field
+
+-- a cell: a PCI up to 503 and an EARFCN-DL up to 262143 (TS 36.331 6.3.4 and 6.4)
+unfoldable pub cell_in : List ℕ → List ℕ → Result Place Field
+cell_in pci earfcn = do
+  p ← number_in 0 503 field.Pci pci
+  e ← number_in 0 262143 field.Earfcn earfcn
+  Ok (record { pci = p; earfcn = e })
+
+-- DIRECTION
+unfoldable pub direction_in : List ℕ → Result Dir Field
+direction_in word =
+    if bytes_eq word (codes "uplink") then Ok Up
+    else if bytes_eq word (codes "downlink") then Ok Down
+    else Err field.Direction
+
+-- octets in pairs of hex digits of either case, or `-` for none
+abbrev pub written_octets : List ℕ → Option (List ℕ)
+written_octets word =
+    if bytes_eq word (codes "-") then Some []
+    else if length word == 0 then None
+    else result_ok (decode_of word)
+
+unfoldable pub octets_in : Field → List ℕ → Result (List ℕ) Field
+octets_in field word = ok_or (written_octets word) field
+
+-- an encryption algorithm by its identity
+abbrev pub eea_numbered : ℕ → Option Eea
+eea_numbered n = if n == 0 then Some Eea0 else if n == 2 then Some Eea2 else None
+
+unfoldable pub eea_in : List ℕ → Result Eea Field
+eea_in word = ok_or (option_and_then eea_numbered (number_of word)) field.Eea
+
+-- the sequence numbers of a data radio bearer by their bits
+unfoldable pub numbers_in : List ℕ → Result Numbers Field
+numbers_in word = ok_or (option_and_then numbers_of (number_of word)) field.Bits
+
+-- octets, so many at the most
+abbrev pub if_few : ℕ → Field → List ℕ → Result (List ℕ) Field
+if_few most field octets = if nat_lt most (length octets) then Err field else Ok octets
+
+unfoldable pub few_octets_in : ℕ → Field → List ℕ → Result (List ℕ) Field
+few_octets_in most field word = octets_in field word >>= if_few most field

@@ -1,0 +1,18 @@
+//! One line of `calc`: what it asks for, and its answer.
+#![tactic(auto)]
+
+mod answering;
+mod fields;
+mod octet_texts;
+mod pdu_answering;
+mod pdu_reading;
+mod reading;
+mod requests;
+
+pub use answering::{Answer, answer_to};
+pub use fields::{Field, LineFault};
+pub use octet_texts::Octets;
+pub use requests::{
+    Algorithm, BearerInputs, Ciphering, DrbOctets, Inputs, NasInputs, NasPdu, NasText, Request,
+    SrbOctets,
+};

@@ -1,5 +1,0 @@
-use Rattle.ladder_text.proofs.Numerals.{numeral_is_text}
-use Rattle.ladder_text.proofs.line.digits.Goals as goal
-
-pub unwrap-requires : goal.unwrap-requires
-unwrap-requires c = numeral_is_text c.args.word.now c.from_utf8.result _ _ c.requires c.from_utf8.ensures.cases

@@ -1,0 +1,4 @@
+pub mod Status
+pub mod Output
+pub mod Run
+pub mod Lines
