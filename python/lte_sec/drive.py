@@ -49,6 +49,11 @@ def variables(words: list[str]) -> dict[str, str]:
     return found
 
 
+def put(descriptor: int, octets: bytes) -> None:
+    while octets:
+        octets = octets[os.write(descriptor, octets):]
+
+
 class Driven:
     """The program, in a group of processes of its own, so that it ends with all that it started."""
 
@@ -56,15 +61,14 @@ class Driven:
         self.last, self.whose, self.rest = b"", b"", b""
         self.process = subprocess.Popen(command, stdout=subprocess.PIPE, stderr=subprocess.PIPE, env=os.environ | more, start_new_session=True)
 
-    def print_on(self, source: BinaryIO, to: BinaryIO) -> None:
+    def print_on(self, source: BinaryIO) -> None:
         """Hands on what the program prints, and keeps its last line. Where that fails the program is to see it."""
-        with contextlib.suppress(BrokenPipeError), source:
+        with contextlib.suppress(OSError), source:
             for line in source:
                 self.last = line
-                to.write(line)
-                to.flush()
+                put(1, line)
 
-    def hear(self, source: BinaryIO, to: BinaryIO) -> None:
+    def hear(self, source: BinaryIO) -> None:
         """Hands on what is said on standard error, but for what is told of a reply that differs."""
         for line in source:
             if told := TOLD.fullmatch(line):
@@ -72,18 +76,17 @@ class Driven:
             elif rest := REST.fullmatch(line):
                 self.rest = bytes.fromhex(rest[1].decode())
             else:
-                to.write(line)
-                to.flush()
+                put(2, line)
 
     def run(self) -> int:
         assert self.process.stdout and self.process.stderr
-        hearing = threading.Thread(target=self.hear, args=(self.process.stderr, sys.stderr.buffer), daemon=True)
+        hearing = threading.Thread(target=self.hear, args=(self.process.stderr,), daemon=True)
         hearing.start()
-        self.print_on(self.process.stdout, sys.stdout.buffer)
+        self.print_on(self.process.stdout)
         status = self.process.wait()
         self.end()
         hearing.join(1)
-        return status
+        return status if status >= 0 else 128 - status
 
     def end(self) -> None:
         """Ends what is left of the group."""

@@ -365,16 +365,17 @@ def read_reply(body: bytes) -> Reply:
     return reply
 
 
-def parts_of(octets: bytes) -> dict[str, str]:
-    """The parts of a reply as it came: where it is none, what is bad of it, and its octets."""
-    try:
-        return read_reply(unframed(octets)).parts()
-    except BadFrame as bad:
-        return {"no reply": str(bad), "octets": octets.hex()}
-
-
 def differences(wanted: bytes, got: bytes) -> list[str]:
-    """A line for each part in which two replies differ."""
-    want, have = parts_of(wanted), parts_of(got)
+    """What is told of two replies that differ: a line for each part, or one where a reply is none."""
+    if wanted == got:
+        return []
+    try:
+        have = read_reply(unframed(got)).parts()
+    except BadFrame as bad:
+        return [f"what came is no reply, {bad}: {got.hex()}"]
+    try:
+        want = read_reply(unframed(wanted)).parts()
+    except BadFrame as bad:
+        return [f"what is wanted is no reply, {bad}: {wanted.hex()}"]
     return [f"{name}: wanted {want.get(name, 'none')}, got {have.get(name, 'none')}"
             for name in {**want, **have} if want.get(name) != have.get(name)]

@@ -61,15 +61,15 @@ class Frames(unittest.TestCase):
             "00088000000000000000": "0 (done)",
         }
         for text, told in rows.items():
-            self.assertEqual(frames.parts_of(bytes.fromhex(text))["answer"], told)
+            self.assertEqual(frames.read_reply(bytes.fromhex(text)[2:]).parts()["answer"], told)
 
     def test_what_differs_is_told(self) -> None:
         done = bytes.fromhex("00088000000000000000")
         self.assertEqual(frames.differences(done, done), [])
         self.assertEqual(frames.differences(done, bytes.fromhex("00088001000000000000")), ["answer: wanted 0 (done), got 1 (NoContext)"])
-        cut = frames.differences(done, bytes.fromhex("000880000000"))
-        self.assertEqual(cut[-1], "octets: wanted none, got 000880000000")
-        self.assertIn("its length and its octets differ", cut[1])
+        cut = bytes.fromhex("000880000000")
+        self.assertEqual(frames.differences(done, cut), ["what came is no reply, octet 0: its length and its octets differ: 0008, 4 octets: 000880000000"])
+        self.assertIn("what is wanted is no reply", frames.differences(cut, done)[0])
 
     def test_a_source_ends_between_frames_or_is_cut(self) -> None:
         self.assertIsNone(frames.read_frame(io.BytesIO(b"")))
