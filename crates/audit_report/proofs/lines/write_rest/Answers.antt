@@ -25,4 +25,4 @@ returns-in-Err-clause-text g c =
     first_cut (Unit {0}) c.in-Err.fault (lines ++ last_line) lines last_line (g.W.Edge.told c.args.out.now) (g.W.Edge.told c.write_rows.new.out) refl c.in-Err.ensures.text
 
 pub write_octets-requires-clause-lines : goal.write_octets-requires-clause-lines
-write_octets-requires-clause-lines g c = ap are_lines (sym c.last_line.ensures) ∙ is_lines _ last_ends
+write_octets-requires-clause-lines g c = ap are_lines c.last_line.ensures ∙ is_lines _ last_ends

@@ -19,4 +19,4 @@ returns-in-Err-clause-text g c =
     c.loop-k.invariant.so_far (omega (arith, c.loop-k-test.true, c.len-k-end.ensures.len)) c.loop-k.invariant.out.counts (c.in-Err.ensures.text _ c.row_line.ensures)
 
 pub write_line-requires-clause-lines : goal.write_line-requires-clause-lines
-write_line-requires-clause-lines g c = text_is _ _ _ c.row_line.ensures (is_lines _ (row_ends _ _ _))
+write_line-requires-clause-lines g c = text_is _ _ _ c.row_line.ensures (is_lines _ (row_ends c.args.ladder.now.rows (exact_mark c.args.ladder.now.rows) c.loop-k.k))

@@ -15,4 +15,4 @@ write_chance-requires-clause-string g c =
     (chance_told (away v.cores (station_in v.senders e) e) (acting v.cores (station_in v.senders e)) (length v.events) (told_of v.world e) c.in-Err-Chance.field-0 c.in-Err-Chance.proof c.in-Err-Chance.field-0-is c.in-Err-Chance.ensures.says)
 
 pub write_text-requires-clause-lines : goal.write_text-requires-clause-lines
-write_text-requires-clause-lines g c = text_is _ _ _ c.two_text.ensures (is_lines _ (two_ends _ _))
+write_text-requires-clause-lines g c = text_is _ _ _ c.two_text.ensures (is_lines _ (two_ends (length c.events.result.now) c.in-Ok.line))

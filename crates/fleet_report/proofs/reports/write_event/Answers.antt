@@ -72,4 +72,4 @@ unfolding event_ends
 returns-in-Ok-write_text-clause-coincidence g c = ap ends_it (c.in-Ok.ensures.says (λ same. cc))
 
 pub write_text-requires-clause-lines : goal.write_text-requires-clause-lines
-write_text-requires-clause-lines g c = if_ok _ (λ t. are_lines t.items ≡ true) c.told_text.result (λ t is. ap are_lines (is 0) ∙ told_is _ 0 c.in-Ok.told) c.told_text.ensures
+write_text-requires-clause-lines g c = if_ok _ (λ t. are_lines t.items ≡ true) c.told_text.result (λ t is. ap are_lines (is 0) ∙ told_is (length c.journal.result.now) 0 c.in-Ok.told) c.told_text.ensures

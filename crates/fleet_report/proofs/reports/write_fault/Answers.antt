@@ -3,4 +3,4 @@ use Rattle.fleet_report.proofs.Ends.{fault_is}
 use Rattle.fleet_report.proofs.reports.write_fault.Goals as goal
 
 pub write_text-requires-clause-lines : goal.write_text-requires-clause-lines
-write_text-requires-clause-lines g c = text_is _ _ _ c.fault_text.ensures (fault_is _ _ _)
+write_text-requires-clause-lines g c = text_is _ _ _ c.fault_text.ensures (fault_is c.args.step c.args.own c.args.fault)
