@@ -1,5 +1,5 @@
 // A system with two cores.
-ghost use Rattle.std.specs.Prelude.{◌≡◌, ◌≢◌, ◌<◌, ◌≤◌, [], ◌∷◌, ◌++◌, All, length, Err, IfOk, IsOkUnless, OnOk, option_map};
+ghost use Rattle.std.specs.Prelude.{◌≡◌, ◌≢◌, ◌<◌, ◌≤◌, [], ◌∷◌, ◌++◌, All, length, Err, IfOk, IsOkUnless, OnOk, OnErr, option_map};
 ghost use Rattle.lte_machine.specs.Ranges.{AllOf, IsEvent, IsSetup};
 ghost use Rattle.lte_world.specs.Whole.{CanBegin, begun, run_of, told_of};
 ghost use Rattle.core_relocation.specs.Run.{answer_in, heard_of, next_answer, run_after, state_in};
@@ -77,6 +77,10 @@ impl Two {
         ensures setup { self.new.world.setup ≡ self.old.world.setup }
         ensures core_of { self.new.cores.core_of ≡ self.old.cores.core_of }
         ensures events { OnOk result (self.new.events ≡ self.old.events ++ event.now ∷ []) }
+        // Where a coincidence or want of memory is answered, no event came in, no record has a sender more, and the context stays where it is.
+        ensures no_event { OnErr result (self.new.events ≡ self.old.events) }
+        ensures no_sender { OnErr result (self.new.senders ≡ self.old.senders) }
+        ensures stays { OnErr result (self.new.cores ≡ self.old.cores) }
         ensures ranges { IsSetup self.old.world.setup × AllOf IsEvent self.old.world.journal }
     {
         self.log.reserve().map_err(|_| WorldFault::Memory)?;
