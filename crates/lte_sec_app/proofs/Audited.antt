@@ -4,6 +4,7 @@ use Rattle.std.specs.Prelude.{IfOk}
 use Rattle.audit_report.specs.Alone.{EachAlone}
 use Rattle.audit_report.specs.AuditReport.{audit_report_of}
 use Rattle.audit_report.specs.Audited.{AuditIsExact}
+use Rattle.audit_report.specs.OfRun.{AuditIsOfRun}
 use Rattle.lte_events.specs.declared.events.Event.{Event}
 use Rattle.lte_events.specs.declared.setups.Setup.{Setup}
 use Rattle.lte_properties.specs.Headline.{Headline}
@@ -15,12 +16,24 @@ use Rattle.lte_sec_app.specs.Run.{WhereRun}
 use Rattle.lte_sec_app.specs.Scenario.{status_of}
 
 module _ (octets : List ℕ) (setup : Setup) (events : List Event) (reads : reading_of octets ≡ Ok (setup, events)) (heads : Headline setup events) (alone : EachAlone setup events) where
-  has_audit : ((audit_report_of setup events).coincides ≡ false → AuditIsExact setup events) → HasAudit octets
-  has_audit exact = record { setup = setup; events = events; reads = reads; headline = heads; exact = exact; alone = alone }
+  -- what is so of the audit that was written
+  abbrev pub IsRight : Type 0
+  IsRight = AuditIsExact setup events × AuditIsOfRun setup events
 
-  pub audited : (r : Result Bool Unwritten) → (r ≡ Ok false → AuditIsExact setup events) → IfOk r (λ coincides. coincides ≡ (audit_report_of setup events).coincides)
+  has_audit : ((audit_report_of setup events).coincides ≡ false → IsRight) → HasAudit octets
+  has_audit right = record {
+    setup = setup;
+    events = events;
+    reads = reads;
+    headline = heads;
+    exact = λ none. (right none).0;
+    of_run = λ none. (right none).1;
+    alone = alone;
+  }
+
+  pub audited : (r : Result Bool Unwritten) → (r ≡ Ok false → IsRight) → IfOk r (λ coincides. coincides ≡ (audit_report_of setup events).coincides)
       → WhereRun (HasAudit octets) (status_of r)
-  audited (Ok false) exact is = has_audit (λ none. exact refl)
-  audited (Ok true) exact is = has_audit (λ none. let clash : true ≡ false = is ∙ none in absurd cc)
-  audited (Err unwritten.Memory) exact is = tt
-  audited (Err unwritten.WriteFault) exact is = tt
+  audited (Ok false) right is = has_audit (λ none. right refl)
+  audited (Ok true) right is = has_audit (λ none. let clash : true ≡ false = is ∙ none in absurd cc)
+  audited (Err unwritten.Memory) right is = tt
+  audited (Err unwritten.WriteFault) right is = tt

@@ -3,6 +3,7 @@ use Rattle.std.specs.Prelude.{◌≡◌, ℕ, false, List, Result, Ok, Err}
 use Rattle.audit_report.specs.Alone.{EachAlone}
 use Rattle.audit_report.specs.AuditReport.{audit_report_of}
 use Rattle.audit_report.specs.Audited.{AuditIsExact}
+use Rattle.audit_report.specs.OfRun.{AuditIsOfRun}
 use Rattle.lte_events.specs.declared.events.Event.{Event}
 use Rattle.lte_events.specs.declared.setups.Setup.{Setup}
 use Rattle.lte_properties.specs.Headline.{Headline}
@@ -20,12 +21,13 @@ output_of (Err fault) = refusal_output fault
 abbrev pub audit_output : List ℕ → Output
 audit_output octets = output_of (reading_of octets)
 
--- a text is a scenario of which the headline holds; where no coincidence ends it its audit is exact, and what stations can derive of
--- its keys together, one of them can alone
+-- a text is a scenario of which the headline holds; where no coincidence ends it its audit is exact, and that of the written run; and
+-- what stations can derive of its keys together, one of them can alone
 pub record HasAudit (octets : List ℕ) : Type 0 where
   pub setup : Setup
   pub events : List Event
   pub reads : reading_of octets ≡ Ok (setup, events)
   pub headline : Headline setup events
   pub exact : (audit_report_of setup events).coincides ≡ false → AuditIsExact setup events
+  pub of_run : (audit_report_of setup events).coincides ≡ false → AuditIsOfRun setup events
   pub alone : EachAlone setup events

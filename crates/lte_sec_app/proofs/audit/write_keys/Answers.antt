@@ -3,6 +3,7 @@ use Rattle.std.specs.Prelude.{IfOk}
 use Rattle.audit_report.specs.Alone.{EachAlone}
 use Rattle.audit_report.specs.AuditReport.{audit_report_of}
 use Rattle.audit_report.specs.Audited.{AuditIsExact}
+use Rattle.audit_report.specs.OfRun.{AuditIsOfRun}
 use Rattle.lte_sec_app.specs.Audit.{HasAudit}
 use Rattle.lte_sec_app.specs.Run.{WhereRun}
 use Rattle.lte_sec_app.proofs.Audited.{audited}
@@ -21,5 +22,5 @@ returns-in-Ok-clause-holds g c =
     (headline_of setup events read.can_start read.setup_fits read.can_happen read.events_fit)
     (subst (EachAlone setup) same c.write_audit.ensures.alone)
     written
-    (subst (λ es. written ≡ Ok false → AuditIsExact setup es) same c.write_audit.ensures.exact)
+    (subst (λ es. written ≡ Ok false → AuditIsExact setup es × AuditIsOfRun setup es) same (λ ok. (c.write_audit.ensures.exact ok, c.write_audit.ensures.of_run ok)))
     (subst (λ es. IfOk written (λ coincides. coincides ≡ (audit_report_of setup es).coincides)) same c.write_audit.ensures.coincidence))
