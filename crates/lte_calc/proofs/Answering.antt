@@ -120,14 +120,6 @@ pub stopped_long : (text rest : List ℕ) (good good' : Bool) (out out' : Told) 
 stopped_long text rest good good' out out' so_far long =
     record { lines = so_far.lines; rest = rest; are = so_far.are; is = so_far.is; at = (long, so_far.grows) }
 
--- the text of lines and one line more
-pub text_and_one : (lines : List (List ℕ)) (line : List ℕ) → AreLines lines → length line ≤ most_octets → (output_of (lines ++ line ∷ [])).text ≡ (output_of lines).text ++ (answer_to line).text
-text_and_one lines line are short = text_append lines (line ∷ []) are ∙ ap (λ t. (output_of lines).text ++ t) (one_text line short)
-
-prefix_of_two : (old mid new : Option (List ℕ)) (front octets : List ℕ) → Grows old mid front → GrowsByProperPrefix mid new octets → GrowsByProperPrefix old new (front ++ octets)
-prefix_of_two old mid new front octets first second =
-    subst (λ t. GrowsByProperPrefix old new t) (append-nil (front ++ octets)) (proper_prefix_on old mid new front octets [] first second)
-
 pub stopped_at : (status : Status) (text rest line after : List ℕ) (good good' good'' : Bool) (out mid now : Told) → AnsweredUpTo text rest good good' out mid → mid.write_faults ≡ out.write_faults → IsLine line → rest ≡ line ++ (10 ∷ after) → LineAt status (answer_to line) good' good'' mid now → status ≢ Done → StoppedIn status text out now
 stopped_at Done text rest line after good good' good'' out mid now so_far none is cut at other = absurd (other refl)
 stopped_at Memory text rest line after good good' good'' out mid now so_far none is cut at other =
@@ -146,16 +138,15 @@ stopped_at WriteFault text rest line after good good' good'' out mid now so_far 
       rest = rest;
       are = so_far.are;
       is = so_far.is;
-      at = (
-        omega (arith, at.0, none),
-        record {
-          line = line;
-          more = after;
-          next = cut;
-          short = is;
-          written = subst (λ t. GrowsByProperPrefix out.written now.written t) (sym (text_and_one so_far.lines line so_far.are is.1)) (prefix_of_two out.written mid.written now.written first (answer_to line).text so_far.grows at.1);
-        },
-      );
+      at = (omega (arith, at.0, none), record {
+        line = line;
+        more = after;
+        next = cut;
+        is = is;
+        count = at.1.count;
+        short = at.1.short;
+        written = grows_twice out.written mid.written now.written first (take at.1.count (answer_to line).text) so_far.grows at.1.grows;
+      });
     }
 stopped_at status text rest line after good good' good'' out mid now so_far none is cut at other = absurd at
 
@@ -184,6 +175,5 @@ pub last_ended : (status : Status) (line : List ℕ) (good good' : Bool) (out ou
 last_ended Done line good good' out out' some is at other = absurd (other refl)
 last_ended Memory line good good' out out' some is at other = at
 last_ended WriteFault [] good good' out out' some is at other = absurd (omega (arith, some))
-last_ended WriteFault (octet ∷ octets) good good' out out' some is at other =
-    (refl, at.0, subst (λ t. GrowsByProperPrefix out.written out'.written t) (sym (one_text (octet ∷ octets) is.1)) at.1)
+last_ended WriteFault (octet ∷ octets) good good' out out' some is at other = (refl, at.0, at.1)
 last_ended status line good good' out out' some is at other = absurd at

@@ -62,9 +62,15 @@ texts : (first second : List (List ℕ)) (old mid new : Option (List ℕ)) → A
 texts first second old mid new are one two =
     subst (λ t. Grows old new t) (sym (text_append first second are)) (grows_twice old mid new (output_of first).text (output_of second).text one two)
 
-cut_texts : (first second : List (List ℕ)) (old mid new : Option (List ℕ)) → AreLines first → Grows old mid (output_of first).text → GrowsByProperPrefix mid new (output_of second).text → GrowsByProperPrefix old new (output_of (first ++ second)).text
-cut_texts first second old mid new are one two =
-    subst (λ t. GrowsByProperPrefix old new t) (append-nil ((output_of first).text ++ (output_of second).text) ∙ sym (text_append first second are)) (proper_prefix_on old mid new (output_of first).text (output_of second).text [] one two)
+-- the text of lines, of lines more, and then some octets
+cut_texts : (first second : List (List ℕ)) (octets : List ℕ) (old mid new : Option (List ℕ)) → AreLines first → Grows old mid (output_of first).text → Grows mid new ((output_of second).text ++ octets) → Grows old new ((output_of (first ++ second)).text ++ octets)
+cut_texts first second octets old mid new are one two =
+    subst (λ t. Grows old new t) (sym (append_assoc (output_of first).text (output_of second).text octets) ∙ ap (λ t. t ++ octets) (sym (text_append first second are)))
+    (grows_twice old mid new (output_of first).text ((output_of second).text ++ octets) one two)
+
+-- what is behind lines is no longer than all
+behind : (lines : List (List ℕ)) (held rest : List ℕ) (n : ℕ) → held ≡ ended lines ++ rest → length held ≤ n → length rest ≤ n
+behind lines held rest n is few = omega (arith, ap length is, length-append (ended lines) rest, few)
 
 -- whole lines more are answered
 pub answered_on : (held rest : List ℕ) (good good' : Bool) (input input' out mid now : Told) → Midway held good input input' out mid → AnsweredUpTo held rest good good' mid now → Midway rest good' input input' out now
@@ -77,48 +83,38 @@ answered_on held rest good good' input input' out mid now m a = record {
 }
 
 -- the run ends
-pub memory_run : (held : List ℕ) (good : Bool) (input input' out out' : Told) → Midway held good input input' out out' → Run Memory input input' out out'
-memory_run held good input input' out out' m = record { lines = m.lines; rest = held; are = m.are; came = m.came; at = m.grows }
+pub memory_run : (held : List ℕ) (good : Bool) (input input' out out' : Told) → Midway held good input input' out out' → length held ≤ most_octets + 4096 → Run Memory input input' out out'
+memory_run held good input input' out out' m few = record { lines = m.lines; rest = held; are = m.are; came = m.came; few = few; at = m.grows }
 
 pub fault_run : (held : List ℕ) (good : Bool) (input mid now out out' : Told) → Midway held good input mid out out' → IsLine held → Came [] mid now → Rose input.read_faults now.read_faults → now.ended ≡ input.ended → Run ReadFault input now out out'
 fault_run held good input mid now out out' m begun none rose met =
     let came = came_more held [] held good input mid now out out' m none (sym (append-nil held)) in
-    record { lines = came.lines; rest = held; are = came.are; came = came.came; at = (rose, met, begun.0, came.grows) }
+    record { lines = came.lines; rest = held; are = came.are; came = came.came; few = omega (arith, begun.1); at = (rose, met, begun.0, came.grows) }
 
-pub stopped_run : (status : Status) (held : List ℕ) (good : Bool) (input input' out mid now : Told) → Midway held good input input' out mid → mid.write_faults ≡ out.write_faults → StoppedIn status held mid now → Run status input input' out now
-stopped_run Memory held good input input' out mid now m none s = record {
+pub stopped_run : (status : Status) (held : List ℕ) (good : Bool) (input input' out mid now : Told) → Midway held good input input' out mid → length held ≤ most_octets + 4096 → mid.write_faults ≡ out.write_faults → StoppedIn status held mid now → Run status input input' out now
+stopped_run status held good input input' out mid now m few none s = record {
   lines = m.lines ++ s.lines;
   rest = s.rest;
   are = are_append m.lines s.lines m.are s.are;
   came = subst (λ os. Came os input input') (joined m.lines s.lines held s.rest s.is) m.came;
-  at = texts m.lines s.lines out.written mid.written now.written m.are m.grows s.at;
+  few = behind s.lines held s.rest (most_octets + 4096) s.is few;
+  at = at_status status s.lines s.rest s.at;
 }
-stopped_run TooLong held good input input' out mid now m none s = record {
-  lines = m.lines ++ s.lines;
-  rest = s.rest;
-  are = are_append m.lines s.lines m.are s.are;
-  came = subst (λ os. Came os input input') (joined m.lines s.lines held s.rest s.is) m.came;
-  at = (s.at.0, texts m.lines s.lines out.written mid.written now.written m.are m.grows s.at.1);
-}
-stopped_run WriteFault held good input input' out mid now m none s =
-    let cut = s.at.1 in
-    let next : List (List ℕ) = cut.line ∷ [] in
-    record {
-      lines = m.lines ++ s.lines;
-      rest = s.rest;
-      are = are_append m.lines s.lines m.are s.are;
-      came = subst (λ os. Came os input input') (joined m.lines s.lines held s.rest s.is) m.came;
-      at = (
-        omega (arith, s.at.0, none),
-        record {
+  where
+    at_status : (status : Status) (lines : List (List ℕ)) (rest : List ℕ) → StoppedAt status lines rest mid now → RunAt status (m.lines ++ lines) rest input input' out now
+    at_status Memory lines rest at = texts m.lines lines out.written mid.written now.written m.are m.grows at
+    at_status TooLong lines rest at = (at.0, texts m.lines lines out.written mid.written now.written m.are m.grows at.1)
+    at_status WriteFault lines rest at =
+        let cut = at.1 in
+        (omega (arith, at.0, none), record {
           line = cut.line;
           next = inl (cut.more, cut.next);
+          is = cut.is;
+          count = cut.count;
           short = cut.short;
-          written = subst (λ ls. GrowsByProperPrefix out.written now.written (output_of ls).text) (sym (append_assoc m.lines s.lines next)) (cut_texts m.lines (s.lines ++ next) out.written mid.written now.written m.are m.grows cut.written);
-        },
-      );
-    }
-stopped_run status held good input input' out mid now m none s = absurd s.at
+          written = cut_texts m.lines lines (take cut.count (answer_to cut.line).text) out.written mid.written now.written m.are m.grows cut.written;
+        })
+    at_status status lines rest at = absurd at
 
 -- the end of the input
 all_answered : (b : Bool) (held : List ℕ) (good : Bool) (input input' out mid now : Told) → Midway held good input input' out mid → IsLine held → HasEnded input' → (good && all_good (last_line held)) ≡ b → Grows mid.written now.written (output_of (last_line held)).text → (m : List (List ℕ)) × AreLines m × Came (ended m ++ held) input input' × AllAnswered (ends_of b) m held input' out now
@@ -144,32 +140,32 @@ all_answered b held good input input' out mid now m short end is grows =
 pub last_run : (status : Status) (held : List ℕ) (good : Bool) (input input' out mid now : Told) → Midway held good input input' out mid → mid.write_faults ≡ out.write_faults → IsLine held → HasEnded input' → LastAt status held good mid now → Run status input input' out now
 last_run Done held good input input' out mid now m none short end last =
     let a = all_answered true held good input input' out mid now m short end last.0 last.1 in
-    record { lines = a.0; rest = held; are = a.1; came = a.2; at = a.3 }
+    record { lines = a.0; rest = held; are = a.1; came = a.2; few = omega (arith, short.1); at = a.3 }
 last_run Refused held good input input' out mid now m none short end last =
     let a = all_answered false held good input input' out mid now m short end last.0 last.1 in
-    record { lines = a.0; rest = held; are = a.1; came = a.2; at = a.3 }
-last_run Memory held good input input' out mid now m none short end last =
-    memory_run held good input input' out now (record {
-      lines = m.lines;
-      are = m.are;
-      came = m.came;
-      status = m.status;
-      grows = subst (λ t. Grows out.written now.written t) (append-nil (output_of m.lines).text) (grows_twice out.written mid.written now.written (output_of m.lines).text [] m.grows last);
-    })
+    record { lines = a.0; rest = held; are = a.1; came = a.2; few = omega (arith, short.1); at = a.3 }
+last_run Memory held good input input' out mid now m none short end last = record {
+  lines = m.lines;
+  rest = held;
+  are = m.are;
+  came = m.came;
+  few = omega (arith, short.1);
+  at = subst (λ t. Grows out.written now.written t) (append-nil (output_of m.lines).text) (grows_twice out.written mid.written now.written (output_of m.lines).text [] m.grows last);
+}
 last_run WriteFault held good input input' out mid now m none short end last = record {
   lines = m.lines;
   rest = held;
   are = m.are;
   came = m.came;
-  at = (
-    omega (arith, last.1, none),
-    record {
-      line = held;
-      next = inr (refl, end.none_left);
-      short = short;
-      written = cut_texts m.lines (held ∷ []) out.written mid.written now.written m.are m.grows last.2;
-    },
-  );
+  few = omega (arith, short.1);
+  at = (omega (arith, last.1, none), record {
+    line = held;
+    next = inr (refl, end.none_left);
+    is = short;
+    count = last.2.count;
+    short = last.2.short;
+    written = grows_twice out.written mid.written now.written (output_of m.lines).text (take last.2.count (answer_to held).text) m.grows last.2.grows;
+  });
 }
 last_run status held good input input' out mid now m none short end last = absurd last
 

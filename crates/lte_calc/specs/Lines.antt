@@ -1,5 +1,5 @@
 -- What is so while the lines are answered.
-use Rattle.std.specs.Prelude.{◌≡◌, ◌&&◌, Bool, true, false, List, [], ◌∷◌, ◌++◌, ℕ}
+use Rattle.std.specs.Prelude.{◌≡◌, ◌&&◌, Bool, true, false, List, [], ◌∷◌, ◌++◌, ℕ, ◌<◌, length, take}
 use Rattle.std.specs.List.{list_all}
 use Rattle.edge_io.specs.Told.{Told}
 use Rattle.edge_io.specs.Cause.{Rose}
@@ -34,13 +34,15 @@ pub record AnsweredUpTo (text rest : List ℕ) (good good' : Bool) (out out' : T
   pub status : good' ≡ (good && all_good lines)
   pub grows : Grows out.written out'.written (output_of lines).text
 
--- of the answer to the next line a prefix was written that is not all
+-- what was written is the answers to these lines, and of the answer to the next one a prefix that is not all
 pub record CutAt (lines : List (List ℕ)) (rest : List ℕ) (out out' : Told) : Type 0 where
   pub line : List ℕ
   pub more : List ℕ
   pub next : rest ≡ line ++ (10 ∷ more)
-  pub short : IsLine line
-  pub written : GrowsByProperPrefix out.written out'.written (output_of (lines ++ line ∷ [])).text
+  pub is : IsLine line
+  pub count : ℕ
+  pub short : count < length (answer_to line).text
+  pub written : Grows out.written out'.written ((output_of lines).text ++ take count (answer_to line).text)
 
 -- what is so of the lines of a text at a status that ends the run
 abbrev pub StoppedAt : Status → List (List ℕ) → List ℕ → Told → Told → Type 0
@@ -64,5 +66,5 @@ LastAt Done line good out out' = ((good && all_good (last_line line)) ≡ true) 
 LastAt Refused line good out out' = ((good && all_good (last_line line)) ≡ false) × Grows out.written out'.written (output_of (last_line line)).text
 LastAt Memory line good out out' = Grows out.written out'.written []
 LastAt WriteFault line good out out' =
-    (last_line line ≡ line ∷ []) × Rose out.write_faults out'.write_faults × GrowsByProperPrefix out.written out'.written (output_of (line ∷ [])).text
+    (last_line line ≡ line ∷ []) × Rose out.write_faults out'.write_faults × GrowsByProperPrefix out.written out'.written (answer_to line).text
 LastAt other line good out out' = ⊥

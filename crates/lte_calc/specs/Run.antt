@@ -4,7 +4,8 @@ use Rattle.std.specs.List.{list_any}
 use Rattle.std.specs.Io.KnownBytes.{IsAtEnd}
 use Rattle.edge_io.specs.Told.{Told, HasEnded}
 use Rattle.edge_io.specs.Cause.{Rose}
-use Rattle.edge_io.specs.Octets.{Gives, Grows, GrowsByProperPrefix}
+use Rattle.edge_io.specs.Octets.{Gives, Grows}
+use Rattle.calc_text.specs.Answer.{answer_to}
 use Rattle.text_lines.specs.Lines.{has_feed, lines_of, ended, last_line}
 use Rattle.lte_calc.specs.declared.status.Status.{Status}
 use Rattle.lte_calc.specs.declared.status.Status.TheVariants.{Done, Memory, BadWords, Refused, ReadFault, WriteFault, TooLong}
@@ -38,12 +39,14 @@ pub record AllAnswered (ends : Status) (lines : List (List ℕ)) (rest : List �
   pub status : (output_of (lines ++ last_line rest)).ends ≡ ends
   pub written : Grows out.written out'.written (output_of (lines ++ last_line rest)).text
 
--- of the answer to the next line a prefix was written that is not all
+-- what was written is the answers to these lines, and of the answer to the next one a prefix that is not all
 pub record CutIn (lines : List (List ℕ)) (rest : List ℕ) (input' out out' : Told) : Type 0 where
   pub line : List ℕ
   pub next : IsNext line rest input'.left
-  pub short : IsLine line
-  pub written : GrowsByProperPrefix out.written out'.written (output_of (lines ++ line ∷ [])).text
+  pub is : IsLine line
+  pub count : ℕ
+  pub short : count < length (answer_to line).text
+  pub written : Grows out.written out'.written ((output_of lines).text ++ take count (answer_to line).text)
 
 -- What is so at each status, by the lines that were answered and the octets that were read behind them.
 abbrev pub RunAt : Status → List (List ℕ) → List ℕ → Told → Told → Told → Told → Type 0
@@ -57,12 +60,14 @@ RunAt Memory lines rest input input' out out' = Grows out.written out'.written (
 RunAt WriteFault lines rest input input' out out' = Rose out.write_faults out'.write_faults × CutIn lines rest input' out out'
 RunAt BadWords lines rest input input' out out' = ⊥
 
--- a run with this status: what was read is these lines with their line feeds, and then this rest
+-- A run with this status: what was read is these lines with their line feeds, and then this rest, of which no more than a line and
+-- the 4,096 octets of a read wait for their answer.
 pub record Run (status : Status) (input input' out out' : Told) : Type 0 where
   pub lines : List (List ℕ)
   pub rest : List ℕ
   pub are : AreLines lines
   pub came : Came (ended lines ++ rest) input input'
+  pub few : length rest ≤ most_octets + 4096
   pub at : RunAt status lines rest input input' out out'
 
 -- Where no count rose, the whole output is written and the status is that of the output, unless memory ran out.

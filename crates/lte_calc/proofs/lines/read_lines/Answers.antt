@@ -1,6 +1,7 @@
-use Rattle.std.proofs.Common.{◌≡◌, ◌+◌, ◌≤◌, false, List, [], ◌++◌, length, take, refl, sym, ap, subst, ◌∙◌, append-nil, rules, arith}
+use Rattle.std.proofs.Common.{length-append, length-take, ◌≡◌, ◌+◌, ◌≤◌, false, List, [], ◌++◌, length, take, refl, sym, ap, subst, ◌∙◌, append-nil, rules, arith}
 use Rattle.edge_io.specs.Told.{HasEnded}
 use Rattle.edge_io.specs.Octets.{Gives}
+use Rattle.lte_calc.specs.Output.{most_octets}
 use Rattle.lte_calc.specs.Run.{IsLine, Came}
 use Rattle.lte_calc.specs.Lines.{AnsweredUpTo, StoppedIn, LastAt}
 use Rattle.lte_calc.proofs.Running.{Midway, midway_first, came_more, answered_on, memory_run, stopped_run, last_run}
@@ -40,7 +41,9 @@ returns-then-is_err-clause-run g c =
     let held = c.pieces.held.items in
     let piece = take c.in-Ok.count c.read.new.buf in
     let came : Came piece mid now = record { gives = c.in-Ok.ensures.octets; most = c.in-Ok.ensures.most } in
-    memory_run (held ++ piece) c.pieces.good _ now _ _ (came_more held piece (held ++ piece) c.pieces.good _ mid now _ _ c.pieces.invariant.midway came refl)
+    let small : c.in-Ok.count ≤ 4096 = search rules in
+    let few : length (held ++ piece) ≤ most_octets + 4096 = omega (arith, length-append held piece, length-take c.in-Ok.count c.read.new.buf, c.pieces.invariant.begun.1, small) in
+    memory_run (held ++ piece) c.pieces.good _ now _ _ (came_more held piece (held ++ piece) c.pieces.good _ mid now _ _ c.pieces.invariant.midway came refl) few
 
 pub returns-in-Err-answer_whole-clause-run : goal.returns-in-Err-answer_whole-clause-run
 returns-in-Err-answer_whole-clause-run g c =
@@ -52,9 +55,11 @@ returns-in-Err-answer_whole-clause-run g c =
     let came : Came piece mid now = record { gives = c.in-Ok.ensures.octets; most = c.in-Ok.ensures.most } in
     let put : after ≡ held ++ piece = search rules in
     let stopped = subst (λ t. StoppedIn c.in-Err-answer_whole.status t (g.W.Edge.told c.pieces.out) (g.W.Edge.told c.answer_whole.new.out)) c.as_slice-in-pieces.ensures.value c.in-Err-answer_whole.ensures.stopped in
+    let small : c.in-Ok.count ≤ 4096 = search rules in
+    let few : length after ≤ most_octets + 4096 = omega (arith, ap length put, length-append held piece, length-take c.in-Ok.count c.read.new.buf, c.pieces.invariant.begun.1, small) in
     stopped_run c.in-Err-answer_whole.status after c.pieces.good _ now _ _ _
     (came_more held piece after c.pieces.good _ mid now _ _ c.pieces.invariant.midway came put)
-    c.pieces.invariant.no_write_fault.writes stopped
+    few c.pieces.invariant.no_write_fault.writes stopped
 
 pub returns-in-Err-begun-clause-run : goal.returns-in-Err-begun-clause-run
 returns-in-Err-begun-clause-run g c =
@@ -69,6 +74,7 @@ returns-in-Err-begun-clause-run g c =
     let answered = subst (λ t. AnsweredUpTo t begun c.pieces.good c.answer_whole.new.good (g.W.Edge.told c.pieces.out) (g.W.Edge.told c.answer_whole.new.out)) c.as_slice-in-pieces.ensures.value c.in-Ok-answer_whole.ensures.answered in
     memory_run begun c.answer_whole.new.good _ now _ _
     (answered_on after begun c.pieces.good c.answer_whole.new.good _ now _ _ _ (came_more held piece after c.pieces.good _ mid now _ _ c.pieces.invariant.midway came put) answered)
+    (omega (arith, c.in-Ok-answer_whole.ensures.begun.1))
 
 pub pieces-preserved : goal.pieces-preserved
 pieces-preserved g c =
