@@ -24,6 +24,7 @@ PACKAGE = "tshark is not here; Debian and Ubuntu have it in the package tshark (
 
 # numbers of protocol IEs: TS 36.413 9.3.7, TS 36.423 9.3.7
 NEW_X2, OLD_X2, NEW_SECURITY_CONTEXT = 9, 10, 157
+UNREADABLE = "unreadable"  # the link of a message whose fields are none that are known
 WIDE = 65535  # an EARFCN that stands in an extension instead (TS 36.331 6.2.2, TS 36.423 9.2.26)
 
 Pairs = list[tuple[str, object]]
@@ -125,19 +126,29 @@ def last(layers: Pairs, layer: str, name: str) -> str:
     return next((str(value) for value in reversed(found) if value is not None), "")
 
 
+def address(layers: Pairs, end: str) -> str:
+    """Address and port of an end, `src` or `dst`."""
+    ip = last(layers, "ip", f"ip.{end}") or last(layers, "ipv6", f"ipv6.{end}")
+    return f"{ip}:{last(layers, 'sctp', f'sctp.{end}port')}"
+
+
 def messages(lines: Iterable[str], label: str = "") -> Iterator[Message]:
     """The messages of a capture, from the lines of tshark's JSON; `label` stands before the number of each frame."""
     for packet in packets(lines):
         layers: Pairs = member(member(packet, "_source"), "layers")  # type: ignore[arg-type, assignment]
         frame, time = last(layers, "frame", "frame.number"), float(last(layers, "frame", "frame.time_epoch"))
-        ends = [(last(layers, "ip", f"ip.{end}") or last(layers, "ipv6", f"ipv6.{end}")) + ":" + last(layers, "sctp", f"sctp.{end}port") for end in ("src", "dst")]
+        ends = [address(layers, end) for end in ("src", "dst")]
         tag = last(layers, "sctp", "sctp.verification_tag")
         base = Message(label + frame, time, "", "", ends[0], ends[1], tag)
+        exported = last(layers, "exported_pdu", "exported_pdu.exported_pdu")
         for layer, value in layers:
-            if layer in ("s1ap", "x2ap") and is_tree(value):
-                yield from pdu(base, layer, value)  # type: ignore[arg-type]
-            elif layer == "lte_rrc" and is_tree(value):
-                yield from rrc(base, value, last(layers, "exported_pdu", "exported_pdu.exported_pdu"))  # type: ignore[arg-type]
+            try:
+                if layer in ("s1ap", "x2ap") and is_tree(value):
+                    yield from pdu(base, layer, value)  # type: ignore[arg-type]
+                elif layer == "lte_rrc" and is_tree(value):
+                    yield from rrc(base, value, exported)  # type: ignore[arg-type]
+            except ValueError as fault:
+                yield replace(base, link=UNREADABLE, name=str(fault), nas=[], sites=[])
 
 
 OUTCOMES = ("initiatingMessage_element", "successfulOutcome_element", "unsuccessfulOutcome_element")

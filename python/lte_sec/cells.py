@@ -117,6 +117,6 @@ def site_of(pairs: list) -> Site | None:
     earfcn = found.get("x2ap.dL_EARFCN", found.get("x2ap.eARFCN"))
     if earfcn == WIDE:
         earfcn = found.get(f"wide {DOWN_EXTENSION}", found.get(f"wide {TDD_EXTENSION}", earfcn))
-    if earfcn is None or "x2ap.pCI" not in found or "x2ap.eUTRANcellIdentifier" not in found:
+    if earfcn is None or found.get("x2ap.pCI", 504) > 503 or "x2ap.eUTRANcellIdentifier" not in found:
         return None
     return Site(found["x2ap.eUTRANcellIdentifier"], found["x2ap.pCI"], earfcn, found.get("x2ap.uL_EARFCN"))

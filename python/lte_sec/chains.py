@@ -42,7 +42,8 @@ class ChainJudge:
 
     def named(self, value: bytes, connection: Connection, more: list[Key], cell: tuple[int, int] | None = None) -> Key:
         """The term of a key that is not the wanted one."""
-        return self.search.find(value, [*more, *self.at_hand(connection)], cell[0] if cell else None) or Key(value, NONE)
+        found = self.search.find(value, [*more, *self.at_hand(connection)], cell[0] if cell else None, bool(more))
+        return found or Key(value, NONE)
 
     def show(self, key: Key, beside: Key | None = None) -> str:
         return self.derivations.shown(key, beside)

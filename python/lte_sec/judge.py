@@ -8,6 +8,8 @@ from .report import DIFFERS, RIGHT, UNKNOWN, Line
 from .state import CHAIN, Attempt, Connection, Held, renewed
 from .terms import NONE, Key
 
+GREATEST_PCI = 503
+
 
 class KeyJudge(ChainJudge):
     """Judges KeNB*, commands and agreement too."""
@@ -156,7 +158,7 @@ class KeyJudge(ChainJudge):
         elif message.link == "RRC":
             text = f"frame {message.frame} RRC command right: NCC {ncc}" + (f" cell ({cell[0]},{cell[1]})" if cell else "")
             self.lines.append(Line(message.frame, title(message), "command", RIGHT, text, str(ncc), str(ncc)))
-        self.phone_takes(connection, attempt, ncc, cell, told.key_change)
+        self.phone_takes(connection, attempt, ncc, cell if told.pci is None or told.pci <= GREATEST_PCI else None, told.key_change)
 
     def target_keys(self, attempt: Attempt, cell: tuple[int, int] | None) -> None:
         """What the target of a handover over S1 makes of NH and NCC for its cell."""

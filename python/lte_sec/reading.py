@@ -29,7 +29,7 @@ def learn(cells: Cells, messages: Iterable[Message]) -> None:
             said.append((eci, message))
     for eci, message in said:
         told = message.command
-        if eci not in cells.sites and told is not None and told.pci is not None and told.earfcn is not None:
+        if eci not in cells.sites and told is not None and told.pci is not None and told.pci <= 503 and told.earfcn is not None:
             cells.learn(Site(eci, told.pci, told.earfcn))
 
 

@@ -21,7 +21,7 @@ class Search:
     def __init__(self, derivations: Derivations, cells: Cells, counts: int = 300, depth: int = 16, deep: int = 3, budget: int = 0):
         self.derivations, self.cells = derivations, cells
         self.counts, self.depth, self.deep = counts, depth, deep
-        self.budget = budget
+        self.budget, self.reserve = budget, budget // 2
         self._chains: dict[tuple[int, bytes], list[Key]] = {}
 
     # -- candidates
@@ -104,14 +104,17 @@ class Search:
 
     # -- one key of a trace
 
-    def find(self, value: bytes, at_hand: Iterable[Key], target: int | None = None) -> Key | None:
-        """The first derivation that gives these octets, or None; `target` is the PCI that a KeNB* is for."""
+    def find(self, value: bytes, at_hand: Iterable[Key], target: int | None = None, judged: bool = True) -> Key | None:
+        """The first derivation that gives these octets, or None; `target` is the PCI that a KeNB* is for.
+
+        Half of the budget is kept for keys that are judged, so that phones without their KASME do not spend it.
+        """
         keys = list({key.value: key for key in at_hand if key.known}.values())
         found = next((key for key in self.near(keys) if key.value == value), None)
         if found is not None:
             return found
         for key in itertools.chain(self.swept(keys, target), self.far(keys)):
-            if self.budget <= 0:
+            if self.budget <= (0 if judged else self.reserve):
                 return None
             self.budget -= 1
             if key.value == value:

@@ -4,12 +4,12 @@ from __future__ import annotations
 from collections.abc import Iterator
 from dataclasses import replace
 
-from .captures import Message
+from .captures import UNREADABLE, Message
 from .cells import Cells
 from .contexts import NasSeen
 from .judge import KeyJudge
 from .nas import NasBook
-from .report import DIFFERS, RIGHT, UNKNOWN, Line
+from .report import DIFFERS, RIGHT, UNKNOWN, Line, unknown_line
 from .search import Search
 from .state import Attempt, Connection, Held
 from .terms import DOWN, NONE, UP, Derivations, Key
@@ -62,6 +62,8 @@ class Trace:
                 self.s1(message, place)
             elif message.link == "X2":
                 self.x2ap(message)
+            elif message.link == UNREADABLE:
+                self.lines.append(unknown_line(message.frame, "message", "of this frame", f"tshark tells of it what is not known here ({message.name})"))
             elif message.command is not None:
                 self.rrc(message)
         first = {message.frame: place for place, message in reversed(list(enumerate(messages)))}
@@ -376,8 +378,7 @@ class Trace:
             others = [one for one in active if one.station == connection.station]
             if sites and len(others) == 1 and connection.held.get(connection.station) and not told.key_change:
                 return self.judge.within(connection, message, told, sites[0])
-        text = f"frame {message.frame} RRC command not judged: it is not clear which handover or phone it is of"
-        self.lines.append(Line(message.frame, "RRC", "command", UNKNOWN, text))
+        self.lines.append(unknown_line(message.frame, "RRC", "command", "it is not clear which handover or phone it is of"))
 
 
 def first_after(places: list[int], place: int) -> int:

@@ -137,9 +137,11 @@ def main(words: list[str]) -> int:
     except TraceError as fault:
         print(f"lte_sec: status 2: {words[0]}: {fault}", file=sys.stderr)
         return READ
-    except BrokenPipeError:
+    except BrokenPipeError:  # whoever read what is printed has read enough
         sys.stderr.close()
         return 0
+    except KeyboardInterrupt:
+        return 130
 
 
 if __name__ == "__main__":

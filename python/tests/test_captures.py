@@ -11,9 +11,10 @@ from lte_sec.cells import Cells, Site, read_cells, sites_of
 from lte_sec.terms import Derivations, TraceError
 from lte_sec.trace import Trace
 from lte_sec.reading import learn
+from lte_sec.report import UNKNOWN
 
 from .standin import StandIn
-from .test_traces import TRACES
+from .test_traces import TRACES, traced
 
 
 def stored(name: str) -> list[str]:
@@ -61,6 +62,11 @@ class Captures(unittest.TestCase):
         tree = [("s1ap.S1AP_PDU_tree", [("s1ap.initiatingMessage_element", [("s1ap.value_element", [("s1ap.E_RABSetupRequest_element", items)])])])]
         found = list(pdu(Message("1", 0.0, "", ""), "s1ap", tree))
         self.assertEqual([(one.link, one.name, one.enb_id, one.nas) for one in found], [("S1", "E_RABSetupRequest", 7, [b"\x27\x01", b"\x27\x02"])])
+
+    def test_a_field_that_is_none_is_told(self) -> None:
+        lines = [line.replace('"s1ap.SecurityKey": "ab', '"s1ap.SecurityKey": "xx') for line in stored("A")]
+        told = [str(line) for line in traced("A", list(messages(lines))).lines if line.verdict == UNKNOWN]
+        self.assertEqual([text[:39] for text in told if "tshark" in text], ["frame 24 message of this frame not judg"])
 
     def test_an_end_with_two_addresses_is_one(self) -> None:
         trace = Trace(Derivations(StandIn(), []), Cells(), {}, 0)
