@@ -120,6 +120,7 @@ class Seam(unittest.TestCase):
             calls = derive.proved_calls()
         except TraceError as fault:
             self.skipTest(str(fault))
+        self.addCleanup(getattr(calls, "close", lambda: None))
         key, text = os.urandom(32), os.urandom(45)
         for name, given in (
             ("kenb", (key, 77)), ("nh", (key, bytes(32))), ("kenb_star", (key, 503, 70000)), ("kenb_star", (key, 0, 65535)),
