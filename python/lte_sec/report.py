@@ -45,9 +45,10 @@ def key_line(frame: str, message: str, what: str, found: str, wanted: str, diffe
     if ncc is not None and ncc[0] != ncc[1]:
         verdict = DIFFERS
         parts.append(f"NCC differs: is {ncc[0]}, wanted {ncc[1]}")
-    if not differs:
-        told = f"{what} right: {found}" + (f" NCC {ncc[0]}" if ncc is not None and ncc[0] == ncc[1] else "")
-        parts = [told, *parts] if verdict == RIGHT else [*parts, told]
+    if verdict == RIGHT:
+        parts.append(f"{what} right: {found}" + (f" NCC {ncc[0]}" if ncc is not None else ""))
+    elif not differs:
+        parts.append(f"{what} is {found}")
     text = f"frame {frame} {message} " + "; ".join(parts) + (f" ({why})" if why else "")
     is_ncc, wanted_ncc = ncc if ncc else (None, None)
     return Line(frame, message, what, verdict, text, found, wanted, ncc=is_ncc, wanted_ncc=wanted_ncc)
