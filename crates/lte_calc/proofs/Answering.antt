@@ -138,15 +138,18 @@ stopped_at WriteFault text rest line after good good' good'' out mid now so_far 
       rest = rest;
       are = so_far.are;
       is = so_far.is;
-      at = (omega (arith, at.0, none), record {
-        line = line;
-        more = after;
-        next = cut;
-        is = is;
-        count = at.1.count;
-        short = at.1.short;
-        written = grows_twice out.written mid.written now.written first (take at.1.count (answer_to line).text) so_far.grows at.1.grows;
-      });
+      at = (
+        omega (arith, at.0, none),
+        record {
+          line = line;
+          more = after;
+          next = cut;
+          is = is;
+          count = at.1.count;
+          short = at.1.short;
+          written = grows_twice out.written mid.written now.written first (take at.1.count (answer_to line).text) so_far.grows at.1.grows;
+        },
+      );
     }
 stopped_at status text rest line after good good' good'' out mid now so_far none is cut at other = absurd at
 

@@ -105,15 +105,17 @@ stopped_run status held good input input' out mid now m few none s = record {
     at_status Memory lines rest at = texts m.lines lines out.written mid.written now.written m.are m.grows at
     at_status TooLong lines rest at = (at.0, texts m.lines lines out.written mid.written now.written m.are m.grows at.1)
     at_status WriteFault lines rest at =
-        let cut = at.1 in
-        (omega (arith, at.0, none), record {
-          line = cut.line;
-          next = inl (cut.more, cut.next);
-          is = cut.is;
-          count = cut.count;
-          short = cut.short;
-          written = cut_texts m.lines lines (take cut.count (answer_to cut.line).text) out.written mid.written now.written m.are m.grows cut.written;
-        })
+        let cut = at.1 in (
+          omega (arith, at.0, none),
+          record {
+            line = cut.line;
+            next = inl (cut.more, cut.next);
+            is = cut.is;
+            count = cut.count;
+            short = cut.short;
+            written = cut_texts m.lines lines (take cut.count (answer_to cut.line).text) out.written mid.written now.written m.are m.grows cut.written;
+          },
+        )
     at_status status lines rest at = absurd at
 
 -- the end of the input
@@ -158,14 +160,17 @@ last_run WriteFault held good input input' out mid now m none short end last = r
   are = m.are;
   came = m.came;
   few = omega (arith, short.1);
-  at = (omega (arith, last.1, none), record {
-    line = held;
-    next = inr (refl, end.none_left);
-    is = short;
-    count = last.2.count;
-    short = last.2.short;
-    written = grows_twice out.written mid.written now.written (output_of m.lines).text (take last.2.count (answer_to held).text) m.grows last.2.grows;
-  });
+  at = (
+    omega (arith, last.1, none),
+    record {
+      line = held;
+      next = inr (refl, end.none_left);
+      is = short;
+      count = last.2.count;
+      short = last.2.short;
+      written = grows_twice out.written mid.written now.written (output_of m.lines).text (take last.2.count (answer_to held).text) m.grows last.2.grows;
+    },
+  );
 }
 last_run status held good input input' out mid now m none short end last = absurd last
 
