@@ -1,6 +1,8 @@
 """The keys of one connection against TS 33.401: what stations send and hold, and the key that the phone takes."""
 from __future__ import annotations
 
+from dataclasses import replace
+
 from .captures import Command, Message
 from .cells import Site
 from .chains import ChainJudge, title
@@ -105,6 +107,8 @@ class KeyJudge(ChainJudge):
                 if chain.number not in connection.missed:
                     connection.core, connection.asked = [chain], 0
                 connection.missed.discard(chain.number)
+                source = connection.held[connection.station]
+                connection.held[connection.station] = [replace(one, pair=(chain.sync, number)) for one in source]
                 return [Held(made, number)]
         trigger, own = connection.side.trigger, self.cell(connection.eci)
         if trigger is None or own is None or not connection.core or trigger.context.kasme == connection.core[0].kasme:
