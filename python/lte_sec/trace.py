@@ -226,7 +226,7 @@ class Trace:
         connection = self.sources.get(message.container or b"")
         if connection is None:
             connection = self.steps_to(message) or self.new("")
-        if message.nh is None:
+        if message.nh is None or message.ncc is None:
             return
         pairs = self.judge.nh(connection, message)
         station = self.cells.addresses.get(end) or self.cells.station(message.eci)
@@ -306,7 +306,7 @@ class Trace:
             connection.asked += 1
 
     def s1_PathSwitchRequestAcknowledge(self, connection: Connection, message: Message, station: str, at_core: Leg) -> None:
-        if message.nh is None:
+        if message.nh is None or message.ncc is None:
             return
         pairs = self.judge.nh(connection, message)
         held = connection.held.get(station) or [Held(Key(b"", NONE), 0)]
