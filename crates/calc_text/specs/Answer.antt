@@ -1,5 +1,6 @@
 -- The answer to a line.
 use Rattle.std.specs.Prelude.{ℕ, ◌<◌, ◌≤◌, ◌==◌, Bool, true, false, if◌then◌else◌, Result, Ok, Err, List, [], ◌∷◌, ◌++◌, length, codes}
+use Rattle.hex.specs.Hex.{encode_lower}
 use Rattle.hmac_kdf.specs.Kdf.{kdf}
 use Rattle.hmac_kdf.specs.declared.input.KdfInput.TheVariants as input
 use Rattle.ctr_eea2.specs.Eea2 as cipher

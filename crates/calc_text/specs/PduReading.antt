@@ -1,5 +1,5 @@
 -- The lines of PDUs, and of a phone's chain.
-use Rattle.std.specs.Prelude.{ℕ, if◌then◌else◌, Result, Ok, Err, List, [], ◌∷◌, codes}
+use Rattle.std.specs.Prelude.{ℕ, ◌^◌, if◌then◌else◌, Result, Ok, Err, List, [], ◌∷◌, codes}
 use Rattle.std.specs.Str.{bytes_eq}
 use Rattle.pdu_guard.specs.declared.phone.Phone.{Phone}
 use Rattle.calc_text.specs.declared.fields.Field.{Field}

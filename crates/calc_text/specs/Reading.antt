@@ -1,5 +1,5 @@
 -- What a line asks for: its first word says which line it is, and its fields stand behind it.
-use Rattle.std.specs.Prelude.{ℕ, if◌then◌else◌, Result, Ok, Err, List, [], ◌∷◌, codes}
+use Rattle.std.specs.Prelude.{ℕ, ◌^◌, ◌-◌, if◌then◌else◌, Result, Ok, Err, List, [], ◌∷◌, codes}
 use Rattle.std.specs.Str.{bytes_eq}
 use Rattle.calc_text.specs.declared.fields.Field.{Field}
 use Rattle.calc_text.specs.declared.fields.Field.TheVariants as field
