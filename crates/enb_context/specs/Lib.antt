@@ -1,6 +1,6 @@
 pub mod Acts
+pub mod Admission
 pub mod Attempt
 pub mod Orders
 pub mod Preps
 pub mod Step
-pub mod Wanted

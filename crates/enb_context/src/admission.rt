@@ -1,10 +1,10 @@
 // Whether a record that asks for a context or a preparation is taken.
 ghost use Rattle.std.specs.Prelude.{◌≡◌, ◌≤◌, ◌<◌, ◌+◌, ◌∷◌, ◌++◌, [], IfOk, IfNone, IfSome, true, false, length, slice_set};
 ghost use Rattle.ho_prep.specs.Prep.{drop_below, has_attempt, without};
-ghost use Rattle.lte_machine.specs.StationChoice.{runs_out, is_own, is_full, initial_row, wanted_row};
-ghost use Rattle.lte_machine.specs.StationRows.{Wanted, RecordRow};
+ghost use Rattle.lte_machine.specs.StationChoice.{runs_out, is_own, is_full, initial_row, admitted_row};
+ghost use Rattle.lte_machine.specs.StationRows.{Admitted, RecordRow};
 ghost use Rattle.enb_context.specs.Step.{seen_plain};
-ghost use Rattle.enb_context.specs.Wanted.{admitted, given_row};
+ghost use Rattle.enb_context.specs.Admission.{given_row, taken_row};
 
 use crate::Station;
 use alg_choice::{Algs, Caps, choose};
@@ -86,9 +86,9 @@ impl Station {
         caps: &Caps,
     ) -> Result<(Algs, u32), Answer>
         requires { source ≤ 7 }
-        ensures row { (row : Wanted → RecordRow) →
-            wanted_row (seen_plain self.now) conn (record { source = source; attempt = attempt }) cell.now caps.now row
-            ≡ admitted row conn (record { source = source; attempt = attempt }) cell.now caps.now result }
+        ensures row { (row : Admitted → RecordRow) →
+            admitted_row (seen_plain self.now) conn (record { source = source; attempt = attempt }) cell.now caps.now row
+            ≡ taken_row row conn (record { source = source; attempt = attempt }) cell.now caps.now result }
         ensures air { IfOk result (λ taken. taken.1 ≡ self.now.next) }
         ensures in_range { IfOk result (λ taken. 1 ≤ taken.1) }
         ensures conn { IfOk result (λ taken. self.now.last ≤ conn) }

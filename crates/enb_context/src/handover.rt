@@ -13,7 +13,7 @@ ghost use Rattle.lte_machine.specs.StationState.{map_attempt, map_x2_state};
 ghost use Rattle.lte_machine.specs.Reply.{unseen};
 ghost use Rattle.enb_context.specs.Attempt.{attempt_of, x2_state_of, s1_state_of};
 ghost use Rattle.enb_context.specs.Step.{answered, seen_plain};
-ghost use Rattle.enb_context.specs.Wanted.{started_row};
+ghost use Rattle.enb_context.specs.Admission.{started_row};
 
 use crate::Station;
 use crate::attempt::{Attempt, S1State, X2State};

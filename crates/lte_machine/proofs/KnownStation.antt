@@ -13,7 +13,7 @@ use Rattle.x2_handover.specs.declared.orders.Order.{Order}
 use Rattle.lte_machine.specs.Bearers.{Srb, Drb}
 use Rattle.lte_machine.specs.Reply.{Origin, Reply}
 use Rattle.lte_machine.specs.StationState.{Station, Context, Attempt, OverX2, OverS1, Within, X2State, X2Open, X2Ready, X2Commanded, S1Open, S1Ready, S1Commanded, Renewal, Renewing}
-use Rattle.lte_machine.specs.StationRows.{Wanted, RecordRow, RecordRefused, ContextGiven, ContextReleased, PairTaken, PreparedByS1, PreparedByX2, AckedByS1, AckedByX2, PreparationCancelled, SourceReleased, AirRow, AirRefused, SecurityStarted, RrcOpened, PacketOpened, CompletedByS1, CompletedWithin, CompletedByX2, ActRow, ActRefused, StartedByX2, StartedByS1, StartedWithin, HandoverCommanded, CancelledByX2, CancelledByS1, CancelledWithin, PathSwitchAsked, PacketSent, RrcSent, BearerSkipped, StationRow, OfRecord, OfAir, OfAct, KeyRenewed, ChangeCommanded}
+use Rattle.lte_machine.specs.StationRows.{Admitted, RecordRow, RecordRefused, ContextGiven, ContextReleased, PairTaken, PreparedByS1, PreparedByX2, AckedByS1, AckedByX2, PreparationCancelled, SourceReleased, AirRow, AirRefused, SecurityStarted, RrcOpened, PacketOpened, CompletedByS1, CompletedWithin, CompletedByX2, ActRow, ActRefused, StartedByX2, StartedByS1, StartedWithin, HandoverCommanded, CancelledByX2, CancelledByS1, CancelledWithin, PathSwitchAsked, PacketSent, RrcSent, BearerSkipped, StationRow, OfRecord, OfAir, OfAct, KeyRenewed, ChangeCommanded}
 use Rattle.lte_machine.specs.StationKeys.{x2_spent, spent_in, x2_commanded, commanded, given_up, with_security, with_rrc_taken, with_packet_taken, with_skipped, completed_by_s1, completed_within, completed_by_x2, started_by_x2, started_by_s1, started_within, commands, asks_again, sends_packet, sends_rrc, air_does, act_does, station_does, commands_change}
 use Rattle.lte_machine.specs.StationRecords.{s1_acked, x2_acked, with_pair, with_s1_ack, with_x2_ack, source_release, context_given, pair_taken, prepared_by_s1, prepared_by_x2, record_does, key_renewed}
 use Rattle.lte_machine.specs.Ranges.{AllOf}
@@ -112,21 +112,21 @@ module _ (same : Term → Term → Bool) (P Q : Term → Type 0) (s : Station Te
       (tt, λ o. ((mapped_known Q (with_pair pair) (λ c h. ((h.0.0, k), h.1, h.2)) s.context q.0, q.1), release_known Q conn origin))
 
   -- the preparations with one more
-  wanted_known : (conn : ℕ) (p : Prep Term ℕ) → PrepKnown Q p → AllOf (PrepKnown Q) (drop_below conn s.preps ++ p ∷ [])
-  wanted_known conn p h =
+  admitted_known : (conn : ℕ) (p : Prep Term ℕ) → PrepKnown Q p → AllOf (PrepKnown Q) (drop_below conn s.preps ++ p ∷ [])
+  admitted_known conn p h =
       all_append (PrepKnown Q) (drop_below conn s.preps) (p ∷ []) (all_filter (PrepKnown Q) (λ x. nat_le conn x.conn) s.preps q.1) (h, tt)
 
-  prepared_by_s1_keeps : (w : Wanted) (key : Option (NumberedKey Term ℕ)) → PairKnown P key → StationKeeps P Q (prepared_by_s1 (term_reading_by same) w key s)
+  prepared_by_s1_keeps : (w : Admitted) (key : Option (NumberedKey Term ℕ)) → PairKnown P key → StationKeeps P Q (prepared_by_s1 (term_reading_by same) w key s)
   prepared_by_s1_keeps w None p = (tt, λ o. (q, tt))
   prepared_by_s1_keeps w (Some pair) p = (
     star_chain same P pair.key w.cell.pci w.cell.earfcn w.algs p,
-    λ o. ((q.0, wanted_known w.conn _ ((o.0, tt), (o.1.0, o.1.1.0, o.1.1.1.0))), tt),
+    λ o. ((q.0, admitted_known w.conn _ ((o.0, tt), (o.1.0, o.1.1.0, o.1.1.1.0))), tt),
   )
 
-  prepared_by_x2_keeps : (w : Wanted) (key : Option (NumberedKey Term ℕ)) → PairKnown P key → PairKnown Q key → StationKeeps P Q (prepared_by_x2 (term_reading_by same) w key s)
+  prepared_by_x2_keeps : (w : Admitted) (key : Option (NumberedKey Term ℕ)) → PairKnown P key → PairKnown Q key → StationKeeps P Q (prepared_by_x2 (term_reading_by same) w key s)
   prepared_by_x2_keeps w None p k = (tt, λ o. (q, tt))
   prepared_by_x2_keeps w (Some star) p k =
-      (as_chain same P star.key w.algs p, λ o. ((q.0, wanted_known w.conn _ ((k, tt), (o.0, o.1.0, o.1.1.0))), tt))
+      (as_chain same P star.key w.algs p, λ o. ((q.0, admitted_known w.conn _ ((k, tt), (o.0, o.1.0, o.1.1.0))), tt))
 
   key_renewed_keeps : (conn number air count : ℕ) (c : Option (Context Term ℕ)) (key : Option (NumberedKey Term ℕ)) → ContextKnown Q c → PairKnown P key →
       StationKeeps P Q (key_renewed (term_reading_by same) conn number air count c key s)

@@ -27,19 +27,19 @@ use Rattle.lte_machine.specs.Opening.{Outcome, Opened, Differs}
 use Rattle.lte_machine.specs.Ranges.{AllOf, IsStationAct}
 use Rattle.lte_machine.specs.Reply.{Origin}
 use Rattle.lte_machine.specs.StationState.{OverX2, OverS1, Within, X2State, X2Open, X2Ready, X2Commanded, S1State, S1Open, S1Ready, S1Commanded, Interface, OnS1, OnX2, StationInput, StationActs, AirPdu, StationRecord, Renewing}
-use Rattle.lte_machine.specs.StationRows.{Wanted, RecordRow, ContextGiven, PairTaken, PreparedByS1, PreparedByX2, AckedByS1, AckedByX2, AirRow, CompletedByX2, CompletedWithin, ActRow, StartedByX2, StartedByS1, StartedWithin, CancelledByX2, CancelledByS1, PathSwitchAsked, StationRow, OfRecord, OfAir, OfAct, KeyRenewed}
-use Rattle.lte_machine.specs.StationChoice.{PlainStation, PlainContext, PlainAttempt, runs_out, is_own, is_full, is_misplaced, greatest, initial_choice, initial_row, release_row, answer_row_by, answer_row, wanted_choice, wanted_row, acked_open, s1_acked_row, s1_ack_row, x2_acked_row, x2_ack_row, cancel_row, x2_released_row, x2_release_row, s1_row, x2_row, record_row, AirFront, AirSettled, OnStarting, OnSignalling, OnUser, OnPrepared, counted, starting_front, active_front, context_front, prepared_front, air_front_by, air_front, starting_row, rrc_row, completed_row, prepared_row, air_row, active_row, unless_spent, begun_row, alone_row, target_row, start_row, x2_command_row, s1_command_row, attempt_command_row, command_row, x2_cancel_row, s1_cancel_row, within_cancel_row, attempt_cancel_row, give_up_row, came_row, ask_row, packet_row, send_rrc_row, skip_row, act_row, station_front, station_row, renewed_row, renewed_alone, modification_row}
+use Rattle.lte_machine.specs.StationRows.{Admitted, RecordRow, ContextGiven, PairTaken, PreparedByS1, PreparedByX2, AckedByS1, AckedByX2, AirRow, CompletedByX2, CompletedWithin, ActRow, StartedByX2, StartedByS1, StartedWithin, CancelledByX2, CancelledByS1, PathSwitchAsked, StationRow, OfRecord, OfAir, OfAct, KeyRenewed}
+use Rattle.lte_machine.specs.StationChoice.{PlainStation, PlainContext, PlainAttempt, runs_out, is_own, is_full, is_misplaced, greatest, initial_choice, initial_row, release_row, answer_row_by, answer_row, admitted_choice, admitted_row, acked_open, s1_acked_row, s1_ack_row, x2_acked_row, x2_ack_row, cancel_row, x2_released_row, x2_release_row, s1_row, x2_row, record_row, AirFront, AirSettled, OnStarting, OnSignalling, OnUser, OnPrepared, counted, starting_front, active_front, context_front, prepared_front, air_front_by, air_front, starting_row, rrc_row, completed_row, prepared_row, air_row, active_row, unless_spent, begun_row, alone_row, target_row, start_row, x2_command_row, s1_command_row, attempt_command_row, command_row, x2_cancel_row, s1_cancel_row, within_cancel_row, attempt_cancel_row, give_up_row, came_row, ask_row, packet_row, send_rrc_row, skip_row, act_row, station_front, station_row, renewed_row, renewed_alone, modification_row}
 use Rattle.lte_machine.proofs.RangeHolds.{OriginRanged, ByRanged, X2Ranged, S1Ranged, AttemptRanged, ContextRanged, PrepRanged, PrepIs, StationRanged, ReadRanged, StationInputRanged}
 
 -- what a row tells is in range
-abbrev pub WantedRanged : Wanted → Type 0
-WantedRanged w = IsNumber w.conn × (w.from.source ≤ 7) × IsNumber w.from.attempt × IsCell w.cell × IsCaps w.caps × IsNumber w.air
+abbrev pub AdmittedRanged : Admitted → Type 0
+AdmittedRanged w = IsNumber w.conn × (w.from.source ≤ 7) × IsNumber w.from.attempt × IsCell w.cell × IsCaps w.caps × IsNumber w.air
 
 abbrev pub RecordRowRanged : RecordRow → Type 0
 RecordRowRanged (ContextGiven conn cell caps algs air) = IsNumber conn × IsCell cell × IsCaps caps
 RecordRowRanged (PairTaken conn origin) = IsNumber conn × OriginRanged origin
-RecordRowRanged (PreparedByS1 w) = WantedRanged w
-RecordRowRanged (PreparedByX2 w) = WantedRanged w
+RecordRowRanged (PreparedByS1 w) = AdmittedRanged w
+RecordRowRanged (PreparedByX2 w) = AdmittedRanged w
 RecordRowRanged (KeyRenewed conn number air count) = IsNumber conn × IsNumber number
 RecordRowRanged other = Unit {0}
 
@@ -100,21 +100,21 @@ answer_ranged number (Some c) h = answer_ranged_by number c.outstanding c.conn c
 
 -- a handover request draws an air address
 module _ (s : PlainStation) (next : 1 ≤ s.next) where
-  wanted_chosen_ranged : (conn : ℕ) (from : Origin) (cell : Place) (caps : Caps) (row : Wanted → RecordRow) → ((w : Wanted) → WantedRanged w → RecordRowRanged (row w)) →
+  admitted_chosen_ranged : (conn : ℕ) (from : Origin) (cell : Place) (caps : Caps) (row : Admitted → RecordRow) → ((w : Admitted) → AdmittedRanged w → RecordRowRanged (row w)) →
       IsNumber conn × (from.source ≤ 7) × IsNumber from.attempt × IsCell cell × IsCaps caps →
-      (chosen : Result Algs Unmatched) → RecordRowRanged (wanted_choice s conn from cell caps row chosen)
-  wanted_chosen_ranged conn from cell caps row f h (Err none) = tt
-  wanted_chosen_ranged conn from cell caps row f h (Ok algs) =
+      (chosen : Result Algs Unmatched) → RecordRowRanged (admitted_choice s conn from cell caps row chosen)
+  admitted_chosen_ranged conn from cell caps row f h (Err none) = tt
+  admitted_chosen_ranged conn from cell caps row f h (Ok algs) =
       by_test RecordRowRanged (runs_out 1 s.next) _ _ (λ e. tt) (λ e. f _ (h.0, h.1, h.2, h.3, h.4, drawn s.next next e))
 
-  wanted_ranged : (conn : ℕ) (from : Origin) (cell : Place) (caps : Caps) (row : Wanted → RecordRow) → ((w : Wanted) → WantedRanged w → RecordRowRanged (row w)) →
-      IsNumber conn × (from.source ≤ 7) × IsNumber from.attempt × IsCell cell × IsCaps caps → RecordRowRanged (wanted_row s conn from cell caps row)
-  wanted_ranged conn from cell caps row f h =
+  admitted_ranged : (conn : ℕ) (from : Origin) (cell : Place) (caps : Caps) (row : Admitted → RecordRow) → ((w : Admitted) → AdmittedRanged w → RecordRowRanged (row w)) →
+      IsNumber conn × (from.source ≤ 7) × IsNumber from.attempt × IsCell cell × IsCaps caps → RecordRowRanged (admitted_row s conn from cell caps row)
+  admitted_ranged conn from cell caps row f h =
       by_test RecordRowRanged (nat_lt conn s.last) _ _ (λ e. tt) (λ e.
       by_test RecordRowRanged (not (is_own s cell)) _ _ (λ e. tt) (λ e.
       by_test RecordRowRanged (nat_le from.attempt (greatest s from.source)) _ _ (λ e. tt) (λ e.
       by_test RecordRowRanged ((conn == s.last) && is_full s) _ _ (λ e. tt) (λ e.
-      wanted_chosen_ranged conn from cell caps row f h (choice_of s.priority caps)))))
+      admitted_chosen_ranged conn from cell caps row f h (choice_of s.priority caps)))))
 
 acked_ranged : (number own : ℕ) (row : RecordRow) → RecordRowRanged row → RecordRowRanged (acked_open number own row)
 acked_ranged number own row h = by_test RecordRowRanged (own == number) _ _ (λ e. h) (λ e. tt)
@@ -185,7 +185,7 @@ s1_row_ranged s (PathSwitchRequest conn station number cell caps) h f = tt
 s1_row_ranged s (PathSwitchAnswer conn number) h f = answer_ranged number s.context h.2
 s1_row_ranged s (HandoverRequired conn station attempt cell) h f = tt
 s1_row_ranged s (HandoverRequest conn source attempt cell caps) h f =
-    wanted_ranged s h.1 conn (record { source = source; attempt = attempt }) cell caps PreparedByS1 (λ w k. k) f
+    admitted_ranged s h.1 conn (record { source = source; attempt = attempt }) cell caps PreparedByS1 (λ w k. k) f
 s1_row_ranged s (HandoverRequestAck conn source attempt cell ncc algs air) h f = tt
 s1_row_ranged s (HandoverCommand conn attempt cell ncc algs air) h f = s1_ack_ranged attempt ncc algs air s.context
 s1_row_ranged s (HandoverNotify conn station cell) h f = tt
@@ -208,7 +208,7 @@ x2_row_ranged s (HandoverCommand conn attempt cell ncc algs air) h f = tt
 x2_row_ranged s (HandoverNotify conn station cell) h f = tt
 x2_row_ranged s (HandoverCancel conn source attempt cell) h f = tt
 x2_row_ranged s (X2Request conn source attempt cell caps) h f =
-    wanted_ranged s h.1 conn (record { source = source; attempt = attempt }) cell caps PreparedByX2 (λ w k. k) f
+    admitted_ranged s h.1 conn (record { source = source; attempt = attempt }) cell caps PreparedByX2 (λ w k. k) f
 x2_row_ranged s (X2Ack conn attempt cell algs air) h f = x2_ack_ranged attempt algs air s.context
 x2_row_ranged s (X2Cancel conn source attempt) h f = cancel_ranged s (record { source = source; attempt = attempt })
 x2_row_ranged s (X2Release conn attempt) h f = x2_release_ranged attempt s.context

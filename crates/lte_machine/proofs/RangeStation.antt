@@ -16,12 +16,12 @@ use Rattle.lte_machine.specs.Opening.{Outcome}
 use Rattle.lte_machine.specs.Ranges.{AllOf}
 use Rattle.lte_machine.specs.Reply.{Origin, Reply, unseen}
 use Rattle.lte_machine.specs.StationState.{Station, Context, Attempt, OverX2, OverS1, Within, X2Open, X2Ready, X2Commanded, S1Open, S1Ready, S1Commanded, StationInput, StationActs, AirPdu, StationRecord, map_context, map_attempt, map_preps, map_station_input, Renewal, Renewing}
-use Rattle.lte_machine.specs.StationRows.{Wanted, RecordRow, RecordRefused, ContextGiven, ContextReleased, PairTaken, PreparedByS1, PreparedByX2, AckedByS1, AckedByX2, PreparationCancelled, SourceReleased, AirRow, AirRefused, SecurityStarted, RrcOpened, PacketOpened, CompletedByS1, CompletedWithin, CompletedByX2, ActRow, ActRefused, StartedByX2, StartedByS1, StartedWithin, HandoverCommanded, CancelledByX2, CancelledByS1, CancelledWithin, PathSwitchAsked, PacketSent, RrcSent, BearerSkipped, StationRow, OfRecord, OfAir, OfAct, KeyRenewed, ChangeCommanded}
+use Rattle.lte_machine.specs.StationRows.{Admitted, RecordRow, RecordRefused, ContextGiven, ContextReleased, PairTaken, PreparedByS1, PreparedByX2, AckedByS1, AckedByX2, PreparationCancelled, SourceReleased, AirRow, AirRefused, SecurityStarted, RrcOpened, PacketOpened, CompletedByS1, CompletedWithin, CompletedByX2, ActRow, ActRefused, StartedByX2, StartedByS1, StartedWithin, HandoverCommanded, CancelledByX2, CancelledByS1, CancelledWithin, PathSwitchAsked, PacketSent, RrcSent, BearerSkipped, StationRow, OfRecord, OfAir, OfAct, KeyRenewed, ChangeCommanded}
 use Rattle.lte_machine.specs.StationKeys.{commanded, given_up, with_security, with_rrc_taken, with_packet_taken, with_skipped, completed_by_s1, completed_within, completed_by_x2, started_by_x2, started_by_s1, started_within, commands, asks_again, sends_packet, sends_rrc, air_does, act_does, station_does, commands_change}
 use Rattle.lte_machine.specs.StationRecords.{s1_acked, x2_acked, with_pair, with_s1_ack, with_x2_ack, source_release, context_given, pair_taken, prepared_by_s1, prepared_by_x2, record_does, key_renewed}
 use Rattle.lte_machine.specs.StationStep.{plain_station, station_row_of, station_key, station_step}
 use Rattle.lte_machine.proofs.RangeHolds.{SentRanged, OriginRanged, AttemptRanged, ContextRanged, PrepRanged, PrepIs, StationRanged, StationInputRanged}
-use Rattle.lte_machine.proofs.RangeChoice.{WantedRanged, RecordRowRanged, AirRowRanged, ActRowRanged, RowRanged, found_ranged, row_ranged}
+use Rattle.lte_machine.proofs.RangeChoice.{AdmittedRanged, RecordRowRanged, AirRowRanged, ActRowRanged, RowRanged, found_ranged, row_ranged}
 
 -- LISTS
 
@@ -149,21 +149,21 @@ module _ (same : Term → Term → Bool) where
       ((h.0, h.1, with_ranged (with_pair pair) (λ c k. k) s.context h.2, h.3), release_ranged conn origin f.0 f.1)
 
   -- a preparation more
-  wanted_preps : (w : Wanted) (p : Prep Term ℕ) (ps : List (Prep Term ℕ)) → PrepRanged p → AllOf PrepRanged ps →
+  admitted_preps : (w : Admitted) (p : Prep Term ℕ) (ps : List (Prep Term ℕ)) → PrepRanged p → AllOf PrepRanged ps →
       AllOf PrepRanged (filter (λ q. nat_le w.conn q.conn) ps ++ p ∷ [])
-  wanted_preps w p ps f h = all_append PrepRanged (filter (λ q. nat_le w.conn q.conn) ps) (p ∷ []) (all_filter PrepRanged (λ q. nat_le w.conn q.conn) ps h) (f, tt)
+  admitted_preps w p ps f h = all_append PrepRanged (filter (λ q. nat_le w.conn q.conn) ps) (p ∷ []) (all_filter PrepRanged (λ q. nat_le w.conn q.conn) ps h) (f, tt)
 
-  prepared_by_s1_ranged : (w : Wanted) (key : Option (NumberedKey Term ℕ)) (s : Station Term ℕ) → WantedRanged w → StationRanged s → StationDone (prepared_by_s1 r w key s)
+  prepared_by_s1_ranged : (w : Admitted) (key : Option (NumberedKey Term ℕ)) (s : Station Term ℕ) → AdmittedRanged w → StationRanged s → StationDone (prepared_by_s1 r w key s)
   prepared_by_s1_ranged w None s f h = (h, tt)
   prepared_by_s1_ranged w (Some pair) s f h = (
-    (h.0, next_up w.air, h.2, wanted_preps w _ s.preps (f.0, f.1, f.2, f.3, f.4, tt) h.3),
+    (h.0, next_up w.air, h.2, admitted_preps w _ s.preps (f.0, f.1, f.2, f.3, f.4, tt) h.3),
     ((f.0, f.1, f.2, f.3, three_bits pair.number, f.5), tt),
   )
 
-  prepared_by_x2_ranged : (w : Wanted) (key : Option (NumberedKey Term ℕ)) (s : Station Term ℕ) → WantedRanged w → StationRanged s → StationDone (prepared_by_x2 r w key s)
+  prepared_by_x2_ranged : (w : Admitted) (key : Option (NumberedKey Term ℕ)) (s : Station Term ℕ) → AdmittedRanged w → StationRanged s → StationDone (prepared_by_x2 r w key s)
   prepared_by_x2_ranged w None s f h = (h, tt)
   prepared_by_x2_ranged w (Some star) s f h = (
-    (h.0, next_up w.air, h.2, wanted_preps w _ s.preps (f.0, f.1, f.2, f.3, f.4, tt) h.3),
+    (h.0, next_up w.air, h.2, admitted_preps w _ s.preps (f.0, f.1, f.2, f.3, f.4, tt) h.3),
     ((f.0, f.2, f.3, f.5), tt),
   )
 

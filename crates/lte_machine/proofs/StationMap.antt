@@ -21,7 +21,7 @@ use Rattle.lte_machine.specs.Opening.{Opening, OpensNothing, OpensNas, OpensSrb,
 use Rattle.key_model.specs.Use.{map_use}
 use Rattle.lte_machine.specs.Reply.{Origin, finished}
 use Rattle.lte_machine.specs.StationState.{Station, Context, Attempt, OverX2, OverS1, Within, X2State, X2Open, X2Ready, X2Commanded, S1Open, S1Ready, S1Commanded, StationInput, StationActs, AirPdu, StationRecord, map_x2_state, map_attempt, map_context, map_station, map_read, map_station_input, Renewal, Renewing}
-use Rattle.lte_machine.specs.StationRows.{Wanted, RecordRow, RecordRefused, ContextGiven, ContextReleased, PairTaken, PreparedByS1, PreparedByX2, AckedByS1, AckedByX2, PreparationCancelled, SourceReleased, AirRow, AirRefused, SecurityStarted, RrcOpened, PacketOpened, CompletedByS1, CompletedWithin, CompletedByX2, ActRow, ActRefused, StartedByX2, StartedByS1, StartedWithin, HandoverCommanded, CancelledByX2, CancelledByS1, CancelledWithin, PathSwitchAsked, PacketSent, RrcSent, BearerSkipped, StationRow, OfRecord, OfAir, OfAct, KeyRenewed, ChangeCommanded}
+use Rattle.lte_machine.specs.StationRows.{Admitted, RecordRow, RecordRefused, ContextGiven, ContextReleased, PairTaken, PreparedByS1, PreparedByX2, AckedByS1, AckedByX2, PreparationCancelled, SourceReleased, AirRow, AirRefused, SecurityStarted, RrcOpened, PacketOpened, CompletedByS1, CompletedWithin, CompletedByX2, ActRow, ActRefused, StartedByX2, StartedByS1, StartedWithin, HandoverCommanded, CancelledByX2, CancelledByS1, CancelledWithin, PathSwitchAsked, PacketSent, RrcSent, BearerSkipped, StationRow, OfRecord, OfAir, OfAct, KeyRenewed, ChangeCommanded}
 use Rattle.lte_machine.specs.StationChoice.{AirFront, AirSettled, OnStarting, OnSignalling, OnUser, OnPrepared, StationFront, Settled, FromAir, station_front, station_row}
 use Rattle.lte_machine.specs.StationKeys as keys
 use Rattle.lte_machine.specs.StationRecords as record_keys
@@ -120,23 +120,23 @@ module _ {K C L D : Type 0} {r : Reading K C} {q : Reading L D} {f : K → L} {g
   pair_taken_map conn origin None s = refl
   pair_taken_map conn origin (Some pair) s = rw (with_pair_map pair s.context, release_map conn origin) refl
 
-  wanted_preps_map : (w : Wanted) (p : Prep K C) (s : Station K C) →
-      map_station f g (record_keys.with_wanted w p s) ≡ record_keys.with_wanted w (map_prep f g p) (map_station f g s)
-  wanted_preps_map w p s =
+  admitted_preps_map : (w : Admitted) (p : Prep K C) (s : Station K C) →
+      map_station f g (record_keys.with_admitted w p s) ≡ record_keys.with_admitted w (map_prep f g p) (map_station f g s)
+  admitted_preps_map w p s =
       rw (map-append (map_prep f g) (drop_below w.conn s.preps) (p ∷ []), ← drop_below-map f g w.conn s.preps) refl
 
-  prepared_by_x2_map : (w : Wanted) (key : Option (NumberedKey K C)) (s : Station K C) →
+  prepared_by_x2_map : (w : Admitted) (key : Option (NumberedKey K C)) (s : Station K C) →
       map_station_done f g (record_keys.prepared_by_x2 r w key s)
       ≡ record_keys.prepared_by_x2 q w (option_map (map_numbered f g) key) (map_station f g s)
   prepared_by_x2_map w None s = refl
   prepared_by_x2_map w (Some star) s =
-      rw (wanted_preps_map w (record_keys.wanted_prep r w By.X2 star) s, c.alg star.key 3 (identity_of w.algs.eea), c.alg star.key 4 eia2_identity, c.alg star.key 5 (identity_of w.algs.eea), c.ncc star.number) refl
+      rw (admitted_preps_map w (record_keys.admitted_prep r w By.X2 star) s, c.alg star.key 3 (identity_of w.algs.eea), c.alg star.key 4 eia2_identity, c.alg star.key 5 (identity_of w.algs.eea), c.ncc star.number) refl
 
-  prepared_by_s1_with_map : (w : Wanted) (made : Derivation K) (star : NumberedKey K C) (s : Station K C) →
+  prepared_by_s1_with_map : (w : Admitted) (made : Derivation K) (star : NumberedKey K C) (s : Station K C) →
       map_station_done f g (record_keys.prepared_by_s1_with r w made star s)
       ≡ record_keys.prepared_by_s1_with q w (map_derivation f made) (map_numbered f g star) (map_station f g s)
   prepared_by_s1_with_map w made star s =
-      rw (wanted_preps_map w (record_keys.wanted_prep r w By.S1 star) s, c.alg star.key 3 (identity_of w.algs.eea), c.alg star.key 4 eia2_identity, c.alg star.key 5 (identity_of w.algs.eea), c.ncc star.number) refl
+      rw (admitted_preps_map w (record_keys.admitted_prep r w By.S1 star) s, c.alg star.key 3 (identity_of w.algs.eea), c.alg star.key 4 eia2_identity, c.alg star.key 5 (identity_of w.algs.eea), c.ncc star.number) refl
 
   star_line_map : (base : NumberedKey K C) (cell : Place) →
       map_numbered f g (star_line r base cell.pci cell.earfcn) ≡ star_line q (map_numbered f g base) cell.pci cell.earfcn
@@ -146,7 +146,7 @@ module _ {K C L D : Type 0} {r : Reading K C} {q : Reading L D} {f : K → L} {g
       map_derivation f (star_made r base cell.pci cell.earfcn) ≡ star_made q (f base) cell.pci cell.earfcn
   star_made_map base cell = rw (c.star base cell.pci cell.earfcn) refl
 
-  prepared_by_s1_map : (w : Wanted) (key : Option (NumberedKey K C)) (s : Station K C) →
+  prepared_by_s1_map : (w : Admitted) (key : Option (NumberedKey K C)) (s : Station K C) →
       map_station_done f g (record_keys.prepared_by_s1 r w key s)
       ≡ record_keys.prepared_by_s1 q w (option_map (map_numbered f g) key) (map_station f g s)
   prepared_by_s1_map w None s = refl

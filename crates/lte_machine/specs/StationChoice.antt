@@ -33,7 +33,7 @@ use Rattle.lte_machine.specs.Refusals.{of_pdcp}
 use Rattle.lte_machine.specs.Kinds.{rrc_kind}
 use Rattle.lte_machine.specs.Reply.{Origin}
 use Rattle.lte_machine.specs.StationState.{Station, Context, Attempt, OverX2, OverS1, Within, Renewing, X2State, X2Open, X2Ready, X2Commanded, S1State, S1Open, S1Ready, S1Commanded, Interface, OnS1, OnX2, StationInput, StationActs, AirPdu, StationRecord}
-use Rattle.lte_machine.specs.StationRows.{Wanted, RecordRow, RecordRefused, ContextGiven, ContextReleased, PairTaken, PreparedByS1, PreparedByX2, AckedByS1, AckedByX2, PreparationCancelled, SourceReleased, KeyRenewed, AirRow, AirRefused, SecurityStarted, RrcOpened, PacketOpened, CompletedByS1, CompletedWithin, CompletedByX2, ActRow, ActRefused, StartedByX2, StartedByS1, StartedWithin, HandoverCommanded, ChangeCommanded, CancelledByX2, CancelledByS1, CancelledWithin, PathSwitchAsked, PacketSent, RrcSent, BearerSkipped, StationRow, OfRecord, OfAir, OfAct}
+use Rattle.lte_machine.specs.StationRows.{Admitted, RecordRow, RecordRefused, ContextGiven, ContextReleased, PairTaken, PreparedByS1, PreparedByX2, AckedByS1, AckedByX2, PreparationCancelled, SourceReleased, KeyRenewed, AirRow, AirRefused, SecurityStarted, RrcOpened, PacketOpened, CompletedByS1, CompletedWithin, CompletedByX2, ActRow, ActRefused, StartedByX2, StartedByS1, StartedWithin, HandoverCommanded, ChangeCommanded, CancelledByX2, CancelledByS1, CancelledWithin, PathSwitchAsked, PacketSent, RrcSent, BearerSkipped, StationRow, OfRecord, OfAir, OfAct}
 
 -- a station without its keys
 abbrev pub PlainStation : Type 0
@@ -109,9 +109,9 @@ answer_row number (Some c) = answer_row_by number c.outstanding (PairTaken c.con
 
 -- the algorithms are chosen, and an air address is drawn (TS 33.401 7.2.4.2.2 and 7.2.4.2.3); the row is that of the
 -- interface
-abbrev pub wanted_choice : PlainStation → ℕ → Origin → Place → Caps → (Wanted → RecordRow) → Result Algs Unmatched → RecordRow
-wanted_choice s conn from cell caps row (Err none) = RecordRefused NoAlgorithm
-wanted_choice s conn from cell caps row (Ok algs) =
+abbrev pub admitted_choice : PlainStation → ℕ → Origin → Place → Caps → (Admitted → RecordRow) → Result Algs Unmatched → RecordRow
+admitted_choice s conn from cell caps row (Err none) = RecordRefused NoAlgorithm
+admitted_choice s conn from cell caps row (Ok algs) =
     if runs_out 1 s.next then RecordRefused NumberSpent
     else row (record { conn = conn; from = from; cell = cell; caps = caps; algs = algs; air = s.next })
 
@@ -125,13 +125,13 @@ greatest s source = slice_index s.seen source
 
 -- Handover Request on S1 or X2 (TS 36.413 8.4.2, TS 36.423 8.2.1). This project's own rules: the connection is not below
 -- the last, the attempt is above the greatest seen of its source, and at most eight preparations stand
-abbrev pub wanted_row : PlainStation → ℕ → Origin → Place → Caps → (Wanted → RecordRow) → RecordRow
-wanted_row s conn from cell caps row =
+abbrev pub admitted_row : PlainStation → ℕ → Origin → Place → Caps → (Admitted → RecordRow) → RecordRow
+admitted_row s conn from cell caps row =
     if nat_lt conn s.last then RecordRefused (OldConnection s.last conn)
     else (if not (is_own s cell) then RecordRefused UnknownCell
     else (if nat_le from.attempt (greatest s from.source) then RecordRefused (Repeated (greatest s from.source) from.attempt)
     else (if (conn == s.last) && is_full s then RecordRefused PrepFull
-    else wanted_choice s conn from cell caps row (choice_of s.priority caps))))
+    else admitted_choice s conn from cell caps row (choice_of s.priority caps))))
 
 -- an answer to an attempt of this kind and number, which may still be open
 abbrev pub acked_open : ℕ → ℕ → RecordRow → RecordRow
@@ -204,7 +204,7 @@ s1_row s (InitialContext conn cell caps) = initial_row s conn cell caps
 s1_row s (ContextRelease conn) = release_row conn s.context
 s1_row s (PathSwitchAnswer conn number) = answer_row number s.context
 s1_row s (HandoverRequest conn source attempt cell caps) =
-    wanted_row s conn (record { source = source; attempt = attempt }) cell caps PreparedByS1
+    admitted_row s conn (record { source = source; attempt = attempt }) cell caps PreparedByS1
 s1_row s (HandoverCommand conn attempt cell ncc algs air) = s1_ack_row attempt ncc algs air s.context
 s1_row s (HandoverCancel conn source attempt cell) = cancel_row s (record { source = source; attempt = attempt })
 s1_row s (ContextModification conn next_conn) = modification_row s conn next_conn s.context
@@ -212,7 +212,7 @@ s1_row s other = RecordRefused (WrongKind (kind_of other))
 
 abbrev pub x2_row : PlainStation → Fields → RecordRow
 x2_row s (X2Request conn source attempt cell caps) =
-    wanted_row s conn (record { source = source; attempt = attempt }) cell caps PreparedByX2
+    admitted_row s conn (record { source = source; attempt = attempt }) cell caps PreparedByX2
 x2_row s (X2Ack conn attempt cell algs air) = x2_ack_row attempt algs air s.context
 x2_row s (X2Cancel conn source attempt) = cancel_row s (record { source = source; attempt = attempt })
 x2_row s (X2Release conn attempt) = x2_release_row attempt s.context

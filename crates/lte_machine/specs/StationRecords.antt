@@ -25,7 +25,7 @@ use Rattle.lte_machine.specs.Bearers.{Srb, Signalling1, Drb, new_bearers, srb_se
 use Rattle.lte_machine.specs.Wire.{Outgoing, SealedRrc, UserPacket, Between, srb_use, srb_ciphering, drb_ciphering}
 use Rattle.lte_machine.specs.Reply.{Note, Origin, BySetup, ByAttempt, ByChange, Made, Reply, only}
 use Rattle.lte_machine.specs.StationState.{Station, Context, Attempt, OverX2, OverS1, Renewal, Renewing, X2Open, X2Ready, S1Open, S1Ready}
-use Rattle.lte_machine.specs.StationRows.{Wanted, RecordRow, RecordRefused, ContextGiven, ContextReleased, PairTaken, PreparedByS1, PreparedByX2, AckedByS1, AckedByX2, PreparationCancelled, SourceReleased, KeyRenewed}
+use Rattle.lte_machine.specs.StationRows.{Admitted, RecordRow, RecordRefused, ContextGiven, ContextReleased, PairTaken, PreparedByS1, PreparedByX2, AckedByS1, AckedByX2, PreparationCancelled, SourceReleased, KeyRenewed}
 
 -- SENDING (TS 36.323 5.6 and 5.7)
 
@@ -117,8 +117,8 @@ pair_taken conn origin (Some pair) s =
     (record s { context = option_map (with_pair pair) s.context }, record (only Done) { sent = source_release conn origin })
 
 -- a preparation with a KeNB* and its AS keys (TS 33.401 7.2.8.4.2, 7.2.8.4.3, A.7)
-abbrev pub wanted_prep : {K C : Type 0} → Reading K C → Wanted → By → NumberedKey K C → Prep K C
-wanted_prep r w by star = record {
+abbrev pub admitted_prep : {K C : Type 0} → Reading K C → Admitted → By → NumberedKey K C → Prep K C
+admitted_prep r w by star = record {
   conn = w.conn;
   source = w.from.source;
   attempt = w.from.attempt;
@@ -132,16 +132,16 @@ wanted_prep r w by star = record {
 }
 
 -- with it preparations of older connections are dropped
-abbrev pub with_wanted : {K C : Type 0} → Wanted → Prep K C → Station K C → Station K C
-with_wanted w prep s = record s {
+abbrev pub with_admitted : {K C : Type 0} → Admitted → Prep K C → Station K C → Station K C
+with_admitted w prep s = record s {
   next = w.air + 1;
   last = w.conn;
   seen = slice_set s.seen w.from.source w.from.attempt;
   preps = drop_below w.conn s.preps ++ prep ∷ [];
 }
 
-abbrev pub wanted_made : {K C : Type 0} → ℕ → Wanted → NumberedKey K C → Made K C
-wanted_made id w star = record {
+abbrev pub admitted_made : {K C : Type 0} → ℕ → Admitted → NumberedKey K C → Made K C
+admitted_made id w star = record {
   station = id;
   air = w.air;
   conn = w.conn;
@@ -154,34 +154,34 @@ wanted_made id w star = record {
 
 -- on S1 the target derives KeNB* of the NH received: vertical (TS 33.401 7.2.8.4.3)
 abbrev pub prepared_by_s1_with : {K C : Type 0} →
-    Reading K C → Wanted → Derivation K → NumberedKey K C → Station K C → Station K C × Reply K C
+    Reading K C → Admitted → Derivation K → NumberedKey K C → Station K C → Station K C × Reply K C
 prepared_by_s1_with r w made star s = (
-  with_wanted w (wanted_prep r w By.S1 star) s,
+  with_admitted w (admitted_prep r w By.S1 star) s,
   record (only Done) {
     sent = Some (to_core (HandoverRequestAck w.conn w.from.source w.from.attempt w.cell (r.ncc star.number) w.algs w.air));
     derived = made ∷ as_derivations r star.key w.algs;
     note = Some (note_of r Vertical star);
-    made = Some (wanted_made s.id w star);
+    made = Some (admitted_made s.id w star);
   },
 )
 
 abbrev pub prepared_by_s1 : {K C : Type 0} →
-    Reading K C → Wanted → Option (NumberedKey K C) → Station K C → Station K C × Reply K C
+    Reading K C → Admitted → Option (NumberedKey K C) → Station K C → Station K C × Reply K C
 prepared_by_s1 r w None s = (s, only Done)
 prepared_by_s1 r w (Some pair) s =
     prepared_by_s1_with r w (star_made r pair.key w.cell.pci w.cell.earfcn) (star_line r pair w.cell.pci w.cell.earfcn) s
 
 -- on X2 the target takes the KeNB* received (TS 33.401 7.2.8.4.2)
 abbrev pub prepared_by_x2 : {K C : Type 0} →
-    Reading K C → Wanted → Option (NumberedKey K C) → Station K C → Station K C × Reply K C
+    Reading K C → Admitted → Option (NumberedKey K C) → Station K C → Station K C × Reply K C
 prepared_by_x2 r w None s = (s, only Done)
 prepared_by_x2 r w (Some star) s = (
-  with_wanted w (wanted_prep r w By.X2 star) s,
+  with_admitted w (admitted_prep r w By.X2 star) s,
   record (only Done) {
     sent = Some (to_station w.from.source (X2Ack w.conn w.from.attempt w.cell w.algs w.air));
     derived = as_derivations r star.key w.algs;
     note = Some (note_of r Given star);
-    made = Some (wanted_made s.id w star);
+    made = Some (admitted_made s.id w star);
   },
 )
 

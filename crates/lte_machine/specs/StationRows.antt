@@ -12,7 +12,7 @@ use Rattle.lte_machine.specs.StationState.{Renewal}
 
 -- a handover request that is taken (TS 36.413 8.4.2, TS 36.423 8.2.1): connection, source and attempt, cell,
 -- capabilities, the algorithms chosen (TS 33.401 7.2.4.2.2 and 7.2.4.2.3) and the air address drawn
-pub record Wanted : Type 0 where
+pub record Admitted : Type 0 where
   pub conn : ℕ
   pub from : Origin
   pub cell : Place
@@ -30,9 +30,9 @@ pub data RecordRow : Type 0 where
   -- Path Switch Request Acknowledge (TS 36.413 8.4.4, TS 33.401 7.2.8.4.2): connection, and the X2 source to be released
   PairTaken : ℕ → Option Origin → RecordRow
   -- Handover Request on S1 (TS 36.413 8.4.2, TS 33.401 7.2.8.4.3)
-  PreparedByS1 : Wanted → RecordRow
+  PreparedByS1 : Admitted → RecordRow
   -- Handover Request on X2 (TS 36.423 8.2.1, TS 33.401 7.2.8.4.2)
-  PreparedByX2 : Wanted → RecordRow
+  PreparedByX2 : Admitted → RecordRow
   -- Handover Command (TS 36.413 8.4.1): NCC, algorithms, air address
   AckedByS1 : ℕ → Algs → ℕ → RecordRow
   -- Handover Request Acknowledge on X2 (TS 36.423 8.2.1): algorithms, air address

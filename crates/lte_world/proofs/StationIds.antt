@@ -10,7 +10,7 @@ use Rattle.x2_handover.specs.declared.orders.Order.{Order}
 use Rattle.lte_machine.specs.Bearers.{Srb, Drb}
 use Rattle.lte_machine.specs.Opening.{Outcome}
 use Rattle.lte_machine.specs.StationState.{Station, Context, StationInput, Renewal}
-use Rattle.lte_machine.specs.StationRows.{Wanted, RecordRow, RecordRefused, ContextGiven, ContextReleased, PairTaken, PreparedByS1, PreparedByX2, AckedByS1, AckedByX2, PreparationCancelled, SourceReleased, AirRow, AirRefused, SecurityStarted, RrcOpened, PacketOpened, CompletedByS1, CompletedWithin, CompletedByX2, ActRow, ActRefused, StartedByX2, StartedByS1, StartedWithin, HandoverCommanded, CancelledByX2, CancelledByS1, CancelledWithin, PathSwitchAsked, PacketSent, RrcSent, BearerSkipped, StationRow, OfRecord, OfAir, OfAct, KeyRenewed, ChangeCommanded}
+use Rattle.lte_machine.specs.StationRows.{Admitted, RecordRow, RecordRefused, ContextGiven, ContextReleased, PairTaken, PreparedByS1, PreparedByX2, AckedByS1, AckedByX2, PreparationCancelled, SourceReleased, AirRow, AirRefused, SecurityStarted, RrcOpened, PacketOpened, CompletedByS1, CompletedWithin, CompletedByX2, ActRow, ActRefused, StartedByX2, StartedByS1, StartedWithin, HandoverCommanded, CancelledByX2, CancelledByS1, CancelledWithin, PathSwitchAsked, PacketSent, RrcSent, BearerSkipped, StationRow, OfRecord, OfAir, OfAct, KeyRenewed, ChangeCommanded}
 use Rattle.lte_machine.specs.StationKeys.{completed_by_s1, completed_within, completed_by_x2, started_by_x2, started_by_s1, started_within, commands, commands_change, asks_again, sends_packet, sends_rrc, air_does, act_does, station_does}
 use Rattle.lte_machine.specs.StationRecords.{context_given, pair_taken, prepared_by_s1, prepared_by_x2, key_renewed, record_does}
 use Rattle.lte_machine.specs.StationStep.{station_row_of, station_key, station_step}
@@ -21,11 +21,11 @@ module _ {K C : Type 0} (r : Reading K C) (s : Station K C) where
   given_id conn cell caps algs air None = refl
   given_id conn cell caps algs air (Some k) = refl
 
-  by_s1_id : (w : Wanted) (key : Option (NumberedKey K C)) → (prepared_by_s1 r w key s).0.id ≡ s.id
+  by_s1_id : (w : Admitted) (key : Option (NumberedKey K C)) → (prepared_by_s1 r w key s).0.id ≡ s.id
   by_s1_id w None = refl
   by_s1_id w (Some k) = refl
 
-  by_x2_id : (w : Wanted) (key : Option (NumberedKey K C)) → (prepared_by_x2 r w key s).0.id ≡ s.id
+  by_x2_id : (w : Admitted) (key : Option (NumberedKey K C)) → (prepared_by_x2 r w key s).0.id ≡ s.id
   by_x2_id w None = refl
   by_x2_id w (Some k) = refl
 

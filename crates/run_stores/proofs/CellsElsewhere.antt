@@ -12,7 +12,7 @@ use Rattle.lte_machine.specs.Bearers.{Srb, Drb}
 use Rattle.lte_machine.specs.Opening.{Outcome}
 use Rattle.lte_machine.specs.Reply.{Origin, unseen}
 use Rattle.lte_machine.specs.StationState.{Station, Context, StationInput, Renewal, map_station_input}
-use Rattle.lte_machine.specs.StationRows.{Wanted, RecordRow, RecordRefused, ContextGiven, ContextReleased, PairTaken, PreparedByS1, PreparedByX2, AckedByS1, AckedByX2, PreparationCancelled, SourceReleased, AirRow, AirRefused, SecurityStarted, RrcOpened, PacketOpened, CompletedByS1, CompletedWithin, CompletedByX2, ActRow, ActRefused, StartedByX2, StartedByS1, StartedWithin, HandoverCommanded, CancelledByX2, CancelledByS1, CancelledWithin, PathSwitchAsked, PacketSent, RrcSent, BearerSkipped, StationRow, OfRecord, OfAir, OfAct, KeyRenewed, ChangeCommanded}
+use Rattle.lte_machine.specs.StationRows.{Admitted, RecordRow, RecordRefused, ContextGiven, ContextReleased, PairTaken, PreparedByS1, PreparedByX2, AckedByS1, AckedByX2, PreparationCancelled, SourceReleased, AirRow, AirRefused, SecurityStarted, RrcOpened, PacketOpened, CompletedByS1, CompletedWithin, CompletedByX2, ActRow, ActRefused, StartedByX2, StartedByS1, StartedWithin, HandoverCommanded, CancelledByX2, CancelledByS1, CancelledWithin, PathSwitchAsked, PacketSent, RrcSent, BearerSkipped, StationRow, OfRecord, OfAir, OfAct, KeyRenewed, ChangeCommanded}
 use Rattle.lte_machine.specs.StationKeys.{completed_by_s1, completed_within, completed_by_x2, started_by_x2, started_by_s1, started_within, commands, commands_change, asks_again, sends_packet, sends_rrc, air_does, act_does, station_does}
 use Rattle.lte_machine.specs.StationRecords.{context_given, pair_taken, prepared_by_s1, prepared_by_x2, key_renewed, record_does}
 use Rattle.lte_machine.specs.StationStep.{plain_station, station_row_of, station_key, station_step}
@@ -22,7 +22,7 @@ use Rattle.lte_machine.specs.CoreRows.{CoreNasRow, CoreRecordRow, CoreActRow, Co
 use Rattle.lte_machine.specs.CoreKeys as does
 use Rattle.lte_machine.specs.CoreStep.{core_step, plain_core, core_front_of, core_root}
 use Rattle.lte_machine.specs.CoreChoice.{core_row}
-use Rattle.lte_machine.proofs.RangeChoice.{RowRanged, RecordRowRanged, ActRowRanged, WantedRanged, row_ranged}
+use Rattle.lte_machine.proofs.RangeChoice.{RowRanged, RecordRowRanged, ActRowRanged, AdmittedRanged, row_ranged}
 use Rattle.lte_machine.proofs.RangeHolds.{ContextRanged, StationRanged, StationInputRanged}
 use Rattle.lte_machine.proofs.RangeStation.{station_plain, input_plain}
 use Rattle.run_stores.proofs.Cells.{CellsIn}
@@ -34,11 +34,11 @@ module _ {K C : Type 0} (r : Reading K C) (s : Station K C) where
   given_cells conn cell caps algs air None = tt
   given_cells conn cell caps algs air (Some k) = (tt, (tt, (tt, tt)))
 
-  by_s1_cells : (w : Wanted) (key : Option (NumberedKey K C)) → WantedRanged w → CellsIn (prepared_by_s1 r w key s).1.derived
+  by_s1_cells : (w : Admitted) (key : Option (NumberedKey K C)) → AdmittedRanged w → CellsIn (prepared_by_s1 r w key s).1.derived
   by_s1_cells w None h = tt
   by_s1_cells w (Some k) h = (h.3, (tt, (tt, (tt, tt))))
 
-  by_x2_cells : (w : Wanted) (key : Option (NumberedKey K C)) → CellsIn (prepared_by_x2 r w key s).1.derived
+  by_x2_cells : (w : Admitted) (key : Option (NumberedKey K C)) → CellsIn (prepared_by_x2 r w key s).1.derived
   by_x2_cells w None = tt
   by_x2_cells w (Some k) = (tt, (tt, (tt, tt)))
 

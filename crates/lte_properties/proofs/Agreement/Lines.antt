@@ -21,7 +21,7 @@ use Rattle.lte_machine.specs.Opening.{Opening, Outcome}
 use Rattle.lte_machine.specs.Reply.{Note, Origin, Reply}
 use Rattle.lte_machine.specs.StationState.{Station, Context, Renewal, StationInput, StationActs, AirPdu, StationRecord, OnS1, OnX2}
 use Rattle.x2_handover.specs.declared.orders.Order.{Order}
-use Rattle.lte_machine.specs.StationRows.{Wanted, RecordRow, RecordRefused, ContextGiven, ContextReleased, PairTaken, PreparedByS1, PreparedByX2, AckedByS1, AckedByX2, PreparationCancelled, SourceReleased, KeyRenewed, AirRow, AirRefused, SecurityStarted, RrcOpened, PacketOpened, CompletedByS1, CompletedWithin, CompletedByX2, ActRow, ActRefused, StartedByX2, StartedByS1, StartedWithin, HandoverCommanded, ChangeCommanded, CancelledByX2, CancelledByS1, CancelledWithin, PathSwitchAsked, PacketSent, RrcSent, BearerSkipped, StationRow, OfRecord, OfAir, OfAct}
+use Rattle.lte_machine.specs.StationRows.{Admitted, RecordRow, RecordRefused, ContextGiven, ContextReleased, PairTaken, PreparedByS1, PreparedByX2, AckedByS1, AckedByX2, PreparationCancelled, SourceReleased, KeyRenewed, AirRow, AirRefused, SecurityStarted, RrcOpened, PacketOpened, CompletedByS1, CompletedWithin, CompletedByX2, ActRow, ActRefused, StartedByX2, StartedByS1, StartedWithin, HandoverCommanded, ChangeCommanded, CancelledByX2, CancelledByS1, CancelledWithin, PathSwitchAsked, PacketSent, RrcSent, BearerSkipped, StationRow, OfRecord, OfAir, OfAct}
 use Rattle.lte_machine.specs.StationKeys.{completed_by_s1, completed_within, completed_by_x2, air_does, started_by_x2, started_by_s1, started_within, commands, commands_change, asks_again, sends_packet, sends_rrc, act_does, station_does}
 use Rattle.lte_machine.specs.StationRecords.{context_given, pair_taken, prepared_by_s1, prepared_by_x2, key_renewed, record_does}
 use Rattle.lte_machine.specs.StationStep.{station_opens, station_pdu_in, station_row_of, station_key, station_step}
@@ -64,11 +64,11 @@ module _ (same : Term → Term → Bool) where
   pair conn origin None s = tt
   pair conn origin (Some key) s = tt
 
-  by_s1 : (w : Wanted) (key : Option (NumberedKey Term ℕ)) (s : Station Term ℕ) → RowTells s.id (prepared_by_s1 (term_reading_by same) w key s)
+  by_s1 : (w : Admitted) (key : Option (NumberedKey Term ℕ)) (s : Station Term ℕ) → RowTells s.id (prepared_by_s1 (term_reading_by same) w key s)
   by_s1 w None s = tt
   by_s1 w (Some key) s = tt
 
-  by_x2 : (w : Wanted) (key : Option (NumberedKey Term ℕ)) (s : Station Term ℕ) → RowTells s.id (prepared_by_x2 (term_reading_by same) w key s)
+  by_x2 : (w : Admitted) (key : Option (NumberedKey Term ℕ)) (s : Station Term ℕ) → RowTells s.id (prepared_by_x2 (term_reading_by same) w key s)
   by_x2 w None s = tt
   by_x2 w (Some key) s = tt
 

@@ -23,7 +23,7 @@ use Rattle.lte_machine.specs.CoreState.{CoreInput, CoreActs, CoreNasPdu, CoreRec
 use Rattle.lte_machine.specs.World.{Machine, phone_turn, core_turn, station_of_id, turn_of, auth_unless, known_root, next_root, content_in, arrives, record_at, delivery, class_of, is_sent, injected, happens, with_one}
 use Rattle.lte_machine.specs.PhoneChoice.{phone_row}
 use Rattle.lte_machine.specs.PhoneStep.{plain_phone, front_of, phone_root, phone_opens, phone_pdu_in}
-use Rattle.lte_machine.specs.StationRows.{Wanted, RecordRow, RecordRefused, ContextGiven, ContextReleased, PairTaken, PreparedByS1, PreparedByX2, AckedByS1, AckedByX2, PreparationCancelled, SourceReleased, KeyRenewed, AirRow, AirRefused, SecurityStarted, RrcOpened, PacketOpened, CompletedByS1, CompletedWithin, CompletedByX2, ActRow, ActRefused, StartedByX2, StartedByS1, StartedWithin, HandoverCommanded, ChangeCommanded, CancelledByX2, CancelledByS1, CancelledWithin, PathSwitchAsked, PacketSent, RrcSent, BearerSkipped, StationRow, OfRecord, OfAir, OfAct}
+use Rattle.lte_machine.specs.StationRows.{Admitted, RecordRow, RecordRefused, ContextGiven, ContextReleased, PairTaken, PreparedByS1, PreparedByX2, AckedByS1, AckedByX2, PreparationCancelled, SourceReleased, KeyRenewed, AirRow, AirRefused, SecurityStarted, RrcOpened, PacketOpened, CompletedByS1, CompletedWithin, CompletedByX2, ActRow, ActRefused, StartedByX2, StartedByS1, StartedWithin, HandoverCommanded, ChangeCommanded, CancelledByX2, CancelledByS1, CancelledWithin, PathSwitchAsked, PacketSent, RrcSent, BearerSkipped, StationRow, OfRecord, OfAir, OfAct}
 use Rattle.lte_machine.specs.StationKeys.{completed_by_s1, completed_within, completed_by_x2, air_does, started_by_x2, started_by_s1, started_within, commands, commands_change, asks_again, sends_packet, sends_rrc, act_does, station_does}
 use Rattle.lte_machine.specs.StationRecords.{context_given, pair_taken, prepared_by_s1, prepared_by_x2, key_renewed, record_does}
 use Rattle.std.specs.Prelude.{◌⊎◌}
@@ -67,11 +67,11 @@ module _ (same : Term → Term → Bool) where
   pair conn origin None s = tt
   pair conn origin (Some key) s = tt
 
-  by_s1 : (w : Wanted) (key : Option (NumberedKey Term ℕ)) (s : Station Term ℕ) → Notes s.id (prepared_by_s1 (term_reading_by same) w key s)
+  by_s1 : (w : Admitted) (key : Option (NumberedKey Term ℕ)) (s : Station Term ℕ) → Notes s.id (prepared_by_s1 (term_reading_by same) w key s)
   by_s1 w None s = tt
   by_s1 w (Some key) s = (refl, (refl, refl))
 
-  by_x2 : (w : Wanted) (key : Option (NumberedKey Term ℕ)) (s : Station Term ℕ) → Notes s.id (prepared_by_x2 (term_reading_by same) w key s)
+  by_x2 : (w : Admitted) (key : Option (NumberedKey Term ℕ)) (s : Station Term ℕ) → Notes s.id (prepared_by_x2 (term_reading_by same) w key s)
   by_x2 w None s = tt
   by_x2 w (Some key) s = (refl, (refl, refl))
 

@@ -16,9 +16,9 @@ use Rattle.ho_prep.specs.Prep.{Prep, is_at, at_air}
 use Rattle.lte_machine.specs.Bearers.{Signalling1}
 use Rattle.lte_machine.specs.Reply.{Origin, BySetup, ByAttempt, ByChange, Made, Tried, Reply, BySource, ByTarget}
 use Rattle.lte_machine.specs.StationState.{Station, Context, Attempt, OverX2, OverS1, Within, Renewal, Renewing, X2Open, X2Ready, X2Commanded, S1Open, S1Ready, S1Commanded}
-use Rattle.lte_machine.specs.StationRows.{Wanted, RecordRow, RecordRefused, ContextGiven, ContextReleased, PairTaken, PreparedByS1, PreparedByX2, AckedByS1, AckedByX2, PreparationCancelled, SourceReleased, KeyRenewed, AirRow, AirRefused, SecurityStarted, RrcOpened, PacketOpened, CompletedByS1, CompletedWithin, CompletedByX2}
+use Rattle.lte_machine.specs.StationRows.{Admitted, RecordRow, RecordRefused, ContextGiven, ContextReleased, PairTaken, PreparedByS1, PreparedByX2, AckedByS1, AckedByX2, PreparationCancelled, SourceReleased, KeyRenewed, AirRow, AirRefused, SecurityStarted, RrcOpened, PacketOpened, CompletedByS1, CompletedWithin, CompletedByX2}
 use Rattle.lte_machine.specs.StationKeys.{with_security, with_rrc_taken, with_packet_taken, completed_by_s1, completed_within, completed_by_x2, air_does}
-use Rattle.lte_machine.specs.StationRecords.{context_given, with_pair, source_release, pair_taken, wanted_prep, prepared_by_s1, prepared_by_x2, s1_acked, x2_acked, with_s1_ack, with_x2_ack, change_text, key_renewed, record_does}
+use Rattle.lte_machine.specs.StationRecords.{context_given, with_pair, source_release, pair_taken, admitted_prep, prepared_by_s1, prepared_by_x2, s1_acked, x2_acked, with_s1_ack, with_x2_ack, change_text, key_renewed, record_does}
 use Rattle.lte_properties.specs.ChainBelow.{AllOf}
 use Rattle.lte_properties.specs.Agreement.{made_at, HadTaken}
 use Rattle.lte_properties.proofs.Agreement.Terms.{base_nh}
@@ -75,13 +75,13 @@ PairTakenNeeds g o (Some pair) = PairNeeds g pair o
 abbrev pub IsNews : List ℕ → Origin → Type 0
 IsNews seen o = slice_index seen o.source < o.attempt
 
-abbrev pub S1Needs : Ghost → ℕ → ℕ → Wanted → Option (NumberedKey Term ℕ) → Type 0
+abbrev pub S1Needs : Ghost → ℕ → ℕ → Admitted → Option (NumberedKey Term ℕ) → Type 0
 S1Needs g id next w None = ⊤
 S1Needs g id next w (Some pair) =
     DrawsAir next w.air × PairOk g w.conn pair
     × AskedIs g w.conn w.from.source w.from.attempt w.cell ByTarget (IsTargetAbove id pair.number)
 
-abbrev pub X2Needs : Ghost → ℕ → ℕ → Wanted → Option (NumberedKey Term ℕ) → Type 0
+abbrev pub X2Needs : Ghost → ℕ → ℕ → Admitted → Option (NumberedKey Term ℕ) → Type 0
 X2Needs g id next w None = ⊤
 X2Needs g id next w (Some star) =
     DrawsAir next w.air × TermOk g w.conn star.key star.number
@@ -217,7 +217,7 @@ module _ (same : Term → Term → Bool) (cells : List Site) (g : Ghost) (made_o
       ((pair_ctx s.id pair s.context h.0 needs, h.1, h.2, h.3, h.4, h.5, h.6, h.7), tt, tt, release_out conn origin, refl, tt, tt)
 
   -- a preparation of what was made by an attempt
-  prepared_goes : (w : Wanted) (star : NumberedKey Term ℕ) (s : Station Term ℕ) → StationOk cells g s → DrawsAir s.next w.air
+  prepared_goes : (w : Admitted) (star : NumberedKey Term ℕ) (s : Station Term ℕ) → StationOk cells g s → DrawsAir s.next w.air
       → (e : Tried Term ℕ) → tried_at g.tried w.from.source w.from.attempt ≡ Some e → e.target ≡ s.id → e.conn ≡ w.conn → e.cell ≡ w.cell
       → TermOk g w.conn star.key star.number → Leads e star.key star.number → GivenFits e.kind star.number
       → (p : Prep Term ℕ) → p.conn ≡ w.conn → p.key.kenb ≡ star.key → p.key.number ≡ star.number → p.key.pair ≡ None
@@ -251,7 +251,7 @@ module _ (same : Term → Term → Bool) (cells : List Site) (g : Ghost) (made_o
       (here, made, prep, fresh, omega arith)
 
   -- its attempt is of another source, and was not seen before
-  taken_once : (w : Wanted) (s : Station Term ℕ) (m : Made Term ℕ) → m.from ≡ ByAttempt w.from → StationOk cells g s → IsNews s.seen w.from
+  taken_once : (w : Admitted) (s : Station Term ℕ) (m : Made Term ℕ) → m.from ≡ ByAttempt w.from → StationOk cells g s → IsNews s.seen w.from
       → (e : Tried Term ℕ) → tried_at g.tried w.from.source w.from.attempt ≡ Some e → IsTarget s.id e
       → (length (slice_set s.seen w.from.source w.from.attempt) ≡ 8)
       × AllOf (SeenBy s.id (slice_set s.seen w.from.source w.from.attempt)) (g.made ++ m ∷ []) × AllOf (NotBoth m) g.made
@@ -265,7 +265,7 @@ module _ (same : Term → Term → Bool) (cells : List Site) (g : Ghost) (made_o
         apart_unseen g s.id s.seen m w.from is e found target.0 (λ own_source. target.1 (target.0 ∙ sym own_source ∙ sym at.0)) news g.made made_ok h.7,
       )
 
-  prepared_s1_goes : (w : Wanted) (key : Option (NumberedKey Term ℕ)) (s : Station Term ℕ)
+  prepared_s1_goes : (w : Admitted) (key : Option (NumberedKey Term ℕ)) (s : Station Term ℕ)
       → StationOk cells g s → S1Needs g s.id s.next w key → IsNews s.seen w.from → StationGoes cells g s (prepared_by_s1 (term_reading_by same) w key s)
   prepared_s1_goes w None s h needs news = (h, tt, tt, tt, refl, tt, tt)
   prepared_s1_goes w (Some pair) s h needs news =
@@ -280,7 +280,7 @@ module _ (same : Term → Term → Bool) (cells : List Site) (g : Ghost) (made_o
       let leads : Leads e star.key star.number = (omega arith, same_star ∙ up) in
       let given : GivenFits e.kind star.number = subst (λ o. GivenFits o star.number) (sym asked.4) tt in
       let goes = prepared_goes w star s h needs.0 e asked.1 asked.5.1.0 asked.2 asked.3 (star_term g w.conn pair w.cell.pci w.cell.earfcn needs.1) leads given
-      (wanted_prep (term_reading_by same) w By.S1 star) refl refl refl refl refl refl refl m refl in
+      (admitted_prep (term_reading_by same) w By.S1 star) refl refl refl refl refl refl refl m refl in
       let asked_once = taken_once w s m refl h news e asked.1 asked.5.1 in
       let l = told_more g (Some m) None in (
         (
@@ -301,7 +301,7 @@ module _ (same : Term → Term → Bool) (cells : List Site) (g : Ghost) (made_o
         tt,
       )
 
-  prepared_x2_goes : (w : Wanted) (key : Option (NumberedKey Term ℕ)) (s : Station Term ℕ)
+  prepared_x2_goes : (w : Admitted) (key : Option (NumberedKey Term ℕ)) (s : Station Term ℕ)
       → StationOk cells g s → X2Needs g s.id s.next w key → IsNews s.seen w.from → StationGoes cells g s (prepared_by_x2 (term_reading_by same) w key s)
   prepared_x2_goes w None s h needs news = (h, tt, tt, tt, refl, tt, tt)
   prepared_x2_goes w (Some star) s h needs news =
@@ -312,7 +312,7 @@ module _ (same : Term → Term → Bool) (cells : List Site) (g : Ghost) (made_o
       let of_given : GivenOk g e (BySource star) = subst (GivenOk g e) asked.4 own.2 in
       let given : GivenFits e.kind star.number = subst (λ o. GivenFits o star.number) (sym asked.4) refl in
       let goes = prepared_goes w star s h needs.0 e asked.1 asked.5.0 asked.2 asked.3 needs.1 of_given.1 given
-      (wanted_prep (term_reading_by same) w By.X2 star) refl refl refl refl refl refl refl m refl in
+      (admitted_prep (term_reading_by same) w By.X2 star) refl refl refl refl refl refl refl m refl in
       let asked_once = taken_once w s m refl h news e asked.1 asked.5 in
       let l = told_more g (Some m) None in (
         (

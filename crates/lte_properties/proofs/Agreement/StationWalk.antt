@@ -19,8 +19,8 @@ use Rattle.lte_machine.specs.Bearers.{is_spent}
 use Rattle.lte_machine.specs.Wire.{Between}
 use Rattle.lte_machine.specs.Reply.{Origin, unseen}
 use Rattle.lte_machine.specs.StationState.{Station, Context, Attempt, OverX2, OverS1, Within, Renewing, X2Open, X2Ready, X2Commanded, S1Open, S1Ready, S1Commanded, map_context, map_attempt}
-use Rattle.lte_machine.specs.StationRows.{Wanted, RecordRow, PairTaken, PreparedByS1, PreparedByX2, AckedByS1, AckedByX2, KeyRenewed}
-use Rattle.lte_machine.specs.StationChoice.{PlainStation, runs_out, is_own, initial_choice, initial_row, release_row, answer_row_by, answer_row, wanted_choice, is_full, wanted_row, s1_acked_row, s1_ack_row, x2_acked_row, x2_ack_row, cancel_row, x2_released_row, x2_release_row, renewed_alone, modification_row, s1_row, x2_row}
+use Rattle.lte_machine.specs.StationRows.{Admitted, RecordRow, PairTaken, PreparedByS1, PreparedByX2, AckedByS1, AckedByX2, KeyRenewed}
+use Rattle.lte_machine.specs.StationChoice.{PlainStation, runs_out, is_own, initial_choice, initial_row, release_row, answer_row_by, answer_row, admitted_choice, is_full, admitted_row, s1_acked_row, s1_ack_row, x2_acked_row, x2_ack_row, cancel_row, x2_released_row, x2_release_row, renewed_alone, modification_row, s1_row, x2_row}
 use Rattle.lte_machine.specs.StationStep.{plain_station}
 use Rattle.lte_properties.specs.ChainAbove.{AnswerOk, InFlight}
 use Rattle.lte_properties.proofs.Agreement.Ghost.{Ghost, PairOk, AckIs, HasNcc, AnyMade, BetweenOk}
@@ -69,17 +69,17 @@ module _ (same : Term → Term → Bool) (g : Ghost) (s : Station Term ℕ) wher
       chosen (Err none) = tt
       chosen (Ok algs) = by_test (Needs key) (runs_out 1 s.next) _ _ (λ b. tt) (λ b. context_needs conn cell caps key h b)
 
-  wanted_walks : (conn : ℕ) (from : Origin) (cell : Place) (caps : Caps) (row : Wanted → RecordRow) (key : Option (NumberedKey Term ℕ))
+  admitted_walks : (conn : ℕ) (from : Origin) (cell : Place) (caps : Caps) (row : Admitted → RecordRow) (key : Option (NumberedKey Term ℕ))
       → ((algs : Algs) → IsNews s.seen from → runs_out 1 s.next ≡ false → Needs key (row (record { conn = conn; from = from; cell = cell; caps = caps; algs = algs; air = s.next })))
-      → Needs key (wanted_row plain conn from cell caps row)
+      → Needs key (admitted_row plain conn from cell caps row)
   unfolding plain
-  wanted_walks conn from cell caps row key h =
+  admitted_walks conn from cell caps row key h =
       by_test (Needs key) (nat_lt conn s.last) _ _ (λ b. tt)
       (λ b. by_test (Needs key) (not (is_own plain cell)) _ _ (λ b. tt)
       (λ b. by_test (Needs key) (nat_le from.attempt (slice_index s.seen from.source)) _ _ (λ b. tt)
       (λ news. by_test (Needs key) ((conn == s.last) && is_full plain) _ _ (λ b. tt) (λ b. chosen (is_news _ _ news) (choice_of s.priority caps)))))
     where
-      chosen : IsNews s.seen from → (answer : Result Algs Unmatched) → Needs key (wanted_choice plain conn from cell caps row answer)
+      chosen : IsNews s.seen from → (answer : Result Algs Unmatched) → Needs key (admitted_choice plain conn from cell caps row answer)
       chosen news (Err none) = tt
       chosen news (Ok algs) = by_test (Needs key) (runs_out 1 s.next) _ _ (λ b. tt) (λ b. h algs news b)
 
@@ -212,7 +212,7 @@ module _ (same : Term → Term → Bool) (g : Ghost) (s : Station Term ℕ) wher
   s1_walks (PathSwitchAnswer conn number) key fits h flight = answer_walks conn number key s.context refl h flight
   s1_walks (HandoverRequired conn source attempt cell) key fits h flight = tt
   s1_walks (HandoverRequest conn source attempt cell caps) key fits h flight =
-      wanted_walks conn _ cell caps PreparedByS1 key (λ algs news e. (s1_needs conn source attempt cell caps key algs h e, news))
+      admitted_walks conn _ cell caps PreparedByS1 key (λ algs news e. (s1_needs conn source attempt cell caps key algs h e, news))
   s1_walks (HandoverRequestAck conn source attempt cell ncc algs air) key fits h flight = tt
   s1_walks (HandoverCommand conn attempt cell ncc algs air) key fits h flight = s1_ack_walks attempt ncc algs air key s.context refl h
   s1_walks (HandoverNotify conn station cell) key fits h flight = tt
@@ -237,7 +237,7 @@ module _ (same : Term → Term → Bool) (g : Ghost) (s : Station Term ℕ) wher
   x2_walks (HandoverNotify conn station cell) key h = tt
   x2_walks (HandoverCancel conn source attempt cell) key h = tt
   x2_walks (X2Request conn source attempt cell caps) key h =
-      wanted_walks conn _ cell caps PreparedByX2 key (λ algs news e. (x2_needs conn source attempt cell caps key algs h e, news))
+      admitted_walks conn _ cell caps PreparedByX2 key (λ algs news e. (x2_needs conn source attempt cell caps key algs h e, news))
   x2_walks (X2Ack conn attempt cell algs air) key h = x2_ack_walks attempt algs air key s.context refl h
   x2_walks (X2Cancel conn source attempt) key h = cancel_walks _ key
   x2_walks (X2Release conn attempt) key h = released_walks attempt key s.context

@@ -11,8 +11,8 @@ use Rattle.key_model.specs.Reading.{Reading}
 use Rattle.ho_prep.specs.Prep.{has_attempt}
 use Rattle.lte_machine.specs.Reply.{Origin, unseen}
 use Rattle.lte_machine.specs.StationState.{Station, Context, OverX2, OverS1, Within, X2Open, X2Ready, X2Commanded, S1Open, S1Ready, S1Commanded, Interface, OnS1, OnX2, map_context, Renewing, Attempt, map_attempt}
-use Rattle.lte_machine.specs.StationRows.{Wanted, RecordRow, PairTaken, PreparedByS1, PreparedByX2}
-use Rattle.lte_machine.specs.StationChoice.{PlainContext, PlainAttempt, initial_choice, initial_row, release_row, answer_row_by, answer_row, wanted_choice, is_full, wanted_row, acked_open, s1_acked_row, s1_ack_row, x2_acked_row, x2_ack_row, cancel_row, x2_released_row, x2_release_row, s1_row, x2_row, record_row, is_own, runs_out, modification_row, renewed_alone}
+use Rattle.lte_machine.specs.StationRows.{Admitted, RecordRow, PairTaken, PreparedByS1, PreparedByX2}
+use Rattle.lte_machine.specs.StationChoice.{PlainContext, PlainAttempt, initial_choice, initial_row, release_row, answer_row_by, answer_row, admitted_choice, is_full, admitted_row, acked_open, s1_acked_row, s1_ack_row, x2_acked_row, x2_ack_row, cancel_row, x2_released_row, x2_release_row, s1_row, x2_row, record_row, is_own, runs_out, modification_row, renewed_alone}
 use Rattle.lte_machine.specs.StationStep.{plain_station}
 use Rattle.lte_properties.proofs.ChainNumbers.RowFacts.{TakenFor, RecordFits, RenewedFor}
 use Rattle.lte_machine.specs.Bearers.{is_spent}
@@ -86,24 +86,24 @@ module _ {K C : Type 0} (r : Reading K C) (s : Station K C) where
         by_test (RecordFits s (PathSwitchAnswer asked number)) (n == number) _ _ (λ g. taken n f (same_of n number g) s.context e) (λ g. tt)
 
   -- a handover request is of no older connection, and of a new attempt
-  wanted_chosen_fits : (fields : Fields) (conn : ℕ) (from : Origin) (cell : Place) (caps : Caps) (row : Wanted → RecordRow) (chosen : Result Algs Unmatched) →
+  admitted_chosen_fits : (fields : Fields) (conn : ℕ) (from : Origin) (cell : Place) (caps : Caps) (row : Admitted → RecordRow) (chosen : Result Algs Unmatched) →
       ((algs : Algs) → RecordFits s fields (row (record { conn = conn; from = from; cell = cell; caps = caps; algs = algs; air = s.next }))) →
-      RecordFits s fields (wanted_choice (plain_station r s) conn from cell caps row chosen)
-  wanted_chosen_fits fields conn from cell caps row (Err none) f = tt
-  wanted_chosen_fits fields conn from cell caps row (Ok algs) f =
+      RecordFits s fields (admitted_choice (plain_station r s) conn from cell caps row chosen)
+  admitted_chosen_fits fields conn from cell caps row (Err none) f = tt
+  admitted_chosen_fits fields conn from cell caps row (Ok algs) f =
       by_test (RecordFits s fields) (runs_out 1 s.next) _ _ (λ e. tt) (λ e. f algs)
 
-  wanted_fits : (fields : Fields) (conn : ℕ) (from : Origin) (cell : Place) (caps : Caps) (row : Wanted → RecordRow) →
+  admitted_fits : (fields : Fields) (conn : ℕ) (from : Origin) (cell : Place) (caps : Caps) (row : Admitted → RecordRow) →
       ((algs : Algs) → s.last ≤ conn → slice_index s.seen from.source < from.attempt →
       RecordFits s fields (row (record { conn = conn; from = from; cell = cell; caps = caps; algs = algs; air = s.next }))) →
-      RecordFits s fields (wanted_row (plain_station r s) conn from cell caps row)
-  wanted_fits fields conn from cell caps row f =
+      RecordFits s fields (admitted_row (plain_station r s) conn from cell caps row)
+  admitted_fits fields conn from cell caps row f =
       let P = RecordFits s fields in
       by_test P (nat_lt conn s.last) _ _ (λ e. tt) (λ e.
       by_test P (not (is_own (plain_station r s) cell)) _ _ (λ g. tt) (λ g.
       by_test P (nat_le from.attempt (slice_index s.seen from.source)) _ _ (λ h. tt) (λ h.
       by_test P ((conn == s.last) && is_full (plain_station r s)) _ _ (λ i. tt) (λ i.
-      wanted_chosen_fits fields conn from cell caps row _
+      admitted_chosen_fits fields conn from cell caps row _
       (λ algs. f algs (at_least_of conn s.last e) (above_of from.attempt (slice_index s.seen from.source) h))))))
 
   -- the other rows name no key
@@ -192,7 +192,7 @@ module _ {K C : Type 0} (r : Reading K C) (s : Station K C) where
   s1_fits (PathSwitchRequest conn station number cell caps) = tt
   s1_fits (PathSwitchAnswer conn number) = answer_fits conn number s.context refl
   s1_fits (HandoverRequired conn station attempt cell) = tt
-  s1_fits (HandoverRequest conn source attempt cell caps) = wanted_fits _ conn (record { source = source; attempt = attempt }) cell caps PreparedByS1 (λ algs e f. (refl, (e, f, refl)))
+  s1_fits (HandoverRequest conn source attempt cell caps) = admitted_fits _ conn (record { source = source; attempt = attempt }) cell caps PreparedByS1 (λ algs e f. (refl, (e, f, refl)))
   s1_fits (HandoverRequestAck conn source attempt cell ncc algs air) = tt
   s1_fits (HandoverCommand conn attempt cell ncc algs air) = s1_ack_fits _ attempt ncc algs air (plain_station r s).context
   s1_fits (HandoverNotify conn station cell) = tt
@@ -214,7 +214,7 @@ module _ {K C : Type 0} (r : Reading K C) (s : Station K C) where
   x2_fits (HandoverCommand conn attempt cell ncc algs air) = tt
   x2_fits (HandoverNotify conn station cell) = tt
   x2_fits (HandoverCancel conn source attempt cell) = tt
-  x2_fits (X2Request conn source attempt cell caps) = wanted_fits _ conn (record { source = source; attempt = attempt }) cell caps PreparedByX2 (λ algs e f. (refl, (e, f, refl)))
+  x2_fits (X2Request conn source attempt cell caps) = admitted_fits _ conn (record { source = source; attempt = attempt }) cell caps PreparedByX2 (λ algs e f. (refl, (e, f, refl)))
   x2_fits (X2Ack conn attempt cell algs air) = x2_ack_fits _ attempt algs air (plain_station r s).context
   x2_fits (X2Cancel conn source attempt) = cancel_fits _ (record { source = source; attempt = attempt })
   x2_fits (X2Release conn attempt) = x2_release_fits _ attempt (plain_station r s).context

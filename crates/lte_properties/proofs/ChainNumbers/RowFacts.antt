@@ -6,7 +6,7 @@ use Rattle.annex_a_keys.specs.Cell.{Place}
 use Rattle.s1x2_rec.specs.Fields.{Fields, InitialContext, PathSwitchRequest, PathSwitchAnswer, HandoverRequired, HandoverRequest, X2Request, ContextModification}
 use Rattle.lte_machine.specs.Reply.{Origin}
 use Rattle.lte_machine.specs.StationState.{Station, Context}
-use Rattle.lte_machine.specs.StationRows.{Wanted, RecordRow, ContextGiven, PairTaken, PreparedByS1, PreparedByX2, KeyRenewed, AirRow, CompletedByX2, ActRow, StartedByX2, StartedByS1, StartedWithin, PathSwitchAsked, StationRow, OfRecord, OfAir, OfAct}
+use Rattle.lte_machine.specs.StationRows.{Admitted, RecordRow, ContextGiven, PairTaken, PreparedByS1, PreparedByX2, KeyRenewed, AirRow, CompletedByX2, ActRow, StartedByX2, StartedByS1, StartedWithin, PathSwitchAsked, StationRow, OfRecord, OfAir, OfAct}
 use Rattle.lte_machine.specs.CoreState.{CoreLink}
 use Rattle.key_model.specs.Term.{Term}
 use Rattle.key_model.specs.HandoverTable.{NumberedKey}
@@ -20,8 +20,8 @@ TakenFor (Some c) conn origin fields =
     (asked : ℕ) × (number : ℕ) × (fields ≡ PathSwitchAnswer asked number) × (c.outstanding ≡ Some number) × (conn ≡ c.conn) × (origin ≡ c.origin)
 
 -- a handover request is taken of no older connection and of a new attempt, and draws the station's next number
-abbrev pub WantedFits : {K C : Type 0} → Station K C → Wanted → Type 0
-WantedFits s w = (s.last ≤ w.conn) × (slice_index s.seen w.from.source < w.from.attempt) × (w.air ≡ s.next)
+abbrev pub AdmittedFits : {K C : Type 0} → Station K C → Admitted → Type 0
+AdmittedFits s w = (s.last ≤ w.conn) × (slice_index s.seen w.from.source < w.from.attempt) × (w.air ≡ s.next)
 
 -- a key change is taken for an active context with no attempt, and its order takes the next COUNT of SRB1
 abbrev pub RenewedFor : {K C : Type 0} → Option (Context K C) → ℕ → ℕ → Fields → Type 0
@@ -33,8 +33,8 @@ RenewedFor (Some c) next count fields =
 abbrev pub RecordFits : {K C : Type 0} → Station K C → Fields → RecordRow → Type 0
 RecordFits s fields (ContextGiven conn cell caps algs air) = (fields ≡ InitialContext conn cell caps) × (s.last < conn) × (air ≡ s.next)
 RecordFits s fields (PairTaken conn origin) = TakenFor s.context conn origin fields
-RecordFits s fields (PreparedByS1 w) = (fields ≡ HandoverRequest w.conn w.from.source w.from.attempt w.cell w.caps) × WantedFits s w
-RecordFits s fields (PreparedByX2 w) = (fields ≡ X2Request w.conn w.from.source w.from.attempt w.cell w.caps) × WantedFits s w
+RecordFits s fields (PreparedByS1 w) = (fields ≡ HandoverRequest w.conn w.from.source w.from.attempt w.cell w.caps) × AdmittedFits s w
+RecordFits s fields (PreparedByX2 w) = (fields ≡ X2Request w.conn w.from.source w.from.attempt w.cell w.caps) × AdmittedFits s w
 RecordFits s fields (KeyRenewed conn number air count) = RenewedFor s.context conn count fields × (s.last < conn) × (number ≡ s.next) × (air ≡ s.next + 1)
 RecordFits s fields other = ⊤
 

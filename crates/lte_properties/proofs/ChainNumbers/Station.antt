@@ -15,9 +15,9 @@ use Rattle.lte_machine.specs.Bearers.{Srb, Drb}
 use Rattle.lte_machine.specs.Wire.{Outgoing, Between}
 use Rattle.lte_machine.specs.Reply.{Origin, Reply}
 use Rattle.lte_machine.specs.StationState.{Station, Context, Attempt, OverX2, OverS1, Within, X2Open, X2Ready, X2Commanded, S1Open, S1Ready, S1Commanded, Renewal, Renewing}
-use Rattle.lte_machine.specs.StationRows.{Wanted, RecordRow, RecordRefused, ContextGiven, ContextReleased, PairTaken, PreparedByS1, PreparedByX2, AckedByS1, AckedByX2, PreparationCancelled, SourceReleased, AirRow, AirRefused, SecurityStarted, RrcOpened, PacketOpened, CompletedByS1, CompletedWithin, CompletedByX2, ActRow, ActRefused, StartedByX2, StartedByS1, StartedWithin, HandoverCommanded, CancelledByX2, CancelledByS1, CancelledWithin, PathSwitchAsked, PacketSent, RrcSent, BearerSkipped, StationRow, OfRecord, OfAir, OfAct, KeyRenewed, ChangeCommanded}
+use Rattle.lte_machine.specs.StationRows.{Admitted, RecordRow, RecordRefused, ContextGiven, ContextReleased, PairTaken, PreparedByS1, PreparedByX2, AckedByS1, AckedByX2, PreparationCancelled, SourceReleased, AirRow, AirRefused, SecurityStarted, RrcOpened, PacketOpened, CompletedByS1, CompletedWithin, CompletedByX2, ActRow, ActRefused, StartedByX2, StartedByS1, StartedWithin, HandoverCommanded, CancelledByX2, CancelledByS1, CancelledWithin, PathSwitchAsked, PacketSent, RrcSent, BearerSkipped, StationRow, OfRecord, OfAir, OfAct, KeyRenewed, ChangeCommanded}
 use Rattle.lte_machine.specs.StationKeys.{spent_in, commanded, given_up, with_security, with_rrc_taken, with_packet_taken, with_skipped, completed_by_s1, completed_within, completed_by_x2, arrived, started_by_x2, started_by_s1, started_within, commands, asks_again, sends_packet, sends_rrc, air_does, act_does, station_does, commands_change}
-use Rattle.lte_machine.specs.StationRecords.{s1_acked, x2_acked, with_pair, with_s1_ack, with_x2_ack, with_wanted, source_release, context_given, pair_taken, prepared_by_s1, prepared_by_x2, record_does, key_renewed}
+use Rattle.lte_machine.specs.StationRecords.{s1_acked, x2_acked, with_pair, with_s1_ack, with_x2_ack, with_admitted, source_release, context_given, pair_taken, prepared_by_s1, prepared_by_x2, record_does, key_renewed}
 use Rattle.lte_properties.specs.ChainBelow.{AllOf, OfPair, star_in, EachNumber, AtMost, IsUnder, IsAbove, ContextBelow, PrepBelow, StationBelow, RecordBelow}
 use Rattle.lte_properties.specs.ChainAbove.{ContextAbove, HasNoPair, StationAbove, InFlight}
 use Rattle.lte_properties.proofs.ChainNumbers.RowFacts.{PairNeeds, RowNeeds}
@@ -264,20 +264,20 @@ module _ (top : ℕ → ℕ) (same : Term → Term → Bool) (s : Station Term �
   pair_taken_kept conn origin None n h a = unchanged h a
   pair_taken_kept conn origin (Some pair) n h a = pair_taken_some conn origin pair s.context n h a
 
-  prepared_kept : (w : Wanted) (p : Prep Term ℕ) (x : Option (Outgoing Term ℕ)) → w.air ≡ s.next → PrepBelow top p → HasNoPair p →
-      SentOk top (with_wanted w p s) x → ContextBelow top s.context → ContextAbove s.context → Kept top s.id s.next s.context (with_wanted w p s) x
+  prepared_kept : (w : Admitted) (p : Prep Term ℕ) (x : Option (Outgoing Term ℕ)) → w.air ≡ s.next → PrepBelow top p → HasNoPair p →
+      SentOk top (with_admitted w p s) x → ContextBelow top s.context → ContextAbove s.context → Kept top s.id s.next s.context (with_admitted w p s) x
   prepared_kept w p x e b n sends h a =
       same_context top s (w.air + 1) w.conn (slice_set s.seen w.from.source w.from.attempt) (drop_below w.conn s.preps ++ p ∷ []) x (omega arith)
       (all_append (PrepBelow top) (drop_below w.conn s.preps) (p ∷ []) (all_filter (PrepBelow top) (λ q. nat_le w.conn q.conn) s.preps pb) (b, tt))
       (all_append HasNoPair (drop_below w.conn s.preps) (p ∷ []) (all_filter HasNoPair (λ q. nat_le w.conn q.conn) s.preps pa) (n, tt))
       sends h a
 
-  prepared_by_s1_kept : (w : Wanted) (key : Option (NumberedKey Term ℕ)) → RowNeeds top s (OfRecord (PreparedByS1 w)) key → w.air ≡ s.next →
+  prepared_by_s1_kept : (w : Admitted) (key : Option (NumberedKey Term ℕ)) → RowNeeds top s (OfRecord (PreparedByS1 w)) key → w.air ≡ s.next →
       ContextBelow top s.context → ContextAbove s.context → After s.context (prepared_by_s1 (term_reading_by same) w key s)
   prepared_by_s1_kept w None n e h a = unchanged h a
   prepared_by_s1_kept w (Some pair) n e h a = prepared_kept w _ _ e n refl (tt, tt, tt) h a
 
-  prepared_by_x2_kept : (w : Wanted) (key : Option (NumberedKey Term ℕ)) → RowNeeds top s (OfRecord (PreparedByX2 w)) key → w.air ≡ s.next →
+  prepared_by_x2_kept : (w : Admitted) (key : Option (NumberedKey Term ℕ)) → RowNeeds top s (OfRecord (PreparedByX2 w)) key → w.air ≡ s.next →
       ContextBelow top s.context → ContextAbove s.context → After s.context (prepared_by_x2 (term_reading_by same) w key s)
   prepared_by_x2_kept w None n e h a = unchanged h a
   prepared_by_x2_kept w (Some star) n e h a = prepared_kept w _ _ e n refl (tt, tt, tt) h a

@@ -23,9 +23,9 @@ use Rattle.lte_machine.specs.Bearers.{Srb, Signalling1, Drb, Bearers, of_srb, of
 use Rattle.lte_machine.specs.Wire.{KeyUse, Outgoing, uses_of, drb_use}
 use Rattle.lte_machine.specs.Reply.{Origin}
 use Rattle.lte_machine.specs.StationState.{Station, Context, Attempt, Renewal}
-use Rattle.lte_machine.specs.StationRows.{Wanted, RecordRow, RecordRefused, ContextGiven, ContextReleased, PairTaken, PreparedByS1, PreparedByX2, AckedByS1, AckedByX2, PreparationCancelled, SourceReleased, AirRow, AirRefused, SecurityStarted, RrcOpened, PacketOpened, CompletedByS1, CompletedWithin, CompletedByX2, ActRow, ActRefused, StartedByX2, StartedByS1, StartedWithin, HandoverCommanded, CancelledByX2, CancelledByS1, CancelledWithin, PathSwitchAsked, PacketSent, RrcSent, BearerSkipped, KeyRenewed, ChangeCommanded}
+use Rattle.lte_machine.specs.StationRows.{Admitted, RecordRow, RecordRefused, ContextGiven, ContextReleased, PairTaken, PreparedByS1, PreparedByX2, AckedByS1, AckedByX2, PreparationCancelled, SourceReleased, AirRow, AirRefused, SecurityStarted, RrcOpened, PacketOpened, CompletedByS1, CompletedWithin, CompletedByX2, ActRow, ActRefused, StartedByX2, StartedByS1, StartedWithin, HandoverCommanded, CancelledByX2, CancelledByS1, CancelledWithin, PathSwitchAsked, PacketSent, RrcSent, BearerSkipped, KeyRenewed, ChangeCommanded}
 use Rattle.lte_machine.specs.StationKeys.{with_security, with_rrc_taken, with_packet_taken, arrived, completed_by_s1, completed_within, completed_by_x2, air_does, started_by_x2, started_by_s1, started_within, commands, commanded, given_up, spent_in, asks_again, sends_packet, sends_rrc, with_skipped, act_does, commands_change}
-use Rattle.lte_machine.specs.StationRecords.{signalling_sent, packet_sent, initial_context, context_given, with_pair, pair_taken, wanted_prep, prepared_by_s1, prepared_by_x2, with_wanted, with_s1_ack, with_x2_ack, record_does, own_prep, order_text, key_renewed, change_text}
+use Rattle.lte_machine.specs.StationRecords.{signalling_sent, packet_sent, initial_context, context_given, with_pair, pair_taken, admitted_prep, prepared_by_s1, prepared_by_x2, with_admitted, with_s1_ack, with_x2_ack, record_does, own_prep, order_text, key_renewed, change_text}
 use Rattle.lte_machine.specs.World.{uses_in}
 use Rattle.lte_properties.specs.ChainBelow.{AllOf}
 use Rattle.lte_properties.proofs.ChainNumbers.RowFacts.{AirDraws, ActDraws}
@@ -248,12 +248,12 @@ module _ (taken given : Homes) where
   waits_apart s p preps le air lt h = all_append (λ q. q.air ≡ air → ⊥) preps (p ∷ []) h ((λ e. absurd (omega arith)), tt)
 
   -- a preparation is added
-  wanted_keeps : (w : Wanted) (p : Prep Term ℕ) (sent : Option (Outgoing Term ℕ)) (s : Station Term ℕ) → s.last ≤ w.conn → w.air ≡ s.next → p.air ≡ w.air → is_star p.key.kenb ≡ true →
+  admitted_keeps : (w : Admitted) (p : Prep Term ℕ) (sent : Option (Outgoing Term ℕ)) (s : Station Term ℕ) → s.last ≤ w.conn → w.air ≡ s.next → p.air ≡ w.air → is_star p.key.kenb ≡ true →
       AsKeysOf p.key.kenb p.keys → StationStands taken given s →
-      AllOf (NewAt taken given s (with_wanted w p s)) (uses_in sent) → AllApart (uses_in sent) → IfSome sent (RecordStands taken given) →
-      StationKeeps taken given s (with_wanted w p s) sent
-  wanted_keeps w p sent s last air at star keys h uses apart sends =
-      keeps s (with_wanted w p s) sent
+      AllOf (NewAt taken given s (with_admitted w p s)) (uses_in sent) → AllApart (uses_in sent) → IfSome sent (RecordStands taken given) →
+      StationKeeps taken given s (with_admitted w p s) sent
+  admitted_keeps w p sent s last air at star keys h uses apart sends =
+      keeps s (with_admitted w p s) sent
       (record {
         same = refl;
         next = omega arith;
@@ -267,17 +267,17 @@ module _ (taken given : Homes) where
       h uses apart sends
 
   -- by a Handover Request on S1
-  by_s1_keeps : (same : Term → Term → Bool) (w : Wanted) (key : Option (NumberedKey Term ℕ)) (s : Station Term ℕ) → (s.last ≤ w.conn) × (w.air ≡ s.next) → StationStands taken given s →
+  by_s1_keeps : (same : Term → Term → Bool) (w : Admitted) (key : Option (NumberedKey Term ℕ)) (s : Station Term ℕ) → (s.last ≤ w.conn) × (w.air ≡ s.next) → StationStands taken given s →
       let d = prepared_by_s1 (term_reading_by same) w key s in StationKeeps taken given s d.0 d.1.sent
   by_s1_keeps same w None s n h = still s h
   by_s1_keeps same w (Some pair) s n h =
-      wanted_keeps w (wanted_prep (term_reading_by same) w By.S1 (star_line (term_reading_by same) pair w.cell.pci w.cell.earfcn)) _ s n.0 n.1 refl refl refl h tt tt tt
+      admitted_keeps w (admitted_prep (term_reading_by same) w By.S1 (star_line (term_reading_by same) pair w.cell.pci w.cell.earfcn)) _ s n.0 n.1 refl refl refl h tt tt tt
 
   -- by one on X2
-  by_x2_keeps : (same : Term → Term → Bool) (w : Wanted) (key : Option (NumberedKey Term ℕ)) (s : Station Term ℕ) → RecordNeeds given s (PreparedByX2 w) key → StationStands taken given s →
+  by_x2_keeps : (same : Term → Term → Bool) (w : Admitted) (key : Option (NumberedKey Term ℕ)) (s : Station Term ℕ) → RecordNeeds given s (PreparedByX2 w) key → StationStands taken given s →
       let d = prepared_by_x2 (term_reading_by same) w key s in StationKeeps taken given s d.0 d.1.sent
   by_x2_keeps same w None s n h = still s h
-  by_x2_keeps same w (Some star) s n h = wanted_keeps w (wanted_prep (term_reading_by same) w By.X2 star) _ s n.0 n.1 refl n.2 refl h tt tt tt
+  by_x2_keeps same w (Some star) s n h = admitted_keeps w (admitted_prep (term_reading_by same) w By.X2 star) _ s n.0 n.1 refl n.2 refl h tt tt tt
 
   -- no preparation comes, and perhaps some go
   fewer : (s : Station Term ℕ) (o : Option (Context Term ℕ)) (preps : List (Prep Term ℕ)) → ContextStays s.context o → AllOf (PrepStands s.next) preps →

@@ -22,7 +22,7 @@ use Rattle.lte_machine.specs.Wire.{KeyUse, Outgoing, SealedNas, PlainNas, Sealed
 use Rattle.lte_machine.specs.Opening.{Opening, Outcome}
 use Rattle.lte_machine.specs.Reply.{Origin, Tried, Reply, unseen}
 use Rattle.lte_machine.specs.StationState.{Station, Context, StationInput, StationActs, AirPdu, StationRecord, Interface, OnS1, OnX2, map_read, Renewal}
-use Rattle.lte_machine.specs.StationRows.{Wanted, RecordRow, RecordRefused, ContextGiven, ContextReleased, PairTaken, PreparedByS1, PreparedByX2, AckedByS1, AckedByX2, PreparationCancelled, SourceReleased, AirRow, AirRefused, SecurityStarted, RrcOpened, PacketOpened, CompletedByS1, CompletedWithin, CompletedByX2, ActRow, ActRefused, StartedByX2, StartedByS1, StartedWithin, HandoverCommanded, CancelledByX2, CancelledByS1, CancelledWithin, PathSwitchAsked, PacketSent, RrcSent, BearerSkipped, StationRow, OfRecord, OfAir, OfAct, KeyRenewed, ChangeCommanded}
+use Rattle.lte_machine.specs.StationRows.{Admitted, RecordRow, RecordRefused, ContextGiven, ContextReleased, PairTaken, PreparedByS1, PreparedByX2, AckedByS1, AckedByX2, PreparationCancelled, SourceReleased, AirRow, AirRefused, SecurityStarted, RrcOpened, PacketOpened, CompletedByS1, CompletedWithin, CompletedByX2, ActRow, ActRefused, StartedByX2, StartedByS1, StartedWithin, HandoverCommanded, CancelledByX2, CancelledByS1, CancelledWithin, PathSwitchAsked, PacketSent, RrcSent, BearerSkipped, StationRow, OfRecord, OfAir, OfAct, KeyRenewed, ChangeCommanded}
 use Rattle.lte_machine.specs.StationChoice.{record_row}
 use Rattle.lte_machine.specs.StationKeys.{completed_by_s1, completed_within, completed_by_x2, started_by_x2, started_by_s1, started_within, commands, asks_again, sends_packet, sends_rrc, air_does, act_does, station_does, commands_change}
 use Rattle.lte_machine.specs.StationRecords.{context_given, pair_taken, prepared_by_s1, prepared_by_x2, record_does, key_renewed}
@@ -67,11 +67,11 @@ module _ (same : Term → Term → Bool) (s : Station Term ℕ) where
   taken_numbered conn origin None = quiet _ _ refl refl refl
   taken_numbered conn origin (Some key) = quiet _ _ refl refl refl
 
-  prepared_s1_numbered : (w : Wanted) (key : Option (NumberedKey Term ℕ)) → w.air ≡ s.next → Numbered s (prepared_by_s1 (term_reading_by same) w key s)
+  prepared_s1_numbered : (w : Admitted) (key : Option (NumberedKey Term ℕ)) → w.air ≡ s.next → Numbered s (prepared_by_s1 (term_reading_by same) w key s)
   prepared_s1_numbered w None e = quiet _ _ refl refl refl
   prepared_s1_numbered w (Some key) e = drawn _ _ refl (one_on w.air e) refl
 
-  prepared_x2_numbered : (w : Wanted) (key : Option (NumberedKey Term ℕ)) → w.air ≡ s.next → Numbered s (prepared_by_x2 (term_reading_by same) w key s)
+  prepared_x2_numbered : (w : Admitted) (key : Option (NumberedKey Term ℕ)) → w.air ≡ s.next → Numbered s (prepared_by_x2 (term_reading_by same) w key s)
   prepared_x2_numbered w None e = quiet _ _ refl refl refl
   prepared_x2_numbered w (Some key) e = drawn _ _ refl (one_on w.air e) refl
 

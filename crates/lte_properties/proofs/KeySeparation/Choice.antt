@@ -30,8 +30,8 @@ use Rattle.s1x2_rec.specs.Fields.{Fields, InitialContext, ContextRelease, PathSw
 use Rattle.s1x2_rec.specs.Content.{Content}
 use Rattle.ho_prep.specs.Prep.{has_attempt}
 use Rattle.lte_machine.specs.StationState.{Interface, OnS1, OnX2, OverX2, OverS1, Within, X2State, X2Open, X2Ready, X2Commanded, S1State, S1Open, S1Ready, S1Commanded, Renewing}
-use Rattle.lte_machine.specs.StationRows.{Wanted, RecordRow, PairTaken, PreparedByS1, PreparedByX2, AckedByS1, ActRow, ContextGiven}
-use Rattle.lte_machine.specs.StationChoice.{PlainStation, PlainContext, PlainAttempt, is_full, runs_out, is_station, is_own, initial_choice, initial_row, release_row as s1_release_row, answer_row_by, answer_row, wanted_choice, wanted_row, acked_open, s1_acked_row, s1_ack_row, x2_acked_row, x2_ack_row, cancel_row, x2_released_row, x2_release_row, s1_row, x2_row, record_row, is_misplaced, active_row, unless_spent, begun_row, alone_row, target_row, start_row, x2_command_row, s1_command_row, attempt_command_row, command_row, attempt_cancel_row, give_up_row, came_row, ask_row, packet_row, send_rrc_row, skip_row, act_row, renewed_alone, modification_row}
+use Rattle.lte_machine.specs.StationRows.{Admitted, RecordRow, PairTaken, PreparedByS1, PreparedByX2, AckedByS1, ActRow, ContextGiven}
+use Rattle.lte_machine.specs.StationChoice.{PlainStation, PlainContext, PlainAttempt, is_full, runs_out, is_station, is_own, initial_choice, initial_row, release_row as s1_release_row, answer_row_by, answer_row, admitted_choice, admitted_row, acked_open, s1_acked_row, s1_ack_row, x2_acked_row, x2_ack_row, cancel_row, x2_released_row, x2_release_row, s1_row, x2_row, record_row, is_misplaced, active_row, unless_spent, begun_row, alone_row, target_row, start_row, x2_command_row, s1_command_row, attempt_command_row, command_row, attempt_cancel_row, give_up_row, came_row, ask_row, packet_row, send_rrc_row, skip_row, act_row, renewed_alone, modification_row}
 use Rattle.lte_machine.specs.CoreState.{CorePartial, CoreContext, CoreLink}
 use Rattle.lte_machine.specs.CoreRows.{CoreNasRow, ServiceAsked, NasOpened, SealedReject, CoreActRow, ContextSetUp}
 use Rattle.lte_machine.specs.CoreChoice.{PlainCore, CoreNasFront, NasSettled, OpensComplete, OpensProtected, plain_text_row, plain_row, opens_complete, complete_front, opens_protected, protected_front, core_nas_front, complete_row, reject_row, protected_row, core_nas_row, smc_row, start_smc_row, NUMBERS, connect_row, release_row, send_nas_row, skip_nas_row, core_act_row, completed_row}
@@ -192,16 +192,16 @@ module _ (s : PlainStation) where
     answer_by None = tt
     answer_by (Some n) = by_test Own (n == number) _ _ (λ e. tt) (λ e. tt)
 
-  wanted_own : (conn : ℕ) (from : Origin) (cell : Place) (caps : Caps) (row : Wanted → RecordRow) →
+  admitted_own : (conn : ℕ) (from : Origin) (cell : Place) (caps : Caps) (row : Admitted → RecordRow) →
       ((algs : Algs) → station_of cell s.cells ≡ Some s.id → Own (row (record { conn = conn; from = from; cell = cell; caps = caps; algs = algs; air = s.next }))) →
-      Own (wanted_row s conn from cell caps row)
-  wanted_own conn from cell caps row f =
+      Own (admitted_row s conn from cell caps row)
+  admitted_own conn from cell caps row f =
       by_test Own (nat_lt conn s.last) _ _ (λ e. tt) (λ e.
       by_test Own (not (is_own s cell)) _ _ (λ g. tt) (λ g.
       by_test Own (nat_le from.attempt (slice_index s.seen from.source)) _ _ (λ h. tt) (λ h.
       by_test Own ((conn == s.last) && is_full s) _ _ (λ i. tt) (λ i. chosen (own_is s.id (station_of cell s.cells) g) (choice_of s.priority caps)))))
     where
-      chosen : station_of cell s.cells ≡ Some s.id → (r : Result Algs Unmatched) → Own (wanted_choice s conn from cell caps row r)
+      chosen : station_of cell s.cells ≡ Some s.id → (r : Result Algs Unmatched) → Own (admitted_choice s conn from cell caps row r)
       chosen own (Err none) = tt
       chosen own (Ok algs) = by_test Own (runs_out 1 s.next) _ _ (λ e. tt) (λ e. f algs own)
 
@@ -240,7 +240,7 @@ module _ (s : PlainStation) where
   s1_own (PathSwitchRequest conn station number cell caps) = tt
   s1_own (PathSwitchAnswer conn number) = answer_own number s.context
   s1_own (HandoverRequired conn station attempt cell) = tt
-  s1_own (HandoverRequest conn source attempt cell caps) = wanted_own conn (record { source = source; attempt = attempt }) cell caps PreparedByS1 (λ algs own. own)
+  s1_own (HandoverRequest conn source attempt cell caps) = admitted_own conn (record { source = source; attempt = attempt }) cell caps PreparedByS1 (λ algs own. own)
   s1_own (HandoverRequestAck conn source attempt cell ncc algs air) = tt
   s1_own (HandoverCommand conn attempt cell ncc algs air) = s1_ack_own attempt ncc algs air s.context
   s1_own (HandoverNotify conn station cell) = tt
@@ -288,7 +288,7 @@ module _ (s : PlainStation) where
   x2_own (HandoverNotify conn station cell) = tt
   x2_own (HandoverCancel conn source attempt cell) = tt
   x2_own (ContextModification conn next) = tt
-  x2_own (X2Request conn source attempt cell caps) = wanted_own conn (record { source = source; attempt = attempt }) cell caps PreparedByX2 (λ algs own. own)
+  x2_own (X2Request conn source attempt cell caps) = admitted_own conn (record { source = source; attempt = attempt }) cell caps PreparedByX2 (λ algs own. own)
   x2_own (X2Ack conn attempt cell algs air) = x2_ack_own attempt algs air s.context
   x2_own (X2Cancel conn source attempt) = cancel_own (record { source = source; attempt = attempt })
   x2_own (X2Release conn attempt) = x2_release_own attempt s.context

@@ -16,9 +16,9 @@ use Rattle.lte_machine.specs.Bearers.{Srb, Drb}
 use Rattle.lte_machine.specs.Wire.{Outgoing}
 use Rattle.lte_machine.specs.Reply.{Origin, Made, Tried, Reply, ByAttempt, Handover, BySource, ByTarget}
 use Rattle.lte_machine.specs.StationState.{Station, Context, Attempt, OverX2, OverS1, Within, X2Open, X2Ready, X2Commanded, S1Open, S1Ready, S1Commanded, Renewal, Renewing}
-use Rattle.lte_machine.specs.StationRows.{Wanted, RecordRow, RecordRefused, ContextGiven, ContextReleased, PairTaken, PreparedByS1, PreparedByX2, AckedByS1, AckedByX2, PreparationCancelled, SourceReleased, AirRow, AirRefused, SecurityStarted, RrcOpened, PacketOpened, CompletedByS1, CompletedWithin, CompletedByX2, ActRow, ActRefused, StartedByX2, StartedByS1, StartedWithin, HandoverCommanded, CancelledByX2, CancelledByS1, CancelledWithin, PathSwitchAsked, PacketSent, RrcSent, BearerSkipped, StationRow, OfRecord, OfAir, OfAct, KeyRenewed, ChangeCommanded}
+use Rattle.lte_machine.specs.StationRows.{Admitted, RecordRow, RecordRefused, ContextGiven, ContextReleased, PairTaken, PreparedByS1, PreparedByX2, AckedByS1, AckedByX2, PreparationCancelled, SourceReleased, AirRow, AirRefused, SecurityStarted, RrcOpened, PacketOpened, CompletedByS1, CompletedWithin, CompletedByX2, ActRow, ActRefused, StartedByX2, StartedByS1, StartedWithin, HandoverCommanded, CancelledByX2, CancelledByS1, CancelledWithin, PathSwitchAsked, PacketSent, RrcSent, BearerSkipped, StationRow, OfRecord, OfAir, OfAct, KeyRenewed, ChangeCommanded}
 use Rattle.lte_machine.specs.StationKeys.{spent_in, commanded, given_up, with_security, with_rrc_taken, with_packet_taken, with_skipped, completed_by_s1, completed_within, completed_by_x2, started_by_x2, started_by_s1, started_within, commands, asks_again, sends_packet, sends_rrc, air_does, act_does, station_does, commands_change}
-use Rattle.lte_machine.specs.StationRecords.{s1_acked, x2_acked, with_pair, with_s1_ack, with_x2_ack, source_release, wanted_made, context_given, pair_taken, prepared_by_s1, prepared_by_x2, record_does, key_renewed}
+use Rattle.lte_machine.specs.StationRecords.{s1_acked, x2_acked, with_pair, with_s1_ack, with_x2_ack, source_release, admitted_made, context_given, pair_taken, prepared_by_s1, prepared_by_x2, record_does, key_renewed}
 use Rattle.lte_machine.specs.World.{with_one}
 use Rattle.lte_properties.proofs.ChainNumbers.Lists.{OfSome, all_append, all_filter, all_find}
 use Rattle.lte_properties.proofs.KeySeparation.Keys.{any_map, any_new, GivesIn, Gifts, May, MayHold, may_star, may_go, OfPairKey, ContextHas, PrepHas, StationHas, BaseGiven, TriedOk, HasTried, IsKenb, OwnCell, FlyOk, MadeBy, MadeOk, OutsAre, OwnPlace}
@@ -194,10 +194,10 @@ module _ (G : Gifts) (sites : List Site) (tried : List (Tried Term ℕ)) (same :
       (record { context = context_map_has P C (with_pair pair) (λ c k. (k.0, n, k.2, k.3)) s.context h.context; preps = h.preps })
 
   -- what a preparation was made of
-  abbrev WantedBy : Wanted → NumberedKey Term ℕ → Handover Term ℕ → Type 0
-  WantedBy w key o = MadeBy G (wanted_made s.id w key) o
+  abbrev AdmittedBy : Admitted → NumberedKey Term ℕ → Handover Term ℕ → Type 0
+  AdmittedBy w key o = MadeBy G (admitted_made s.id w key) o
 
-  prepared_s1_kept : (w : Wanted) (key : Option (NumberedKey Term ℕ)) →
+  prepared_s1_kept : (w : Admitted) (key : Option (NumberedKey Term ℕ)) →
       RowNeeds G sites tried s.id (OfRecord (PreparedByS1 w)) key → StationHas P C s → After (prepared_by_s1 (term_reading_by same) w key s)
   prepared_s1_kept w None n h = quiet s refl refl h
   prepared_s1_kept w (Some key) n h =
@@ -214,12 +214,12 @@ module _ (G : Gifts) (sites : List Site) (tried : List (Tried Term ℕ)) (same :
         tries = tt;
         makes = (
           any_map (λ e. (e.station ≡ w.from.source) × (e.attempt ≡ w.from.attempt) × (e.kind ≡ ByTarget)) _
-              (λ e q. (q.0, q.1, subst (WantedBy w (record { key = Star key.key w.cell.pci w.cell.earfcn; number = key.number })) (sym q.2) (base_given G sites s.id key.key w.cell.pci w.cell.earfcn n.0))) tried n.1,
+              (λ e q. (q.0, q.1, subst (AdmittedBy w (record { key = Star key.key w.cell.pci w.cell.earfcn; number = key.number })) (sym q.2) (base_given G sites s.id key.key w.cell.pci w.cell.earfcn n.0))) tried n.1,
           n.2,
         );
       }
 
-  prepared_x2_kept : (w : Wanted) (key : Option (NumberedKey Term ℕ)) →
+  prepared_x2_kept : (w : Admitted) (key : Option (NumberedKey Term ℕ)) →
       RowNeeds G sites tried s.id (OfRecord (PreparedByX2 w)) key → StationHas P C s → After (prepared_by_x2 (term_reading_by same) w key s)
   prepared_x2_kept w None n h = quiet s refl refl h
   prepared_x2_kept w (Some key) n h = record {
@@ -235,7 +235,7 @@ module _ (G : Gifts) (sites : List Site) (tried : List (Tried Term ℕ)) (same :
     tries = tt;
     makes = (
       any_map (λ e. (e.station ≡ w.from.source) × (e.attempt ≡ w.from.attempt) × (e.kind ≡ BySource key)) _
-          (λ e q. (q.0, q.1, subst (WantedBy w key) (sym q.2) refl)) tried n.1,
+          (λ e q. (q.0, q.1, subst (AdmittedBy w key) (sym q.2) refl)) tried n.1,
       n.2,
     );
   }

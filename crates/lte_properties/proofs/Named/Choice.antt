@@ -24,8 +24,8 @@ use Rattle.lte_machine.specs.Bearers.{Signalling1, Signalling2, Srb, Which, OnSr
 use Rattle.lte_machine.specs.Opening.{Outcome, Opened, Differs}
 use Rattle.lte_machine.specs.Reply.{Origin}
 use Rattle.lte_machine.specs.StationState.{OverX2, OverS1, Within, Renewing, X2State, X2Open, X2Ready, X2Commanded, S1State, S1Open, S1Ready, S1Commanded, Interface, OnS1, OnX2, StationInput, StationActs, AirPdu, StationRecord}
-use Rattle.lte_machine.specs.StationRows.{Wanted, RecordRow, PairTaken, PreparedByS1, PreparedByX2, AckedByS1, AckedByX2, AirRow, CompletedWithin, ActRow, StartedByX2, CancelledByX2, StationRow, OfRecord, OfAir, OfAct}
-use Rattle.lte_machine.specs.StationChoice.{PlainStation, PlainContext, PlainAttempt, runs_out, is_own, is_full, is_misplaced, greatest, initial_choice, initial_row, release_row, answer_row_by, answer_row, wanted_choice, wanted_row, acked_open, s1_acked_row, s1_ack_row, x2_acked_row, x2_ack_row, cancel_row, x2_released_row, x2_release_row, s1_row, x2_row, record_row, AirFront, AirSettled, OnStarting, OnSignalling, OnUser, OnPrepared, counted, starting_front, active_front, context_front, prepared_front, air_front_by, air_front, starting_row, rrc_row, completed_row, prepared_row, air_row, active_row, unless_spent, begun_row, alone_row, target_row, start_row, x2_command_row, s1_command_row, attempt_command_row, command_row, x2_cancel_row, s1_cancel_row, within_cancel_row, attempt_cancel_row, give_up_row, came_row, ask_row, packet_row, send_rrc_row, skip_row, act_row, station_front, station_row, renewed_row, renewed_alone, modification_row}
+use Rattle.lte_machine.specs.StationRows.{Admitted, RecordRow, PairTaken, PreparedByS1, PreparedByX2, AckedByS1, AckedByX2, AirRow, CompletedWithin, ActRow, StartedByX2, CancelledByX2, StationRow, OfRecord, OfAir, OfAct}
+use Rattle.lte_machine.specs.StationChoice.{PlainStation, PlainContext, PlainAttempt, runs_out, is_own, is_full, is_misplaced, greatest, initial_choice, initial_row, release_row, answer_row_by, answer_row, admitted_choice, admitted_row, acked_open, s1_acked_row, s1_ack_row, x2_acked_row, x2_ack_row, cancel_row, x2_released_row, x2_release_row, s1_row, x2_row, record_row, AirFront, AirSettled, OnStarting, OnSignalling, OnUser, OnPrepared, counted, starting_front, active_front, context_front, prepared_front, air_front_by, air_front, starting_row, rrc_row, completed_row, prepared_row, air_row, active_row, unless_spent, begun_row, alone_row, target_row, start_row, x2_command_row, s1_command_row, attempt_command_row, command_row, x2_cancel_row, s1_cancel_row, within_cancel_row, attempt_cancel_row, give_up_row, came_row, ask_row, packet_row, send_rrc_row, skip_row, act_row, station_front, station_row, renewed_row, renewed_alone, modification_row}
 use Rattle.lte_properties.specs.ChainBelow.{AllOf}
 use Rattle.lte_properties.proofs.Named.Facts.{OriginNamed, ByNamed, PrepNamed, PrepIs, X2Named, AttemptNamed, ContextNamed, StationNamed, FieldsNamed, ReadNamed, InputNamed}
 
@@ -78,17 +78,17 @@ module _ (P : ℕ → Type 0) (cells : List Site) (sites : (cell : Place) (id : 
   answer number None h = tt
   answer number (Some c) h = answer_by number c.outstanding c.conn c.origin h.1
 
-  module _ (s : PlainStation) (conn : ℕ) (from : Origin) (cell : Place) (caps : Caps) (row : Wanted → RecordRow) (f : (w : Wanted) → P w.from.source → RecordRowNamed (row w)) (h : P from.source) where
-    wanted_chosen : (chosen : Result Algs Unmatched) → RecordRowNamed (wanted_choice s conn from cell caps row chosen)
-    wanted_chosen (Err none) = tt
-    wanted_chosen (Ok algs) = either RecordRowNamed (runs_out 1 s.next) _ _ tt (f _ h)
+  module _ (s : PlainStation) (conn : ℕ) (from : Origin) (cell : Place) (caps : Caps) (row : Admitted → RecordRow) (f : (w : Admitted) → P w.from.source → RecordRowNamed (row w)) (h : P from.source) where
+    admitted_chosen : (chosen : Result Algs Unmatched) → RecordRowNamed (admitted_choice s conn from cell caps row chosen)
+    admitted_chosen (Err none) = tt
+    admitted_chosen (Ok algs) = either RecordRowNamed (runs_out 1 s.next) _ _ tt (f _ h)
 
-    wanted : RecordRowNamed (wanted_row s conn from cell caps row)
-    wanted =
+    admitted : RecordRowNamed (admitted_row s conn from cell caps row)
+    admitted =
         either RecordRowNamed (nat_lt conn s.last) _ _ tt
         (either RecordRowNamed (not (is_own s cell)) _ _ tt
         (either RecordRowNamed (nat_le from.attempt (greatest s from.source)) _ _ tt
-        (either RecordRowNamed ((conn == s.last) && is_full s) _ _ tt (wanted_chosen (choice_of s.priority caps)))))
+        (either RecordRowNamed ((conn == s.last) && is_full s) _ _ tt (admitted_chosen (choice_of s.priority caps)))))
 
   acked : (number own : ℕ) (row : RecordRow) → RecordRowNamed row → RecordRowNamed (acked_open number own row)
   acked number own row h = either RecordRowNamed (own == number) _ _ h tt
@@ -153,7 +153,7 @@ module _ (P : ℕ → Type 0) (cells : List Site) (sites : (cell : Place) (id : 
   s1_named s (InitialContext conn cell caps) h f = initial s conn cell caps
   s1_named s (ContextRelease conn) h f = release conn s.context
   s1_named s (PathSwitchAnswer conn number) h f = answer number s.context h.2
-  s1_named s (HandoverRequest conn source attempt cell caps) h f = wanted s conn (record { source = source; attempt = attempt }) cell caps PreparedByS1 (λ w k. k) f
+  s1_named s (HandoverRequest conn source attempt cell caps) h f = admitted s conn (record { source = source; attempt = attempt }) cell caps PreparedByS1 (λ w k. k) f
   s1_named s (HandoverCommand conn attempt cell ncc algs air) h f = s1_ack attempt ncc algs air s.context
   s1_named s (HandoverCancel conn source attempt cell) h f = cancel s (record { source = source; attempt = attempt })
   s1_named s (ContextModification conn next_conn) h f = modification s conn next_conn s.context
@@ -167,7 +167,7 @@ module _ (P : ℕ → Type 0) (cells : List Site) (sites : (cell : Place) (id : 
   s1_named s (X2Release conn attempt) h f = tt
 
   x2_named : (s : PlainStation) (fields : Fields) → FieldsNamed P fields → RecordRowNamed (x2_row s fields)
-  x2_named s (X2Request conn source attempt cell caps) f = wanted s conn (record { source = source; attempt = attempt }) cell caps PreparedByX2 (λ w k. k) f
+  x2_named s (X2Request conn source attempt cell caps) f = admitted s conn (record { source = source; attempt = attempt }) cell caps PreparedByX2 (λ w k. k) f
   x2_named s (X2Ack conn attempt cell algs air) f = x2_ack attempt algs air s.context
   x2_named s (X2Cancel conn source attempt) f = cancel s (record { source = source; attempt = attempt })
   x2_named s (X2Release conn attempt) f = x2_release attempt s.context

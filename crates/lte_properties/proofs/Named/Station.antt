@@ -13,7 +13,7 @@ use Rattle.lte_machine.specs.Bearers.{Srb, Drb}
 use Rattle.lte_machine.specs.Opening.{Outcome}
 use Rattle.lte_machine.specs.Reply.{Origin, Reply, unseen}
 use Rattle.lte_machine.specs.StationState.{Station, Context, Attempt, OverX2, OverS1, Within, X2Open, X2Ready, X2Commanded, S1Open, S1Ready, S1Commanded, StationInput, StationActs, AirPdu, StationRecord, map_context, map_attempt, map_preps, map_station_input, Renewal, Renewing}
-use Rattle.lte_machine.specs.StationRows.{Wanted, RecordRow, RecordRefused, ContextGiven, ContextReleased, PairTaken, PreparedByS1, PreparedByX2, AckedByS1, AckedByX2, PreparationCancelled, SourceReleased, AirRow, AirRefused, SecurityStarted, RrcOpened, PacketOpened, CompletedByS1, CompletedWithin, CompletedByX2, ActRow, ActRefused, StartedByX2, StartedByS1, StartedWithin, HandoverCommanded, CancelledByX2, CancelledByS1, CancelledWithin, PathSwitchAsked, PacketSent, RrcSent, BearerSkipped, StationRow, OfRecord, OfAir, OfAct, KeyRenewed, ChangeCommanded}
+use Rattle.lte_machine.specs.StationRows.{Admitted, RecordRow, RecordRefused, ContextGiven, ContextReleased, PairTaken, PreparedByS1, PreparedByX2, AckedByS1, AckedByX2, PreparationCancelled, SourceReleased, AirRow, AirRefused, SecurityStarted, RrcOpened, PacketOpened, CompletedByS1, CompletedWithin, CompletedByX2, ActRow, ActRefused, StartedByX2, StartedByS1, StartedWithin, HandoverCommanded, CancelledByX2, CancelledByS1, CancelledWithin, PathSwitchAsked, PacketSent, RrcSent, BearerSkipped, StationRow, OfRecord, OfAir, OfAct, KeyRenewed, ChangeCommanded}
 use Rattle.lte_machine.specs.StationKeys.{commanded, given_up, with_security, with_rrc_taken, with_packet_taken, with_skipped, completed_by_s1, completed_within, completed_by_x2, started_by_x2, started_by_s1, started_within, commands, asks_again, sends_packet, sends_rrc, air_does, act_does, station_does, commands_change}
 use Rattle.lte_machine.specs.StationRecords.{s1_acked, x2_acked, with_pair, with_s1_ack, with_x2_ack, source_release, context_given, pair_taken, prepared_by_s1, prepared_by_x2, record_does, key_renewed}
 use Rattle.lte_machine.specs.StationStep.{plain_station, station_row_of, station_key, station_step}
@@ -121,18 +121,18 @@ module _ (P : ℕ → Type 0) (cells : List Site) (sites : (cell : Place) (id : 
     pair conn origin None s f h = (h, tt, tt, refl)
     pair conn origin (Some key) s f h = ((h.0, h.1, with_named (with_pair key) (λ c k. k) s.context h.2, h.3), released conn origin f, tt, refl)
 
-    wanted_preps : (w : Wanted) (p : Prep Term ℕ) (ps : List (Prep Term ℕ)) → PrepNamed P p → AllOf (λ p. PrepNamed P p) ps
+    admitted_preps : (w : Admitted) (p : Prep Term ℕ) (ps : List (Prep Term ℕ)) → PrepNamed P p → AllOf (λ p. PrepNamed P p) ps
         → AllOf (λ p. PrepNamed P p) (filter (λ q. nat_le w.conn q.conn) ps ++ p ∷ [])
-    wanted_preps w p ps f h =
+    admitted_preps w p ps f h =
         all_append (λ p. PrepNamed P p) (filter (λ q. nat_le w.conn q.conn) ps) (p ∷ []) (all_filter (λ p. PrepNamed P p) (λ q. nat_le w.conn q.conn) ps h) (f, tt)
 
-    by_s1 : (w : Wanted) (key : Option (NumberedKey Term ℕ)) (s : Station Term ℕ) → P w.from.source → StationNamed P cells s → Done s (prepared_by_s1 r w key s)
+    by_s1 : (w : Admitted) (key : Option (NumberedKey Term ℕ)) (s : Station Term ℕ) → P w.from.source → StationNamed P cells s → Done s (prepared_by_s1 r w key s)
     by_s1 w None s f h = (h, tt, tt, refl)
-    by_s1 w (Some key) s f h = ((h.0, h.1, h.2, wanted_preps w _ s.preps (f, tt) h.3), (tt, f), h.0, refl)
+    by_s1 w (Some key) s f h = ((h.0, h.1, h.2, admitted_preps w _ s.preps (f, tt) h.3), (tt, f), h.0, refl)
 
-    by_x2 : (w : Wanted) (key : Option (NumberedKey Term ℕ)) (s : Station Term ℕ) → P w.from.source → StationNamed P cells s → Done s (prepared_by_x2 r w key s)
+    by_x2 : (w : Admitted) (key : Option (NumberedKey Term ℕ)) (s : Station Term ℕ) → P w.from.source → StationNamed P cells s → Done s (prepared_by_x2 r w key s)
     by_x2 w None s f h = (h, tt, tt, refl)
-    by_x2 w (Some star) s f h = ((h.0, h.1, h.2, wanted_preps w _ s.preps (f, tt) h.3), (f, tt), h.0, refl)
+    by_x2 w (Some star) s f h = ((h.0, h.1, h.2, admitted_preps w _ s.preps (f, tt) h.3), (f, tt), h.0, refl)
 
     renewed : (conn number air count : ℕ) (o : Option (Context Term ℕ)) (key : Option (NumberedKey Term ℕ)) (s : Station Term ℕ) → ContextNamed P o → StationNamed P cells s
         → Done s (key_renewed r conn number air count o key s)

@@ -26,7 +26,7 @@ use Rattle.lte_machine.specs.PhoneKeys as phone_keys
 use Rattle.lte_machine.specs.PhoneKeys.{phone_does}
 use Rattle.lte_machine.specs.StationState.{Station, Context, Renewal}
 use Rattle.lte_machine.specs.StationRows as station
-use Rattle.lte_machine.specs.StationRows.{StationRow, Wanted}
+use Rattle.lte_machine.specs.StationRows.{StationRow, Admitted}
 use Rattle.lte_machine.specs.StationKeys as station_keys
 use Rattle.lte_machine.specs.StationRecords as station_records
 use Rattle.lte_machine.specs.StationKeys.{station_does}
@@ -152,11 +152,11 @@ module _ (same : Term → Term → Bool) (g : Ghost) where
   pair_sends conn origin None s = tt
   pair_sends conn origin (Some pair) s = source_sends conn origin
 
-  s1_sends : (w : Wanted) (key : Option (NumberedKey Term ℕ)) (s : Station Term ℕ) → FromStation g (station_records.prepared_by_s1 r w key s).1.sent
+  s1_sends : (w : Admitted) (key : Option (NumberedKey Term ℕ)) (s : Station Term ℕ) → FromStation g (station_records.prepared_by_s1 r w key s).1.sent
   s1_sends w None s = tt
   s1_sends w (Some pair) s = tt
 
-  x2_sends : (w : Wanted) (key : Option (NumberedKey Term ℕ)) (s : Station Term ℕ) → FromStation g (station_records.prepared_by_x2 r w key s).1.sent
+  x2_sends : (w : Admitted) (key : Option (NumberedKey Term ℕ)) (s : Station Term ℕ) → FromStation g (station_records.prepared_by_x2 r w key s).1.sent
   x2_sends w None s = tt
   x2_sends w (Some star) s = tt
 

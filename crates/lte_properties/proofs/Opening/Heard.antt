@@ -19,7 +19,7 @@ use Rattle.lte_machine.specs.Bearers.{Srb, Signalling1, Drb}
 use Rattle.lte_machine.specs.Wire.{Outgoing}
 use Rattle.lte_machine.specs.Reply.{Origin, Reply}
 use Rattle.lte_machine.specs.StationState.{Station, Context, Renewal, StationInput, StationActs, AirPdu, StationRecord, OnS1, OnX2}
-use Rattle.lte_machine.specs.StationRows.{Wanted, RecordRow, RecordRefused, ContextGiven, ContextReleased, PairTaken, PreparedByS1, PreparedByX2, AckedByS1, AckedByX2, PreparationCancelled, SourceReleased, KeyRenewed, AirRow, AirRefused, SecurityStarted, RrcOpened, PacketOpened, CompletedByS1, CompletedWithin, CompletedByX2, ActRow, ActRefused, StartedByX2, StartedByS1, StartedWithin, HandoverCommanded, ChangeCommanded, CancelledByX2, CancelledByS1, CancelledWithin, PathSwitchAsked, PacketSent, RrcSent, BearerSkipped, StationRow, OfRecord, OfAir, OfAct}
+use Rattle.lte_machine.specs.StationRows.{Admitted, RecordRow, RecordRefused, ContextGiven, ContextReleased, PairTaken, PreparedByS1, PreparedByX2, AckedByS1, AckedByX2, PreparationCancelled, SourceReleased, KeyRenewed, AirRow, AirRefused, SecurityStarted, RrcOpened, PacketOpened, CompletedByS1, CompletedWithin, CompletedByX2, ActRow, ActRefused, StartedByX2, StartedByS1, StartedWithin, HandoverCommanded, ChangeCommanded, CancelledByX2, CancelledByS1, CancelledWithin, PathSwitchAsked, PacketSent, RrcSent, BearerSkipped, StationRow, OfRecord, OfAir, OfAct}
 use Rattle.lte_machine.specs.StationRecords.{context_given, with_pair, pair_taken, prepared_by_s1, prepared_by_x2, with_s1_ack, with_x2_ack, key_renewed, record_does}
 use Rattle.lte_machine.specs.StationKeys.{with_security, with_rrc_taken, with_packet_taken, completed_by_s1, completed_within, completed_by_x2, air_does, started_by_x2, started_by_s1, started_within, commands, commands_change, given_up, asks_again, sends_packet, sends_rrc, with_skipped, act_does, station_does}
 use Rattle.lte_machine.specs.StationStep.{station_row_of, station_key, station_opens, station_pdu_in}
@@ -55,11 +55,11 @@ module _ (r : Reading Term ℕ) where
   pair conn origin None s h = h
   pair conn origin (Some key) s h = heard_with (with_pair key) (λ c k. k) s.context h
 
-  by_s1 : (w : Wanted) (key : Option (NumberedKey Term ℕ)) (s : Station Term ℕ) → Heard s.context → After (prepared_by_s1 r w key s)
+  by_s1 : (w : Admitted) (key : Option (NumberedKey Term ℕ)) (s : Station Term ℕ) → Heard s.context → After (prepared_by_s1 r w key s)
   by_s1 w None s h = h
   by_s1 w (Some key) s h = h
 
-  by_x2 : (w : Wanted) (key : Option (NumberedKey Term ℕ)) (s : Station Term ℕ) → Heard s.context → After (prepared_by_x2 r w key s)
+  by_x2 : (w : Admitted) (key : Option (NumberedKey Term ℕ)) (s : Station Term ℕ) → Heard s.context → After (prepared_by_x2 r w key s)
   by_x2 w None s h = h
   by_x2 w (Some key) s h = h
 

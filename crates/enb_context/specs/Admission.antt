@@ -1,4 +1,4 @@
--- Whether a request is taken, as the choice of a row has it.
+-- Whether a request is admitted, as the choice of a row has it.
 use Rattle.std.specs.Prelude.{ℕ, Result, Ok, Err}
 use Rattle.alg_choice.specs.declared.algs.Algs.{Algs}
 use Rattle.alg_choice.specs.declared.caps.Caps.{Caps}
@@ -7,13 +7,13 @@ use Rattle.lte_events.specs.declared.answers.Answer.{Answer}
 use Rattle.lte_machine.specs.Reply.{Origin}
 use Rattle.lte_events.specs.declared.acts.HoKind.{HoKind}
 use Rattle.lte_machine.specs.StationChoice.{PlainStation, begun_row}
-use Rattle.lte_machine.specs.StationRows.{RecordRow, RecordRefused, ContextGiven, Wanted, ActRow, ActRefused}
+use Rattle.lte_machine.specs.StationRows.{RecordRow, RecordRefused, ContextGiven, Admitted, ActRow, ActRefused}
 
 -- the row of a handover request: refused, or taken with the algorithms chosen and the air address drawn
-abbrev pub admitted : (Wanted → RecordRow) → ℕ → Origin → Place → Caps → Result (Algs × ℕ) Answer → RecordRow
-admitted row conn from cell caps (Ok taken) =
+abbrev pub taken_row : (Admitted → RecordRow) → ℕ → Origin → Place → Caps → Result (Algs × ℕ) Answer → RecordRow
+taken_row row conn from cell caps (Ok taken) =
     row (record { conn = conn; from = from; cell = cell; caps = caps; algs = taken.0; air = taken.1 })
-admitted row conn from cell caps (Err answer) = RecordRefused answer
+taken_row row conn from cell caps (Err answer) = RecordRefused answer
 
 -- and that of a context setup
 abbrev pub given_row : ℕ → Place → Caps → Result (Algs × ℕ) Answer → RecordRow
