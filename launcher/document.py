@@ -21,7 +21,7 @@ DEEPEST = 80
 
 
 class Fault(Exception):
-    """Why a text is no document: a reason, and its place as an offset."""
+    """Why a text is not a document: a reason, and its place as an offset."""
 
     def __init__(self, place: int, reason: str):
         super().__init__(reason)
@@ -95,10 +95,10 @@ class Reader:
 
     def no_value(self, token: str) -> str:
         if re.fullmatch(r"[+-]?0\d+", token):
-            return f"{token} has a zero in front"
+            return f"{token} has a leading zero"
         if re.fullmatch(r"[A-Za-z_][\w-]*", token):
-            return f'{token} is no value; a text stands in quotes, as "{token}"'
-        return f"{token} is no value"
+            return f'{token} is not a value; a text stands in quotes, as "{token}"'
+        return f"{token} is not a value"
 
     def value(self) -> Value:
         place, at_end = self.at, self.at >= len(self.text)
@@ -183,7 +183,7 @@ class Reader:
         """`key = value`, into the table."""
         parts = self.key(blanks)
         if not self.takes("="):
-            raise self.fault(f"= is missing behind {parts[-1][1]}")
+            raise self.fault(f"= is missing after {parts[-1][1]}")
         self.skip(blanks)
         for place, name in parts[:-1]:
             entry = table.is_.setdefault(name, Entry(place, Value(place, {}, closed=False)))
@@ -199,12 +199,12 @@ class Reader:
         return entry.value
 
     def twice(self, place: int, what: str, first: int) -> Fault:
-        return self.fault(f"{what} stands twice; first in line {place_of(self.text, first)[0]}", place)
+        return self.fault(f"{what} is given twice; first in line {place_of(self.text, first)[0]}", place)
 
     # The document.
 
     def header(self, top: Value, named: dict) -> Value:
-        """`[a.b]` or `[[a.b]]`: the table that the lines behind it belong to."""
+        """`[a.b]` or `[[a.b]]`: the table that the lines after it belong to."""
         many = self.takes("[")
         parts = self.key(BLANK)
         if not self.takes("]]" if many else "]"):
@@ -267,5 +267,5 @@ def read(octets: bytes) -> Value:
         octets.decode()
     except UnicodeDecodeError as wrong:
         place = len(text_of(octets[:wrong.start]))
-        raise Fault(place, f"octet {octets[wrong.start]:02x} is no text in UTF-8") from None
+        raise Fault(place, f"octet {octets[wrong.start]:02x} is not UTF-8 text") from None
     return Reader(text_of(octets)).document()

@@ -86,7 +86,7 @@ class Hex:
             return f"is {shown(value)}"
         other = [letter for letter in value.is_ if letter not in "0123456789abcdefABCDEF"]
         if other:
-            return f"has '{other[0]}', which is no hex digit"
+            return f"has '{other[0]}', which is not a hex digit"
         if len(value.is_) % 2 or (len(value.is_) != 2 * self.octets if self.exactly else len(value.is_) > 2 * self.octets):
             return f"has {len(value.is_)} hex digits"
         return None

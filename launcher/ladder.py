@@ -46,7 +46,7 @@ class Ladder:
 
     def number(self, place: int, name: str, word: str) -> int:
         if not NUMBER.fullmatch(word):
-            raise Bad(place, f"{name} is '{word}'; it must be a number in decimal, with no sign and no zero in front")
+            raise Bad(place, f"{name} is '{word}'; it must be a number in decimal, without sign or leading zero")
         if len(word) > 10:
             raise Bad(place, f"{name} is too large")
         return int(word)
@@ -79,7 +79,7 @@ class Ladder:
         self.row(1, row, ["root"])
         self.row(2, sync, ["kenb", "nh"], "sync")
         if self.rows[sync][1] != row:
-            raise Bad(2, f"sync {sync} comes of root {self.rows[sync][1]}, and not of root {row}")
+            raise Bad(2, f"sync {sync} comes from root {self.rows[sync][1]}, and not of root {row}")
 
     def star(self, row: int, pci: int, earfcn: int) -> None:
         self.row(1, row, ["kenb", "nh", "star"])
@@ -99,13 +99,13 @@ def spaced(line: str) -> list[str]:
     """The words of a line; a reason where it is not ASCII, or its words are not parted by one space."""
     other = next((letter for letter in line if not 32 < ord(letter) < 127 and letter != " "), None)
     if other == "\r":
-        raise Bad(0, "the line ends with a carriage return; it must end with a line feed alone")
+        raise Bad(0, "the line ends with a carriage return; it must end with only a line feed")
     if other is not None:
         raise Bad(0, "there is a tab; words are parted by one space" if other == "\t" else "there is a character that is not printed ASCII")
     if not line:
         raise Bad(0, "the line is empty")
     if line.startswith(" ") or line.endswith(" ") or "  " in line:
-        raise Bad(0, "words are parted by one space, with none before the first or behind the last")
+        raise Bad(0, "words are parted by one space, with none before the first or after the last")
     return line.split(" ")
 
 

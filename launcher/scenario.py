@@ -1,4 +1,4 @@
-"""The first fault of a document that is no scenario, as the program looks for it.
+"""The first fault of a document that is not a scenario, as the program looks for it.
 
 A fault is the line that the program prints for it, the place in the text, and the reason.
 """
@@ -50,7 +50,7 @@ class Table:
         return entry is None or other.kind_in(self.table).wrong(entry.value, self.setup) is not None or entry.value.is_ in words
 
     def faults(self, elsewhere: dict[str, str] | None = None) -> Iterator[Fault]:
-        """Keys that are none of the fields, and then the fields in order; `elsewhere` says which keys other tables have."""
+        """Keys that are not fields, and then the fields in order; `elsewhere` says which keys other tables have."""
         entries = self.table.entries()
         known = [field.name for field in self.fields if self.applies(field)]
         for key, entry in entries.items():
@@ -136,7 +136,7 @@ def faults_of_step(number: int, table: Value, whose: list[Field], setup: Setup) 
 
 def faults(top: Value, kind: str) -> Iterator[Fault]:
     """The faults of a document as a scenario of this kind, in the order in which the program looks for them. Only the first
-    is asked for: what is read behind it takes what stands before it to be right."""
+    is asked for: what is read after it takes what comes before it to be right."""
     setup = Setup()
     known = ["phone", "core", "station", "step"] + (["fleet"] if kind == FLEET else [])
     for key, entry in top.entries().items():

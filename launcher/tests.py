@@ -67,7 +67,7 @@ class Mistakes(unittest.TestCase):
 
     def test_octets_that_are_no_text_are_named(self):
         ran = launched("run", given=b"phone = \xff")
-        self.assertEqual((b"refused text\n", b"lte_sec: line 1, column 9: octet ff is no text in UTF-8\n"), (ran.stdout, ran.stderr))
+        self.assertEqual((b"refused text\n", b"lte_sec: line 1, column 9: octet ff is not UTF-8 text\n"), (ran.stdout, ran.stderr))
 
     def test_a_text_that_is_read_from_its_middle_is_not_judged(self):
         with tempfile.TemporaryFile() as file:
@@ -78,7 +78,7 @@ class Mistakes(unittest.TestCase):
 
 
 class Texts(unittest.TestCase):
-    """What the program takes is no mistake here."""
+    """What the program takes is not a mistake here."""
 
     def test_documents_are_those_of_tomllib(self):
         for file in [*EXAMPLES.glob("*/*.toml"), *TOP.glob("docs/cookbook/*.toml")]:
@@ -156,7 +156,7 @@ class Verdicts(unittest.TestCase):
             ran = launched("verdict", EXAMPLES / "run" / f"{name}.out")
             self.assertEqual((status, last), (ran.returncode, ran.stdout.decode().splitlines()[-2:]), name)
         ran = launched("verdict", EXAMPLES / "fleet" / "two-phones.out")
-        self.assertEqual((3, b"lte_sec: this is no report of run: it is one of fleet; sed -n 's/^0 //p' gives that of phone 0\n"), (ran.returncode, ran.stderr))
+        self.assertEqual((3, b"lte_sec: this is not a report of run: it is one of fleet; sed -n 's/^0 //p' gives that of phone 0\n"), (ran.returncode, ran.stderr))
 
     def test_only_these_of_the_kept_runs_differ(self):
         differ = set()

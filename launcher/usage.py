@@ -10,10 +10,10 @@ STEPS, SEEDS = 100_000, 2**32
 
 
 def number(name: str, word: str, low: int, high: int) -> str | None:
-    """What a number may be, where it is none of these."""
+    """What a number may be, if it is not one of these."""
     if NUMBER.fullmatch(word) and len(word) <= 10 and low <= int(word) <= high:
         return None
-    return f"{name} is '{word}'; it must be {low} to {high}, in decimal with no zero in front"
+    return f"{name} is '{word}'; it must be {low} to {high}, in decimal without a leading zero"
 
 
 def of_gen(words: list[str]) -> str | None:
@@ -32,14 +32,14 @@ def of_serve(words: list[str]) -> str | None:
         return "serve station takes one number 0 to 7"
     if actor == "station":
         return number("the station", behind[0], 0, 7)
-    return f"nothing stands behind serve {actor}" if behind else None
+    return f"serve {actor} takes no more words" if behind else None
 
 
 def reason(words: list[str], known: list[str]) -> str | None:
     """Why these words are none, where the known words are those of the launcher; None where no reason is found."""
     word, *behind = words or [""]
     if word not in known and os.path.isfile(word):
-        return f"a word stands before a file, as run {word}; ./lte_sec --help lists them"
+        return f"a word comes before the file, as run {word}; ./lte_sec --help lists them"
     if word not in known:
         return f"there is no word '{word}'{nearest(word, known) or '; ./lte_sec --help lists them'}"
     of = {"gen": of_gen, "serve": of_serve}.get(word)

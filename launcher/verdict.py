@@ -18,7 +18,7 @@ ROW = re.compile(r"row (\d+) (\w+)(?:\((\d+),?([\d,]*)\))? ([0-9a-f]{64}) \S+")
 
 
 class NoReport(Exception):
-    """Why the text is no report of `run`."""
+    """Why the text is not a report of `run`."""
 
 
 @dataclasses.dataclass(frozen=True)
@@ -56,7 +56,7 @@ def rows_of(lines: list[str]) -> dict[str, Row]:
     for line in lines:
         found = ROW.fullmatch(line)
         if not found or int(found[1]) != len(rows):
-            raise NoReport(f"'{line[:40]}' is no row of its ladder of keys")
+            raise NoReport(f"'{line[:40]}' is not a row of its ladder of keys")
         _, form, parent, more, key = found.groups()
         above = rows[int(parent)] if parent else None
         root = above.root if above else len(rows)
@@ -80,14 +80,14 @@ def read(text: str) -> Report:
     for number, line in enumerate(lines[:end]):
         found = STEP.fullmatch(line)
         if not found or int(found[1]) != number:
-            raise NoReport(f"line {number + 1} is no line of step {number}")
+            raise NoReport(f"line {number + 1} is not a line of step {number}")
         sent, note = SENT.search(found[5]), NOTE.search(found[5])
         if note:
             station = int(found[3]) if found[3] else None
             notes.append(Note(number, station, found[2], sent[1] if sent else None, note[1], note[2]))
     report = Report(notes, rows_of(lines[end + 1:]))
     if any(note.key not in report.rows for note in notes):
-        raise NoReport("a key of its steps is none of its rows")
+        raise NoReport("a key of its steps is not in its rows")
     return report
 
 
@@ -181,7 +181,7 @@ def main() -> int:
     try:
         status, lines = judged(sys.stdin.buffer.read().decode())
     except (NoReport, UnicodeDecodeError) as wrong:
-        print(f"lte_sec: this is no report of run: {wrong}", file=sys.stderr)
+        print(f"lte_sec: this is not a report of run: {wrong}", file=sys.stderr)
         return 3
     print(*lines, sep="\n")
     return status
