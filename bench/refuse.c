@@ -1,5 +1,5 @@
 // Stands before the C library's malloc and realloc, and refuses a call: the one with the number REFUSE, counted from 1, and
-// where ALL_BEHIND is set all behind it too. At the end it says on standard error how many calls there were and how many it
+// where ALL_BEHIND is set all after it too. At the end it says on standard error how many calls there were and how many it
 // refused. What the program starts does not get it.
 #include <errno.h>
 #include <stddef.h>

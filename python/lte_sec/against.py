@@ -2,7 +2,7 @@
 
     docs/cookbook/against PORT FRAMES
 
-FRAMES has each frame in a line behind `>`, and the reply that is wanted in the next line, behind `<`, in hex, as the files of
+FRAMES has each frame in a line after `>`, and the wanted reply in the next line, after `<`, in hex, as the files of
 examples/serve. At the first reply that differs its parts are shown beside the wanted ones (docs/FRAMES.md), and the status is 1.
 It is 2 where the words are others, the file does not read, or the actor is not reached or closes.
 """
@@ -43,12 +43,12 @@ def pairs_of(file: pathlib.Path) -> list[tuple[bytes, bytes]]:
     try:
         lines = [line.split() for line in file.read_text().splitlines() if line]
         if not lines or len(lines) % 2 or any(line[:1] != [">" if place % 2 == 0 else "<"] for place, line in enumerate(lines)):
-            wrong(f"{file} has no frames, each in a line behind > and its reply in the next behind <")
+            wrong(f"{file} has no frames, each in a line after > with its reply in the next after <")
         octets = [bytes.fromhex(line[1]) for line in lines]
     except OSError as fault:
         wrong(f"{file}: {fault.strerror}")
     except (ValueError, IndexError):
-        wrong(f"{file} has a line that is no frame in hex")
+        wrong(f"{file} has a line that is not a frame in hex")
     return list(zip(octets[0::2], octets[1::2]))
 
 

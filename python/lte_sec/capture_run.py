@@ -1,4 +1,4 @@
-"""Runs a scenario with each actor served behind a port, and leaves what was sent as texts for text2pcap.
+"""Runs a scenario with each actor served at a port, and leaves what was sent as texts for text2pcap.
 
     docs/cookbook/capture SCENARIO FOLDER
 
@@ -6,7 +6,7 @@ The folder gets `pdcp.txt` and `nas.txt`, and a configuration for Wireshark: its
 connection as the table `pdcp_lte_ue_keys`. The time of a packet is the step that sent it, in seconds. Where words, files or the
 scenario are others it says so in one line, with status 2, or 1 where the scenario does not run.
 
-A UE id is no phone here: the n-th air address at which something was sent, counted from 1, has 10 n for what is not
+A UE id does not mean a phone here: the n-th air address at which something was sent, counted from 1, has 10 n for what is not
 ciphered yet (the RRC Security Mode Command and its Complete) and 10 n + 1 for all else. So each id has one set of keys.
 """
 from __future__ import annotations
@@ -43,7 +43,7 @@ def cell(pair: list[int]) -> bytes:
 
 
 class Actor:
-    """An actor behind a port: `./lte_sec serve ..`, told in frames (docs/FRAMES.md)."""
+    """An actor at a port: `./lte_sec serve ..`, told in frames (docs/FRAMES.md)."""
 
     def __init__(self, *words: str):
         self.program = subprocess.Popen([PROGRAM, "serve", *words], stdin=subprocess.DEVNULL, stdout=subprocess.PIPE, stderr=subprocess.DEVNULL)
@@ -96,7 +96,7 @@ class System:
             address, octets = reply.to, reply.record
             opens = opens or (isinstance(name, int) and body[:2] == bytes([4, INITIAL_CONTEXT]))
             self.sent.append((step, name, address, octets, opens))
-            # the phone answers under the key that it took; a station sends under one just given in a new context alone
+            # the phone answers under the key that it took; a station sends under one just given only in a new context
             if reply.note and (address[0] == 4 or opens and address[0] == 0):
                 self.keys[address[1:6]] = reply.note.key
 

@@ -24,7 +24,7 @@ PACKAGE = "tshark is not here; Debian and Ubuntu have it in the package tshark (
 
 # numbers of protocol IEs: TS 36.413 9.3.7, TS 36.423 9.3.7
 NEW_X2, OLD_X2, NEW_SECURITY_CONTEXT = 9, 10, 157
-UNREADABLE = "unreadable"  # the link of a message whose fields are none that are known
+UNREADABLE = "unreadable"  # the link of a message with unknown fields
 WIDE = 65535  # an EARFCN that stands in an extension instead (TS 36.331 6.2.2, TS 36.423 9.2.26)
 
 Pairs = list[tuple[str, object]]

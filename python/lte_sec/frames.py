@@ -1,6 +1,6 @@
 """Frames of an actor, and its replies, from octets and back (docs/FRAMES.md).
 
-A frame is a length of two octets and so many octets behind it: a kind and a body. All numbers are big-endian.
+A frame is a length of two octets and that many octets after it: a kind and a body. All numbers are big-endian.
 """
 from __future__ import annotations
 
@@ -63,7 +63,7 @@ ADDRESSES: dict[int, tuple[str, tuple[tuple[str, int], ...]]] = {
 
 
 class BadFrame(Exception):
-    """Octets that are no frame or no reply: the place of the first bad octet, counted from the kind, and why."""
+    """Octets that are not a frame or not a reply: the place of the first bad octet, counted from the kind, and why."""
 
     def __init__(self, place: int, why: str):
         super().__init__(f"octet {place}: {why}")
@@ -77,17 +77,17 @@ class Octets:
         self.octets, self.place = octets, 0
 
     def take(self, size: int) -> bytes:
-        """The next octets. Where they are wanting, the end is the bad place."""
+        """The next octets. If they are missing, the end is the bad place."""
         if self.place + size > len(self.octets):
-            raise BadFrame(len(self.octets), "octets are wanting")
+            raise BadFrame(len(self.octets), "octets are missing")
         self.place += size
         return self.octets[self.place - size:self.place]
 
-    def number(self, size: int, wanted: range | tuple[int, ...] | None = None, of: str = "a number") -> int:
+    def number(self, size: int, wanted: range | tuple[int, ...] | None = None, of: str = "number") -> int:
         """The next number, which must be one of those wanted."""
         place, value = self.place, int.from_bytes(self.take(size), "big")
         if wanted is not None and value not in wanted:
-            raise BadFrame(place, f"{value} is no {of}")
+            raise BadFrame(place, f"{value} is out of range for the {of}")
         return value
 
     def rest(self, most: int) -> bytes:
@@ -115,7 +115,7 @@ def unframed(octets: bytes) -> bytes:
 
 
 def read_frame(source: BinaryIO) -> bytes | None:
-    """Kind and body of the next frame of a source: none at its end."""
+    """Kind and body of the next frame of a source, or nothing at its end."""
     head = source.read(2)
     if not head:
         return None
@@ -124,7 +124,7 @@ def read_frame(source: BinaryIO) -> bytes | None:
         raise BadFrame(0, "the length is cut" if len(head) < 2 else f"the length is {size}")
     body = source.read(size)
     if len(body) < size:
-        raise BadFrame(len(body), "octets are wanting")
+        raise BadFrame(len(body), "octets are missing")
     return body
 
 
@@ -142,10 +142,10 @@ def spelled_cell(pair: tuple[int, int]) -> bytes:
 
 
 def algorithms(octets: Octets) -> list[int]:
-    """A list of encryption algorithms, none twice."""
+    """A list of different encryption algorithms."""
     found: list[int] = []
     for _ in range(octets.number(1, (1, 2), "count of algorithms")):
-        found.append(octets.number(1, tuple({0, 2} - set(found)), "algorithm that may stand here"))
+        found.append(octets.number(1, tuple({0, 2} - set(found)), "algorithm"))
     return found
 
 
@@ -220,7 +220,7 @@ OCTETS = ("kasme", "caps")  # fields that are octets and no numbers
 
 
 def read_setup(role: str, octets: Octets) -> Input:
-    """The Setup of a role, behind its kind."""
+    """The Setup of a role, after its kind."""
     if role == "phone":
         fields: dict[str, object] = {"caps": octets.take(2)}
     else:
@@ -230,11 +230,11 @@ def read_setup(role: str, octets: Octets) -> Input:
 
 
 def read_input(role: str, first: bool, body: bytes) -> Input:
-    """What the kind and the body of a frame tell the phone, a station or the core: a Setup first, and then none."""
+    """What the kind and the body of a frame tell the phone, a station or the core: a Setup first and only first."""
     octets = Octets(body)
     kind = octets.number(1)
     if first != (kind == 0) or not first and kind not in INPUTS[role]:
-        raise BadFrame(0, f"{kind:02x} is no kind of frame for the {role} here")
+        raise BadFrame(0, f"{kind:02x} is not a kind of frame for the {role} here")
     if first:
         return read_setup(role, octets)
     name, *forms = INPUTS[role][kind]
@@ -347,7 +347,7 @@ def read_reply(body: bytes) -> Reply:
     width = sum(width for _, width in ANSWERS[answer][1])
     values = octets.take(octets.number(1, (width,), f"length of the values of {ANSWERS[answer][0]}"))
     if ANSWERS[answer][0] == "BadRecord" and values[0] not in RECORD_FAULTS:
-        raise BadFrame(octets.place - 2, f"{values[0]} is no fault of a record")
+        raise BadFrame(octets.place - 2, f"{values[0]} is not a fault of a record")
 
     def is_there(what: str) -> bool:
         return octets.number(1, (0, 1), f"mark of {what}") == 1
@@ -366,16 +366,16 @@ def read_reply(body: bytes) -> Reply:
 
 
 def differences(wanted: bytes, got: bytes) -> list[str]:
-    """What is told of two replies that differ: a line for each part, or one where a reply is none."""
+    """The differences of two replies: a line for each part, or one line if either is not a reply."""
     if wanted == got:
         return []
     try:
         have = read_reply(unframed(got)).parts()
     except BadFrame as bad:
-        return [f"what came is no reply, {bad}: {got.hex()}"]
+        return [f"what came is not a reply, {bad}: {got.hex()}"]
     try:
         want = read_reply(unframed(wanted)).parts()
     except BadFrame as bad:
-        return [f"what is wanted is no reply, {bad}: {wanted.hex()}"]
+        return [f"what is wanted is not a reply, {bad}: {wanted.hex()}"]
     return [f"{name}: wanted {want.get(name, 'none')}, got {have.get(name, 'none')}"
             for name in {**want, **have} if want.get(name) != have.get(name)]

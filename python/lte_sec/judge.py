@@ -219,7 +219,7 @@ class KeyJudge(ChainJudge):
             other.over = "done" if other is attempt else "left"
 
     def within(self, connection: Connection, message: Message, told: Command, site: Site) -> None:
-        """A handover within a station, which RRC alone shows (7.2.8.4.1)."""
+        """A handover within a station, which only RRC shows (7.2.8.4.1)."""
         cell = (site.pci, site.earfcn)
         held = [Held(self.derivations.star(one.base()[0], *cell), one.base()[1]) for one in connection.held[connection.station]]
         attempt = Attempt("within", message.frame, connection.station, site.eci, held, [one.ncc for one in held], cell)

@@ -24,7 +24,7 @@ class Short(Refused):
 
 
 class BadHeader(Refused):
-    """The first octet is none of such a PDU."""
+    """The first octet does not begin such a PDU."""
 
 
 class OtherCount(Refused):
@@ -43,7 +43,7 @@ REFUSALS: dict[int, Refused] = {
     1: OutOfRange("an argument is out of range"),
     2: CountSpent("no COUNT is left"),
     4: Short("the PDU is too short"),
-    5: BadHeader("the first octet is none of such a PDU"),
+    5: BadHeader("the first octet does not begin such a PDU"),
     7: OtherCount("the PDU has the sequence number of another COUNT"),
 }
 MAC_FAILS = 6

@@ -1,7 +1,7 @@
 """Repeated use of a key: the first key, bearer, direction and COUNT that come twice (TS 36.323 5.6, 5.7).
 
 Each line of the input has a key or UE id, bearer, direction and COUNT, parted by blanks, tabs or commas, and may have the octets of the
-PDU after them, as `tshark -T fields` prints them. The same octets again are the same PDU sent again, which is no second use.
+PDU after them, as `tshark -T fields` prints them. The same octets again are the same PDU sent again, which is not a second use.
 """
 from __future__ import annotations
 

@@ -112,7 +112,7 @@ def wireshark(words: list[str]) -> int:
 def repeats(words: list[str]) -> int:
     given = Words(words)
     if len(given.files) > 1 or given.kasmes:
-        raise TraceError("one file of uses is wanted, or none, for standard input")
+        raise TraceError("repeats takes one file of uses, or none to read standard input")
     found = first_repeat(opened(given.files[0]) if given.files else sys.stdin)
     print(found or "none")
     return 1 if found else 0

@@ -22,7 +22,7 @@ class Drive(unittest.TestCase):
     def test_one_that_is_cut_is_told_as_it_came(self) -> None:
         told = drive.told_of(f"7 differs {DONE} 0014\n".encode(), b"phone", b"\x80")
         self.assertEqual(len(told), 1)
-        self.assertTrue(told[0].startswith("step 7, phone: what came is no reply, octet ") and told[0].endswith(": 001480"))
+        self.assertTrue(told[0].startswith("step 7, phone: what came is not a reply, octet ") and told[0].endswith(": 001480"))
 
     def test_commands_become_variables_with_a_word_in_each_line(self) -> None:
         with mock.patch("shutil.which", lambda name: f"/bin/{name}"):

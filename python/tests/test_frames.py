@@ -68,8 +68,8 @@ class Frames(unittest.TestCase):
         self.assertEqual(frames.differences(done, done), [])
         self.assertEqual(frames.differences(done, bytes.fromhex("00088001000000000000")), ["answer: wanted 0 (done), got 1 (NoContext)"])
         cut = bytes.fromhex("000880000000")
-        self.assertEqual(frames.differences(done, cut), ["what came is no reply, octet 0: its length and its octets differ: 0008, 4 octets: 000880000000"])
-        self.assertIn("what is wanted is no reply", frames.differences(cut, done)[0])
+        self.assertEqual(frames.differences(done, cut), ["what came is not a reply, octet 0: its length and its octets differ: 0008, 4 octets: 000880000000"])
+        self.assertIn("what is wanted is not a reply", frames.differences(cut, done)[0])
 
     def test_a_source_ends_between_frames_or_is_cut(self) -> None:
         self.assertIsNone(frames.read_frame(io.BytesIO(b"")))
