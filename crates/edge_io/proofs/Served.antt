@@ -1,7 +1,8 @@
 -- Why a role is not served, by what failed.
-use Rattle.std.proofs.Common.{◌≡◌, ◌⊎◌, inl, inr, ℕ, Option, Some, None, List, Result, Ok, IfSome, IsSomeAnd, refl, sym, subst}
+use Rattle.std.proofs.Common.{◌≡◌, ◌⊎◌, inl, inr, ℕ, ◌<◌, Option, Some, None, List, length, get_or, slice_get, slice_set, Result, Ok, Err, IfSome, IsSomeAnd, OnOk, OnErr, refl, sym, subst}
+use Rattle.std.proofs.lemmas.Option.{slice_get_read}
 use Rattle.std.specs.declared.io.Error.{Error}
-use Rattle.edge_io.specs.Serving.{IsEnded, NotFound, NotServed}
+use Rattle.edge_io.specs.Serving.{IsEnded, NotFound, NotServed, OfNoPeer, OfPeer}
 use Rattle.edge_io.specs.declared.peers.Role.{Role}
 use Rattle.edge_io.specs.declared.programs.Program.{Program}
 use Rattle.edge_io.specs.declared.peer_fault.PeerFault.{PeerFault}
@@ -24,3 +25,34 @@ named many None role fault last Holds is (inr why) = inr tt
 named many (Some p) role fault last Holds is (inr why) =
     let Told : Option (Role × PeerFault) → Type 0 = λ o. IsSomeAnd o (λ f. (f.0 ≡ role) × Holds p f.1) in
     inr (subst Told (sym is) (refl, why))
+
+-- of these peers the one at a place took part
+pub of_peer : {P : Type 0} (number : ℕ) (before : List P) (old new : P) (Holds : P → P → Type 0) → number < length before → old ≡ get_or before number old → Holds old new → OfPeer number before (slice_set before number new) Holds
+of_peer number before old new Holds below is holds = record {
+  old = old;
+  new = new;
+  stands = slice_get_read before (length before) number old refl below is;
+  put = refl;
+  holds = holds;
+}
+
+-- what is so of the peer at a place
+pub at_number : {P : Type 0} (number : ℕ) (peers : List P) (peer : P) (Holds : P → Type 0) → number < length peers → peer ≡ get_or peers number peer → Holds peer → IfSome (slice_get peers number) Holds
+at_number {P} number peers peer Holds below is holds =
+    let At : Option P → Type 0 = λ o. IfSome o Holds in
+    subst At (sym (slice_get_read peers (length peers) number peer refl below is)) holds
+
+-- what follows from a fact at Ok, and at Err
+pub on_ok : {T E A B : Type 0} (r : Result T E) → (A → B) → OnOk r A → OnOk r B
+on_ok (Ok x) f a = f a
+on_ok (Err e) f a = a
+
+pub on_err : {T E A B : Type 0} (r : Result T E) → (A → B) → OnErr r A → OnErr r B
+on_err (Ok x) f a = a
+on_err (Err e) f a = f a
+
+-- a peer took part, and the peers stayed so
+pub took_part : {P : Type 0} (number : ℕ) (before mid after : List P) (Holds : P → P → Type 0) → after ≡ mid → OfPeer number before mid Holds → OfNoPeer number before after ⊎ OfPeer number before after Holds
+took_part {P} number before mid after Holds same of =
+    let At : List P → Type 0 = λ ps. OfPeer number before ps Holds in
+    inr (subst At (sym same) of)

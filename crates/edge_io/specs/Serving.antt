@@ -1,7 +1,8 @@
 -- Which program serves a role, and how it is started, reached and ended, by what each call on the host answers.
-use Rattle.std.specs.Prelude.{◌≡◌, ◌⊎◌, ℕ, Option, List, ◌++◌, map, string_bytes, Result, Ok}
+use Rattle.std.specs.Prelude.{◌≡◌, ◌⊎◌, ℕ, Option, Some, None, IsSomeAnd, List, ◌++◌, map, string_bytes, slice_set, Result, Ok}
 use Rattle.std.specs.Option.{option_flatten}
 use Rattle.std.specs.List.{slice_get}
+use Rattle.std.specs.Io.KnownBytes.{Appends, Consumes}
 use Rattle.std.specs.Path.{path_buf_bytes}
 use Rattle.std.specs.declared.io.Error.{Error}
 use Rattle.edge_io.specs.Opening.{Fails, loopback}
@@ -80,3 +81,30 @@ pub record LastCallFails {C X : Type 0} (answers : X → C → Result ℕ Error 
   pub asked : X
   pub before : C
   pub fails : GivesUp (answers asked) before after ⊎ LastAnswers (answers asked) (Ok 0) before after
+
+-- Here `contents` and `remaining` are what a connection was given to write and has still to give, where it tells them.
+
+-- these octets were sent over a connection
+abbrev pub IsSent : {C : Type 0} → (C → Option (List ℕ)) → List ℕ → Option C → Option C → Type 0
+IsSent contents octets before after = IsSomeAnd before (λ old. IsSomeAnd after (λ new. Appends (contents old) (contents new) octets))
+
+-- these octets came over a connection
+abbrev pub IsFilled : {C : Type 0} → (C → Option (List ℕ)) → List ℕ → Option C → Option C → Type 0
+IsFilled remaining octets before after = IsSomeAnd before (λ old. IsSomeAnd after (λ new. Consumes (remaining old) (remaining new) octets))
+
+-- A connection was closed, or the last call on it was given up, or gave or took nothing.
+abbrev pub IsCut : {C X : Type 0} → (X → C → Result ℕ Error → C → Type 0) → Option C → Option C → Type 0
+IsCut answers before after = (before ≡ None) ⊎ IsSomeAnd after (LastCallFails answers)
+
+-- of these peers only the one with this number took part, and this is so of it before and after
+pub record OfPeer {P : Type 0} (number : ℕ) (before after : List P) (Holds : P → P → Type 0) : Type 0 where
+  pub old : P
+  pub new : P
+  pub stands : slice_get before number ≡ Some old
+  pub put : after ≡ slice_set before number new
+  pub holds : Holds old new
+
+-- no peer has this number, and nothing was done to those that there are
+pub record OfNoPeer {P : Type 0} (number : ℕ) (before after : List P) : Type 0 where
+  pub missing : slice_get before number ≡ None
+  pub same : after ≡ before

@@ -1,9 +1,9 @@
-ghost use Rattle.std.specs.Prelude.{◌≡◌, ◌+◌, ◌-◌, ◌^◌, ◌≤◌, ◌⊎◌, min, length, take, IfOk, IfErr, IfSome, IsSomeAnd, IsErrOf, OnOk, OnErr, None, Some};
+ghost use Rattle.std.specs.Prelude.{◌≡◌, ◌+◌, ◌-◌, ◌^◌, ◌≤◌, ◌<◌, ◌⊎◌, min, length, take, IfOk, IfErr, IfSome, IsSomeAnd, IsErrOf, OnOk, OnErr, None, Some};
 ghost use Rattle.std.specs.Option.{option_map};
 ghost use Rattle.std.specs.List.{slice_get};
-ghost use Rattle.edge_io.specs.Cause.{Rose};
-ghost use Rattle.edge_io.specs.Peers.{started};
-ghost use Rattle.edge_io.specs.Serving.{IsServed, NotServed, program_of, start_of};
+ghost use Rattle.edge_io.specs.Cause.{Rose, HasCause};
+ghost use Rattle.edge_io.specs.Peers.{IsRunning, SendFailed, ReceiveFailed, sent_to, started, stopped_at, taken_from, to_give_of};
+ghost use Rattle.edge_io.specs.Serving.{IsCut, IsEnded, IsFilled, IsSent, IsServed, NotServed, OfPeer, OfNoPeer, program_of, start_of};
 
 use crate::failed::Failed;
 use crate::host::Host;
@@ -67,6 +67,7 @@ impl<H: Host + Drop> ChildPeers<H> {
         ensures failed { self.new.failed ≡ Some (role, fault) }
         ensures peers { self.new.peers ≡ self.old.peers }
         ensures programs { self.new.programs ≡ self.old.programs }
+        ensures heard { self.new.heard ≡ self.old.heard }
     {
         self.failed = Some((role, fault));
         self.faults = self.faults.saturating_add(1);
@@ -74,6 +75,7 @@ impl<H: Host + Drop> ChildPeers<H> {
 
     // Keeps what a peer had still to say, as far as there is memory for it.
     fn keep_rest(&mut self, role: Role, octets: &[u8])
+        ensures peers { self.new.peers ≡ self.old.peers }
         ensures faults { ⟦<ChildPeers<H> as Peers>⟧.faults self.new ≡ ⟦<ChildPeers<H> as Peers>⟧.faults self.old }
     {
         if let Ok(octets) = octets.to_vec(self.alloc) {
@@ -114,6 +116,46 @@ fn start_next<H: Host>(
     Ok(place)
 }
 
+// Sends to the peer at a place.
+fn send_at<H: Host>(
+    peers: &mut Vec<ServedChild<H>>,
+    place: usize,
+    octets: &[u8],
+) -> Result<(), Failed>
+    requires { place < length peers.old.items }
+    ensures sent { OnOk result (OfPeer place peers.old.items peers.new.items (λ old new.
+        (new.role ≡ old.role) × (new.process ≡ old.process) × IsSent H.Stream.contents octets.now old.connection new.connection)) }
+    ensures failed { OnErr result (OfPeer place peers.old.items peers.new.items (λ old new.
+        (new.role ≡ old.role) × (new.process ≡ old.process) × IsCut H.Stream.Writer.answers old.connection new.connection)) }
+{
+    peers[place].send(octets)
+}
+
+// Receives from the peer at a place.
+fn receive_at<H: Host>(
+    peers: &mut Vec<ServedChild<H>>,
+    place: usize,
+    buf: &mut [u8],
+) -> Result<(), Failed>
+    requires { place < length peers.old.items }
+    ensures filled { OnOk result (OfPeer place peers.old.items peers.new.items (λ old new.
+        (new.role ≡ old.role) × (new.process ≡ old.process) × IsFilled H.Stream.remaining buf.new old.connection new.connection)) }
+    ensures failed { OnErr result (OfPeer place peers.old.items peers.new.items (λ old new.
+        (new.role ≡ old.role) × (new.process ≡ old.process) × IsCut H.Stream.Reader.answers old.connection new.connection)) }
+{
+    peers[place].receive(buf)
+}
+
+// Stops the peer at a place, and answers how many octets it had still to say.
+fn stop_at<H: Host>(peers: &mut Vec<ServedChild<H>>, place: usize, rest: &mut [u8]) -> usize
+    requires { place < length peers.old.items }
+    ensures ended { OfPeer place peers.old.items peers.new.items (λ old new.
+        (new.role ≡ old.role) × (new.connection ≡ None) × IsEnded H.kills H.waits old.process new.process) }
+    ensures count { result ≤ length rest.old }
+{
+    peers[place].stop(rest)
+}
+
 impl<H: Host + Drop> Peers for ChildPeers<H> {
     ghost use Rattle.std.proofs.Common.{rules};
 
@@ -136,6 +178,8 @@ impl<H: Host + Drop> Peers for ChildPeers<H> {
         ensures count { ⟦<ChildPeers<H> as Peers>⟧.faults self.old ≤ ⟦<ChildPeers<H> as Peers>⟧.faults self.new }
 
         // The peer is the program of the role, started with the words of the role, and reached on 127.0.0.1 at the port that it said.
+        // Its number is its place among those started.
+        ensures number { IfOk result (λ number. number ≡ length self.old.peers.items) }
         ensures served { OnOk result (IsSomeAnd (program_of role self.old.programs) (λ program.
             IsSomeAnd (slice_get self.new.peers.items (length self.old.peers.items)) (λ child. (child.role ≡ role) × IsSomeAnd child.connection
             (IsServed (start_of (H.starts self.old.host) program role) H.Said.remaining (H.connects self.old.host) child.process child.said)))) }
@@ -164,43 +208,103 @@ impl<H: Host + Drop> Peers for ChildPeers<H> {
         }
     }
 
-    fn send(&mut self, peer: u8, octets: &[u8]) -> Result<(), Failed> {
-        let Some(child) = self.peers.get_mut(peer as usize) else {
+    /// It sends them to the program that was started with this number. It fails where no program has it, or the
+    /// send to that one fails.
+    fn send(&mut self, peer: u8, octets: &[u8]) -> Result<(), Failed>
+        requires { IfSome (⟦<ChildPeers<H> as Peers>⟧.told self.old) (IsRunning peer) }
+        ensures all { OnOk result (⟦<ChildPeers<H> as Peers>⟧.told self.new
+            ≡ option_map (sent_to peer octets.now) (⟦<ChildPeers<H> as Peers>⟧.told self.old)) }
+        ensures prefix { OnErr result (SendFailed peer octets.now
+            (⟦<ChildPeers<H> as Peers>⟧.told self.old) (⟦<ChildPeers<H> as Peers>⟧.told self.new)) }
+        ensures cause { HasCause (⟦<ChildPeers<H> as Peers>⟧.faults self.old) (⟦<ChildPeers<H> as Peers>⟧.faults self.new) result }
+        ensures no_fault { OnOk result (⟦<ChildPeers<H> as Peers>⟧.faults self.new ≡ ⟦<ChildPeers<H> as Peers>⟧.faults self.old) }
+        ensures count { ⟦<ChildPeers<H> as Peers>⟧.faults self.old ≤ ⟦<ChildPeers<H> as Peers>⟧.faults self.new }
+
+        // Which peer it is, and what was done to it.
+        ensures sent { OnOk result (OfPeer peer self.old.peers.items self.new.peers.items (λ old new.
+            (new.role ≡ old.role) × (new.process ≡ old.process) × IsSent H.Stream.contents octets.now old.connection new.connection)) }
+        ensures failed { OnErr result (OfNoPeer peer self.old.peers.items self.new.peers.items
+            ⊎ OfPeer peer self.old.peers.items self.new.peers.items (λ old new.
+            (new.role ≡ old.role) × (new.process ≡ old.process) × IsCut H.Stream.Writer.answers old.connection new.connection)) }
+        ensures named { OnErr result (IfSome (slice_get self.old.peers.items peer) (λ child.
+            self.new.failed ≡ Some (child.role, PeerFault.NotSent))) }
+    {
+        let place = peer as usize;
+        if place >= self.peers.len() {
             self.faults = self.faults.saturating_add(1);
             return Err(Failed);
-        };
-        let role = child.role;
-        let sent = child.send(octets);
-        if let Err(Failed) = sent {
-            self.count_fault(role, PeerFault::NotSent);
         }
-        sent
+        let role = self.peers[place].role;
+        match send_at(&mut self.peers, place, octets) {
+            Ok(()) => Ok(()),
+            Err(Failed) => {
+                self.count_fault(role, PeerFault::NotSent);
+                Err(Failed)
+            }
+        }
     }
 
-    fn receive(&mut self, peer: u8, buf: &mut [u8]) -> Result<(), Failed> {
-        let Some(child) = self.peers.get_mut(peer as usize) else {
+    /// It waits for the program that was started with this number. It fails where no program has it, or the receipt
+    /// from that one fails.
+    fn receive(&mut self, peer: u8, buf: &mut [u8]) -> Result<(), Failed>
+        requires { IfSome (⟦<ChildPeers<H> as Peers>⟧.told self.old) (IsRunning peer) }
+        ensures full { OnOk result (IfSome (⟦<ChildPeers<H> as Peers>⟧.told self.old) (λ t.
+            take (length buf.old) (to_give_of peer t.peers) ≡ buf.new)) }
+        ensures taken { OnOk result (⟦<ChildPeers<H> as Peers>⟧.told self.new
+            ≡ option_map (taken_from peer (length buf.old)) (⟦<ChildPeers<H> as Peers>⟧.told self.old)) }
+        ensures prefix { OnErr result (ReceiveFailed peer (length buf.old)
+            (⟦<ChildPeers<H> as Peers>⟧.told self.old) (⟦<ChildPeers<H> as Peers>⟧.told self.new)) }
+        ensures cause { HasCause (⟦<ChildPeers<H> as Peers>⟧.faults self.old) (⟦<ChildPeers<H> as Peers>⟧.faults self.new) result }
+        ensures no_fault { OnOk result (⟦<ChildPeers<H> as Peers>⟧.faults self.new ≡ ⟦<ChildPeers<H> as Peers>⟧.faults self.old) }
+        ensures count { ⟦<ChildPeers<H> as Peers>⟧.faults self.old ≤ ⟦<ChildPeers<H> as Peers>⟧.faults self.new }
+
+        // Which peer it is, and what was done to it.
+        ensures filled { OnOk result (OfPeer peer self.old.peers.items self.new.peers.items (λ old new.
+            (new.role ≡ old.role) × (new.process ≡ old.process) × IsFilled H.Stream.remaining buf.new old.connection new.connection)) }
+        ensures failed { OnErr result (OfNoPeer peer self.old.peers.items self.new.peers.items
+            ⊎ OfPeer peer self.old.peers.items self.new.peers.items (λ old new.
+            (new.role ≡ old.role) × (new.process ≡ old.process) × IsCut H.Stream.Reader.answers old.connection new.connection)) }
+        ensures named { OnErr result (IfSome (slice_get self.old.peers.items peer) (λ child.
+            self.new.failed ≡ Some (child.role, PeerFault.NoReply))) }
+        ensures heard { IfSome (slice_get self.old.peers.items peer) (λ child. self.new.heard ≡ Some child.role) }
+    {
+        let place = peer as usize;
+        if place >= self.peers.len() {
             self.faults = self.faults.saturating_add(1);
             return Err(Failed);
-        };
-        let role = child.role;
-        let received = child.receive(buf);
-        self.heard = Some(role);
-        if let Err(Failed) = received {
-            self.count_fault(role, PeerFault::NoReply);
         }
-        received
+        let role = self.peers[place].role;
+        self.heard = Some(role);
+        match receive_at(&mut self.peers, place, buf) {
+            Ok(()) => Ok(()),
+            Err(Failed) => {
+                self.count_fault(role, PeerFault::NoReply);
+                Err(Failed)
+            }
+        }
     }
 
     /// It closes the connection, ends the program and waits until it has ended. What the program had still to
     /// say is kept.
-    fn stop(&mut self, peer: u8) {
-        let Some(child) = self.peers.get_mut(peer as usize) else {
+    fn stop(&mut self, peer: u8)
+        requires { IfSome (⟦<ChildPeers<H> as Peers>⟧.told self.old) (IsRunning peer) }
+        ensures told { ⟦<ChildPeers<H> as Peers>⟧.told self.new
+            ≡ option_map (stopped_at peer) (⟦<ChildPeers<H> as Peers>⟧.told self.old) }
+        ensures no_fault { ⟦<ChildPeers<H> as Peers>⟧.faults self.new ≡ ⟦<ChildPeers<H> as Peers>⟧.faults self.old }
+
+        // Which peer it is, and what was done to it.
+        ensures ended { OfNoPeer peer self.old.peers.items self.new.peers.items
+            ⊎ OfPeer peer self.old.peers.items self.new.peers.items (λ old new. (new.role ≡ old.role) × (new.connection ≡ None)
+            × IsEnded H.kills H.waits old.process new.process) }
+    {
+        let place = peer as usize;
+        if place >= self.peers.len() {
             return;
-        };
+        }
+        let role = self.peers[place].role;
         let mut rest = [0u8; REST];
-        let count = child.stop(&mut rest);
+        let count = stop_at(&mut self.peers, place, &mut rest);
         if count > 0 {
-            let role = child.role;
             self.keep_rest(role, &rest[..count]);
         }
     }

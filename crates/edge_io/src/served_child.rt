@@ -1,7 +1,7 @@
-ghost use Rattle.std.specs.Prelude.{◌≡◌, ◌⊎◌, ◌≤◌, length, Ok, IfOk, IfErr, IfSome, IsSomeAnd, OnOk, OnErr, None};
+ghost use Rattle.std.specs.Prelude.{◌≡◌, ◌≤◌, length, Ok, IfOk, IfErr, IsSomeAnd, OnOk, OnErr, None};
 ghost use Rattle.std.specs.Io.KnownBytes.{Appends, Consumes};
 ghost use Rattle.edge_io.specs.Opening.{loopback};
-ghost use Rattle.edge_io.specs.Serving.{IsEnded, IsServed, LastCallFails, NotFound, NotServed, Says, start_of};
+ghost use Rattle.edge_io.specs.Serving.{IsCut, IsEnded, IsFilled, IsSent, IsServed, LastCallFails, NotFound, NotServed, Says, start_of};
 
 use crate::failed::Failed;
 use crate::host::Host;
@@ -76,10 +76,10 @@ impl<H: Host> ServedChild<H> {
 
     /// Sends all these octets. `Failed` where the connection is closed, or a write failed or took nothing.
     pub(crate) fn send(&mut self, octets: &[u8]) -> Result<(), Failed>
-        ensures sent { OnOk result (IfSome self.old.connection (λ old. IfSome self.new.connection (λ new.
-            Appends (H.Stream.contents old) (H.Stream.contents new) octets.now))) }
-        ensures failed { OnErr result (self.old.connection ≡ None
-            ⊎ IfSome self.new.connection (LastCallFails H.Stream.Writer.answers)) }
+        ensures sent { OnOk result (IsSent H.Stream.contents octets.now self.old.connection self.new.connection) }
+        ensures failed { OnErr result (IsCut H.Stream.Writer.answers self.old.connection self.new.connection) }
+        ensures role { self.new.role ≡ self.old.role }
+        ensures process { self.new.process ≡ self.old.process }
     {
         match &mut self.connection {
             Some(connection) => send_all(connection, octets),
@@ -90,10 +90,10 @@ impl<H: Host> ServedChild<H> {
     /// Fills the buffer with the next octets. `Failed` where the connection is closed, or ends before that, or a
     /// read failed.
     pub(crate) fn receive(&mut self, buf: &mut [u8]) -> Result<(), Failed>
-        ensures filled { OnOk result (IfSome self.old.connection (λ old. IfSome self.new.connection (λ new.
-            Consumes (H.Stream.remaining old) (H.Stream.remaining new) buf.new))) }
-        ensures failed { OnErr result (self.old.connection ≡ None
-            ⊎ IfSome self.new.connection (LastCallFails H.Stream.Reader.answers)) }
+        ensures filled { OnOk result (IsFilled H.Stream.remaining buf.new self.old.connection self.new.connection) }
+        ensures failed { OnErr result (IsCut H.Stream.Reader.answers self.old.connection self.new.connection) }
+        ensures role { self.new.role ≡ self.old.role }
+        ensures process { self.new.process ≡ self.old.process }
     {
         match &mut self.connection {
             Some(connection) => fill(connection, buf),
@@ -106,6 +106,7 @@ impl<H: Host> ServedChild<H> {
     pub(crate) fn stop(&mut self, rest: &mut [u8]) -> usize
         ensures closed { self.new.connection ≡ None }
         ensures ended { IsEnded H.kills H.waits self.old.process self.new.process }
+        ensures role { self.new.role ≡ self.old.role }
         ensures count { result ≤ length rest.old }
     {
         let mut count = 0;
