@@ -8,7 +8,7 @@ BEARERS = {0x01: "srb1", 0x02: "srb2", 0x81: "drb1", 0x82: "drb2", 0x83: "drb3",
 # The answers of an actor, and how many octets its values take (docs/FRAMES.md).
 KEPT = {0: 0, 1: 0, 2: 2, 3: 4, 4: 1, 5: 12, 6: 0, 7: 0, 8: 0, 9: 2, 10: 0, 11: 1, 13: 1, 20: 0, 21: 0, 22: 0, 23: 0, 30: 0}
 KEPT |= {31: 8, 32: 8, 33: 0, 34: 0, 35: 0, 36: 4, 37: 0, 38: 0, 39: 8, 40: 0, 41: 0, 42: 0, 43: 0, 44: 0}
-# The values of an address, behind its tag.
+# The values of an address, after its tag.
 ADDRESSES = {0: 6, 1: 0, 2: 0, 3: 0, 4: 6, 5: 1, 6: 1}
 
 

@@ -262,7 +262,7 @@ def text_of(octets: bytes) -> str:
 
 
 def read(octets: bytes) -> Value:
-    """The table at the top of a document; a fault where the text is none."""
+    """The table at the top of a document; a fault if the text is not one."""
     try:
         octets.decode()
     except UnicodeDecodeError as wrong:

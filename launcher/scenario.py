@@ -30,7 +30,7 @@ def nearest(word: str, words: list[str]) -> str:
 
 
 def only(where: str | None) -> str:
-    """Where alone a key may stand, as the end of a sentence."""
+    """The only place where a key may stand, as the end of a sentence."""
     return f"; only {where} has it" if where else ""
 
 

@@ -67,7 +67,7 @@ def rows_of(lines: list[str]) -> dict[str, Row]:
 
 
 def read(text: str) -> Report:
-    """A report; a reason where the text is none."""
+    """A report; a reason if the text is not one."""
     lines = text.splitlines()
     if lines and re.match(r"\d+ 0 (both|phone|core|world|station)", lines[0]):
         raise NoReport("it is one of fleet; sed -n 's/^0 //p' gives that of phone 0")

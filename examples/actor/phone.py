@@ -4,7 +4,7 @@
     ./lte_sec drive --phone 'python3 examples/actor/phone.py' examples/run/ordinary.toml
 
 What a phone does in other scenarios is left to be written: it ends with a line that says what came. Where a MAC is wrong, or the
-message is none of those, it answers with what stands in docs/FRAMES.md, so that a difference is found at its step.
+message is not one of those, it answers with what docs/FRAMES.md says, so that a difference is found at its step.
 """
 from __future__ import annotations
 

@@ -94,7 +94,7 @@ class KeyJudge(ChainJudge):
         return unseen or self.other_star(connection, message, held, next((one for one in wanted if NONE not in one[0].form), wanted[0]), cell)
 
     def star_of_unseen(self, connection: Connection, message: Message, cell: tuple[int, int]) -> list[Held]:
-        """A KeNB* from an NH that the source was to get, in an answer that the trace lacks; empty where it is none."""
+        """A KeNB* from an NH that the source was to get, in an answer that the trace lacks; empty if it is not one."""
         chains = [self.numbered(connection, number) for number in sorted(connection.missed)]
         if connection.asked:
             chains += [chain.step(self.derivations, steps) for chain in connection.core for steps in self.steps(connection, chain)]

@@ -1,4 +1,4 @@
-"""A trace message by message: which connection of which phone each belongs to, and what is judged of it."""
+"""A trace message by message: which connection of which phone each belongs to, and how it is judged."""
 from __future__ import annotations
 
 from collections.abc import Iterator
@@ -42,7 +42,7 @@ class Trace:
         self.targets: dict[Leg, tuple[Connection, Attempt]] = {}  # by core's end and the target's MME-UE-S1AP-ID
         self.answers: dict[bytes, tuple[Connection, Attempt]] = {}  # by the container that comes back
         self.x2: dict[tuple[str, str, int | None], tuple[Connection, Attempt]] = {}
-        self.commands: list[tuple[Connection, Attempt]] = []  # of which RRC may still show the command
+        self.commands: list[tuple[Connection, Attempt]] = []  # RRC may still show their command
         self.ends: dict[str, str] = {}
         self.alias: dict[str, str] = {}
         self.connections: list[Connection] = []

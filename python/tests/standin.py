@@ -1,4 +1,4 @@
-"""The calls of Annexes A and B from the standard library alone: what the tests use where the proved calls are not built."""
+"""The calls of Annexes A and B in pure Python: the tests use them if the proved calls are not built."""
 from __future__ import annotations
 
 import functools
