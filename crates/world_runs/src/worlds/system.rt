@@ -29,14 +29,10 @@ pub(crate) enum Do {
     Auth,
     Smc,
     Connect(At),
-    Service,
-    Idle,
-    Resend,
     Up,
     Down,
     Start(HoKind, At, At),
     Command(At),
-    Cancel(At),
     Last,
     Deliver(i64),
 }
@@ -141,9 +137,6 @@ fn event(rt: &impl Abort, step: Do) -> Event
         Do::Auth => Event::Auth(0, KASME, CAPS),
         Do::Smc => Event::Core(CoreAct::StartSmc),
         Do::Connect(at) => Event::Core(CoreAct::Connect(cell(rt, at))),
-        Do::Service => Event::Phone(PhoneAct::ServiceRequest),
-        Do::Idle => Event::Phone(PhoneAct::GoIdle),
-        Do::Resend => Event::Phone(PhoneAct::ResendComplete),
         Do::Up => Event::Phone(PhoneAct::SendUser(Bearer::Drb1, hi())),
         Do::Down => Event::Station(0, StationAct::SendUser(Bearer::Drb1, ok())),
         Do::Start(kind, at, to) => Event::Station(
@@ -151,7 +144,6 @@ fn event(rt: &impl Abort, step: Do) -> Event
             StationAct::Start(kind, cell(rt, to)),
         ),
         Do::Command(at) => Event::Station(number(at), StationAct::Command),
-        Do::Cancel(at) => Event::Station(number(at), StationAct::Cancel),
         Do::Last => Event::Deliver(-1),
         Do::Deliver(i) => Event::Deliver(i),
     }
