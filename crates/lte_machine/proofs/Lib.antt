@@ -1,3 +1,8 @@
+pub mod Tests
+pub mod RecordFacts
+pub mod AirFacts
+pub mod StationActFacts
+pub mod StationCases
 pub mod Opens
 pub mod AnnexB
 pub mod PhoneMap
@@ -27,7 +32,6 @@ pub mod Rows
 pub mod History
 pub mod RangeKeys
 pub mod RangeHolds
-pub mod RangeChoice
 pub mod RangeStation
 pub mod RangeCore
 pub mod RangePhone

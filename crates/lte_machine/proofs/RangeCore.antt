@@ -27,7 +27,7 @@ use Rattle.lte_machine.specs.CoreChoice.{PlainCore, PlainCoreInput, path_switch_
 use Rattle.lte_machine.specs.CoreKeys.{CoreDone, authenticated, smc_started, smc_complete, service_asked, nas_opened, sealed_reject, nas_sent, nas_skipped, context_set_up, path_switched, handover_asked, handover_notified, core_does_nas, core_does_record, core_does_act, core_does, key_changed}
 use Rattle.lte_machine.specs.CoreStep.{plain_core, core_front_of, core_root, core_step}
 use Rattle.lte_machine.proofs.RangeHolds.{SentRanged, PartialRanged, CoreContextRanged, LinkRanged, CoreRanged, ReadRanged, CoreInputRanged}
-use Rattle.lte_machine.proofs.RangeChoice.{by_test}
+use Rattle.lte_machine.proofs.Tests.{by_test}
 use Rattle.lte_machine.proofs.RangeStation.{three_bits}
 use Rattle.nas_rec.specs.Reading.{read_nas}
 use Rattle.nas_rec.specs.declared.records.NasRecord.{NasRecord}

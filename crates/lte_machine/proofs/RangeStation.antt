@@ -1,27 +1,36 @@
 -- A station's step keeps its state in range, and what it sends on S1 and X2 is in range.
-use Rattle.std.proofs.Common.{ℕ, ◌+◌, ◌≤◌, Bool, true, false, cond, List, [], ◌∷◌, ◌++◌, Option, Some, None, option_map, Ok, Err, arith}
+use Rattle.std.proofs.Common.{◌≡◌, sym, subst, ℕ, ◌+◌, ◌≤◌, ◌<◌, Bool, true, false, cond, List, [], ◌∷◌, ◌++◌, Option, Some, None, option_map, Ok, Err, arith}
 use Rattle.std.specs.Prelude.{filter, not, nat_le}
 use Rattle.alg_choice.specs.declared.algs.Algs.{Algs}
-use Rattle.alg_choice.specs.declared.caps.Caps.{Caps}
 use Rattle.annex_a_keys.specs.Cell.{Place, IsCell}
+use Rattle.lte_events.specs.declared.acts.HoKind.{HoKind}
+use Rattle.lte_events.specs.declared.acts.StationAct.{StationAct}
 use Rattle.key_model.specs.Chain.{ncc_of}
-use Rattle.key_model.specs.HandoverTable.{NumberedKey}
 use Rattle.key_model.specs.Reading.{Reading, term_reading_by}
 use Rattle.key_model.specs.Term.{Term}
-use Rattle.s1x2_rec.specs.Spelling.{IsNumber, IsCaps}
-use Rattle.ho_prep.specs.Prep.{Prep, at_air, is_of}
+use Rattle.s1x2_rec.specs.Content.{map_content}
+use Rattle.s1x2_rec.specs.Fields.{Fields, InitialContext, ContextModification}
+use Rattle.s1x2_rec.specs.Spelling.{IsNumber, IsCaps, FieldsInRange}
+use Rattle.ho_prep.specs.declared.origins.By.{By}
+use Rattle.ho_prep.specs.Prep.{Prep, at_air, is_of, is_at}
 use Rattle.x2_handover.specs.declared.orders.Order.{Order}
-use Rattle.lte_machine.specs.Bearers.{Srb, Drb}
+use Rattle.x2_handover.specs.Attempt.{X2Start}
+use Rattle.s1_handover.specs.Attempt.{S1Start}
+use Rattle.lte_machine.specs.Bearers.{Which, which}
 use Rattle.lte_machine.specs.Opening.{Outcome}
-use Rattle.lte_machine.specs.Ranges.{AllOf}
+use Rattle.lte_machine.specs.Ranges.{AllOf, IsStationAct}
 use Rattle.lte_machine.specs.Reply.{Origin, Reply, unseen}
-use Rattle.lte_machine.specs.StationState.{Station, Context, Attempt, OverX2, OverS1, Within, X2Open, X2Ready, X2Commanded, S1Open, S1Ready, S1Commanded, StationInput, StationActs, AirPdu, StationRecord, map_context, map_attempt, map_preps, map_station_input, Renewal, Renewing}
-use Rattle.lte_machine.specs.StationRows.{Admitted, RecordRow, RecordRefused, ContextGiven, ContextReleased, PairTaken, PreparedByS1, PreparedByX2, AckedByS1, AckedByX2, PreparationCancelled, SourceReleased, AirRow, AirRefused, SecurityStarted, RrcOpened, PacketOpened, CompletedByS1, CompletedWithin, CompletedByX2, ActRow, ActRefused, StartedByX2, StartedByS1, StartedWithin, HandoverCommanded, CancelledByX2, CancelledByS1, CancelledWithin, PathSwitchAsked, PacketSent, RrcSent, BearerSkipped, StationRow, OfRecord, OfAir, OfAct, KeyRenewed, ChangeCommanded}
-use Rattle.lte_machine.specs.StationKeys.{commanded, given_up, with_security, with_rrc_taken, with_packet_taken, with_skipped, completed_by_s1, completed_within, completed_by_x2, started_by_x2, started_by_s1, started_within, commands, asks_again, sends_packet, sends_rrc, air_does, act_does, station_does, commands_change}
-use Rattle.lte_machine.specs.StationRecords.{s1_acked, x2_acked, with_pair, with_s1_ack, with_x2_ack, source_release, context_given, pair_taken, prepared_by_s1, prepared_by_x2, record_does, key_renewed}
-use Rattle.lte_machine.specs.StationStep.{plain_station, station_row_of, station_key, station_step}
-use Rattle.lte_machine.proofs.RangeHolds.{SentRanged, OriginRanged, AttemptRanged, ContextRanged, PrepRanged, PrepIs, StationRanged, StationInputRanged}
-use Rattle.lte_machine.proofs.RangeChoice.{AdmittedRanged, RecordRowRanged, AirRowRanged, ActRowRanged, RowRanged, found_ranged, row_ranged}
+use Rattle.lte_machine.specs.StationState.{Station, Context, Attempt, OverX2, OverS1, Within, X2State, X2Open, X2Ready, X2Commanded, S1State, S1Open, S1Ready, S1Commanded, Interface, StationInput, StationActs, AirPdu, StationRecord, Renewing}
+use Rattle.lte_machine.specs.StationRows.{Admitted}
+use Rattle.lte_machine.specs.StationKeys.{commanded, given_up, with_security, with_rrc_taken, with_packet_taken, with_skipped}
+use Rattle.lte_machine.specs.StationRecords.{s1_acked, x2_acked, with_pair, with_s1_ack, with_x2_ack, source_release}
+use Rattle.lte_machine.specs.StationStep.{plain_station, station_step}
+use Rattle.lte_machine.specs.StationChoice.{record_row, air_front, air_row, act_row}
+use Rattle.lte_machine.proofs.RangeHolds.{SentRanged, OriginRanged, ByRanged, X2Ranged, S1Ranged, AttemptRanged, ContextRanged, PrepRanged, PrepIs, StationRanged, StationInputRanged}
+use Rattle.lte_machine.proofs.StationCases.{RecordCases, AirCases, ActCases, record_case, air_case, act_case}
+use Rattle.lte_machine.proofs.RecordFacts.{Admits, RecordHas, record_has}
+use Rattle.lte_machine.proofs.AirFacts.{AtPrepared, AirHas, air_has}
+use Rattle.lte_machine.proofs.StationActFacts.{Starts, X2Began, S1Began, CancelsX2, CancelsS1, StationActHas, station_act_has}
 
 -- LISTS
 
@@ -46,36 +55,31 @@ next_up n = omega arith
 pub three_bits : (n : ℕ) → ncc_of n ≤ 7
 three_bits n = omega arith
 
--- WITHOUT KEYS
+-- a number that was drawn has 32 bits
+drawn : (number next : ℕ) → number ≡ next → next < 4294967296 → 1 ≤ next → IsNumber number
+drawn number next e lt low = subst IsNumber (sym e) (low, lt)
 
-attempt_plain : {K C : Type 0} (r : Reading K C) (o : Option (Attempt K C)) → AttemptRanged o → AttemptRanged (option_map (map_attempt unseen r.ncc) o)
-attempt_plain r None h = tt
-attempt_plain r (Some (OverX2 (X2Open start))) h = h
-attempt_plain r (Some (OverX2 (X2Ready acked))) h = h
-attempt_plain r (Some (OverX2 (X2Commanded sent))) h = tt
-attempt_plain r (Some (OverS1 state)) h = h
-attempt_plain r (Some (Within (X2Open start))) h = h
-attempt_plain r (Some (Within (X2Ready acked))) h = h
-attempt_plain r (Some (Within (X2Commanded sent))) h = tt
-attempt_plain r (Some (Renewing renewal)) h = tt
+-- PARTS OF A STATION
 
-context_plain : {K C : Type 0} (r : Reading K C) (o : Option (Context K C)) → ContextRanged o → ContextRanged (option_map (map_context unseen r.ncc) o)
-context_plain r None h = tt
-context_plain r (Some c) h = (h.0, h.1, h.2, attempt_plain r c.attempt h.3, h.4)
+found_by : {K C : Type 0} (b : Bool) (p : Prep K C) (o : Option (Prep K C)) → PrepRanged p → PrepIs o → PrepIs (cond b (Some p) o)
+found_by true p o h k = h
+found_by false p o h k = k
 
-preps_plain : {K C : Type 0} (r : Reading K C) (ps : List (Prep K C)) → AllOf PrepRanged ps → AllOf PrepRanged (map_preps unseen r.ncc ps)
-preps_plain r [] h = tt
-preps_plain r (p ∷ ps) h = (h.0, preps_plain r ps h.1)
+-- the preparation at an air address
+found_ranged : {K C : Type 0} (air : ℕ) (ps : List (Prep K C)) → AllOf PrepRanged ps → PrepIs (at_air air ps)
+found_ranged air [] h = tt
+found_ranged air (p ∷ ps) h = found_by (is_at air p) p (at_air air ps) h.0 (found_ranged air ps h.1)
 
--- what the choice sees is in range too
-pub station_plain : {K C : Type 0} (r : Reading K C) (s : Station K C) → StationRanged s → StationRanged (plain_station r s)
-station_plain r s h = (h.0, h.1, context_plain r s.context h.2, preps_plain r s.preps h.3)
+-- an attempt that may be given up
+x2_began_ranged : {K C : Type 0} (state : X2State K C) (start : X2Start K C) → X2Began state start → X2Ranged state → IsNumber start.number
+x2_began_ranged (X2Open first) start e h = subst (λ x. IsNumber x.number) e h
+x2_began_ranged (X2Ready acked) start e h = subst (λ x. IsNumber x.number) e h
+x2_began_ranged (X2Commanded sent) start e h = absurd e
 
-pub input_plain : {K C : Type 0} (r : Reading K C) (i : StationInput K C) → StationInputRanged i → StationInputRanged (map_station_input unseen r.ncc i)
-input_plain r (StationActs act) h = h
-input_plain r (AirPdu air bearer pdu) h = tt
-input_plain r (StationRecord interface (Ok content)) h = h
-input_plain r (StationRecord interface (Err fault)) h = tt
+s1_began_ranged : (state : S1State) (start : S1Start) → S1Began state start → S1Ranged state → IsNumber start.number × IsCell start.cell
+s1_began_ranged (S1Open first) start e h = subst (λ x. IsNumber x.number × IsCell x.cell) e h
+s1_began_ranged (S1Ready acked) start e h = subst (λ x. IsNumber x.number × IsCell x.cell) e h
+s1_began_ranged (S1Commanded sent) start e h = absurd e
 
 -- CONTEXTS
 
@@ -133,162 +137,105 @@ module _ (same : Term → Term → Bool) where
 
   -- by a record
 
-  context_given_ranged : (conn : ℕ) (cell : Place) (caps : Caps) (algs : Algs) (air : ℕ) (key : Option (NumberedKey Term ℕ)) (s : Station Term ℕ) →
-      IsNumber conn × IsCell cell × IsCaps caps → StationRanged s → StationDone (context_given r conn cell caps algs air key s)
-  context_given_ranged conn cell caps algs air None s f h = (h, tt)
-  context_given_ranged conn cell caps algs air (Some received) s f h = ((h.0, next_up air, (f.0, f.1, f.2, tt, tt), tt), tt)
-
   release_ranged : (conn : ℕ) (origin : Option Origin) → IsNumber conn → OriginRanged origin → SentRanged (source_release {K = Term} {C = ℕ} conn origin)
   release_ranged conn None n h = tt
   release_ranged conn (Some o) n h = ((n, h.1), tt)
 
-  pair_taken_ranged : (conn : ℕ) (origin : Option Origin) (key : Option (NumberedKey Term ℕ)) (s : Station Term ℕ) → IsNumber conn × OriginRanged origin → StationRanged s →
-      StationDone (pair_taken conn origin key s)
-  pair_taken_ranged conn origin None s f h = (h, tt)
-  pair_taken_ranged conn origin (Some pair) s f h =
-      ((h.0, h.1, with_ranged (with_pair pair) (λ c k. k) s.context h.2, h.3), release_ranged conn origin f.0 f.1)
-
-  -- a preparation more
-  admitted_preps : (w : Admitted) (p : Prep Term ℕ) (ps : List (Prep Term ℕ)) → PrepRanged p → AllOf PrepRanged ps →
-      AllOf PrepRanged (filter (λ q. nat_le w.conn q.conn) ps ++ p ∷ [])
-  admitted_preps w p ps f h = all_append PrepRanged (filter (λ q. nat_le w.conn q.conn) ps) (p ∷ []) (all_filter PrepRanged (λ q. nat_le w.conn q.conn) ps h) (f, tt)
-
-  prepared_by_s1_ranged : (w : Admitted) (key : Option (NumberedKey Term ℕ)) (s : Station Term ℕ) → AdmittedRanged w → StationRanged s → StationDone (prepared_by_s1 r w key s)
-  prepared_by_s1_ranged w None s f h = (h, tt)
-  prepared_by_s1_ranged w (Some pair) s f h = (
-    (h.0, next_up w.air, h.2, admitted_preps w _ s.preps (f.0, f.1, f.2, f.3, f.4, tt) h.3),
-    ((f.0, f.1, f.2, f.3, three_bits pair.number, f.5), tt),
-  )
-
-  prepared_by_x2_ranged : (w : Admitted) (key : Option (NumberedKey Term ℕ)) (s : Station Term ℕ) → AdmittedRanged w → StationRanged s → StationDone (prepared_by_x2 r w key s)
-  prepared_by_x2_ranged w None s f h = (h, tt)
-  prepared_by_x2_ranged w (Some star) s f h = (
-    (h.0, next_up w.air, h.2, admitted_preps w _ s.preps (f.0, f.1, f.2, f.3, f.4, tt) h.3),
-    ((f.0, f.2, f.3, f.5), tt),
-  )
-
-  key_renewed_ranged : (conn number air count : ℕ) (o : Option (Context Term ℕ)) (key : Option (NumberedKey Term ℕ)) (s : Station Term ℕ) → IsNumber conn × IsNumber number →
-      ContextRanged o → StationRanged s → StationDone (key_renewed r conn number air count o key s)
-  key_renewed_ranged conn number air count None key s f c h = (h, tt)
-  key_renewed_ranged conn number air count (Some d) None s f c h = (h, tt)
-  key_renewed_ranged conn number air count (Some d) (Some kenb) s f c h =
-      ((h.0, next_up air, (c.0, c.1, c.2, tt, c.4), ((f.0, h.0, f.1, c.1, c.2, origin_within d.origin c.4), tt)), tt)
-
-  record_does_ranged : (row : RecordRow) (key : Option (NumberedKey Term ℕ)) (s : Station Term ℕ) → RecordRowRanged row → StationRanged s → StationDone (record_does r row key s)
-  record_does_ranged (RecordRefused answer) key s f h = (h, tt)
-  record_does_ranged (ContextGiven conn cell caps algs air) key s f h = context_given_ranged conn cell caps algs air key s f h
-  record_does_ranged ContextReleased key s f h = ((h.0, h.1, tt, tt), tt)
-  record_does_ranged (PairTaken conn origin) key s f h = pair_taken_ranged conn origin key s f h
-  record_does_ranged (PreparedByS1 w) key s f h = prepared_by_s1_ranged w key s f h
-  record_does_ranged (PreparedByX2 w) key s f h = prepared_by_x2_ranged w key s f h
-  record_does_ranged (AckedByS1 ncc algs air) key s f h =
-      ((h.0, h.1, with_ranged (with_s1_ack ncc algs air) (λ c k. (k.0, k.1, k.2, s1_acked_ranged ncc algs air c.attempt k.3, k.4)) s.context h.2, h.3), tt)
-  record_does_ranged (AckedByX2 algs air) key s f h =
-      ((h.0, h.1, with_ranged (with_x2_ack algs air) (λ c k. (k.0, k.1, k.2, x2_acked_ranged algs air c.attempt k.3, k.4)) s.context h.2, h.3), tt)
-  record_does_ranged (PreparationCancelled from) key s f h =
-      ((h.0, h.1, h.2, all_filter PrepRanged (λ p. not (is_of from.source from.attempt p)) s.preps h.3), tt)
-  record_does_ranged SourceReleased key s f h = ((h.0, h.1, tt, h.3), tt)
-  record_does_ranged (KeyRenewed conn number air count) key s f h = key_renewed_ranged conn number air count s.context key s f h.2 h
-
-  -- by a PDU
-
-  completed_by_s1_ranged : (count : ℕ) (o : Option (Prep Term ℕ)) (s : Station Term ℕ) → PrepIs o → StationRanged s → StationDone (completed_by_s1 r count o s)
-  completed_by_s1_ranged count None s p h = (h, tt)
-  completed_by_s1_ranged count (Some q) s p h = ((h.0, h.1, (p.0, p.3, p.4, tt, tt), tt), ((p.0, h.0, p.3), tt))
-
-  completed_within_ranged : (count : ℕ) (origin : Option Origin) (o : Option (Prep Term ℕ)) (s : Station Term ℕ) → OriginRanged origin → PrepIs o → StationRanged s →
-      StationDone (completed_within r count origin o s)
-  completed_within_ranged count origin None s f p h = (h, tt)
-  completed_within_ranged count origin (Some q) s f p h = ((h.0, h.1, (p.0, p.3, p.4, tt, f), tt), tt)
-
-  completed_by_x2_ranged : (count number : ℕ) (o : Option (Prep Term ℕ)) (s : Station Term ℕ) → IsNumber number → PrepIs o → StationRanged s →
-      StationDone (completed_by_x2 r count number o s)
-  completed_by_x2_ranged count number None s f p h = (h, tt)
-  completed_by_x2_ranged count number (Some q) s f p h =
-      ((h.0, next_up number, (p.0, p.3, p.4, tt, (p.1, p.2)), tt), ((p.0, h.0, f, p.3, p.4), tt))
-
-  air_does_ranged : (row : AirRow) (s : Station Term ℕ) → AirRowRanged row → StationRanged s → StationDone (air_does r row s)
-  air_does_ranged (AirRefused answer) s f h = (h, tt)
-  air_does_ranged (SecurityStarted count) s f h = ((h.0, h.1, with_ranged (with_security count) (λ c k. k) s.context h.2, h.3), tt)
-  air_does_ranged (RrcOpened srb count text) s f h = ((h.0, h.1, with_ranged (with_rrc_taken srb count) (λ c k. k) s.context h.2, h.3), tt)
-  air_does_ranged (PacketOpened drb count text) s f h = ((h.0, h.1, with_ranged (with_packet_taken drb count) (λ c k. k) s.context h.2, h.3), tt)
-  air_does_ranged (CompletedByS1 air count) s f h = completed_by_s1_ranged count (at_air air s.preps) s (found_ranged air s.preps h.3) h
-  air_does_ranged (CompletedWithin air count origin) s f h = completed_within_ranged count origin (at_air air s.preps) s f (found_ranged air s.preps h.3) h
-  air_does_ranged (CompletedByX2 air count number) s f h = completed_by_x2_ranged count number (at_air air s.preps) s f (found_ranged air s.preps h.3) h
-
-  -- by an act
-
-  started_by_x2_ranged : (number target : ℕ) (cell : Place) (o : Option (Context Term ℕ)) (s : Station Term ℕ) → IsNumber number × IsCell cell → ContextRanged o → StationRanged s →
-      StationDone (started_by_x2 r number target cell o s)
-  started_by_x2_ranged number target cell None s f c h = (h, tt)
-  started_by_x2_ranged number target cell (Some d) s f c h =
-      ((h.0, next_up number, (c.0, c.1, c.2, f.0, c.4), h.3), ((c.0, h.0, f.0, f.1, c.2), (tt, three_bits _)))
-
-  started_by_s1_ranged : (number target : ℕ) (cell : Place) (o : Option (Context Term ℕ)) (s : Station Term ℕ) → IsNumber number × IsCell cell → ContextRanged o → StationRanged s →
-      StationDone (started_by_s1 number target cell o s)
-  started_by_s1_ranged number target cell None s f c h = (h, tt)
-  started_by_s1_ranged number target cell (Some d) s f c h =
-      ((h.0, next_up number, (c.0, c.1, c.2, f, c.4), h.3), ((c.0, h.0, f.0, f.1), tt))
-
-  started_within_ranged : (number air : ℕ) (cell : Place) (o : Option (Context Term ℕ)) (s : Station Term ℕ) → IsNumber number × IsCell cell → ContextRanged o → StationRanged s →
-      StationDone (started_within r number air cell o s)
-  started_within_ranged number air cell None s f c h = (h, tt)
-  started_within_ranged number air cell (Some d) s f c h = (
-    (
-      h.0,
-      next_up air,
-      (c.0, c.1, c.2, f.0, c.4),
-      all_append PrepRanged s.preps _ h.3 ((c.0, h.0, f.0, f.1, c.2, origin_within d.origin c.4), tt),
-    ),
-    tt,
-  )
-
-  commands_ranged : (order : Order) (count : ℕ) (o : Option (Context Term ℕ)) (s : Station Term ℕ) → ContextRanged o → StationRanged s → StationDone (commands order count o s)
-  commands_ranged order count None s c h = (h, tt)
-  commands_ranged order count (Some d) s c h = ((h.0, h.1, (c.0, c.1, c.2, commanded_ranged order d.attempt c.3, c.4), h.3), tt)
-
-  commands_change_ranged : (renewal : Renewal) (count : ℕ) (o : Option (Context Term ℕ)) (s : Station Term ℕ) → ContextRanged o → StationRanged s → StationDone (commands_change renewal count o s)
-  commands_change_ranged renewal count None s c h = (h, tt)
-  commands_change_ranged renewal count (Some d) s c h = ((h.0, h.1, c, h.3), tt)
-
-  asks_again_ranged : (number : ℕ) (o : Option (Context Term ℕ)) (s : Station Term ℕ) → IsNumber number → ContextRanged o → StationRanged s → StationDone (asks_again number o s)
-  asks_again_ranged number None s f c h = (h, tt)
-  asks_again_ranged number (Some d) s f c h = ((h.0, next_up number, c, h.3), ((c.0, h.0, f, c.1, c.2), tt))
-
-  sends_packet_ranged : (drb : Drb) (count : ℕ) (text : List ℕ) (o : Option (Context Term ℕ)) (s : Station Term ℕ) → ContextRanged o → StationRanged s → StationDone (sends_packet drb count text o s)
-  sends_packet_ranged drb count text None s c h = (h, tt)
-  sends_packet_ranged drb count text (Some d) s c h = ((h.0, h.1, c, h.3), tt)
-
-  sends_rrc_ranged : (srb : Srb) (count : ℕ) (text : List ℕ) (o : Option (Context Term ℕ)) (s : Station Term ℕ) → ContextRanged o → StationRanged s → StationDone (sends_rrc srb count text o s)
-  sends_rrc_ranged srb count text None s c h = (h, tt)
-  sends_rrc_ranged srb count text (Some d) s c h = ((h.0, h.1, c, h.3), tt)
-
   given_up_ranged : (o : Option (Context Term ℕ)) → ContextRanged o → ContextRanged (option_map given_up o)
   given_up_ranged o h = with_ranged given_up (λ c k. (k.0, k.1, k.2, tt, k.4)) o h
 
-  act_does_ranged : (row : ActRow) (s : Station Term ℕ) → ActRowRanged row → StationRanged s → StationDone (act_does r row s)
-  act_does_ranged (ActRefused answer) s f h = (h, tt)
-  act_does_ranged (StartedByX2 number target cell) s f h = started_by_x2_ranged number target cell s.context s f h.2 h
-  act_does_ranged (StartedByS1 number target cell) s f h = started_by_s1_ranged number target cell s.context s f h.2 h
-  act_does_ranged (StartedWithin number air cell) s f h = started_within_ranged number air cell s.context s f h.2 h
-  act_does_ranged (HandoverCommanded order count) s f h = commands_ranged order count s.context s h.2 h
-  act_does_ranged (ChangeCommanded renewal count) s f h = commands_change_ranged renewal count s.context s h.2 h
-  act_does_ranged (CancelledByX2 conn number target) s f h = ((h.0, h.1, given_up_ranged s.context h.2, h.3), ((f.0, h.0, f.1), tt))
-  act_does_ranged (CancelledByS1 conn number cell) s f h = ((h.0, h.1, given_up_ranged s.context h.2, h.3), ((f.0, h.0, f.1, f.2), tt))
-  act_does_ranged (CancelledWithin number) s f h =
-      ((h.0, h.1, given_up_ranged s.context h.2, all_filter PrepRanged (λ p. not (is_of s.id number p)) s.preps h.3), tt)
-  act_does_ranged (PathSwitchAsked number) s f h = asks_again_ranged number s.context s f h.2 h
-  act_does_ranged (PacketSent drb count text) s f h = sends_packet_ranged drb count text s.context s h.2 h
-  act_does_ranged (RrcSent srb count text) s f h = sends_rrc_ranged srb count text s.context s h.2 h
-  act_does_ranged (BearerSkipped on n) s f h = ((h.0, h.1, with_ranged (with_skipped on n) (λ c k. k) s.context h.2, h.3), tt)
+  module _ (s : Station Term ℕ) (h : StationRanged s) where
+    -- the context, and a preparation
+    here : (c : Context Term ℕ) → s.context ≡ Some c → ContextRanged (Some c)
+    here c e = subst ContextRanged e h.2
 
-  station_does_ranged : (row : StationRow) (key : Option (NumberedKey Term ℕ)) (s : Station Term ℕ) → RowRanged row → StationRanged s → StationDone (station_does r row key s)
-  station_does_ranged (OfRecord row) key s f h = record_does_ranged row key s f h
-  station_does_ranged (OfAir row) key s f h = air_does_ranged row s f h
-  station_does_ranged (OfAct row) key s f h = act_does_ranged row s f h
+    found : (at : ℕ) (p : Prep Term ℕ) → at_air at s.preps ≡ Some p → PrepRanged p
+    found at p e = subst PrepIs e (found_ranged at s.preps h.3)
+
+    -- a request that is admitted, with the air address drawn for it, and the preparations with one more
+    admitted_ranged : (w : Admitted) → Admits r s w → IsNumber w.conn × (w.from.source ≤ 7) × IsNumber w.from.attempt × IsCell w.cell × IsCaps w.caps →
+        IsNumber w.conn × (w.from.source ≤ 7) × IsNumber w.from.attempt × IsCell w.cell × IsCaps w.caps × IsNumber w.air
+    admitted_ranged w a i = (i.0, i.1, i.2, i.3, i.4, drawn w.air s.next a.air_is a.left h.1)
+
+    admitted_preps : (w : Admitted) (p : Prep Term ℕ) → PrepRanged p → AllOf PrepRanged (filter (λ q. nat_le w.conn q.conn) s.preps ++ p ∷ [])
+    admitted_preps w p f = all_append PrepRanged (filter (λ q. nat_le w.conn q.conn) s.preps) (p ∷ []) (all_filter PrepRanged (λ q. nat_le w.conn q.conn) s.preps h.3) (f, tt)
+
+    renewed_ranged : (fields : Fields) → FieldsInRange fields → (conn number held : ℕ) → fields ≡ ContextModification held conn → number ≡ s.next → s.next + 1 < 4294967296 → IsNumber conn × IsNumber number
+    renewed_ranged fields i conn number held says e lt =
+        let f : IsNumber held × IsNumber conn = subst FieldsInRange says i in (f.1, drawn number s.next e (omega arith) h.1)
+
+    record_ranged : (on : Interface) (fields : Fields) → FieldsInRange fields → RecordCases r s (λ row key. RecordHas r s on fields row) StationDone
+    record_ranged on fields i =
+      record {
+        nothing = λ answer. (h, tt);
+        given = λ conn cell caps algs air kenb k. let f : FieldsInRange (InitialContext conn cell caps) = subst FieldsInRange k.fields_is i in ((h.0, next_up air, (f.0, f.1, f.2, tt, tt), tt), tt);
+        released = λ key k. ((h.0, h.1, tt, tt), tt);
+        taken = λ conn origin pair k. let c = here k.context k.serving in ((h.0, h.1, with_ranged (with_pair pair) (λ c k. k) s.context h.2, h.3), release_ranged conn origin (subst IsNumber (sym k.conn_is) c.0) (subst OriginRanged (sym k.origin_is) c.4));
+        by_s1 = λ w pair k. let f = admitted_ranged w k.admits (subst FieldsInRange k.fields_is i) in ((h.0, next_up w.air, h.2, admitted_preps w _ (f.0, f.1, f.2, f.3, f.4, tt)), ((f.0, f.1, f.2, f.3, three_bits pair.number, f.5), tt));
+        by_x2 = λ w star k. let f = admitted_ranged w k.admits (subst FieldsInRange k.fields_is i) in ((h.0, next_up w.air, h.2, admitted_preps w _ (f.0, f.1, f.2, f.3, f.4, tt)), ((f.0, f.2, f.3, f.5), tt));
+        acked_s1 = λ ncc algs air key k. ((h.0, h.1, with_ranged (with_s1_ack ncc algs air) (λ c k. (k.0, k.1, k.2, s1_acked_ranged ncc algs air c.attempt k.3, k.4)) s.context h.2, h.3), tt);
+        acked_x2 = λ algs air key k. ((h.0, h.1, with_ranged (with_x2_ack algs air) (λ c k. (k.0, k.1, k.2, x2_acked_ranged algs air c.attempt k.3, k.4)) s.context h.2, h.3), tt);
+        cancelled = λ from key k. ((h.0, h.1, h.2, all_filter PrepRanged (λ p. not (is_of from.source from.attempt p)) s.preps h.3), tt);
+        left = λ key k. ((h.0, h.1, tt, h.3), tt);
+        renewed = λ conn number air count c e kenb k. let d = here c e in let f = renewed_ranged fields i conn number k.context.conn k.fields_is k.number_is k.left in ((h.0, next_up air, (d.0, d.1, d.2, tt, d.4), ((f.0, h.0, f.1, d.1, d.2, origin_within c.origin d.4), tt)), tt);
+      }
+
+    -- how the preparation came that completes
+    by_ranged : (air : ℕ) (on : Which) (pdu : List ℕ) (at : ℕ) (by : By) (count : ℕ) → AtPrepared s air on pdu at by count → ByRanged by
+    by_ranged air on pdu at by count f = let p = found air f.prep f.found in subst ByRanged (sym f.by_is) p.5
+
+    air_ranged : (air : ℕ) (on : Which) (pdu : List ℕ) (outcome : Outcome) → AirCases r s (AirHas r s air on pdu outcome) StationDone
+    air_ranged air on pdu outcome =
+      record {
+        nothing = λ answer. (h, tt);
+        secured = λ count k. ((h.0, h.1, with_ranged (with_security count) (λ c k. k) s.context h.2, h.3), tt);
+        opened = λ srb count text k. ((h.0, h.1, with_ranged (with_rrc_taken srb count) (λ c k. k) s.context h.2, h.3), tt);
+        packet = λ drb count text k. ((h.0, h.1, with_ranged (with_packet_taken drb count) (λ c k. k) s.context h.2, h.3), tt);
+        by_s1 = λ at count k p e. let f = found at p e in ((h.0, h.1, (f.0, f.3, f.4, tt, tt), tt), ((f.0, h.0, f.3), tt));
+        within = λ at count origin k p e. let f = found at p e in ((h.0, h.1, (f.0, f.3, f.4, tt, subst OriginRanged (sym k.1) (by_ranged air on pdu at (By.Intra k.0) count k.2.0)), tt), tt);
+        by_x2 = λ at count number k p e. let f = found at p e in ((h.0, next_up number, (f.0, f.3, f.4, tt, (f.1, f.2)), tt), ((f.0, h.0, drawn number s.next k.0 k.1 h.1, f.3, f.4), tt));
+      }
+
+    -- a handover that begins draws its number, and its cell is in range
+    starts_ranged : (act : StationAct) (kind : HoKind) (number target : ℕ) (cell : Place) → Starts s act kind number target cell → IsStationAct act → IsNumber number × IsCell cell
+    starts_ranged act kind number target cell f i = (drawn number s.next f.number_is f.left h.1, subst IsStationAct f.act_is i)
+
+    cancels_x2_ranged : (act : StationAct) (conn number target : ℕ) → CancelsX2 s act conn number target → IsNumber conn × IsNumber number
+    cancels_x2_ranged act conn number target f =
+        let c = here f.context f.serving in
+        (subst IsNumber (sym f.conn_is) c.0, subst IsNumber (sym f.number_is) (x2_began_ranged f.state f.start f.began (subst AttemptRanged f.trying c.3)))
+
+    cancels_s1_ranged : (act : StationAct) (conn number : ℕ) (cell : Place) → CancelsS1 s act conn number cell → IsNumber conn × IsNumber number × IsCell cell
+    cancels_s1_ranged act conn number cell f =
+        let c = here f.context f.serving in
+        let k = s1_began_ranged f.state f.start f.began (subst AttemptRanged f.trying c.3) in
+        (subst IsNumber (sym f.conn_is) c.0, subst IsNumber (sym f.number_is) k.0, subst IsCell (sym f.cell_is) k.1)
+
+    act_ranged : (act : StationAct) → IsStationAct act → ActCases r s (StationActHas r s act) StationDone
+    act_ranged act i =
+      record {
+        nothing = λ answer. (h, tt);
+        by_x2 = λ number target cell k c e. let d = here c e in let f = starts_ranged act HoKind.X2 number target cell k i in ((h.0, next_up number, (d.0, d.1, d.2, f.0, d.4), h.3), ((d.0, h.0, f.0, f.1, d.2), (tt, three_bits _)));
+        by_s1 = λ number target cell k c e. let d = here c e in let f = starts_ranged act HoKind.S1 number target cell k i in ((h.0, next_up number, (d.0, d.1, d.2, f, d.4), h.3), ((d.0, h.0, f.0, f.1), tt));
+        within = λ number air cell k c e. let d = here c e in let f = starts_ranged act HoKind.Intra number s.id cell k.starts i in ((h.0, next_up air, (d.0, d.1, d.2, f.0, d.4), all_append PrepRanged s.preps _ h.3 ((d.0, h.0, f.0, f.1, d.2, origin_within c.origin d.4), tt)), tt);
+        commanded = λ order count k c e. let d = here c e in ((h.0, h.1, (d.0, d.1, d.2, commanded_ranged order c.attempt d.3, d.4), h.3), tt);
+        changed = λ renewal count k c e. ((h.0, h.1, here c e, h.3), tt);
+        cancelled_x2 = λ conn number target k. let f = cancels_x2_ranged act conn number target k in ((h.0, h.1, given_up_ranged s.context h.2, h.3), ((f.0, h.0, f.1), tt));
+        cancelled_s1 = λ conn number cell k. let f = cancels_s1_ranged act conn number cell k in ((h.0, h.1, given_up_ranged s.context h.2, h.3), ((f.0, h.0, f.1, f.2), tt));
+        cancelled_within = λ number k. ((h.0, h.1, given_up_ranged s.context h.2, all_filter PrepRanged (λ p. not (is_of s.id number p)) s.preps h.3), tt);
+        asked = λ number k c e. let d = here c e in ((h.0, next_up number, d, h.3), ((d.0, h.0, drawn number s.next k.number_is k.left h.1, d.1, d.2), tt));
+        packet = λ drb count text k c e. ((h.0, h.1, here c e, h.3), tt);
+        text = λ srb count text k c e. ((h.0, h.1, here c e, h.3), tt);
+        skipped = λ on n k. ((h.0, h.1, with_ranged (with_skipped on n) (λ c k. k) s.context h.2, h.3), tt);
+      }
 
   -- one step
   pub station_step_ranged : (s : Station Term ℕ) (i : StationInput Term ℕ) (outcome : Outcome) → StationRanged s → StationInputRanged i → StationDone (station_step r s i outcome)
-  station_step_ranged s i outcome h f =
-      station_does_ranged (station_row_of r s i outcome) (station_key i) s
-      (row_ranged (plain_station r s) (map_station_input unseen r.ncc i) outcome (station_plain r s h) (input_plain r i f)) h
+  station_step_ranged s (StationActs act) outcome h f = act_case r s StationDone (StationActHas r s act) (act_ranged s h act f) (act_row (plain_station r s) act) (station_act_has r s act)
+  station_step_ranged s (AirPdu air bearer pdu) outcome h f =
+      air_case r s StationDone (AirHas r s air (which bearer) pdu outcome) (air_ranged s h air (which bearer) pdu outcome)
+      (air_row (plain_station r s) (air_front (plain_station r s) air (which bearer) pdu) outcome) (air_has r s air (which bearer) pdu outcome)
+  station_step_ranged s (StationRecord on (Ok content)) outcome h f =
+      record_case r s StationDone (λ row key. RecordHas r s on content.fields row) (record_ranged s h on content.fields f)
+      (record_row (plain_station r s) on (Ok (map_content unseen r.ncc content))) content.key (record_has r s on content)
+  station_step_ranged s (StationRecord on (Err fault)) outcome h f = (h, tt)

@@ -1,6 +1,4 @@
-pub mod Choice
 pub mod Core
-pub mod Draws
 pub mod Lists
 pub mod Moves
 pub mod Needs

@@ -1,5 +1,4 @@
 -- Every record goes to a station of the setup, if it goes to a station.
-pub mod Choice
 pub mod Core
 pub mod Facts
 pub mod Station

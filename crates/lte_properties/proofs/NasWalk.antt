@@ -17,7 +17,7 @@ use Rattle.lte_machine.specs.CoreChoice.{CoreNasFront, NasSettled, OpensComplete
 use Rattle.lte_machine.specs.CoreStep.{plain_core}
 use Rattle.lte_machine.specs.Opening.{Outcome, Opened, Differs}
 use Rattle.lte_machine.specs.Reply.{unseen}
-use Rattle.lte_properties.proofs.ChainNumbers.Choice.{by_test}
+use Rattle.lte_machine.proofs.Tests.{by_test}
 
 -- of a key change: its COUNT, the number of the connection, the next one, and the station
 abbrev pub IfChange : (ℕ → ℕ → ℕ → ℕ → Type 0) → CoreNasRow → Type 0

@@ -33,7 +33,7 @@ use Rattle.nh_chain.specs.Reach.{phone_of}
 use Rattle.lte_events.specs.declared.answers.Answer.{Answer}
 use Rattle.lte_machine.specs.Reply.{Before}
 use Rattle.lte_machine.proofs.KnownLists.{all_append}
-use Rattle.lte_machine.proofs.RangeChoice.{by_test}
+use Rattle.lte_machine.proofs.Tests.{by_test}
 
 -- the cell of an input, if it has one, is in range
 abbrev pub InputIn : {K : Type 0} → Input K → Type 0

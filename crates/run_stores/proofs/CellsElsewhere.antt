@@ -1,146 +1,100 @@
 -- The derivations of a station and of the core: each KeNB* is for a cell in range.
-use Rattle.std.proofs.Common.{ℕ, Bool, List, Option, Some, None}
+use Rattle.std.proofs.Common.{◌≡◌, subst, ℕ, Bool, List, Option, Some, None, Ok, Err}
 use Rattle.alg_choice.specs.declared.algs.Algs.{Algs}
 use Rattle.alg_choice.specs.declared.caps.Caps.{Caps}
 use Rattle.annex_a_keys.specs.Cell.{Place, IsCell}
-use Rattle.key_model.specs.HandoverTable.{NumberedKey}
+use Rattle.lte_events.specs.declared.acts.StationAct.{StationAct}
 use Rattle.key_model.specs.Reading.{Reading}
 use Rattle.nas_guard.specs.Keys.{Keys}
-use Rattle.ho_prep.specs.Prep.{Prep, at_air}
-use Rattle.x2_handover.specs.declared.orders.Order.{Order}
-use Rattle.lte_machine.specs.Bearers.{Srb, Drb}
+use Rattle.s1x2_rec.specs.Content.{map_content}
+use Rattle.s1x2_rec.specs.Fields.{Fields, HandoverRequest}
+use Rattle.s1x2_rec.specs.Spelling.{FieldsInRange}
+use Rattle.lte_machine.specs.Bearers.{which}
 use Rattle.lte_machine.specs.Opening.{Outcome}
-use Rattle.lte_machine.specs.Reply.{Origin, unseen}
-use Rattle.lte_machine.specs.StationState.{Station, Context, StationInput, Renewal, map_station_input}
-use Rattle.lte_machine.specs.StationRows.{Admitted, RecordRow, RecordRefused, ContextGiven, ContextReleased, PairTaken, PreparedByS1, PreparedByX2, AckedByS1, AckedByX2, PreparationCancelled, SourceReleased, AirRow, AirRefused, SecurityStarted, RrcOpened, PacketOpened, CompletedByS1, CompletedWithin, CompletedByX2, ActRow, ActRefused, StartedByX2, StartedByS1, StartedWithin, HandoverCommanded, CancelledByX2, CancelledByS1, CancelledWithin, PathSwitchAsked, PacketSent, RrcSent, BearerSkipped, StationRow, OfRecord, OfAir, OfAct, KeyRenewed, ChangeCommanded}
-use Rattle.lte_machine.specs.StationKeys.{completed_by_s1, completed_within, completed_by_x2, started_by_x2, started_by_s1, started_within, commands, commands_change, asks_again, sends_packet, sends_rrc, air_does, act_does, station_does}
-use Rattle.lte_machine.specs.StationRecords.{context_given, pair_taken, prepared_by_s1, prepared_by_x2, key_renewed, record_does}
-use Rattle.lte_machine.specs.StationStep.{plain_station, station_row_of, station_key, station_step}
+use Rattle.lte_machine.specs.Reply.{Reply, unseen}
+use Rattle.lte_machine.specs.StationState.{Station, Context, Interface, StationInput, StationActs, AirPdu, StationRecord}
+use Rattle.lte_machine.specs.StationRows.{Admitted, RecordRefused, ContextReleased, ActRefused}
+use Rattle.lte_machine.specs.StationStep.{plain_station, station_step}
+use Rattle.lte_machine.specs.StationChoice.{record_row, air_front, air_row, act_row}
+use Rattle.lte_machine.specs.Ranges.{IsStationAct}
 use Rattle.lte_machine.specs.CoreState.{Core, CoreContext, CorePartial, CoreLink, CoreInput}
 use Rattle.lte_machine.specs.CoreRows as rows
 use Rattle.lte_machine.specs.CoreRows.{CoreNasRow, CoreRecordRow, CoreActRow, CoreRow}
 use Rattle.lte_machine.specs.CoreKeys as does
 use Rattle.lte_machine.specs.CoreStep.{core_step, plain_core, core_front_of, core_root}
 use Rattle.lte_machine.specs.CoreChoice.{core_row}
-use Rattle.lte_machine.proofs.RangeChoice.{RowRanged, RecordRowRanged, ActRowRanged, AdmittedRanged, row_ranged}
+use Rattle.lte_machine.proofs.RecordFacts.{AdmitsOnS1, RecordHas, record_has}
+use Rattle.lte_machine.proofs.StationCases.{Any, RecordCases, AirCases, ActCases, record_case, air_case, act_case}
+use Rattle.lte_machine.proofs.StationActFacts.{StationActHas, station_act_has}
 use Rattle.lte_machine.proofs.RangeHolds.{ContextRanged, StationRanged, StationInputRanged}
-use Rattle.lte_machine.proofs.RangeStation.{station_plain, input_plain}
 use Rattle.run_stores.proofs.Cells.{CellsIn}
 
 -- A STATION
 
 module _ {K C : Type 0} (r : Reading K C) (s : Station K C) where
-  given_cells : (conn : ℕ) (cell : Place) (caps : Caps) (algs : Algs) (air : ℕ) (key : Option (NumberedKey K C)) → CellsIn (context_given r conn cell caps algs air key s).1.derived
-  given_cells conn cell caps algs air None = tt
-  given_cells conn cell caps algs air (Some k) = (tt, (tt, (tt, tt)))
+  -- the cell of a request that is admitted, and that of the context
+  admitted_cell : (on : Interface) (fields : Fields) (w : Admitted) → AdmitsOnS1 r s on fields w → FieldsInRange fields → IsCell w.cell
+  admitted_cell on fields w f i =
+      let k : FieldsInRange (HandoverRequest w.conn w.from.source w.from.attempt w.cell w.caps) = subst FieldsInRange f.fields_is i in k.3
 
-  by_s1_cells : (w : Admitted) (key : Option (NumberedKey K C)) → AdmittedRanged w → CellsIn (prepared_by_s1 r w key s).1.derived
-  by_s1_cells w None h = tt
-  by_s1_cells w (Some k) h = (h.3, (tt, (tt, (tt, tt))))
+  context_cell : ContextRanged s.context → (c : Context K C) → s.context ≡ Some c → IsCell c.cell
+  context_cell h c e = let k : ContextRanged (Some c) = subst ContextRanged e h in k.1
 
-  by_x2_cells : (w : Admitted) (key : Option (NumberedKey K C)) → CellsIn (prepared_by_x2 r w key s).1.derived
-  by_x2_cells w None = tt
-  by_x2_cells w (Some k) = (tt, (tt, (tt, tt)))
+  abbrev Cells : Station K C × Reply K C → Type 0
+  Cells d = CellsIn d.1.derived
 
-  taken_cells : (conn : ℕ) (origin : Option Origin) (key : Option (NumberedKey K C)) → CellsIn (pair_taken conn origin key s).1.derived
-  taken_cells conn origin None = tt
-  taken_cells conn origin (Some k) = tt
+  record_cells : (on : Interface) (fields : Fields) → FieldsInRange fields → StationRanged s → RecordCases r s (λ row key. RecordHas r s on fields row) Cells
+  record_cells on fields i h =
+      record {
+        nothing = λ answer. tt;
+        given = λ conn cell caps algs air kenb k. (tt, (tt, (tt, tt)));
+        released = λ key k. tt;
+        taken = λ conn origin pair k. tt;
+        by_s1 = λ w pair k. (admitted_cell on fields w k i, (tt, (tt, (tt, tt))));
+        by_x2 = λ w star k. (tt, (tt, (tt, tt)));
+        acked_s1 = λ ncc algs air key k. tt;
+        acked_x2 = λ algs air key k. tt;
+        cancelled = λ from key k. tt;
+        left = λ key k. tt;
+        renewed = λ conn number air count c e kenb k. (context_cell h.2 c e, (tt, (tt, (tt, tt))));
+      }
 
-  renewed_cells : (conn number air count : ℕ) (c : Option (Context K C)) (key : Option (NumberedKey K C)) → ContextRanged c → CellsIn (key_renewed r conn number air count c key s).1.derived
-  renewed_cells conn number air count None key h = tt
-  renewed_cells conn number air count (Some c) None h = tt
-  renewed_cells conn number air count (Some c) (Some k) h = (h.1, (tt, (tt, (tt, tt))))
+  air_cells : AirCases r s Any Cells
+  air_cells =
+      record {
+        nothing = λ answer. tt;
+        secured = λ count k. tt;
+        opened = λ srb count text k. tt;
+        packet = λ drb count text k. tt;
+        by_s1 = λ at count k p e. tt;
+        within = λ at count origin k p e. tt;
+        by_x2 = λ at count number k p e. tt;
+      }
 
-  record_cells : (row : RecordRow) (key : Option (NumberedKey K C)) → RecordRowRanged row → ContextRanged s.context → CellsIn (record_does r row key s).1.derived
-  record_cells (RecordRefused answer) key h c = tt
-  record_cells (ContextGiven conn cell caps algs air) key h c = given_cells conn cell caps algs air key
-  record_cells ContextReleased key h c = tt
-  record_cells (PairTaken conn origin) key h c = taken_cells conn origin key
-  record_cells (PreparedByS1 w) key h c = by_s1_cells w key h
-  record_cells (PreparedByX2 w) key h c = by_x2_cells w key
-  record_cells (AckedByS1 ncc algs air) key h c = tt
-  record_cells (AckedByX2 algs air) key h c = tt
-  record_cells (PreparationCancelled from) key h c = tt
-  record_cells SourceReleased key h c = tt
-  record_cells (KeyRenewed conn number air count) key h c = renewed_cells conn number air count s.context key c
-
-  done_s1_cells : (count : ℕ) (p : Option (Prep K C)) → CellsIn (completed_by_s1 r count p s).1.derived
-  done_s1_cells count None = tt
-  done_s1_cells count (Some p) = tt
-
-  done_within_cells : (count : ℕ) (origin : Option Origin) (p : Option (Prep K C)) → CellsIn (completed_within r count origin p s).1.derived
-  done_within_cells count origin None = tt
-  done_within_cells count origin (Some p) = tt
-
-  done_x2_cells : (count number : ℕ) (p : Option (Prep K C)) → CellsIn (completed_by_x2 r count number p s).1.derived
-  done_x2_cells count number None = tt
-  done_x2_cells count number (Some p) = tt
-
-  air_cells : (row : AirRow) → CellsIn (air_does r row s).1.derived
-  air_cells (AirRefused answer) = tt
-  air_cells (SecurityStarted count) = tt
-  air_cells (RrcOpened srb count text) = tt
-  air_cells (PacketOpened drb count text) = tt
-  air_cells (CompletedByS1 air count) = done_s1_cells count (at_air air s.preps)
-  air_cells (CompletedWithin air count origin) = done_within_cells count origin (at_air air s.preps)
-  air_cells (CompletedByX2 air count number) = done_x2_cells count number (at_air air s.preps)
-
-  started_x2_cells : (number target : ℕ) (cell : Place) (c : Option (Context K C)) → IsCell cell → CellsIn (started_by_x2 r number target cell c s).1.derived
-  started_x2_cells number target cell None h = tt
-  started_x2_cells number target cell (Some c) h = (h, tt)
-
-  started_s1_cells : (number target : ℕ) (cell : Place) (c : Option (Context K C)) → CellsIn (started_by_s1 number target cell c s).1.derived
-  started_s1_cells number target cell None = tt
-  started_s1_cells number target cell (Some c) = tt
-
-  started_within_cells : (number air : ℕ) (cell : Place) (c : Option (Context K C)) → IsCell cell → CellsIn (started_within r number air cell c s).1.derived
-  started_within_cells number air cell None h = tt
-  started_within_cells number air cell (Some c) h = (h, (tt, (tt, (tt, tt))))
-
-  commands_cells : (order : Order) (count : ℕ) (c : Option (Context K C)) → CellsIn (commands order count c s).1.derived
-  commands_cells order count None = tt
-  commands_cells order count (Some c) = tt
-
-  change_cells : (renewal : Renewal) (count : ℕ) (c : Option (Context K C)) → CellsIn (commands_change renewal count c s).1.derived
-  change_cells renewal count None = tt
-  change_cells renewal count (Some c) = tt
-
-  asks_cells : (number : ℕ) (c : Option (Context K C)) → CellsIn (asks_again number c s).1.derived
-  asks_cells number None = tt
-  asks_cells number (Some c) = tt
-
-  packet_cells : (drb : Drb) (count : ℕ) (text : List ℕ) (c : Option (Context K C)) → CellsIn (sends_packet drb count text c s).1.derived
-  packet_cells drb count text None = tt
-  packet_cells drb count text (Some c) = tt
-
-  rrc_cells : (srb : Srb) (count : ℕ) (text : List ℕ) (c : Option (Context K C)) → CellsIn (sends_rrc srb count text c s).1.derived
-  rrc_cells srb count text None = tt
-  rrc_cells srb count text (Some c) = tt
-
-  act_cells : (row : ActRow) → ActRowRanged row → CellsIn (act_does r row s).1.derived
-  act_cells (ActRefused answer) h = tt
-  act_cells (StartedByX2 number target cell) h = started_x2_cells number target cell s.context h.1
-  act_cells (StartedByS1 number target cell) h = started_s1_cells number target cell s.context
-  act_cells (StartedWithin number air cell) h = started_within_cells number air cell s.context h.1
-  act_cells (HandoverCommanded order count) h = commands_cells order count s.context
-  act_cells (ChangeCommanded renewal count) h = change_cells renewal count s.context
-  act_cells (CancelledByX2 conn number target) h = tt
-  act_cells (CancelledByS1 conn number cell) h = tt
-  act_cells (CancelledWithin number) h = tt
-  act_cells (PathSwitchAsked number) h = asks_cells number s.context
-  act_cells (PacketSent drb count text) h = packet_cells drb count text s.context
-  act_cells (RrcSent srb count text) h = rrc_cells srb count text s.context
-  act_cells (BearerSkipped on n) h = tt
-
-  row_cells : (row : StationRow) (key : Option (NumberedKey K C)) → RowRanged row → ContextRanged s.context → CellsIn (station_does r row key s).1.derived
-  row_cells (OfRecord row) key h c = record_cells row key h c
-  row_cells (OfAir row) key h c = air_cells row
-  row_cells (OfAct row) key h c = act_cells row h
+  act_cells : (act : StationAct) → IsStationAct act → ActCases r s (StationActHas r s act) Cells
+  act_cells act i =
+      record {
+        nothing = λ answer. tt;
+        by_x2 = λ number target cell k c e. (subst IsStationAct k.act_is i, tt);
+        by_s1 = λ number target cell k c e. tt;
+        within = λ number air cell k c e. (subst IsStationAct k.starts.act_is i, (tt, (tt, (tt, tt))));
+        commanded = λ order count k c e. tt;
+        changed = λ renewal count k c e. tt;
+        cancelled_x2 = λ conn number target k. tt;
+        cancelled_s1 = λ conn number cell k. tt;
+        cancelled_within = λ number k. tt;
+        asked = λ number k c e. tt;
+        packet = λ drb count text k c e. tt;
+        text = λ srb count text k c e. tt;
+        skipped = λ on n k. tt;
+      }
 
   pub station_step_cells : (i : StationInput K C) (outcome : Outcome) → StationRanged s → StationInputRanged i → CellsIn (station_step r s i outcome).1.derived
-  station_step_cells i outcome h f =
-      row_cells (station_row_of r s i outcome) (station_key i)
-      (row_ranged (plain_station r s) (map_station_input unseen r.ncc i) outcome (station_plain r s h) (input_plain r i f)) h.2
+  station_step_cells (StationActs act) outcome h i = act_case r s Cells (StationActHas r s act) (act_cells act i) (act_row (plain_station r s) act) (station_act_has r s act)
+  station_step_cells (AirPdu air bearer pdu) outcome h i = air_case r s Cells Any air_cells (air_row (plain_station r s) (air_front (plain_station r s) air (which bearer) pdu) outcome) tt
+  station_step_cells (StationRecord on (Ok content)) outcome h i =
+      record_case r s Cells (λ row key. RecordHas r s on content.fields row) (record_cells on content.fields i h) (record_row (plain_station r s) on (Ok (map_content unseen r.ncc content))) content.key (record_has r s on content)
+  station_step_cells (StationRecord on (Err fault)) outcome h i = tt
 
 -- THE CORE
 

@@ -3,29 +3,25 @@ use Rattle.std.proofs.Common.{◌≡◌, refl, sym, ap, ◌∙◌, subst, ℕ, �
 use Rattle.std.specs.Prelude.{⊤}
 use Rattle.std.specs.List.{position_from}
 use Rattle.alg_choice.specs.declared.caps.Caps.{Caps}
-use Rattle.annex_a_keys.specs.Cell.{Place}
 use Rattle.lte_events.specs.declared.lines.Who.{Who}
 use Rattle.lte_events.specs.declared.addresses.Address.{Address}
 use Rattle.lte_events.specs.declared.events.Event.{Event}
 use Rattle.key_model.specs.Term.{Term}
 use Rattle.key_model.specs.HandoverTable.{NumberedKey}
 use Rattle.key_model.specs.Reading.{term_reading_by}
-use Rattle.ho_prep.specs.Prep.{Prep, at_air}
-use Rattle.lte_machine.specs.Bearers.{Srb, Drb}
+use Rattle.lte_machine.proofs.StationCases.{station_case}
 use Rattle.lte_machine.specs.Wire.{KeyUse, Outgoing, address_of}
 use Rattle.lte_machine.specs.Opening.{Opening, Outcome}
-use Rattle.lte_machine.specs.Reply.{Note, Origin, Reply, Took}
+use Rattle.lte_machine.specs.Reply.{Note, Reply, Took}
 use Rattle.lte_machine.specs.PhoneState.{PhoneInput, PhoneActs, PhoneNasPdu, PhoneAirPdu}
-use Rattle.lte_machine.specs.StationState.{Station, Context, Renewal, StationInput, StationActs, AirPdu, StationRecord, OnS1, OnX2}
-use Rattle.x2_handover.specs.declared.orders.Order.{Order}
+use Rattle.lte_machine.specs.StationState.{Station, StationInput, StationActs, AirPdu, StationRecord, OnS1, OnX2}
 use Rattle.lte_machine.specs.StationStep.{station_opens, station_pdu_in, station_row_of, station_key}
 use Rattle.lte_machine.specs.CoreState.{CoreInput, CoreActs, CoreNasPdu, CoreRecord}
 use Rattle.lte_machine.specs.World.{Machine, phone_turn, core_turn, station_of_id, turn_of, auth_unless, known_root, next_root, content_in, arrives, record_at, delivery, class_of, is_sent, injected, happens, with_one}
 use Rattle.lte_machine.specs.PhoneChoice.{phone_row}
 use Rattle.lte_machine.specs.PhoneStep.{plain_phone, front_of, phone_root, phone_opens, phone_pdu_in}
-use Rattle.lte_machine.specs.StationRows.{Admitted, RecordRow, RecordRefused, ContextGiven, ContextReleased, PairTaken, PreparedByS1, PreparedByX2, AckedByS1, AckedByX2, PreparationCancelled, SourceReleased, KeyRenewed, AirRow, AirRefused, SecurityStarted, RrcOpened, PacketOpened, CompletedByS1, CompletedWithin, CompletedByX2, ActRow, ActRefused, StartedByX2, StartedByS1, StartedWithin, HandoverCommanded, ChangeCommanded, CancelledByX2, CancelledByS1, CancelledWithin, PathSwitchAsked, PacketSent, RrcSent, BearerSkipped, StationRow, OfRecord, OfAir, OfAct}
-use Rattle.lte_machine.specs.StationKeys.{completed_by_s1, completed_within, completed_by_x2, air_does, started_by_x2, started_by_s1, started_within, commands, commands_change, asks_again, sends_packet, sends_rrc, act_does, station_does}
-use Rattle.lte_machine.specs.StationRecords.{context_given, pair_taken, prepared_by_s1, prepared_by_x2, key_renewed, record_does}
+use Rattle.lte_machine.specs.StationRows.{StationRow}
+use Rattle.lte_machine.specs.StationKeys.{station_does}
 use Rattle.std.specs.Prelude.{◌⊎◌}
 use Rattle.std.proofs.Common.{inl, inr}
 use Rattle.std.proofs.lemmas.Bool.{eqb-true}
@@ -58,113 +54,46 @@ MadeNoted id told (Some m) = (m.station ≡ id) × NotedAs told m.key m.number
 abbrev Notes : ℕ → Station Term ℕ × Reply Term ℕ → Type 0
 Notes id d = MadeNoted id d.1.note d.1.made
 
-module _ (same : Term → Term → Bool) where
-  given : (conn : ℕ) (cell : Place) (caps : Caps) (algs : _) (air : ℕ) (key : Option (NumberedKey Term ℕ)) (s : Station Term ℕ) → Notes s.id (context_given (term_reading_by same) conn cell caps algs air key s)
-  given conn cell caps algs air None s = tt
-  given conn cell caps algs air (Some key) s = (refl, (refl, refl))
-
-  pair : (conn : ℕ) (origin : Option Origin) (key : Option (NumberedKey Term ℕ)) (s : Station Term ℕ) → Notes s.id (pair_taken conn origin key s)
-  pair conn origin None s = tt
-  pair conn origin (Some key) s = tt
-
-  by_s1 : (w : Admitted) (key : Option (NumberedKey Term ℕ)) (s : Station Term ℕ) → Notes s.id (prepared_by_s1 (term_reading_by same) w key s)
-  by_s1 w None s = tt
-  by_s1 w (Some key) s = (refl, (refl, refl))
-
-  by_x2 : (w : Admitted) (key : Option (NumberedKey Term ℕ)) (s : Station Term ℕ) → Notes s.id (prepared_by_x2 (term_reading_by same) w key s)
-  by_x2 w None s = tt
-  by_x2 w (Some key) s = (refl, (refl, refl))
-
-  renewed : (conn number air count : ℕ) (o : Option (Context Term ℕ)) (key : Option (NumberedKey Term ℕ)) (s : Station Term ℕ) → Notes s.id (key_renewed (term_reading_by same) conn number air count o key s)
-  renewed conn number air count (Some c) (Some key) s = (refl, (refl, refl))
-  renewed conn number air count (Some c) None s = tt
-  renewed conn number air count None key s = tt
-
-  record_notes : (row : RecordRow) (key : Option (NumberedKey Term ℕ)) (s : Station Term ℕ) → Notes s.id (record_does (term_reading_by same) row key s)
-  record_notes (RecordRefused answer) key s = tt
-  record_notes (ContextGiven conn cell caps algs air) key s = given conn cell caps algs air key s
-  record_notes ContextReleased key s = tt
-  record_notes (PairTaken conn origin) key s = pair conn origin key s
-  record_notes (PreparedByS1 w) key s = by_s1 w key s
-  record_notes (PreparedByX2 w) key s = by_x2 w key s
-  record_notes (AckedByS1 ncc algs air) key s = tt
-  record_notes (AckedByX2 algs air) key s = tt
-  record_notes (PreparationCancelled from) key s = tt
-  record_notes SourceReleased key s = tt
-  record_notes (KeyRenewed conn number air count) key s = renewed conn number air count s.context key s
-
-  done_by_s1 : (count : ℕ) (o : Option (Prep Term ℕ)) (s : Station Term ℕ) → Notes s.id (completed_by_s1 (term_reading_by same) count o s)
-  done_by_s1 count None s = tt
-  done_by_s1 count (Some p) s = completed_differs
-
-  done_within : (count : ℕ) (origin : Option Origin) (o : Option (Prep Term ℕ)) (s : Station Term ℕ) → Notes s.id (completed_within (term_reading_by same) count origin o s)
-  done_within count origin None s = tt
-  done_within count origin (Some p) s = completed_differs
-
-  done_by_x2 : (count number : ℕ) (o : Option (Prep Term ℕ)) (s : Station Term ℕ) → Notes s.id (completed_by_x2 (term_reading_by same) count number o s)
-  done_by_x2 count number None s = tt
-  done_by_x2 count number (Some p) s = completed_differs
-
-  air_notes : (row : AirRow) (s : Station Term ℕ) → Notes s.id (air_does (term_reading_by same) row s)
-  air_notes (AirRefused answer) s = tt
-  air_notes (SecurityStarted count) s = tt
-  air_notes (RrcOpened srb count text) s = tt
-  air_notes (PacketOpened drb count text) s = tt
-  air_notes (CompletedByS1 air count) s = done_by_s1 count (at_air air s.preps) s
-  air_notes (CompletedWithin air count origin) s = done_within count origin (at_air air s.preps) s
-  air_notes (CompletedByX2 air count number) s = done_by_x2 count number (at_air air s.preps) s
-
-  x2_start : (number target : ℕ) (cell : Place) (o : Option (Context Term ℕ)) (s : Station Term ℕ) → Notes s.id (started_by_x2 (term_reading_by same) number target cell o s)
-  x2_start number target cell None s = tt
-  x2_start number target cell (Some c) s = way_differs c.key.pair
-
-  s1_start : (number target : ℕ) (cell : Place) (o : Option (Context Term ℕ)) (s : Station Term ℕ) → Notes s.id (started_by_s1 number target cell o s)
-  s1_start number target cell None s = tt
-  s1_start number target cell (Some c) s = tt
-
-  within_start : (number air : ℕ) (cell : Place) (o : Option (Context Term ℕ)) (s : Station Term ℕ) → Notes s.id (started_within (term_reading_by same) number air cell o s)
-  within_start number air cell None s = tt
-  within_start number air cell (Some c) s = (refl, (refl, refl))
-
-  command : (order : Order) (count : ℕ) (o : Option (Context Term ℕ)) (s : Station Term ℕ) → Notes s.id (commands order count o s)
-  command order count None s = tt
-  command order count (Some c) s = tt
-
-  change : (renewal : Renewal) (count : ℕ) (o : Option (Context Term ℕ)) (s : Station Term ℕ) → Notes s.id (commands_change renewal count o s)
-  change renewal count None s = tt
-  change renewal count (Some c) s = tt
-
-  ask : (number : ℕ) (o : Option (Context Term ℕ)) (s : Station Term ℕ) → Notes s.id (asks_again number o s)
-  ask number None s = tt
-  ask number (Some c) s = tt
-
-  packet : (drb : Drb) (count : ℕ) (text : List ℕ) (o : Option (Context Term ℕ)) (s : Station Term ℕ) → Notes s.id (sends_packet drb count text o s)
-  packet drb count text None s = tt
-  packet drb count text (Some c) s = tt
-
-  rrc : (srb : Srb) (count : ℕ) (text : List ℕ) (o : Option (Context Term ℕ)) (s : Station Term ℕ) → Notes s.id (sends_rrc srb count text o s)
-  rrc srb count text None s = tt
-  rrc srb count text (Some c) s = tt
-
-  act_notes : (row : ActRow) (s : Station Term ℕ) → Notes s.id (act_does (term_reading_by same) row s)
-  act_notes (ActRefused answer) s = tt
-  act_notes (StartedByX2 number target cell) s = x2_start number target cell s.context s
-  act_notes (StartedByS1 number target cell) s = s1_start number target cell s.context s
-  act_notes (StartedWithin number air cell) s = within_start number air cell s.context s
-  act_notes (HandoverCommanded order count) s = command order count s.context s
-  act_notes (ChangeCommanded renewal count) s = change renewal count s.context s
-  act_notes (CancelledByX2 conn number target) s = tt
-  act_notes (CancelledByS1 conn number cell) s = tt
-  act_notes (CancelledWithin number) s = tt
-  act_notes (PathSwitchAsked number) s = ask number s.context s
-  act_notes (PacketSent drb count text) s = packet drb count text s.context s
-  act_notes (RrcSent srb count text) s = rrc srb count text s.context s
-  act_notes (BearerSkipped on n) s = tt
-
-  station_notes : (row : StationRow) (key : Option (NumberedKey Term ℕ)) (s : Station Term ℕ) → Notes s.id (station_does (term_reading_by same) row key s)
-  station_notes (OfRecord row) key s = record_notes row key s
-  station_notes (OfAir row) key s = air_notes row s
-  station_notes (OfAct row) key s = act_notes row s
+station_notes : (same : Term → Term → Bool) (row : StationRow) (key : Option (NumberedKey Term ℕ)) (s : Station Term ℕ) → Notes s.id (station_does (term_reading_by same) row key s)
+station_notes same row key s =
+    station_case (term_reading_by same) s (Notes s.id)
+      (record {
+        nothing = λ answer. tt;
+        given = λ conn cell caps algs air kenb k. (refl, (refl, refl));
+        released = λ key k. tt;
+        taken = λ conn origin pair k. tt;
+        by_s1 = λ w pair k. (refl, (refl, refl));
+        by_x2 = λ w star k. (refl, (refl, refl));
+        acked_s1 = λ ncc algs air key k. tt;
+        acked_x2 = λ algs air key k. tt;
+        cancelled = λ from key k. tt;
+        left = λ key k. tt;
+        renewed = λ conn number air count c e kenb k. (refl, (refl, refl));
+      })
+      (record {
+        nothing = λ answer. tt;
+        secured = λ count k. tt;
+        opened = λ srb count text k. tt;
+        packet = λ drb count text k. tt;
+        by_s1 = λ at count k p e. completed_differs;
+        within = λ at count origin k p e. completed_differs;
+        by_x2 = λ at count number k p e. completed_differs;
+      })
+      (record {
+        nothing = λ answer. tt;
+        by_x2 = λ number target cell k c e. way_differs c.key.pair;
+        by_s1 = λ number target cell k c e. tt;
+        within = λ number air cell k c e. (refl, (refl, refl));
+        commanded = λ order count k c e. tt;
+        changed = λ renewal count k c e. tt;
+        cancelled_x2 = λ conn number target k. tt;
+        cancelled_s1 = λ conn number cell k. tt;
+        cancelled_within = λ number k. tt;
+        asked = λ number k c e. tt;
+        packet = λ drb count text k c e. tt;
+        text = λ srb count text k c e. tt;
+        skipped = λ on n k. tt;
+      }) row key
 
 -- THE WORLD
 

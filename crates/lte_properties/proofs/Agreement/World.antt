@@ -25,14 +25,13 @@ use Rattle.lte_machine.specs.PhoneStep.{plain_phone, front_of, phone_root, phone
 use Rattle.lte_machine.specs.StationState.{Station, StationInput, StationActs, AirPdu, StationRecord, OnS1, OnX2}
 use Rattle.lte_machine.specs.StationRows.{StationRow, OfRecord, OfAir, OfAct}
 use Rattle.lte_machine.specs.StationKeys.{station_does}
-use Rattle.lte_machine.specs.StationStep.{station_step, station_row_of, station_key, plain_station}
+use Rattle.lte_machine.specs.StationStep.{station_step, station_row_of, station_key}
 use Rattle.lte_machine.specs.CoreState.{CoreInput}
 use Rattle.lte_machine.specs.CoreKeys.{CoreDone}
 use Rattle.lte_machine.specs.CoreChoice.{core_row}
 use Rattle.lte_machine.specs.CoreStep.{plain_core, core_root, core_front_of, core_step}
 use Rattle.lte_machine.specs.World.{Machine, World, with_one, phone_after, core_after, station_after, by_world, phone_turn, core_turn, station_of_id, turn_of, station_turn, content_in}
 use Rattle.lte_machine.specs.Step.{phone_attempts, core_attempts, attempts_at}
-use Rattle.ho_prep.specs.Prep.{at_air}
 use Rattle.lte_properties.specs.ChainBelow.{AllOf}
 use Rattle.lte_properties.specs.ChainAbove.{ContextAbove, StationAbove, InFlight}
 use Rattle.lte_properties.specs.ChainHolds.{machine_by}
@@ -53,7 +52,7 @@ use Rattle.lte_properties.proofs.Agreement.Told.{told_more, fresh_beside, SiteOk
 use Rattle.lte_properties.proofs.Agreement.Station.{StationGoes, NewMade, NewTried, RecordNeeds, AirNeeds, record_goes, air_goes}
 use Rattle.lte_properties.proofs.Agreement.StationAct.{ActNeeds, act_goes}
 use Rattle.lte_properties.proofs.Agreement.StationWalk.{CellFits, s1_walks, x2_walks}
-use Rattle.lte_properties.proofs.Agreement.StationOpens.{CameUp, air_walks_by, act_walks}
+use Rattle.lte_properties.proofs.Agreement.StationOpens.{CameUp, air_row_walks, act_walks}
 use Rattle.lte_properties.proofs.Agreement.Core.{StaysOff, as_before, CoreGoes, CoreNeeds, core_goes}
 
 abbrev pub TheWorld : Type 0
@@ -361,9 +360,9 @@ module _ (same : Term → Term → Bool) (root : ℕ → List ℕ → Term) (oct
   station_air_goes c w id air bearer pdu came h above k None found honest = turn_goes c w id (AirPdu air bearer pdu) came None h tt tt
   station_air_goes c w id air bearer pdu came h above k (Some s) found honest =
       turn_goes c w id (AirPdu air bearer pdu) came (Some s) h found
-      (λ ok is. air_walks_by same cells (ghost c w) s ok air came (subst (λ n. CameUp (ghost c w) n air came) (sym is) k)
+      (λ ok is. air_row_walks same cells (ghost c w) s ok air came (subst (λ n. CameUp (ghost c w) n air came) (sym is) k)
       (outcome_of m (attempts_at m (AirPdu air bearer pdu) came (Some s)))
-      (plain_station (term_reading_by same) s).context refl (at_air air (plain_station (term_reading_by same) s).preps) (which bearer) pdu honest)
+      (which bearer) pdu honest)
 
   -- what came to a station in a record
   abbrev S1Came : Conns → TheWorld → ℕ → Option (Outgoing Term ℕ) → Type 0

@@ -32,7 +32,7 @@ use Rattle.lte_machine.specs.StationKeys.{spent_in}
 use Rattle.lte_properties.specs.ChainAbove.{RequestOk, AnswerOk, InFlight}
 use Rattle.lte_properties.specs.ChainHolds.{noted}
 use Rattle.lte_properties.proofs.ChainNumbers.RowFacts.{LinkIs, CoreFits, CoreDraws, NasDraws}
-use Rattle.lte_properties.proofs.ChainNumbers.Choice.{by_test, same_of}
+use Rattle.lte_machine.proofs.Tests.{by_test, same_of}
 use Rattle.lte_properties.proofs.ChainNumbers.Lists.{OfSome}
 
 -- THE CHOICE

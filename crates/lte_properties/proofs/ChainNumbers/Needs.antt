@@ -1,5 +1,5 @@
 -- A record that comes supplies what its row needs, and the phone sends no pair.
-use Rattle.std.proofs.Common.{◌≡◌, refl, sym, ap, ◌∙◌, subst, ℕ, ◌≤◌, Bool, List, Option, Some, None, Err, true, false}
+use Rattle.std.proofs.Common.{◌≡◌, refl, sym, ap, ◌∙◌, subst, ℕ, ◌≤◌, Bool, List, Option, Some, None, Ok, Err, true, false}
 use Rattle.std.specs.Prelude.{⊤}
 use Rattle.alg_choice.specs.declared.algs.Algs.{Algs}
 use Rattle.annex_a_keys.specs.Cell.{Place}
@@ -12,8 +12,8 @@ use Rattle.lte_events.specs.declared.answers.Answer.{Answer}
 use Rattle.lte_events.specs.declared.answers.Answer.TheVariants.{BadRecord}
 use Rattle.key_model.specs.Term.{Term}
 use Rattle.key_model.specs.HandoverTable.{NumberedKey}
-use Rattle.key_model.specs.Reading.{term_reading_by}
-use Rattle.s1x2_rec.specs.Fields.{Fields, InitialContext, ContextRelease, PathSwitchRequest, PathSwitchAnswer, HandoverRequired, HandoverRequest, HandoverRequestAck, HandoverCommand, HandoverNotify, HandoverCancel, X2Request, X2Ack, X2Cancel, X2Release, ContextModification}
+use Rattle.key_model.specs.Reading.{Reading, term_reading_by}
+use Rattle.s1x2_rec.specs.Fields.{Fields, ContextRelease, PathSwitchAnswer}
 use Rattle.lte_machine.specs.Bearers.{Srb, Drb, Which, which}
 use Rattle.lte_machine.specs.Opening.{Outcome}
 use Rattle.lte_machine.specs.Reply.{Origin, Reply, unseen}
@@ -23,16 +23,16 @@ use Rattle.lte_machine.specs.PhoneRows.{Authenticated, NasRow, NasRefused, Rejec
 use Rattle.lte_machine.specs.PhoneKeys.{authenticated, rejected_under, context_taken, context_taken_connected, nas_opened, nas_does, link_secured, handed_over, rrc_opened, packet_opened, air_does, service_requested, complete_resent, packet_sent, rrc_sent, nas_sent, nas_skipped, bearer_skipped, act_does, phone_does, key_changed, changed_unless, before_of}
 use Rattle.lte_machine.specs.StationState.{Station, Context, StationActs, AirPdu, StationRecord, Interface, OnS1, OnX2, map_read}
 use Rattle.lte_machine.specs.StationRows.{RecordRow, RecordRefused, ContextGiven, ContextReleased, PairTaken, PreparedByS1, PreparedByX2, AckedByS1, AckedByX2, PreparationCancelled, SourceReleased, OfRecord, KeyRenewed}
-use Rattle.lte_machine.specs.StationChoice.{x2_row, record_row}
-use Rattle.lte_machine.specs.StationStep.{plain_station, key_read, station_row_of, station_step}
+use Rattle.lte_machine.specs.StationChoice.{record_row, air_front, air_row, act_row}
+use Rattle.lte_machine.specs.StationStep.{plain_station, station_step}
 use Rattle.lte_machine.specs.Machines.{content_of}
 use Rattle.lte_properties.specs.ChainBelow.{StationBelow, conn_of, RecordBelow}
 use Rattle.lte_properties.specs.ChainAbove.{AnswerOk, AnswerTo, StationAbove, InFlight}
 use Rattle.lte_properties.proofs.ChainNumbers.RowFacts.{PairNeeds, RecordNeeds, RowNeeds}
-use Rattle.lte_properties.proofs.ChainNumbers.RowFacts.{TakenFor, RecordFits, RecordDraws}
-use Rattle.lte_properties.proofs.ChainNumbers.Choice.{record_row_fits}
-use Rattle.lte_properties.proofs.ChainNumbers.Draws.{air_row_draws, act_row_draws}
-use Rattle.lte_properties.proofs.ChainNumbers.Station.{Kept, station_does_kept}
+use Rattle.lte_machine.proofs.RecordFacts.{Takes, RecordHas, record_has}
+use Rattle.lte_machine.proofs.AirFacts.{air_has}
+use Rattle.lte_machine.proofs.StationActFacts.{station_act_has}
+use Rattle.lte_properties.proofs.ChainNumbers.Station.{Kept, record_kept, air_kept, act_kept}
 use Rattle.lte_properties.proofs.ChainNumbers.Core.{Plainly}
 
 -- what comes to an address: nothing that was sent, or a record to it that is at most the core's number and fits a station
@@ -40,42 +40,9 @@ abbrev pub ComesOk : (ℕ → ℕ) → Station Term ℕ → Address → Option (
 ComesOk top s to None = ⊤
 ComesOk top s to (Some x) = (address_of x ≡ to) × RecordBelow top x × InFlight s x
 
--- by what the choice established
-record_draws : (s : Station Term ℕ) (fields : Fields) (row : RecordRow) → RecordFits s fields row → RecordDraws s.next row
-record_draws s fields (RecordRefused answer) h = tt
-record_draws s fields (ContextGiven conn cell caps algs air) h = h.2
-record_draws s fields ContextReleased h = tt
-record_draws s fields (PairTaken conn origin) h = tt
-record_draws s fields (PreparedByS1 w) h = h.1.2
-record_draws s fields (PreparedByX2 w) h = h.1.2
-record_draws s fields (AckedByS1 ncc algs air) h = tt
-record_draws s fields (AckedByX2 algs air) h = tt
-record_draws s fields (PreparationCancelled from) h = tt
-record_draws s fields SourceReleased h = tt
-record_draws s fields (KeyRenewed conn number air count) h = (h.2, h.3)
-
 -- what an answer in these fields tells of a context
 abbrev Answers : Option (Context Term ℕ) → Fields → ℕ → Type 0
 Answers o fields n = (asked number : ℕ) → fields ≡ PathSwitchAnswer asked number → AnswerOk o asked number n
-
-module _ (top : ℕ → ℕ) (s : Station Term ℕ) (fields : Fields) (key : NumberedKey Term ℕ) (below : key.number ≤ top (conn_of fields)) where
-  taken_needs : (o : Option (Context Term ℕ)) (conn : ℕ) (origin : Option Origin) → TakenFor o conn origin fields → Answers o fields key.number → PairNeeds top key.number o
-  taken_needs None conn origin t f = tt
-  taken_needs (Some c) conn origin t f =
-      let k = f t.0 t.1 t.2 t.3 in (k.1, subst (λ n. key.number ≤ top n) (ap conn_of t.2 ∙ sym k.0) below)
-
-  row_needs : (row : RecordRow) → RecordFits s fields row → Answers s.context fields key.number → RecordNeeds top s row key
-  row_needs (RecordRefused answer) h f = tt
-  row_needs (ContextGiven conn cell caps algs air) h f = tt
-  row_needs ContextReleased h f = tt
-  row_needs (PairTaken conn origin) h f = taken_needs s.context conn origin h f
-  row_needs (PreparedByS1 w) h f = subst (λ n. key.number ≤ top n) (ap conn_of h.0) below
-  row_needs (PreparedByX2 w) h f = subst (λ n. key.number ≤ top n) (ap conn_of h.0) below
-  row_needs (AckedByS1 ncc algs air) h f = tt
-  row_needs (AckedByX2 algs air) h f = tt
-  row_needs (PreparationCancelled from) h f = tt
-  row_needs SourceReleased h f = tt
-  row_needs (KeyRenewed conn number air count) h f = tt
 
 -- on S1 an answer fits the station that it goes to
 answers_on_s1 : (s : Station Term ℕ) (to : Address) (fields : Fields) (key : NumberedKey Term ℕ) → to ≡ StationS1 s.id → InFlight s (Between to fields (Some key)) → Answers s.context fields key.number
@@ -83,61 +50,37 @@ answers_on_s1 s to fields key e h asked number f =
     let k = subst (λ a. AnswerTo a s asked number key.number) e (subst (λ g. InFlight s (Between to g (Some key))) f h) in
     (k refl).1
 
--- on X2 none is taken
-x2_needs : (top : ℕ → ℕ) (same : Term → Term → Bool) (s : Station Term ℕ) (fields : Fields) (key : NumberedKey Term ℕ) → key.number ≤ top (conn_of fields) →
-    RecordNeeds top s (x2_row (plain_station (term_reading_by same) s) fields) key
-x2_needs top same s (InitialContext conn cell caps) key b = tt
-x2_needs top same s (ContextRelease conn) key b = tt
-x2_needs top same s (PathSwitchRequest conn station number cell caps) key b = tt
-x2_needs top same s (PathSwitchAnswer conn number) key b = tt
-x2_needs top same s (HandoverRequired conn station attempt cell) key b = tt
-x2_needs top same s (HandoverRequest conn source attempt cell caps) key b = tt
-x2_needs top same s (HandoverRequestAck conn source attempt cell ncc algs air) key b = tt
-x2_needs top same s (HandoverCommand conn attempt cell ncc algs air) key b = tt
-x2_needs top same s (HandoverNotify conn station cell) key b = tt
-x2_needs top same s (HandoverCancel conn source attempt cell) key b = tt
-x2_needs top same s (X2Request conn source attempt cell caps) key b =
-    row_needs top s (X2Request conn source attempt cell caps) key b _ (record_row_fits (term_reading_by same) s OnX2 (record { fields = X2Request conn source attempt cell caps; key = Some key })) (λ asked number e. cc)
-x2_needs top same s (X2Ack conn attempt cell algs air) key b =
-    row_needs top s (X2Ack conn attempt cell algs air) key b _ (record_row_fits (term_reading_by same) s OnX2 (record { fields = X2Ack conn attempt cell algs air; key = Some key })) (λ asked number e. cc)
-x2_needs top same s (X2Cancel conn source attempt) key b =
-    row_needs top s (X2Cancel conn source attempt) key b _ (record_row_fits (term_reading_by same) s OnX2 (record { fields = X2Cancel conn source attempt; key = Some key })) (λ asked number e. cc)
-x2_needs top same s (ContextModification conn next) key b = tt
-x2_needs top same s (X2Release conn attempt) key b =
-    row_needs top s (X2Release conn attempt) key b _ (record_row_fits (term_reading_by same) s OnX2 (record { fields = X2Release conn attempt; key = Some key })) (λ asked number e. cc)
-
--- a record that comes on S1 or X2
+-- where a record comes to a station
 abbrev pub to_of : Interface → ℕ → Address
 to_of OnS1 id = StationS1 id
 to_of OnX2 id = StationX2 id
 
-abbrev RecordOf : (Term → Term → Bool) → Station Term ℕ → Interface → Outgoing Term ℕ → RecordRow
-RecordOf same s on x = record_row (plain_station (term_reading_by same) s) on (map_read unseen (term_reading_by same).ncc (content_of x))
+-- a record with a key supplies what its row needs
+module _ (top : ℕ → ℕ) (same : Term → Term → Bool) (s : Station Term ℕ) (on : Interface) (to : Address) (fields : Fields) (key : NumberedKey Term ℕ) (goes : to ≡ to_of on s.id)
+    (below : key.number ≤ top (conn_of fields)) (flies : InFlight s (Between to fields (Some key))) where
+  taken_needs : (conn : ℕ) (origin : Option Origin) → Takes s on fields conn origin → PairNeeds top key.number s.context
+  taken_needs conn origin f =
+      let k : AnswerOk (Some f.context) f.asked f.number key.number =
+      subst (λ o. AnswerOk o f.asked f.number key.number) f.serving
+      (answers_on_s1 s to fields key (goes ∙ ap (λ o. to_of o s.id) f.on_is) flies f.asked f.number f.fields_is) in
+      let h = k f.outstanding in
+      subst (PairNeeds top key.number) (sym f.serving) (h.1, subst (λ n. key.number ≤ top n) (ap conn_of f.fields_is ∙ sym h.0) below)
 
-record_needs_by : (top : ℕ → ℕ) (same : Term → Term → Bool) (s : Station Term ℕ) (on : Interface) (to : Address) (fields : Fields) (key : NumberedKey Term ℕ) →
-    to ≡ to_of on s.id → key.number ≤ top (conn_of fields) → InFlight s (Between to fields (Some key)) → RecordNeeds top s (RecordOf same s on (Between to fields (Some key))) key
-record_needs_by top same s OnS1 to fields key e b h =
-    row_needs top s fields key b _ (record_row_fits (term_reading_by same) s OnS1 (record { fields = fields; key = Some key })) (answers_on_s1 s to fields key e h)
-record_needs_by top same s OnX2 to fields key e b h = x2_needs top same s fields key b
+  row_needs : (row : RecordRow) → RecordHas (term_reading_by same) s on fields row → RecordNeeds top s row key
+  row_needs (RecordRefused answer) f = tt
+  row_needs (ContextGiven conn cell caps algs air) f = tt
+  row_needs ContextReleased f = tt
+  row_needs (PairTaken conn origin) f = taken_needs conn origin f
+  row_needs (PreparedByS1 w) f = subst (λ n. key.number ≤ top n) (ap conn_of f.fields_is) below
+  row_needs (PreparedByX2 w) f = subst (λ n. key.number ≤ top n) (ap conn_of f.fields_is) below
+  row_needs (AckedByS1 ncc algs air) f = tt
+  row_needs (AckedByX2 algs air) f = tt
+  row_needs (PreparationCancelled from) f = tt
+  row_needs SourceReleased f = tt
+  row_needs (KeyRenewed conn number air count) f = tt
 
--- every record supplies what its row needs
-pub record_needs : (top : ℕ → ℕ) (same : Term → Term → Bool) (s : Station Term ℕ) (on : Interface) (x : Outgoing Term ℕ) →
-    address_of x ≡ to_of on s.id → RecordBelow top x → InFlight s x → RowNeeds top s (OfRecord (RecordOf same s on x)) (key_read (content_of x))
-record_needs top same s on (SealedNas dir header u e text) a b h = tt
-record_needs top same s on (PlainNas octets) a b h = tt
-record_needs top same s on (SealedRrc dir station air srb u e text) a b h = tt
-record_needs top same s on (UserPacket dir station air drb e text) a b h = tt
-record_needs top same s on (Between to fields None) a b h = tt
-record_needs top same s on (Between to fields (Some key)) a b h = record_needs_by top same s on to fields key a b h
-
--- and its row draws the next number
-pub record_row_draws : (same : Term → Term → Bool) (s : Station Term ℕ) (on : Interface) (x : Outgoing Term ℕ) → RecordDraws s.next (RecordOf same s on x)
-record_row_draws same s on (SealedNas dir header u e text) = tt
-record_row_draws same s on (PlainNas octets) = tt
-record_row_draws same s on (SealedRrc dir station air srb u e text) = tt
-record_row_draws same s on (UserPacket dir station air drb e text) = tt
-record_row_draws same s on (Between to fields key) =
-    record_draws s fields _ (record_row_fits (term_reading_by same) s on (record { fields = fields; key = key }))
+abbrev RecordOf : (Term → Term → Bool) → Station Term ℕ → Interface → Fields → Option (NumberedKey Term ℕ) → RecordRow
+RecordOf same s on fields key = record_row (plain_station (term_reading_by same) s) on (map_read unseen (term_reading_by same).ncc (Ok (record { fields = fields; key = key })))
 
 -- A STEP OF A STATION
 
@@ -145,22 +88,36 @@ abbrev pub StepKept : (ℕ → ℕ) → Station Term ℕ → Station Term ℕ ×
 StepKept top s d = Kept top s.id s.next s.context d.0 d.1.sent
 
 module _ (top : ℕ → ℕ) (same : Term → Term → Bool) (s : Station Term ℕ) (below : StationBelow top s) (above : StationAbove s) where
-  pub act_step_kept : (act : StationAct) (outcome : Outcome) → StepKept top s (station_step (term_reading_by same) s (StationActs act) outcome)
-  act_step_kept act outcome =
-      station_does_kept top same s (station_row_of (term_reading_by same) s (StationActs act) outcome) None (act_row_draws (plain_station (term_reading_by same) s) act) tt below above
+  abbrev r : Reading Term ℕ
+  r = term_reading_by same
 
-  pub air_step_kept : (air : ℕ) (bearer : Bearer) (pdu : List ℕ) (outcome : Outcome) → StepKept top s (station_step (term_reading_by same) s (AirPdu air bearer pdu) outcome)
+  pub act_step_kept : (act : StationAct) (outcome : Outcome) → StepKept top s (station_step r s (StationActs act) outcome)
+  act_step_kept act outcome = act_kept top same s below.1 above.1 act (act_row (plain_station r s) act) (station_act_has r s act) below.0 above.0
+
+  pub air_step_kept : (air : ℕ) (bearer : Bearer) (pdu : List ℕ) (outcome : Outcome) → StepKept top s (station_step r s (AirPdu air bearer pdu) outcome)
   air_step_kept air bearer pdu outcome =
-      station_does_kept top same s (station_row_of (term_reading_by same) s (AirPdu air bearer pdu) outcome) None (air_row_draws (plain_station (term_reading_by same) s) air (which bearer) pdu outcome) tt below above
+      air_kept top same s below.1 above.1 air (which bearer) pdu outcome (air_row (plain_station r s) (air_front (plain_station r s) air (which bearer) pdu) outcome)
+      (air_has r s air (which bearer) pdu outcome) below.0 above.0
 
-  -- a record that was sent, and one that was not
+  between_kept : (on : Interface) (to : Address) (fields : Fields) (key : Option (NumberedKey Term ℕ)) (outcome : Outcome) → RowNeeds top s (OfRecord (RecordOf same s on fields key)) key →
+      StepKept top s (station_step r s (StationRecord on (Ok (record { fields = fields; key = key }))) outcome)
+  between_kept on to fields key outcome n =
+      record_kept top same s below.1 above.1 on fields (RecordOf same s on fields key) key (record_has r s on (record { fields = fields; key = key })) n below.0 above.0
+
+  -- a record that was not sent, and one that was
+  pub unread_step_kept : (on : Interface) (fault : RecFault) (outcome : Outcome) → StepKept top s (station_step r s (StationRecord on (Err fault)) outcome)
+  unread_step_kept on fault outcome = record_kept top same s below.1 above.1 on (ContextRelease 0) (RecordRefused (BadRecord fault)) None tt tt below.0 above.0
+
   pub record_step_kept : (on : Interface) (x : Outgoing Term ℕ) (outcome : Outcome) → address_of x ≡ to_of on s.id → RecordBelow top x → InFlight s x →
-      StepKept top s (station_step (term_reading_by same) s (StationRecord on (content_of x)) outcome)
-  record_step_kept on x outcome e b h =
-      station_does_kept top same s (OfRecord (RecordOf same s on x)) (key_read (content_of x)) (record_row_draws same s on x) (record_needs top same s on x e b h) below above
-
-  pub unread_step_kept : (on : Interface) (fault : RecFault) (outcome : Outcome) → StepKept top s (station_step (term_reading_by same) s (StationRecord on (Err fault)) outcome)
-  unread_step_kept on fault outcome = station_does_kept top same s (OfRecord (RecordRefused (BadRecord fault))) None tt tt below above
+      StepKept top s (station_step r s (StationRecord on (content_of x)) outcome)
+  record_step_kept on (SealedNas dir header u e text) outcome a b h = unread_step_kept on RecFault.Short outcome
+  record_step_kept on (PlainNas octets) outcome a b h = unread_step_kept on RecFault.Short outcome
+  record_step_kept on (SealedRrc dir station air srb u e text) outcome a b h = unread_step_kept on RecFault.Short outcome
+  record_step_kept on (UserPacket dir station air drb e text) outcome a b h = unread_step_kept on RecFault.Short outcome
+  record_step_kept on (Between to fields None) outcome a b h = between_kept on to fields None outcome tt
+  record_step_kept on (Between to fields (Some key)) outcome a b h =
+      between_kept on to fields (Some key) outcome
+      (row_needs top same s on to fields key a b h (RecordOf same s on fields (Some key)) (record_has r s on (record { fields = fields; key = Some key })))
 
 -- THE PHONE SENDS NOTHING ON S1 AND X2
 

@@ -8,21 +8,25 @@ use Rattle.key_model.specs.Term.{Term}
 use Rattle.key_model.specs.Reading.{term_reading_by}
 use Rattle.key_model.specs.HandoverTable.{NumberedKey}
 use Rattle.nh_chain.specs.Station.{StationKey, pair_after, restored_if, base_of}
-use Rattle.s1x2_rec.specs.Fields.{PathSwitchRequest, PathSwitchAnswer}
+use Rattle.lte_events.specs.declared.acts.StationAct.{StationAct}
+use Rattle.s1x2_rec.specs.Fields.{Fields, PathSwitchRequest, PathSwitchAnswer}
 use Rattle.ho_prep.specs.Prep.{Prep, at_air, without, drop_below, is_of, is_at}
 use Rattle.x2_handover.specs.declared.orders.Order.{Order}
-use Rattle.lte_machine.specs.Bearers.{Srb, Drb}
+use Rattle.lte_machine.specs.Bearers.{Srb, Drb, Which}
+use Rattle.lte_machine.specs.Opening.{Outcome}
 use Rattle.lte_machine.specs.Wire.{Outgoing, Between}
 use Rattle.lte_machine.specs.Reply.{Origin, Reply}
-use Rattle.lte_machine.specs.StationState.{Station, Context, Attempt, OverX2, OverS1, Within, X2Open, X2Ready, X2Commanded, S1Open, S1Ready, S1Commanded, Renewal, Renewing}
-use Rattle.lte_machine.specs.StationRows.{Admitted, RecordRow, RecordRefused, ContextGiven, ContextReleased, PairTaken, PreparedByS1, PreparedByX2, AckedByS1, AckedByX2, PreparationCancelled, SourceReleased, AirRow, AirRefused, SecurityStarted, RrcOpened, PacketOpened, CompletedByS1, CompletedWithin, CompletedByX2, ActRow, ActRefused, StartedByX2, StartedByS1, StartedWithin, HandoverCommanded, CancelledByX2, CancelledByS1, CancelledWithin, PathSwitchAsked, PacketSent, RrcSent, BearerSkipped, StationRow, OfRecord, OfAir, OfAct, KeyRenewed, ChangeCommanded}
-use Rattle.lte_machine.specs.StationKeys.{spent_in, commanded, given_up, with_security, with_rrc_taken, with_packet_taken, with_skipped, completed_by_s1, completed_within, completed_by_x2, arrived, started_by_x2, started_by_s1, started_within, commands, asks_again, sends_packet, sends_rrc, air_does, act_does, station_does, commands_change}
+use Rattle.lte_machine.specs.StationState.{Interface, Station, Context, Attempt, OverX2, OverS1, Within, X2Open, X2Ready, X2Commanded, S1Open, S1Ready, S1Commanded, Renewal, Renewing}
+use Rattle.lte_machine.specs.StationRows.{Admitted, RecordRow, RecordRefused, ContextGiven, ContextReleased, PairTaken, PreparedByS1, PreparedByX2, AckedByS1, AckedByX2, PreparationCancelled, SourceReleased, AirRow, AirRefused, SecurityStarted, RrcOpened, PacketOpened, CompletedByS1, CompletedWithin, CompletedByX2, ActRow, ActRefused, StartedByX2, StartedByS1, StartedWithin, HandoverCommanded, CancelledByX2, CancelledByS1, CancelledWithin, PathSwitchAsked, PacketSent, RrcSent, BearerSkipped, OfRecord, KeyRenewed, ChangeCommanded}
+use Rattle.lte_machine.specs.StationKeys.{spent_in, commanded, given_up, with_security, with_rrc_taken, with_packet_taken, with_skipped, completed_by_s1, completed_within, completed_by_x2, arrived, started_by_x2, started_by_s1, started_within, commands, asks_again, sends_packet, sends_rrc, air_does, act_does, commands_change}
 use Rattle.lte_machine.specs.StationRecords.{s1_acked, x2_acked, with_pair, with_s1_ack, with_x2_ack, with_admitted, source_release, context_given, pair_taken, prepared_by_s1, prepared_by_x2, record_does, key_renewed}
 use Rattle.lte_properties.specs.ChainBelow.{AllOf, OfPair, star_in, EachNumber, AtMost, IsUnder, IsAbove, ContextBelow, PrepBelow, StationBelow, RecordBelow}
 use Rattle.lte_properties.specs.ChainAbove.{ContextAbove, HasNoPair, StationAbove, InFlight}
 use Rattle.lte_properties.proofs.ChainNumbers.RowFacts.{PairNeeds, RowNeeds}
-use Rattle.lte_properties.proofs.ChainNumbers.RowFacts.{RecordDraws, AirDraws, ActDraws, RowDraws}
-use Rattle.lte_properties.proofs.ChainNumbers.Choice.{none_some, by_some}
+use Rattle.lte_machine.proofs.Tests.{none_some, by_some}
+use Rattle.lte_machine.proofs.RecordFacts.{RecordHas}
+use Rattle.lte_machine.proofs.AirFacts.{AirHas}
+use Rattle.lte_machine.proofs.StationActFacts.{StationActHas}
 use Rattle.lte_properties.proofs.ChainNumbers.Lists.{OfSome, all_append, all_filter, all_find}
 use Rattle.lte_properties.proofs.ChainNumbers.Moves.{Stands, Moves, Stays, Renewed}
 
@@ -283,7 +287,7 @@ module _ (top : ℕ → ℕ) (same : Term → Term → Bool) (s : Station Term �
   prepared_by_x2_kept w (Some star) n e h a = prepared_kept w _ _ e n refl (tt, tt, tt) h a
 
   key_renewed_kept : (conn number air count : ℕ) (o : Option (Context Term ℕ)) (key : Option (NumberedKey Term ℕ)) →
-      RecordDraws s.next (KeyRenewed conn number air count) → s.context ≡ o →
+      air ≡ s.next + 1 → s.context ≡ o →
       ContextBelow top o → ContextAbove o → After o (key_renewed (term_reading_by same) conn number air count o key s)
   key_renewed_kept conn number air count None key d e h a = idle None e h a
   key_renewed_kept conn number air count (Some c) None d e h a = idle (Some c) e h a
@@ -291,7 +295,7 @@ module _ (top : ℕ → ℕ) (same : Term → Term → Bool) (s : Station Term �
     below = ((h.0, h.1, tt, tt), (omega arith, tt));
     above = ((a.0, tt), (refl, tt));
     same = refl;
-    rises = above_next d.1;
+    rises = above_next d;
     moves = Stays (refl, refl, λ n k. (k.0, k.1, tt, tt));
     sends = (tt, tt, tt);
   }
@@ -299,11 +303,11 @@ module _ (top : ℕ → ℕ) (same : Term → Term → Bool) (s : Station Term �
       above_next : air ≡ s.next + 1 → s.next ≤ air + 1
       above_next f = omega arith
 
-  record_kept : (row : RecordRow) (key : Option (NumberedKey Term ℕ)) → RecordDraws s.next row → RowNeeds top s (OfRecord row) key →
+  pub record_kept : (on : Interface) (fields : Fields) (row : RecordRow) (key : Option (NumberedKey Term ℕ)) → RecordHas (term_reading_by same) s on fields row → RowNeeds top s (OfRecord row) key →
       ContextBelow top s.context → ContextAbove s.context → After s.context (record_does (term_reading_by same) row key s)
-  record_kept (RecordRefused answer) key d n h a = unchanged h a
-  record_kept (ContextGiven conn cell caps algs air) key d n h a = context_given_kept conn cell caps algs air key d h a
-  record_kept ContextReleased key d n h a = record {
+  record_kept on fields (RecordRefused answer) key d n h a = unchanged h a
+  record_kept on fields (ContextGiven conn cell caps algs air) key d n h a = context_given_kept conn cell caps algs air key d.air_is h a
+  record_kept on fields ContextReleased key d n h a = record {
     below = (tt, tt);
     above = (tt, tt);
     same = refl;
@@ -311,22 +315,22 @@ module _ (top : ℕ → ℕ) (same : Term → Term → Bool) (s : Station Term �
     moves = Stays tt;
     sends = tt;
   }
-  record_kept (PairTaken conn origin) key d n h a = pair_taken_kept conn origin key n h a
-  record_kept (PreparedByS1 w) key d n h a = prepared_by_s1_kept w key n d h a
-  record_kept (PreparedByX2 w) key d n h a = prepared_by_x2_kept w key n d h a
-  record_kept (AckedByS1 ncc algs air) key d n h a =
+  record_kept on fields (PairTaken conn origin) key d n h a = pair_taken_kept conn origin key n h a
+  record_kept on fields (PreparedByS1 w) key d n h a = prepared_by_s1_kept w key n d.admits.air_is h a
+  record_kept on fields (PreparedByX2 w) key d n h a = prepared_by_x2_kept w key n d.admits.air_is h a
+  record_kept on fields (AckedByS1 ncc algs air) key d n h a =
       mapped top s (with_s1_ack ncc algs air) s.preps None (λ c. refl) (λ c. refl)
       (λ c P k. (k.0, k.1, s1_acked_star P ncc algs air c.attempt k.2, s1_acked_spent P ncc algs air c.attempt k.3))
       (λ c k. (k.0, s1_acked_spent (IsAbove c.key.number) ncc algs air c.attempt k.1)) pb pa s.context tt h a
-  record_kept (AckedByX2 algs air) key d n h a =
+  record_kept on fields (AckedByX2 algs air) key d n h a =
       mapped top s (with_x2_ack algs air) s.preps None (λ c. refl) (λ c. refl)
       (λ c P k. (k.0, k.1, x2_acked_star P algs air c.attempt k.2, x2_acked_spent P algs air c.attempt k.3))
       (λ c k. (k.0, x2_acked_spent (IsAbove c.key.number) algs air c.attempt k.1)) pb pa s.context tt h a
-  record_kept (PreparationCancelled from) key d n h a =
+  record_kept on fields (PreparationCancelled from) key d n h a =
       same_context top s s.next s.last s.seen (without from.source from.attempt s.preps) None (omega arith)
       (all_filter (PrepBelow top) (λ p. not (is_of from.source from.attempt p)) s.preps pb)
       (all_filter HasNoPair (λ p. not (is_of from.source from.attempt p)) s.preps pa) tt h a
-  record_kept SourceReleased key d n h a = record {
+  record_kept on fields SourceReleased key d n h a = record {
     below = (tt, pb);
     above = (tt, pa);
     same = refl;
@@ -334,7 +338,7 @@ module _ (top : ℕ → ℕ) (same : Term → Term → Bool) (s : Station Term �
     moves = Stays tt;
     sends = tt;
   }
-  record_kept (KeyRenewed conn number air count) key d n h a = key_renewed_kept conn number air count s.context key d refl h a
+  record_kept on fields (KeyRenewed conn number air count) key d n h a = key_renewed_kept conn number air count s.context key d.air_is refl h a
 
   -- by a PDU
   abbrev FoundOk : Option (Prep Term ℕ) → Type 0
@@ -373,18 +377,18 @@ module _ (top : ℕ → ℕ) (same : Term → Term → Bool) (s : Station Term �
     first_of_two HasNoPair (λ p. is_at air p ≡ true) (at_air air s.preps) (all_find HasNoPair (is_at air) s.preps pa),
   )
 
-  air_kept : (row : AirRow) → AirDraws s.next row →
+  pub air_kept : (air : ℕ) (on : Which) (pdu : List ℕ) (outcome : Outcome) (row : AirRow) → AirHas (term_reading_by same) s air on pdu outcome row →
       ContextBelow top s.context → ContextAbove s.context → After s.context (air_does (term_reading_by same) row s)
-  air_kept (AirRefused answer) d h a = unchanged h a
-  air_kept (SecurityStarted count) d h a =
+  air_kept air on pdu outcome (AirRefused answer) d h a = unchanged h a
+  air_kept air on pdu outcome (SecurityStarted count) d h a =
       mapped top s (with_security count) s.preps None (λ c. refl) (λ c. refl) (λ c P k. k) (λ c k. k) pb pa s.context tt h a
-  air_kept (RrcOpened srb count text) d h a =
+  air_kept air on pdu outcome (RrcOpened srb count text) d h a =
       mapped top s (with_rrc_taken srb count) s.preps None (λ c. refl) (λ c. refl) (λ c P k. k) (λ c k. k) pb pa s.context tt h a
-  air_kept (PacketOpened drb count text) d h a =
+  air_kept air on pdu outcome (PacketOpened drb count text) d h a =
       mapped top s (with_packet_taken drb count) s.preps None (λ c. refl) (λ c. refl) (λ c P k. k) (λ c k. k) pb pa s.context tt h a
-  air_kept (CompletedByS1 air count) d h a = completed_by_s1_kept count (at_air air s.preps) (found air) h a
-  air_kept (CompletedWithin air count origin) d h a = completed_within_kept count origin (at_air air s.preps) (found air) h a
-  air_kept (CompletedByX2 air count number) d h a = completed_by_x2_kept count number (at_air air s.preps) d (found air) h a
+  air_kept air on pdu outcome (CompletedByS1 at count) d h a = completed_by_s1_kept count (at_air at s.preps) (found at) h a
+  air_kept air on pdu outcome (CompletedWithin at count origin) d h a = completed_within_kept count origin (at_air at s.preps) (found at) h a
+  air_kept air on pdu outcome (CompletedByX2 at count number) d h a = completed_by_x2_kept count number (at_air at s.preps) d.0 (found at) h a
 
   -- by an act
   started_by_x2_kept : (number target : ℕ) (cell : Place) (o : Option (Context Term ℕ)) → number ≡ s.next → s.context ≡ o →
@@ -402,14 +406,14 @@ module _ (top : ℕ → ℕ) (same : Term → Term → Bool) (s : Station Term �
   started_by_s1_kept number target cell (Some c) d e h a =
       changed top s c _ (number + 1) s.preps _ refl refl (λ P k. (k.0, k.1, tt, tt)) (λ k. (k.0, tt)) (omega arith) pb pa (tt, tt, tt) h a
 
-  started_within_kept : (number air : ℕ) (cell : Place) (o : Option (Context Term ℕ)) → ActDraws s.next (StartedWithin number air cell) → s.context ≡ o →
+  started_within_kept : (number air : ℕ) (cell : Place) (o : Option (Context Term ℕ)) → air ≡ s.next + 1 → s.context ≡ o →
       ContextBelow top o → ContextAbove o → After o (started_within (term_reading_by same) number air cell o s)
   started_within_kept number air cell None d e h a = idle None e h a
   started_within_kept number air cell (Some c) d e h a =
       let star = base_number (AtMost (top c.conn)) c.key.pair c.key.kenb c.key.number h.0 h.1 in
       changed top s c _ (air + 1) _ None refl refl
       (λ P k. (k.0, tt, base_number P c.key.pair c.key.kenb c.key.number k.0 k.1, k.1))
-      (λ k. (tt, k.0)) (above_next d.1)
+      (λ k. (tt, k.0)) (above_next d)
       (all_append (PrepBelow top) s.preps _ pb (star, tt))
       (all_append HasNoPair s.preps _ pa (refl, tt)) tt h a
     where
@@ -464,30 +468,22 @@ module _ (top : ℕ → ℕ) (same : Term → Term → Bool) (s : Station Term �
       (λ c P k. let r = restored_each P c.key (spent_in c.attempt) k.0 k.1 k.3 in (r.0, r.1, tt, tt))
       (λ c k. (restored_above c.key (spent_in c.attempt) k.0 k.1, tt)) qb qa s.context sends h a
 
-  act_kept : (row : ActRow) → ActDraws s.next row →
+  pub act_kept : (act : StationAct) (row : ActRow) → StationActHas (term_reading_by same) s act row →
       ContextBelow top s.context → ContextAbove s.context → After s.context (act_does (term_reading_by same) row s)
-  act_kept (ActRefused answer) d h a = unchanged h a
-  act_kept (StartedByX2 number target cell) d h a = started_by_x2_kept number target cell s.context d refl h a
-  act_kept (StartedByS1 number target cell) d h a = started_by_s1_kept number target cell s.context d refl h a
-  act_kept (StartedWithin number air cell) d h a = started_within_kept number air cell s.context d refl h a
-  act_kept (HandoverCommanded order count) d h a = commands_kept order count s.context refl h a
-  act_kept (ChangeCommanded renewal count) d h a = commands_change_kept renewal count s.context refl h a
-  act_kept (CancelledByX2 conn number target) d h a = given_up_kept s.preps _ pb pa (tt, tt, tt) h a
-  act_kept (CancelledByS1 conn number cell) d h a = given_up_kept s.preps _ pb pa (tt, tt, tt) h a
-  act_kept (CancelledWithin number) d h a =
+  act_kept act (ActRefused answer) d h a = unchanged h a
+  act_kept act (StartedByX2 number target cell) d h a = started_by_x2_kept number target cell s.context d.number_is refl h a
+  act_kept act (StartedByS1 number target cell) d h a = started_by_s1_kept number target cell s.context d.number_is refl h a
+  act_kept act (StartedWithin number air cell) d h a = started_within_kept number air cell s.context d.air_is refl h a
+  act_kept act (HandoverCommanded order count) d h a = commands_kept order count s.context refl h a
+  act_kept act (ChangeCommanded renewal count) d h a = commands_change_kept renewal count s.context refl h a
+  act_kept act (CancelledByX2 conn number target) d h a = given_up_kept s.preps _ pb pa (tt, tt, tt) h a
+  act_kept act (CancelledByS1 conn number cell) d h a = given_up_kept s.preps _ pb pa (tt, tt, tt) h a
+  act_kept act (CancelledWithin number) d h a =
       given_up_kept (without s.id number s.preps) None
       (all_filter (PrepBelow top) (λ p. not (is_of s.id number p)) s.preps pb)
       (all_filter HasNoPair (λ p. not (is_of s.id number p)) s.preps pa) tt h a
-  act_kept (PathSwitchAsked number) d h a = asks_again_kept number s.context d refl h a
-  act_kept (PacketSent drb count text) d h a = sends_packet_kept drb count text s.context refl h a
-  act_kept (RrcSent srb count text) d h a = sends_rrc_kept srb count text s.context refl h a
-  act_kept (BearerSkipped on n) d h a =
+  act_kept act (PathSwitchAsked number) d h a = asks_again_kept number s.context d.number_is refl h a
+  act_kept act (PacketSent drb count text) d h a = sends_packet_kept drb count text s.context refl h a
+  act_kept act (RrcSent srb count text) d h a = sends_rrc_kept srb count text s.context refl h a
+  act_kept act (BearerSkipped on n) d h a =
       mapped top s (with_skipped on n) s.preps None (λ c. refl) (λ c. refl) (λ c P k. k) (λ c k. k) pb pa s.context tt h a
-
--- each row of a station
-pub station_does_kept : (top : ℕ → ℕ) (same : Term → Term → Bool) (s : Station Term ℕ) (row : StationRow) (key : Option (NumberedKey Term ℕ)) →
-    RowDraws s.next row → RowNeeds top s row key → StationBelow top s → StationAbove s →
-    Kept top s.id s.next s.context (station_does (term_reading_by same) row key s).0 (station_does (term_reading_by same) row key s).1.sent
-station_does_kept top same s (OfRecord row) key d n h a = record_kept top same s h.1 a.1 row key d n h.0 a.0
-station_does_kept top same s (OfAir row) key d n h a = air_kept top same s h.1 a.1 row d h.0 a.0
-station_does_kept top same s (OfAct row) key d n h a = act_kept top same s h.1 a.1 row d h.0 a.0

@@ -46,7 +46,7 @@ use Rattle.lte_properties.proofs.ChainNumbers.Station.{OwnRequest, SentOk}
 use Rattle.lte_properties.proofs.ChainNumbers.Core.{core_record_fits, core_act_draws, CoreKept, Asked, CoreNeeds, Plainly, each_weaker, core_does_kept, silent_kept}
 use Rattle.lte_properties.proofs.ChainNumbers.Needs.{StepKept, to_of, act_step_kept, air_step_kept, record_step_kept, unread_step_kept, phone_does_plain}
 use Rattle.lte_properties.proofs.NasWalk.{IfChange, nas_row, nas_walk}
-use Rattle.lte_properties.proofs.ChainNumbers.Choice.{none_some, by_some}
+use Rattle.lte_machine.proofs.Tests.{none_some, by_some}
 
 -- a station's request is no other station's
 other_flies : (u : Station Term ℕ) (id : ℕ) (x : Outgoing Term ℕ) → (u.id ≡ id → ⊥) → OwnRequest id x → InFlight u x

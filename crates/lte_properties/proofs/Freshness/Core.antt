@@ -21,7 +21,7 @@ use Rattle.lte_properties.specs.ChainBelow.{AllOf}
 use Rattle.lte_properties.proofs.Freshness.Sequence.{authentication_of}
 use Rattle.lte_properties.proofs.Freshness.Uses.{Home, home_at, Homes, Grows, OnKey, IsNas, NasDown, CoreUse, AllApart}
 use Rattle.lte_properties.proofs.Freshness.Stands.{IsPast, NasKeysOf, core_partial_root, core_context_root, due, core_mark, CoreStands, RecordStands}
-use Rattle.lte_properties.proofs.ChainNumbers.Choice.{by_some}
+use Rattle.lte_machine.proofs.Tests.{by_some}
 use Rattle.lte_properties.proofs.Freshness.Order.{homed, homed_here, homed_is, homed_grows}
 use Rattle.lte_properties.proofs.Freshness.Lists.{both_apart}
 use Rattle.lte_properties.proofs.Freshness.PhoneNas.{types_apart}

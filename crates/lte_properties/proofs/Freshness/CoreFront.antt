@@ -24,7 +24,7 @@ use Rattle.lte_machine.specs.Reply.{unseen}
 use Rattle.lte_machine.specs.CoreState.{Core, CorePartial, CoreContext, CoreLink, map_core_context, map_core_partial}
 use Rattle.lte_machine.specs.CoreChoice.{PlainCore, CoreNasFront, NasSettled, OpensComplete, OpensProtected, plain_text_row, plain_row, opens_complete, complete_front, opens_protected, protected_front, core_nas_front, core_header, complete_row, reject_row, protected_row, core_nas_row, smc_row, start_smc_row, NUMBERS, connect_row, release_row, send_nas_row, skip_nas_row, core_act_row, completed_row}
 use Rattle.lte_machine.specs.CoreStep.{plain_core}
-use Rattle.lte_properties.proofs.ChainNumbers.Choice.{by_test}
+use Rattle.lte_machine.proofs.Tests.{by_test}
 use Rattle.lte_properties.proofs.Freshness.Core.{CoreNasNeeds, CoreActNeeds}
 use Rattle.lte_properties.proofs.NasWalk.{nas_row}
 

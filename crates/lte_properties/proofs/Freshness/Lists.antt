@@ -11,7 +11,7 @@ use Rattle.lte_properties.specs.ChainBelow.{AllOf}
 use Rattle.lte_properties.specs.Freshness.{NoUseTwice}
 use Rattle.lte_properties.proofs.Freshness.Premises.{ValuesApart}
 use Rattle.lte_properties.proofs.Freshness.Uses.{AllApart}
-use Rattle.lte_properties.proofs.ChainNumbers.Choice.{by_some, none_some}
+use Rattle.lte_machine.proofs.Tests.{by_some, none_some}
 use Rattle.lte_properties.proofs.ChainNumbers.Lists.{all_append, all_map}
 
 -- uses apart, and more that are apart from them

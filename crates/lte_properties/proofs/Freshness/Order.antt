@@ -13,7 +13,7 @@ use Rattle.lte_properties.proofs.Freshness.Sequence.{authentication_of, IsBefore
 use Rattle.lte_properties.specs.Origins.{nas_count_of}
 use Rattle.lte_properties.proofs.Freshness.Uses.{Home, Homes, Grows, OnKey, home_of}
 use Rattle.lte_properties.proofs.Freshness.Stands.{Mark, IsPast}
-use Rattle.lte_properties.proofs.ChainNumbers.Choice.{by_some}
+use Rattle.lte_machine.proofs.Tests.{by_some}
 
 -- ORDER
 

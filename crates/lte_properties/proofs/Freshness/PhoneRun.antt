@@ -26,7 +26,7 @@ use Rattle.lte_properties.proofs.Freshness.Sequence.{IsBefore, IsNotAfter}
 use Rattle.lte_properties.proofs.Freshness.Uses.{Home, home_at, Homes}
 use Rattle.lte_properties.proofs.Freshness.Stands.{partial_root, phone_mark, RadioStands}
 use Rattle.lte_properties.proofs.Freshness.PhoneUses.{TookInOrder, NeverTook, RadioInOrder, PhoneInOrder, PhoneFresh}
-use Rattle.lte_properties.proofs.ChainNumbers.Choice.{none_some}
+use Rattle.lte_machine.proofs.Tests.{none_some}
 use Rattle.lte_properties.proofs.ChainNumbers.Lists.{all_append, all_one, all_map}
 use Rattle.lte_properties.proofs.Freshness.Lists.{roots_kept, one_root_more}
 use Rattle.lte_properties.proofs.Freshness.Order.{not_before_itself}

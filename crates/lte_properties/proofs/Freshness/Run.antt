@@ -25,7 +25,7 @@ use Rattle.lte_machine.specs.PhoneChoice.{act_row}
 use Rattle.lte_machine.specs.StationState.{Station, Context, StationActs, AirPdu, StationRecord, Interface, OnS1, OnX2}
 use Rattle.lte_machine.specs.StationChoice.{AirFront, AirSettled, OnStarting, OnSignalling, OnUser, OnPrepared}
 use Rattle.lte_machine.specs.StationRows.{RecordRefused}
-use Rattle.lte_machine.specs.StationStep.{station_step, station_opens, plain_station}
+use Rattle.lte_machine.specs.StationStep.{station_step, station_opens}
 use Rattle.lte_machine.specs.StationKeys.{air_expects, starting_expects, signalling_expects, user_expects, prepared_expects}
 use Rattle.lte_machine.specs.CoreState.{Core, CoreInput, CoreAuth, CoreActs, CoreNasPdu, CoreRecord}
 use Rattle.lte_machine.specs.CoreStep.{core_step, core_opens}
@@ -38,8 +38,9 @@ use Rattle.lte_properties.proofs.Freshness.Premises.{srb_accepted, SealedAsAccep
 use Rattle.lte_properties.proofs.Freshness.Sequence.{authentication_of}
 use Rattle.lte_properties.proofs.Freshness.Uses.{home_at, Homes, OnKey, IsNas, IsAs, NasUp, AsUp, UpUse, NasDown, CoreUse, StationUse}
 use Rattle.lte_properties.proofs.Freshness.Stands.{Mark, IsPast, partial_root, context_root, phone_mark, RadioStands, PhoneStands, core_partial_root, core_context_root, core_mark, CoreStands, StationStands, BetweenStands, RecordStands, Fresh}
-use Rattle.lte_properties.proofs.ChainNumbers.Choice.{by_some, none_some, same_of}
-use Rattle.lte_properties.proofs.ChainNumbers.Draws.{air_row_draws, act_row_draws}
+use Rattle.lte_machine.proofs.Tests.{by_some, none_some, same_of}
+use Rattle.lte_machine.proofs.AirFacts.{air_has}
+use Rattle.lte_machine.proofs.StationActFacts.{station_act_has}
 use Rattle.lte_properties.proofs.ChainNumbers.Lists.{OfSome, all_find, all_get, all_map, all_both}
 use Rattle.lte_properties.proofs.Freshness.Order.{on_key}
 use Rattle.lte_properties.proofs.Freshness.Lists.{one_root_more}
@@ -48,7 +49,7 @@ use Rattle.lte_properties.proofs.Freshness.PhoneNas as phone_nas
 use Rattle.lte_properties.proofs.Freshness.Core.{core_nas_keeps, core_record_keeps, core_act_keeps}
 use Rattle.lte_properties.proofs.Freshness.CoreFront.{nas_needs, act_needs}
 use Rattle.lte_properties.proofs.Freshness.Station as station
-use Rattle.lte_properties.proofs.Freshness.StationFront.{act_row_counts, air_row_needs, record_needs, GoesHere, on_s1, on_x2}
+use Rattle.lte_properties.proofs.Freshness.StationFront.{air_row_needs, record_needs, GoesHere, on_s1, on_x2}
 use Rattle.lte_properties.proofs.Freshness.World.{phone_fresh, core_fresh, station_fresh}
 use Rattle.lte_properties.proofs.SameKeys.{IsReflexive}
 
@@ -273,7 +274,7 @@ module _ (same : Term → Term → Bool) (itself : IsReflexive same) (octets : O
       act_turn act came (Some s) k =
           let outcome = opener (station_opens r s (StationActs act)) [] came in
           station_fresh m w (λ o. refl) h id s (station_step r s (StationActs act) outcome) (same_of s.id id k.1) k.0.1
-          (station.act_keeps h.taken h.given same _ s (act_row_draws (plain_station r s) act) (act_row_counts r s act) k.0.0)
+          (station.act_keeps h.taken h.given same act _ s (station_act_has r s act) k.0.0)
 
       -- a record that comes to a station
       record_turn : (to : Address) (interface : Interface) → GoesHere to id → (read : Result (Content Term ℕ) RecFault) → ReadStands h.given to read → (came : Option (Outgoing Term ℕ)) →
@@ -298,7 +299,7 @@ module _ (same : Term → Term → Bool) (itself : IsReflexive same) (octets : O
           let outcome = opener (station_opens r s (AirPdu air bearer pdu)) pdu came in
           let named : s.id ≡ id = same_of s.id id k.1 in
           station_fresh m w (λ o. refl) h id s (station_step r s (AirPdu air bearer pdu) outcome) named k.0.1
-          (station.air_keeps h.taken h.given same _ s (air_row_draws (plain_station r s) air (which bearer) pdu outcome)
+          (station.air_keeps h.taken h.given same air (which bearer) pdu outcome _ s (air_has r s air (which bearer) pdu outcome)
           (air_row_needs h.taken s air r (which bearer) pdu outcome k.0.0.1
           (λ u e. subst (λ i. OnKey (λ t type. h.taken t ≡ Some (home_at i air)) u.key) (sym named)
           (came_there h.taken h.given id air bearer u came c (honest u (accepts_up s _ outcome u e) e))))

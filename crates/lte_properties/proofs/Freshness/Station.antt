@@ -6,6 +6,7 @@ use Rattle.alg_choice.specs.declared.algs.Algs.{Algs}
 use Rattle.alg_choice.specs.declared.caps.Caps.{Caps}
 use Rattle.alg_choice.specs.Algs.{identity_of, eia2_identity}
 use Rattle.annex_a_keys.specs.Cell.{Place}
+use Rattle.lte_events.specs.declared.acts.StationAct.{StationAct}
 use Rattle.rec_base.specs.declared.uses.Dir.TheVariants.{Down}
 use Rattle.rec_base.specs.Bearer.{bearer5_of}
 use Rattle.key_model.specs.Term.{Term, Alg}
@@ -19,7 +20,8 @@ use Rattle.rrc_rec.specs.Spelling.{spelling_of}
 use Rattle.ho_prep.specs.declared.origins.By.{By}
 use Rattle.ho_prep.specs.Prep.{Prep, is_at, at_air, without, drop_below, is_of}
 use Rattle.x2_handover.specs.declared.orders.Order.{Order}
-use Rattle.lte_machine.specs.Bearers.{Srb, Signalling1, Drb, Bearers, of_srb, of_drb, srb_counts, drb_counts, srb_sent, drb_sent}
+use Rattle.lte_machine.specs.Opening.{Outcome}
+use Rattle.lte_machine.specs.Bearers.{Which, Srb, Signalling1, Drb, Bearers, of_srb, of_drb, srb_counts, drb_counts, srb_sent, drb_sent}
 use Rattle.lte_machine.specs.Wire.{KeyUse, Outgoing, uses_of, drb_use}
 use Rattle.lte_machine.specs.Reply.{Origin}
 use Rattle.lte_machine.specs.StationState.{Station, Context, Attempt, Renewal}
@@ -28,16 +30,17 @@ use Rattle.lte_machine.specs.StationKeys.{with_security, with_rrc_taken, with_pa
 use Rattle.lte_machine.specs.StationRecords.{signalling_sent, packet_sent, initial_context, context_given, with_pair, pair_taken, admitted_prep, prepared_by_s1, prepared_by_x2, with_admitted, with_s1_ack, with_x2_ack, record_does, own_prep, order_text, key_renewed, change_text}
 use Rattle.lte_machine.specs.World.{uses_in}
 use Rattle.lte_properties.specs.ChainBelow.{AllOf}
-use Rattle.lte_properties.proofs.ChainNumbers.RowFacts.{AirDraws, ActDraws}
+use Rattle.lte_machine.proofs.AirFacts.{AirHas}
+use Rattle.lte_machine.proofs.StationActFacts.{StationActHas}
 use Rattle.lte_properties.proofs.Freshness.Uses.{Home, home_at, Homes, IsAs, is_star, home_of, home, NoneWaits, IsSpent, next_on, send_on, ContextAhead, AsDown, StationUse, AllApart}
 use Rattle.lte_properties.proofs.Freshness.Stands.{AsKeysOf, ContextStands, PrepStands, StationStands, RecordStands}
-use Rattle.lte_properties.proofs.ChainNumbers.Choice.{by_some}
+use Rattle.lte_machine.proofs.Tests.{by_some}
 use Rattle.lte_properties.proofs.ChainNumbers.Lists.{OfSome, all_append, all_filter, all_find, all_map}
 use Rattle.lte_properties.proofs.Freshness.Lists.{both_apart}
 use Rattle.lte_properties.proofs.Freshness.Bearers.{Rise, rise_same, below_stays, srb_taken_rises, drb_taken_rises, srb_sent_rises, drb_sent_rises, left_out_rises, srb_is_next, srb_is_used, drb_is_next, drb_is_used}
 use Rattle.lte_properties.proofs.Freshness.PhoneNas.{types_apart}
 use Rattle.lte_properties.proofs.Freshness.Order.{on_key}
-use Rattle.lte_properties.proofs.Freshness.StationKeeps.{Later, later_spent, Stays, ContextStays, stays_same, stays_map, restored_kenb, NewAt, StationKeeps, RecordNeeds, TakenHere, AirNeeds, ActCounts}
+use Rattle.lte_properties.proofs.Freshness.StationKeeps.{Later, later_spent, Stays, ContextStays, stays_same, stays_map, restored_kenb, NewAt, StationKeeps, RecordNeeds, TakenHere, AirNeeds}
 
 module _ (taken given : Homes) where
   -- CONTEXTS THAT STAY
@@ -371,15 +374,16 @@ module _ (taken given : Homes) where
     x2_keeps count number (Some p) e w n h = arrives s air (number + 1) count (Some number) _ p _ (omega arith) w n tt tt tt
 
   -- a row of a PDU
-  pub air_keeps : (same : Term → Term → Bool) (row : AirRow) (s : Station Term ℕ) → AirDraws s.next row → AirNeeds taken s row → StationStands taken given s →
+  pub air_keeps : (same : Term → Term → Bool) (air : ℕ) (on : Which) (pdu : List ℕ) (outcome : Outcome) (row : AirRow) (s : Station Term ℕ) →
+      AirHas (term_reading_by same) s air on pdu outcome row → AirNeeds taken s row → StationStands taken given s →
       let d = air_does (term_reading_by same) row s in StationKeeps taken given s d.0 d.1.sent
-  air_keeps same (AirRefused answer) s d n h = still s h
-  air_keeps same (SecurityStarted count) s d n h = mapped s (with_security count) (λ c. (refl, refl, srb_taken_rises Signalling1 count c.bearers)) h
-  air_keeps same (RrcOpened srb count text) s d n h = mapped s (with_rrc_taken srb count) (λ c. (refl, refl, srb_taken_rises srb count c.bearers)) h
-  air_keeps same (PacketOpened drb count text) s d n h = mapped s (with_packet_taken drb count) (λ c. (refl, refl, drb_taken_rises drb count c.bearers)) h
-  air_keeps same (CompletedByS1 air count) s d n h = s1_keeps same s air count (at_air air s.preps) (waits_at s air h) n h
-  air_keeps same (CompletedWithin air count origin) s d n h = within_keeps same s air count origin (at_air air s.preps) (waits_at s air h) n h
-  air_keeps same (CompletedByX2 air count number) s d n h = x2_keeps same s air count number (at_air air s.preps) d (waits_at s air h) n h
+  air_keeps same air on pdu outcome (AirRefused answer) s f n h = still s h
+  air_keeps same air on pdu outcome (SecurityStarted count) s f n h = mapped s (with_security count) (λ c. (refl, refl, srb_taken_rises Signalling1 count c.bearers)) h
+  air_keeps same air on pdu outcome (RrcOpened srb count text) s f n h = mapped s (with_rrc_taken srb count) (λ c. (refl, refl, srb_taken_rises srb count c.bearers)) h
+  air_keeps same air on pdu outcome (PacketOpened drb count text) s f n h = mapped s (with_packet_taken drb count) (λ c. (refl, refl, drb_taken_rises drb count c.bearers)) h
+  air_keeps same air on pdu outcome (CompletedByS1 at count) s f n h = s1_keeps same s at count (at_air at s.preps) (waits_at s at h) n h
+  air_keeps same air on pdu outcome (CompletedWithin at count origin) s f n h = within_keeps same s at count origin (at_air at s.preps) (waits_at s at h) n h
+  air_keeps same air on pdu outcome (CompletedByX2 at count number) s f n h = x2_keeps same s at count number (at_air at s.preps) f.0 (waits_at s at h) n h
 
   -- rows by an act
 
@@ -456,21 +460,25 @@ module _ (taken given : Homes) where
   gives_up : (c : Context Term ℕ) → Stays c (given_up c)
   gives_up c = (restored_kenb c.key (spent_in c.attempt), refl, rise_same c.bearers)
 
+  -- what is so of the context that a station has
+  if_serving : (s : Station Term ℕ) (c : Context Term ℕ) → s.context ≡ Some c → (P : Context Term ℕ → Type 0) → P c → IfSome s.context P
+  if_serving s c e P h = subst (λ o. IfSome o P) (sym e) h
+
   -- a row of an act
-  pub act_keeps : (same : Term → Term → Bool) (row : ActRow) (s : Station Term ℕ) → ActDraws s.next row → ActCounts s.context row → StationStands taken given s →
+  pub act_keeps : (same : Term → Term → Bool) (act : StationAct) (row : ActRow) (s : Station Term ℕ) → StationActHas (term_reading_by same) s act row → StationStands taken given s →
       let d = act_does (term_reading_by same) row s in StationKeeps taken given s d.0 d.1.sent
-  act_keeps same (ActRefused answer) s d n h = still s h
-  act_keeps same (StartedByX2 number target cell) s d n h = by_x2_start_keeps same s number target cell s.context d h
-  act_keeps same (StartedByS1 number target cell) s d n h = by_s1_start_keeps same s number target cell s.context d h
-  act_keeps same (StartedWithin number air cell) s d n h = within_start_keeps same s number air cell s.context d h
-  act_keeps same (HandoverCommanded order count) s d n h = commands_keeps same s order count s.context n h
-  act_keeps same (ChangeCommanded renewal count) s d n h = change_keeps same s renewal count s.context n h
-  act_keeps same (CancelledByX2 conn number target) s d n h =
+  act_keeps same act (ActRefused answer) s f h = still s h
+  act_keeps same act (StartedByX2 number target cell) s f h = by_x2_start_keeps same s number target cell s.context f.number_is h
+  act_keeps same act (StartedByS1 number target cell) s f h = by_s1_start_keeps same s number target cell s.context f.number_is h
+  act_keeps same act (StartedWithin number air cell) s f h = within_start_keeps same s number air cell s.context (f.starts.number_is, f.air_is) h
+  act_keeps same act (HandoverCommanded order count) s f h = commands_keeps same s order count s.context (if_serving s f.context f.serving (λ c. count ≡ c.bearers.srb1.send) f.count_is) h
+  act_keeps same act (ChangeCommanded renewal count) s f h = change_keeps same s renewal count s.context (if_serving s f.context f.serving (λ c. count ≡ c.bearers.srb1.send) f.count_is) h
+  act_keeps same act (CancelledByX2 conn number target) s f h =
       changes s s.next (option_map given_up s.context) _ (omega arith) (stays_map given_up gives_up s.context) h tt tt tt
-  act_keeps same (CancelledByS1 conn number cell) s d n h =
+  act_keeps same act (CancelledByS1 conn number cell) s f h =
       changes s s.next (option_map given_up s.context) _ (omega arith) (stays_map given_up gives_up s.context) h tt tt tt
-  act_keeps same (CancelledWithin number) s d n h = filtered s (option_map given_up s.context) s.id number (stays_map given_up gives_up s.context) h
-  act_keeps same (PathSwitchAsked number) s d n h = asks_keeps same s number s.context d h
-  act_keeps same (PacketSent drb count text) s d n h = packets_keeps same s drb count text s.context n h
-  act_keeps same (RrcSent srb count text) s d n h = texts_keeps same s srb count text s.context n h
-  act_keeps same (BearerSkipped on m) s d n h = mapped s (with_skipped on m) (λ c. (refl, refl, left_out_rises on m c.bearers)) h
+  act_keeps same act (CancelledWithin number) s f h = filtered s (option_map given_up s.context) s.id number (stays_map given_up gives_up s.context) h
+  act_keeps same act (PathSwitchAsked number) s f h = asks_keeps same s number s.context f.number_is h
+  act_keeps same act (PacketSent drb count text) s f h = packets_keeps same s drb count text s.context (if_serving s f.context f.serving (λ c. count ≡ (drb_counts drb c.bearers).send) f.count_is) h
+  act_keeps same act (RrcSent srb count text) s f h = texts_keeps same s srb count text s.context (if_serving s f.context f.serving (λ c. count ≡ (srb_counts srb c.bearers).send) f.count_is) h
+  act_keeps same act (BearerSkipped on m) s f h = mapped s (with_skipped on m) (λ c. (refl, refl, left_out_rises on m c.bearers)) h

@@ -6,10 +6,9 @@ use Rattle.key_model.specs.Term.{Term}
 use Rattle.key_model.specs.HandoverTable.{NumberedKey}
 use Rattle.nh_chain.specs.Station.{StationKey, restored_if}
 use Rattle.ho_prep.specs.Prep.{Prep, at_air}
-use Rattle.lte_machine.specs.Bearers.{srb_counts, drb_counts}
 use Rattle.lte_machine.specs.Wire.{KeyUse, Outgoing}
 use Rattle.lte_machine.specs.StationState.{Station, Context}
-use Rattle.lte_machine.specs.StationRows.{RecordRow, ContextGiven, PreparedByS1, PreparedByX2, AirRow, CompletedByS1, CompletedWithin, CompletedByX2, ActRow, HandoverCommanded, PacketSent, RrcSent, KeyRenewed, ChangeCommanded}
+use Rattle.lte_machine.specs.StationRows.{RecordRow, ContextGiven, PreparedByS1, PreparedByX2, AirRow, CompletedByS1, CompletedWithin, CompletedByX2, KeyRenewed}
 use Rattle.lte_machine.specs.World.{uses_in}
 use Rattle.lte_properties.specs.ChainBelow.{AllOf}
 use Rattle.lte_properties.proofs.Freshness.Uses.{Home, home_at, Homes, OnKey, IsAs, is_star, home, NoneWaits, IsSpent, AsDown, StationUse, AllApart}
@@ -94,11 +93,3 @@ AirNeeds taken s (CompletedByS1 air count) = TakenHere taken s.id air (at_air ai
 AirNeeds taken s (CompletedWithin air count origin) = TakenHere taken s.id air (at_air air s.preps)
 AirNeeds taken s (CompletedByX2 air count number) = TakenHere taken s.id air (at_air air s.preps)
 AirNeeds taken s other = ⊤
-
--- a COUNT sent with is the next one
-abbrev pub ActCounts : Option (Context Term ℕ) → ActRow → Type 0
-ActCounts o (HandoverCommanded order count) = IfSome o (λ c. count ≡ c.bearers.srb1.send)
-ActCounts o (ChangeCommanded renewal count) = IfSome o (λ c. count ≡ c.bearers.srb1.send)
-ActCounts o (PacketSent drb count text) = IfSome o (λ c. count ≡ (drb_counts drb c.bearers).send)
-ActCounts o (RrcSent srb count text) = IfSome o (λ c. count ≡ (srb_counts srb c.bearers).send)
-ActCounts o other = ⊤

@@ -25,7 +25,7 @@ use Rattle.lte_properties.specs.Freshness.{NoUseTwice}
 use Rattle.lte_properties.proofs.Freshness.Premises.{ValuesApart, srb_accepted, SentUnder, AllSentUnder}
 use Rattle.lte_properties.proofs.Freshness.Uses.{StationUse}
 use Rattle.lte_properties.proofs.Freshness.Stands.{StationStands, Fresh}
-use Rattle.lte_properties.proofs.ChainNumbers.Choice.{by_some, none_some, same_of}
+use Rattle.lte_machine.proofs.Tests.{by_some, none_some, same_of}
 use Rattle.lte_properties.proofs.Freshness.Lists.{no_use_twice, no_value_twice}
 use Rattle.lte_properties.proofs.Freshness.Run.{run_fresh}
 use Rattle.lte_properties.proofs.SameKeys.{IsReflexive}

@@ -17,7 +17,7 @@ use Rattle.lte_machine.specs.World.{Machine, World, uses_in, with_one, phone_aft
 use Rattle.lte_properties.specs.ChainBelow.{AllOf}
 use Rattle.lte_properties.proofs.Freshness.Uses.{Home, home_at, Homes, Grows, OnKey, IsNas, IsAs, is_star, home, NasUp, AsUp, UpUse, NasDown, CoreUse, ContextAhead, AsDown, StationUse}
 use Rattle.lte_properties.proofs.Freshness.Stands.{ContextStands, StationStands, BetweenStands, RecordStands, Fresh}
-use Rattle.lte_properties.proofs.ChainNumbers.Choice.{by_some}
+use Rattle.lte_machine.proofs.Tests.{by_some}
 use Rattle.lte_properties.proofs.ChainNumbers.Lists.{OfSome, all_append, all_one, all_map, all_both, all_put}
 use Rattle.lte_properties.proofs.Freshness.Order.{home_grows, on_key}
 use Rattle.lte_properties.proofs.Freshness.Lists.{apart_append, apart_by, roots_kept}

@@ -4,7 +4,6 @@ use Rattle.std.specs.Prelude.{◌⊎◌, option_map, Err}
 use Rattle.std.specs.List.{position_from}
 use Rattle.std.proofs.lemmas.List.{map-append}
 use Rattle.alg_choice.specs.declared.caps.Caps.{Caps}
-use Rattle.lte_machine.specs.Bearers.{which}
 use Rattle.rec_base.specs.declared.faults.RecFault.{RecFault}
 use Rattle.lte_events.specs.declared.addresses.Address.{Address}
 use Rattle.lte_events.specs.declared.events.Event.{Event}
@@ -22,7 +21,7 @@ use Rattle.lte_machine.specs.Ladder.{RowOrigin, OfRoot, Of, row_key}
 use Rattle.lte_machine.specs.Distinct.{keys_of, Member}
 use Rattle.lte_machine.specs.Known.{PairKnown, StationKnown}
 use Rattle.lte_machine.specs.StationState.{Station, StationInput, StationActs, AirPdu, StationRecord, Interface, OnS1, OnX2}
-use Rattle.lte_machine.specs.StationStep.{station_key, station_opens, station_pdu_in, station_row_of, station_step, plain_station}
+use Rattle.lte_machine.specs.StationStep.{station_key, station_opens, station_pdu_in, station_row_of, station_step}
 use Rattle.lte_machine.specs.PhoneState.{PhoneInput, PhoneActs, PhoneNasPdu, PhoneAirPdu}
 use Rattle.lte_machine.specs.PhoneStep.{phone_step, phone_opens, phone_pdu_in}
 use Rattle.lte_machine.specs.CoreState.{CoreInput, CoreActs, CoreNasPdu, CoreRecord}
@@ -37,9 +36,8 @@ use Rattle.lte_machine.proofs.KnownStation.{station_does_keeps}
 use Rattle.lte_properties.specs.ChainBelow.{AllOf}
 use Rattle.lte_properties.specs.ChainHolds.{machine_by, run}
 use Rattle.lte_properties.specs.Separation.{IsStationOf, HeldBy, WasHeld, AllHeld, OwnHeld}
-use Rattle.lte_properties.proofs.ChainNumbers.Draws.{air_row_draws, act_row_draws}
 use Rattle.lte_properties.proofs.ChainNumbers.Lists.{OfSome, all_map, all_find, all_put}
-use Rattle.lte_properties.proofs.KeySeparation.Attempts.{Numbered, step_numbered, read_draws, is_one}
+use Rattle.lte_properties.proofs.KeySeparation.Attempts.{Numbered, step_numbered, is_one}
 use Rattle.lte_properties.proofs.KeySeparation.Keys.{any_before, any_behind}
 
 -- WHAT A STEP GIVES ITS ACTOR
@@ -178,8 +176,8 @@ module _ (same : Term → Term → Bool) (root : ℕ → List ℕ → Term) (oct
       turn_held w id input came step (station_of_id id w.stations) (all_find (λ s. StationKnown (Own s.id w.held) s) (λ s. s.id == id) w.stations h.own) h
 
   read_held : (w : TheWorld) (on : Interface) (id : ℕ) (came : Option (Outgoing Term ℕ)) → HeldAll w → HeldAll (station_turn m w id (StationRecord on (content_in m came)) came).0
-  read_held w on id None h = station_held w id (StationRecord on (Err RecFault.Short)) None (λ s outcome. step_numbered same s (StationRecord on (Err RecFault.Short)) outcome tt) h
-  read_held w on id (Some x) h = station_held w id (StationRecord on (content_of x)) (Some x) (λ s outcome. step_numbered same s (StationRecord on (content_of x)) outcome (read_draws same s on x)) h
+  read_held w on id None h = station_held w id (StationRecord on (Err RecFault.Short)) None (λ s outcome. step_numbered same s (StationRecord on (Err RecFault.Short)) outcome) h
+  read_held w on id (Some x) h = station_held w id (StationRecord on (content_of x)) (Some x) (λ s outcome. step_numbered same s (StationRecord on (content_of x)) outcome) h
 
   -- AN EVENT
 
@@ -189,7 +187,7 @@ module _ (same : Term → Term → Bool) (root : ℕ → List ℕ → Term) (oct
   arrives_held w Address.CoreNas pdu came h = core_held w (CoreNasPdu pdu) came h
   arrives_held w Address.CoreS1 pdu came h = core_held w (CoreRecord (content_in m came)) came h
   arrives_held w (Address.StationAir station air bearer) pdu came h =
-      station_held w station (AirPdu air bearer pdu) came (λ s outcome. step_numbered same s (AirPdu air bearer pdu) outcome (air_row_draws (plain_station (term_reading_by same) s) air (which bearer) pdu outcome)) h
+      station_held w station (AirPdu air bearer pdu) came (λ s outcome. step_numbered same s (AirPdu air bearer pdu) outcome) h
   arrives_held w (Address.StationS1 station) pdu came h = read_held w OnS1 station came h
   arrives_held w (Address.StationX2 station) pdu came h = read_held w OnX2 station came h
 
@@ -215,7 +213,7 @@ module _ (same : Term → Term → Bool) (root : ℕ → List ℕ → Term) (oct
   happens_held w (Event.Auth ksi key caps) h = let k = root (next_root w) key in auth_held w ksi k caps (known_root m w k) h
   happens_held w (Event.Phone act) h = phone_held w (PhoneActs act) None h
   happens_held w (Event.Station id act) h =
-      station_held w id (StationActs act) None (λ s outcome. step_numbered same s (StationActs act) outcome (act_row_draws (plain_station (term_reading_by same) s) act)) h
+      station_held w id (StationActs act) None (λ s outcome. step_numbered same s (StationActs act) outcome) h
   happens_held w (Event.Core act) h = core_held w (CoreActs act) None h
   happens_held w (Event.Deliver i) h = delivered_held w (record_at i w.sent) h
   happens_held w (Event.Inject to pdu) h = injected_held w to pdu (position_from (is_sent m (class_of to) pdu) 0 w.sent) h

@@ -2,40 +2,34 @@
 use Rattle.std.proofs.Common.{◌≡◌, refl, sym, ◌∙◌, subst, ℕ, ◌+◌, ◌≤◌, ◌<◌, ◌==◌, Bool, true, false, List, [], ◌∷◌, ◌++◌, Option, Some, None, Err, arith}
 use Rattle.std.proofs.lemmas.Bool.Decides.{nat_tests}
 use Rattle.std.specs.List.{position_from}
-use Rattle.alg_choice.specs.declared.algs.Algs.{Algs}
 use Rattle.alg_choice.specs.declared.caps.Caps.{Caps}
-use Rattle.annex_a_keys.specs.Cell.{Place}
 use Rattle.rec_base.specs.declared.faults.RecFault.{RecFault}
+use Rattle.lte_events.specs.declared.acts.StationAct.{StationAct}
 use Rattle.lte_events.specs.declared.addresses.Address.{Address}
 use Rattle.lte_events.specs.declared.events.Event.{Event}
 use Rattle.lte_events.specs.declared.setups.Setup.{Setup}
 use Rattle.lte_events.specs.declared.setups.StationSetup.{StationSetup}
 use Rattle.lte_events.specs.Site.{Site}
 use Rattle.key_model.specs.Term.{Term}
-use Rattle.key_model.specs.HandoverTable.{NumberedKey}
 use Rattle.key_model.specs.Reading.{term_reading_by}
 use Rattle.s1x2_rec.specs.Fields.{Fields}
-use Rattle.ho_prep.specs.Prep.{Prep, at_air}
-use Rattle.x2_handover.specs.declared.orders.Order.{Order}
-use Rattle.lte_machine.specs.Bearers.{Srb, Drb, which}
-use Rattle.lte_machine.specs.Wire.{KeyUse, Outgoing, SealedNas, PlainNas, SealedRrc, UserPacket, Between, address_of}
+use Rattle.lte_machine.specs.Bearers.{Which}
+use Rattle.lte_machine.specs.Wire.{KeyUse, Outgoing, address_of}
 use Rattle.lte_machine.specs.Opening.{Opening, Outcome}
-use Rattle.lte_machine.specs.Reply.{Origin, Tried, Reply, unseen}
-use Rattle.lte_machine.specs.StationState.{Station, Context, StationInput, StationActs, AirPdu, StationRecord, Interface, OnS1, OnX2, map_read, Renewal}
-use Rattle.lte_machine.specs.StationRows.{Admitted, RecordRow, RecordRefused, ContextGiven, ContextReleased, PairTaken, PreparedByS1, PreparedByX2, AckedByS1, AckedByX2, PreparationCancelled, SourceReleased, AirRow, AirRefused, SecurityStarted, RrcOpened, PacketOpened, CompletedByS1, CompletedWithin, CompletedByX2, ActRow, ActRefused, StartedByX2, StartedByS1, StartedWithin, HandoverCommanded, CancelledByX2, CancelledByS1, CancelledWithin, PathSwitchAsked, PacketSent, RrcSent, BearerSkipped, StationRow, OfRecord, OfAir, OfAct, KeyRenewed, ChangeCommanded}
-use Rattle.lte_machine.specs.StationChoice.{record_row}
-use Rattle.lte_machine.specs.StationKeys.{completed_by_s1, completed_within, completed_by_x2, started_by_x2, started_by_s1, started_within, commands, asks_again, sends_packet, sends_rrc, air_does, act_does, station_does, commands_change}
-use Rattle.lte_machine.specs.StationRecords.{context_given, pair_taken, prepared_by_s1, prepared_by_x2, record_does, key_renewed}
-use Rattle.lte_machine.specs.StationStep.{plain_station, station_opens, station_pdu_in, station_row_of, station_key, station_step}
+use Rattle.lte_machine.specs.Reply.{Tried, Reply}
+use Rattle.lte_machine.specs.StationState.{Station, StationInput, StationActs, AirPdu, StationRecord, Interface, OnS1, OnX2}
+use Rattle.lte_machine.specs.StationKeys.{station_does}
+use Rattle.lte_machine.specs.StationStep.{station_opens, station_pdu_in, station_row_of, station_key, station_step}
 use Rattle.lte_machine.specs.World.{Machine, World, with_one, station_after, station_of_id, turn_of, station_turn, auth_unless, known_root, next_root, content_in, arrives, record_at, delivery, class_of, is_sent, injected, happens}
 use Rattle.lte_machine.specs.Machines.{content_of}
 use Rattle.lte_machine.specs.Run.{stations_of, first_world}
 use Rattle.lte_properties.specs.ChainBelow.{AllOf}
 use Rattle.lte_properties.specs.ChainHolds.{machine_by, run}
-use Rattle.lte_properties.proofs.ChainNumbers.RowFacts.{RecordFits, RecordDraws, AirDraws, ActDraws, RowDraws}
 use Rattle.lte_properties.specs.Separation.{AttemptsDiffer}
-use Rattle.lte_properties.proofs.ChainNumbers.Choice.{record_row_fits}
-use Rattle.lte_properties.proofs.ChainNumbers.Draws.{air_row_draws, act_row_draws}
+use Rattle.lte_machine.proofs.RecordFacts.{RecordHas}
+use Rattle.lte_machine.proofs.AirFacts.{AirHas}
+use Rattle.lte_machine.proofs.StationActFacts.{StationActHas}
+use Rattle.lte_machine.proofs.StationCases.{RecordCases, AirCases, ActCases, step_case}
 use Rattle.lte_properties.proofs.ChainNumbers.Lists.{OfSome, all_one, all_find, all_put}
 
 -- ROWS
@@ -58,145 +52,63 @@ module _ (same : Term → Term → Bool) (s : Station Term ℕ) where
   one_on : (n : ℕ) → n ≡ s.next → s.next ≤ n + 1
   one_on n e = omega arith
 
-  given_numbered : (conn : ℕ) (cell : Place) (caps : Caps) (algs : Algs) (air : ℕ) (key : Option (NumberedKey Term ℕ)) → air ≡ s.next →
-      Numbered s (context_given (term_reading_by same) conn cell caps algs air key s)
-  given_numbered conn cell caps algs air None e = quiet _ _ refl refl refl
-  given_numbered conn cell caps algs air (Some key) e = drawn _ _ refl (one_on air e) refl
+  two_on : (n : ℕ) → n ≡ s.next + 1 → s.next ≤ n + 1
+  two_on n e = omega arith
 
-  taken_numbered : (conn : ℕ) (origin : Option Origin) (key : Option (NumberedKey Term ℕ)) → Numbered s (pair_taken conn origin key s)
-  taken_numbered conn origin None = quiet _ _ refl refl refl
-  taken_numbered conn origin (Some key) = quiet _ _ refl refl refl
+  record_numbered : (on : Interface) (fields : Fields) → RecordCases (term_reading_by same) s (λ row key. RecordHas (term_reading_by same) s on fields row) (Numbered s)
+  record_numbered on fields =
+      record {
+        nothing = λ answer. quiet _ _ refl refl refl;
+        given = λ conn cell caps algs air kenb k. drawn _ _ refl (one_on air k.air_is) refl;
+        released = λ key k. quiet _ _ refl refl refl;
+        taken = λ conn origin pair k. quiet _ _ refl refl refl;
+        by_s1 = λ w pair k. drawn _ _ refl (one_on w.air k.admits.air_is) refl;
+        by_x2 = λ w star k. drawn _ _ refl (one_on w.air k.admits.air_is) refl;
+        acked_s1 = λ ncc algs air key k. quiet _ _ refl refl refl;
+        acked_x2 = λ algs air key k. quiet _ _ refl refl refl;
+        cancelled = λ from key k. quiet _ _ refl refl refl;
+        left = λ key k. quiet _ _ refl refl refl;
+        renewed = λ conn number air count c e kenb k. drawn _ _ refl (two_on air k.air_is) refl;
+      }
 
-  prepared_s1_numbered : (w : Admitted) (key : Option (NumberedKey Term ℕ)) → w.air ≡ s.next → Numbered s (prepared_by_s1 (term_reading_by same) w key s)
-  prepared_s1_numbered w None e = quiet _ _ refl refl refl
-  prepared_s1_numbered w (Some key) e = drawn _ _ refl (one_on w.air e) refl
+  air_numbered : (air : ℕ) (on : Which) (pdu : List ℕ) (outcome : Outcome) → AirCases (term_reading_by same) s (AirHas (term_reading_by same) s air on pdu outcome) (Numbered s)
+  air_numbered air on pdu outcome =
+      record {
+        nothing = λ answer. quiet _ _ refl refl refl;
+        secured = λ count k. quiet _ _ refl refl refl;
+        opened = λ srb count text k. quiet _ _ refl refl refl;
+        packet = λ drb count text k. quiet _ _ refl refl refl;
+        by_s1 = λ at count k p e. quiet _ _ refl refl refl;
+        within = λ at count origin k p e. quiet _ _ refl refl refl;
+        by_x2 = λ at count number k p e. drawn _ _ refl (one_on number k.0) refl;
+      }
 
-  prepared_x2_numbered : (w : Admitted) (key : Option (NumberedKey Term ℕ)) → w.air ≡ s.next → Numbered s (prepared_by_x2 (term_reading_by same) w key s)
-  prepared_x2_numbered w None e = quiet _ _ refl refl refl
-  prepared_x2_numbered w (Some key) e = drawn _ _ refl (one_on w.air e) refl
-
-  renewed_numbered : (conn number air count : ℕ) (o : Option (Context Term ℕ)) (key : Option (NumberedKey Term ℕ)) → (number ≡ s.next) × (air ≡ s.next + 1) →
-      Numbered s (key_renewed (term_reading_by same) conn number air count o key s)
-  renewed_numbered conn number air count None key e = quiet _ _ refl refl refl
-  renewed_numbered conn number air count (Some c) None e = quiet _ _ refl refl refl
-  renewed_numbered conn number air count (Some c) (Some kenb) e = let f = e.1 in drawn _ _ refl (omega (arith, f)) refl
-
-  record_numbered : (row : RecordRow) (key : Option (NumberedKey Term ℕ)) → RecordDraws s.next row → Numbered s (record_does (term_reading_by same) row key s)
-  record_numbered (RecordRefused answer) key e = quiet _ _ refl refl refl
-  record_numbered (ContextGiven conn cell caps algs air) key e = given_numbered conn cell caps algs air key e
-  record_numbered ContextReleased key e = quiet _ _ refl refl refl
-  record_numbered (PairTaken conn origin) key e = taken_numbered conn origin key
-  record_numbered (PreparedByS1 w) key e = prepared_s1_numbered w key e
-  record_numbered (PreparedByX2 w) key e = prepared_x2_numbered w key e
-  record_numbered (AckedByS1 ncc algs air) key e = quiet _ _ refl refl refl
-  record_numbered (AckedByX2 algs air) key e = quiet _ _ refl refl refl
-  record_numbered (PreparationCancelled from) key e = quiet _ _ refl refl refl
-  record_numbered SourceReleased key e = quiet _ _ refl refl refl
-  record_numbered (KeyRenewed conn number air count) key e = renewed_numbered conn number air count s.context key e
-
-  completed_s1_numbered : (count : ℕ) (o : Option (Prep Term ℕ)) → Numbered s (completed_by_s1 (term_reading_by same) count o s)
-  completed_s1_numbered count None = quiet _ _ refl refl refl
-  completed_s1_numbered count (Some p) = quiet _ _ refl refl refl
-
-  completed_within_numbered : (count : ℕ) (origin : Option Origin) (o : Option (Prep Term ℕ)) → Numbered s (completed_within (term_reading_by same) count origin o s)
-  completed_within_numbered count origin None = quiet _ _ refl refl refl
-  completed_within_numbered count origin (Some p) = quiet _ _ refl refl refl
-
-  completed_x2_numbered : (count number : ℕ) (o : Option (Prep Term ℕ)) → number ≡ s.next → Numbered s (completed_by_x2 (term_reading_by same) count number o s)
-  completed_x2_numbered count number None e = quiet _ _ refl refl refl
-  completed_x2_numbered count number (Some p) e = drawn _ _ refl (one_on number e) refl
-
-  air_numbered : (row : AirRow) → AirDraws s.next row → Numbered s (air_does (term_reading_by same) row s)
-  air_numbered (AirRefused answer) e = quiet _ _ refl refl refl
-  air_numbered (SecurityStarted count) e = quiet _ _ refl refl refl
-  air_numbered (RrcOpened srb count text) e = quiet _ _ refl refl refl
-  air_numbered (PacketOpened drb count text) e = quiet _ _ refl refl refl
-  air_numbered (CompletedByS1 air count) e = completed_s1_numbered count (at_air air s.preps)
-  air_numbered (CompletedWithin air count origin) e = completed_within_numbered count origin (at_air air s.preps)
-  air_numbered (CompletedByX2 air count number) e = completed_x2_numbered count number (at_air air s.preps) e
-
-  started_x2_numbered : (number target : ℕ) (cell : Place) (o : Option (Context Term ℕ)) → number ≡ s.next → Numbered s (started_by_x2 (term_reading_by same) number target cell o s)
-  started_x2_numbered number target cell None e = quiet _ _ refl refl refl
-  started_x2_numbered number target cell (Some c) e = record { same = refl; rises = one_on number e; draws = (refl, omega arith, omega arith) }
-
-  started_s1_numbered : (number target : ℕ) (cell : Place) (o : Option (Context Term ℕ)) → number ≡ s.next → Numbered s (started_by_s1 number target cell o s)
-  started_s1_numbered number target cell None e = quiet _ _ refl refl refl
-  started_s1_numbered number target cell (Some c) e = record { same = refl; rises = one_on number e; draws = (refl, omega arith, omega arith) }
-
-  started_within_numbered : (number air : ℕ) (cell : Place) (o : Option (Context Term ℕ)) → (number ≡ s.next) × (air ≡ s.next + 1) → Numbered s (started_within (term_reading_by same) number air cell o s)
-  started_within_numbered number air cell None e = quiet _ _ refl refl refl
-  started_within_numbered number air cell (Some c) e =
-      let f = e.0 in let g = e.1 in record { same = refl; rises = omega arith; draws = (refl, omega arith, omega arith) }
-
-  commands_numbered : (order : Order) (count : ℕ) (o : Option (Context Term ℕ)) → Numbered s (commands order count o s)
-  commands_numbered order count None = quiet _ _ refl refl refl
-  commands_numbered order count (Some c) = quiet _ _ refl refl refl
-
-  commands_change_numbered : (renewal : Renewal) (count : ℕ) (o : Option (Context Term ℕ)) → Numbered s (commands_change renewal count o s)
-  commands_change_numbered renewal count None = quiet _ _ refl refl refl
-  commands_change_numbered renewal count (Some c) = quiet _ _ refl refl refl
-
-  asks_numbered : (number : ℕ) (o : Option (Context Term ℕ)) → number ≡ s.next → Numbered s (asks_again number o s)
-  asks_numbered number None e = quiet _ _ refl refl refl
-  asks_numbered number (Some c) e = drawn _ _ refl (one_on number e) refl
-
-  packet_numbered : (drb : Drb) (count : ℕ) (text : List ℕ) (o : Option (Context Term ℕ)) → Numbered s (sends_packet drb count text o s)
-  packet_numbered drb count text None = quiet _ _ refl refl refl
-  packet_numbered drb count text (Some c) = quiet _ _ refl refl refl
-
-  rrc_numbered : (srb : Srb) (count : ℕ) (text : List ℕ) (o : Option (Context Term ℕ)) → Numbered s (sends_rrc srb count text o s)
-  rrc_numbered srb count text None = quiet _ _ refl refl refl
-  rrc_numbered srb count text (Some c) = quiet _ _ refl refl refl
-
-  act_numbered : (row : ActRow) → ActDraws s.next row → Numbered s (act_does (term_reading_by same) row s)
-  act_numbered (ActRefused answer) e = quiet _ _ refl refl refl
-  act_numbered (StartedByX2 number target cell) e = started_x2_numbered number target cell s.context e
-  act_numbered (StartedByS1 number target cell) e = started_s1_numbered number target cell s.context e
-  act_numbered (StartedWithin number air cell) e = started_within_numbered number air cell s.context e
-  act_numbered (HandoverCommanded order count) e = commands_numbered order count s.context
-  act_numbered (ChangeCommanded renewal count) e = commands_change_numbered renewal count s.context
-  act_numbered (CancelledByX2 conn number target) e = quiet _ _ refl refl refl
-  act_numbered (CancelledByS1 conn number cell) e = quiet _ _ refl refl refl
-  act_numbered (CancelledWithin number) e = quiet _ _ refl refl refl
-  act_numbered (PathSwitchAsked number) e = asks_numbered number s.context e
-  act_numbered (PacketSent drb count text) e = packet_numbered drb count text s.context
-  act_numbered (RrcSent srb count text) e = rrc_numbered srb count text s.context
-  act_numbered (BearerSkipped on n) e = quiet _ _ refl refl refl
-
-  row_numbered : (row : StationRow) (key : Option (NumberedKey Term ℕ)) → RowDraws s.next row → Numbered s (station_does (term_reading_by same) row key s)
-  row_numbered (OfRecord row) key e = record_numbered row key e
-  row_numbered (OfAir row) key e = air_numbered row e
-  row_numbered (OfAct row) key e = act_numbered row e
-
-  -- the next numbers are drawn
-  fits_draw : (fields : Fields) (row : RecordRow) → RecordFits s fields row → RecordDraws s.next row
-  fits_draw fields (RecordRefused answer) h = tt
-  fits_draw fields (ContextGiven conn cell caps algs air) h = h.2
-  fits_draw fields ContextReleased h = tt
-  fits_draw fields (PairTaken conn origin) h = tt
-  fits_draw fields (PreparedByS1 w) h = h.1.2
-  fits_draw fields (PreparedByX2 w) h = h.1.2
-  fits_draw fields (AckedByS1 ncc algs air) h = tt
-  fits_draw fields (AckedByX2 algs air) h = tt
-  fits_draw fields (PreparationCancelled from) h = tt
-  fits_draw fields SourceReleased h = tt
-  fits_draw fields (KeyRenewed conn number air count) h = (h.2, h.3)
-
-  pub read_draws : (on : Interface) (x : Outgoing Term ℕ) → RecordDraws s.next (record_row (plain_station (term_reading_by same) s) on (map_read unseen (term_reading_by same).ncc (content_of x)))
-  read_draws on (SealedNas dir header u e text) = tt
-  read_draws on (PlainNas octets) = tt
-  read_draws on (SealedRrc dir station air srb u e text) = tt
-  read_draws on (UserPacket dir station air drb e text) = tt
-  read_draws on (Between to fields key) = fits_draw fields _ (record_row_fits (term_reading_by same) s on (record { fields = fields; key = key }))
+  act_numbered : (act : StationAct) → ActCases (term_reading_by same) s (StationActHas (term_reading_by same) s act) (Numbered s)
+  act_numbered act =
+      record {
+        nothing = λ answer. quiet _ _ refl refl refl;
+        by_x2 = λ number target cell k c e. let f : number ≡ s.next = k.number_is in record { same = refl; rises = one_on number f; draws = (refl, omega arith, omega arith) };
+        by_s1 = λ number target cell k c e. let f : number ≡ s.next = k.number_is in record { same = refl; rises = one_on number f; draws = (refl, omega arith, omega arith) };
+        within = λ number air cell k c e. let f : number ≡ s.next = k.starts.number_is in let x : air ≡ s.next + 1 = k.air_is in record { same = refl; rises = two_on air x; draws = (refl, omega arith, omega arith) };
+        commanded = λ order count k c e. quiet _ _ refl refl refl;
+        changed = λ renewal count k c e. quiet _ _ refl refl refl;
+        cancelled_x2 = λ conn number target k. quiet _ _ refl refl refl;
+        cancelled_s1 = λ conn number cell k. quiet _ _ refl refl refl;
+        cancelled_within = λ number k. quiet _ _ refl refl refl;
+        asked = λ number k c e. drawn _ _ refl (one_on number k.number_is) refl;
+        packet = λ drb count text k c e. quiet _ _ refl refl refl;
+        text = λ srb count text k c e. quiet _ _ refl refl refl;
+        skipped = λ on n k. quiet _ _ refl refl refl;
+      }
 
   -- a step
   told : (t : Station Term ℕ) (a b : Reply Term ℕ) → a.tried ≡ b.tried → Numbered s (t, a) → Numbered s (t, b)
   told t a b e h = record { same = h.same; rises = h.rises; draws = subst (OfSome (λ a. (a.station ≡ s.id) × (s.next ≤ a.attempt) × (a.attempt < t.next))) e h.draws }
 
-  pub step_numbered : (input : StationInput Term ℕ) (outcome : Outcome) → RowDraws s.next (station_row_of (term_reading_by same) s input outcome) → Numbered s (station_step (term_reading_by same) s input outcome)
-  step_numbered input outcome e =
+  pub step_numbered : (input : StationInput Term ℕ) (outcome : Outcome) → Numbered s (station_step (term_reading_by same) s input outcome)
+  step_numbered input outcome =
       let does = station_does (term_reading_by same) (station_row_of (term_reading_by same) s input outcome) (station_key input) s in
-      told does.0 does.1 _ refl (row_numbered (station_row_of (term_reading_by same) s input outcome) (station_key input) e)
+      told does.0 does.1 _ refl (step_case (term_reading_by same) s (Numbered s) record_numbered air_numbered act_numbered input outcome)
 
 -- WORLDS
 
@@ -278,8 +190,8 @@ module _ (same : Term → Term → Bool) (root : ℕ → List ℕ → Term) (oct
       turn_apart w id input came step (station_of_id id w.stations) (all_find (λ s. AllOf (IsDrawn s) w.tried) (λ s. s.id == id) w.stations h.drawn) h
 
   read_apart : (w : TheWorld) (on : Interface) (id : ℕ) (came : Option (Outgoing Term ℕ)) → Apart w → Apart (station_turn m w id (StationRecord on (content_in m came)) came).0
-  read_apart w on id None h = station_apart w id (StationRecord on (Err RecFault.Short)) None (λ s outcome. step_numbered same s (StationRecord on (Err RecFault.Short)) outcome tt) h
-  read_apart w on id (Some x) h = station_apart w id (StationRecord on (content_of x)) (Some x) (λ s outcome. step_numbered same s (StationRecord on (content_of x)) outcome (read_draws same s on x)) h
+  read_apart w on id None h = station_apart w id (StationRecord on (Err RecFault.Short)) None (λ s outcome. step_numbered same s (StationRecord on (Err RecFault.Short)) outcome) h
+  read_apart w on id (Some x) h = station_apart w id (StationRecord on (content_of x)) (Some x) (λ s outcome. step_numbered same s (StationRecord on (content_of x)) outcome) h
 
   arrives_apart : (w : TheWorld) (to : Address) (pdu : List ℕ) (came : Option (Outgoing Term ℕ)) → Apart w → Apart (arrives m w to pdu came).0
   arrives_apart w Address.PhoneNas pdu came h = record { drawn = h.drawn; differ = h.differ }
@@ -287,7 +199,7 @@ module _ (same : Term → Term → Bool) (root : ℕ → List ℕ → Term) (oct
   arrives_apart w Address.CoreNas pdu came h = record { drawn = h.drawn; differ = h.differ }
   arrives_apart w Address.CoreS1 pdu came h = record { drawn = h.drawn; differ = h.differ }
   arrives_apart w (Address.StationAir station air bearer) pdu came h =
-      station_apart w station (AirPdu air bearer pdu) came (λ s outcome. step_numbered same s (AirPdu air bearer pdu) outcome (air_row_draws (plain_station (term_reading_by same) s) air (which bearer) pdu outcome)) h
+      station_apart w station (AirPdu air bearer pdu) came (λ s outcome. step_numbered same s (AirPdu air bearer pdu) outcome) h
   arrives_apart w (Address.StationS1 station) pdu came h = read_apart w OnS1 station came h
   arrives_apart w (Address.StationX2 station) pdu came h = read_apart w OnX2 station came h
 
@@ -307,7 +219,7 @@ module _ (same : Term → Term → Bool) (root : ℕ → List ℕ → Term) (oct
   happens_apart w (Event.Auth ksi key caps) h = let k = root (next_root w) key in auth_apart w ksi k caps (known_root m w k) h
   happens_apart w (Event.Phone act) h = record { drawn = h.drawn; differ = h.differ }
   happens_apart w (Event.Station id act) h =
-      station_apart w id (StationActs act) None (λ s outcome. step_numbered same s (StationActs act) outcome (act_row_draws (plain_station (term_reading_by same) s) act)) h
+      station_apart w id (StationActs act) None (λ s outcome. step_numbered same s (StationActs act) outcome) h
   happens_apart w (Event.Core act) h = record { drawn = h.drawn; differ = h.differ }
   happens_apart w (Event.Deliver i) h = delivered_apart w (record_at i w.sent) h
   happens_apart w (Event.Inject to pdu) h = injected_apart w to pdu (position_from (is_sent m (class_of to) pdu) 0 w.sent) h

@@ -11,32 +11,30 @@ use Rattle.lte_events.specs.Site.{Site}
 use Rattle.key_model.specs.Term.{Term}
 use Rattle.key_model.specs.Derivation.{Derivation}
 use Rattle.key_model.specs.HandoverTable.{NumberedKey}
-use Rattle.key_model.specs.Reading.{term_reading_by}
+use Rattle.key_model.specs.Reading.{Reading, term_reading_by}
 use Rattle.s1x2_rec.specs.Fields.{Fields}
-use Rattle.s1x2_rec.specs.Content.{map_content}
 use Rattle.lte_machine.specs.Bearers.{which}
 use Rattle.lte_machine.specs.Ladder.{RowOrigin, OfRoot, Of}
 use Rattle.lte_machine.specs.Wire.{Outgoing, SealedNas, PlainNas, SealedRrc, UserPacket, Between, address_of}
 use Rattle.lte_machine.specs.Opening.{Outcome}
 use Rattle.lte_machine.specs.Reply.{Made, Tried, Reply, unseen}
 use Rattle.lte_machine.specs.StationState.{Station, StationActs, AirPdu, StationRecord, Interface, OnS1, OnX2, map_read}
-use Rattle.lte_machine.specs.StationRows.{RecordRow, RecordRefused, ContextGiven, ContextReleased, PairTaken, PreparedByS1, PreparedByX2, AckedByS1, AckedByX2, PreparationCancelled, SourceReleased, OfRecord, OfAir, OfAct, KeyRenewed}
+use Rattle.lte_machine.specs.StationRows.{RecordRow, RecordRefused, ContextGiven, ContextReleased, PairTaken, PreparedByS1, PreparedByX2, AckedByS1, AckedByX2, PreparationCancelled, SourceReleased, KeyRenewed}
 use Rattle.lte_machine.specs.StationChoice.{record_row, air_front, air_row, act_row}
 use Rattle.lte_machine.specs.StationStep.{plain_station, station_step}
 use Rattle.lte_machine.specs.CoreState.{Core}
 use Rattle.lte_machine.specs.World.{World, Holding, with_one, is_root_row, next_root}
 use Rattle.lte_machine.specs.Machines.{content_of}
 use Rattle.lte_properties.specs.ChainBelow.{AllOf}
-use Rattle.lte_properties.proofs.ChainNumbers.RowFacts.{RecordFits}
 use Rattle.lte_properties.specs.Separation.{Gives, GivenTo}
-use Rattle.lte_properties.proofs.ChainNumbers.Choice.{record_row_fits}
+use Rattle.lte_machine.proofs.RecordFacts.{RecordHas, record_has}
+use Rattle.lte_machine.proofs.StationActFacts.{station_act_has}
 use Rattle.lte_properties.proofs.ChainNumbers.Lists.{OfSome, all_append, all_one, all_map}
 use Rattle.lte_properties.proofs.KeySeparation.Keys.{Gifts, GivesIn, given_old, given_split, May, MayHold, may_hold, StationOk, OwnCell, TriedOk, KeyGoes, FieldsOk, FlyOk, MadeOk, HoldOk, OutsAre, holder_may_grows, station_ok_grows, tried_ok_grows, fly_grows, made_ok_grows, OwnPlace}
-use Rattle.lte_properties.proofs.KeySeparation.Station.{StationKept, RecordNeeds, station_kept}
+use Rattle.lte_properties.proofs.KeySeparation.Station.{StationKept, RecordNeeds, record_kept, air_kept, act_kept}
 use Rattle.lte_properties.proofs.KeySeparation.Phone.{PhoneOk, Keyless}
 use Rattle.lte_properties.proofs.KeySeparation.CoreKeeps as core
 use Rattle.lte_properties.proofs.KeySeparation.CoreKeeps.{CoreOk}
-use Rattle.lte_properties.proofs.KeySeparation.Choice.{act_goes, CellOwn, record_own}
 use Rattle.annex_a_keys.specs.Cell.{Place}
 
 -- THE INVARIANT
@@ -177,22 +175,18 @@ module _ (G : Gifts) (sites : List Site) (tried : List (Tried Term ℕ)) (same :
   abbrev Stepped : Station Term ℕ × Reply Term ℕ → Type 0
   Stepped d = StationStepped G sites tried s.id d
 
-  pub act_stepped : (act : StationAct) (outcome : Outcome) → Stepped (station_step (term_reading_by same) s (StationActs act) outcome)
-  act_stepped act outcome = (
-    station_kept G sites tried same s h.cells (OfAct (act_row (plain_station (term_reading_by same) s) act)) None
-        (act_goes sites s.id (plain_station (term_reading_by same) s) act refl h.cells) h.keys,
-    tt,
-  )
+  abbrev r : Reading Term ℕ
+  r = term_reading_by same
 
-  pub air_stepped : (air : ℕ) (bearer : Bearer) (pdu : List ℕ) (outcome : Outcome) → Stepped (station_step (term_reading_by same) s (AirPdu air bearer pdu) outcome)
-  air_stepped air bearer pdu outcome = (
-    station_kept G sites tried same s h.cells
-        (OfAir (air_row (plain_station (term_reading_by same) s) (air_front (plain_station (term_reading_by same) s) air (which bearer) pdu) outcome)) None tt h.keys,
-    tt,
-  )
+  pub act_stepped : (act : StationAct) (outcome : Outcome) → Stepped (station_step r s (StationActs act) outcome)
+  act_stepped act outcome = (act_kept G sites tried same s h.cells act (act_row (plain_station r s) act) (station_act_has r s act) h.keys, tt)
 
-  pub unread_stepped : (on : Interface) (fault : RecFault) (outcome : Outcome) → Stepped (station_step (term_reading_by same) s (StationRecord on (Err fault)) outcome)
-  unread_stepped on fault outcome = (station_kept G sites tried same s h.cells (OfRecord (RecordRefused (BadRecord fault))) None tt h.keys, tt)
+  pub air_stepped : (air : ℕ) (bearer : Bearer) (pdu : List ℕ) (outcome : Outcome) → Stepped (station_step r s (AirPdu air bearer pdu) outcome)
+  air_stepped air bearer pdu outcome =
+      (air_kept G sites tried same s h.cells (air_row (plain_station r s) (air_front (plain_station r s) air (which bearer) pdu) outcome) h.keys, tt)
+
+  pub unread_stepped : (on : Interface) (fault : RecFault) (outcome : Outcome) → Stepped (station_step r s (StationRecord on (Err fault)) outcome)
+  unread_stepped on fault outcome = (record_kept G sites tried same s h.cells (RecordRefused (BadRecord fault)) None tt h.keys, tt)
 
   -- a record with a key goes to a station that may have it, and with a KeNB* to the one of its cell
   goes_may : (on : Interface) (to : Address) (t : Term) → to ≡ station_at on s.id → KeyGoes G sites to t → May G sites s.id t × OwnCell sites s.id t
@@ -202,20 +196,20 @@ module _ (G : Gifts) (sites : List Site) (tried : List (Tried Term ℕ)) (same :
   own : (cell : Place) → OwnPlace s.cells s.id cell → OwnPlace sites s.id cell
   own cell = subst (λ l. OwnPlace l s.id cell) h.cells
 
-  row_needs : (fields : Fields) (key : NumberedKey Term ℕ) → May G sites s.id key.key × OwnCell sites s.id key.key → FieldsOk tried fields (Some key) → (row : RecordRow) → RecordFits s fields row →
-      CellOwn s.cells s.id row → RecordNeeds G sites tried s.id row key
-  row_needs fields key m f (RecordRefused answer) r c = tt
-  row_needs fields key m f (ContextGiven conn cell caps algs air) r c = (m.0, subst (λ g. FieldsOk tried g (Some key)) r.0 f, own cell c)
-  row_needs fields key m f ContextReleased r c = tt
-  row_needs fields key m f (PairTaken conn origin) r c = m.0
-  row_needs fields key m f (PreparedByS1 w) r c =
-      (m.0, subst (λ g. FieldsOk tried g (Some key)) r.0 f, own w.cell c)
-  row_needs fields key m f (PreparedByX2 w) r c = (m.0, subst (λ g. FieldsOk tried g (Some key)) r.0 f, m.1, own w.cell c)
-  row_needs fields key m f (AckedByS1 ncc algs air) r c = tt
-  row_needs fields key m f (AckedByX2 algs air) r c = tt
-  row_needs fields key m f (PreparationCancelled from) r c = tt
-  row_needs fields key m f SourceReleased r c = tt
-  row_needs fields key m f (KeyRenewed conn number air count) r c = m.0
+  row_needs : (fields : Fields) (key : NumberedKey Term ℕ) → May G sites s.id key.key × OwnCell sites s.id key.key → FieldsOk tried fields (Some key) → (on : Interface) (row : RecordRow) → RecordHas r s on fields row →
+      RecordNeeds G sites tried s.id row key
+  row_needs fields key m f on (RecordRefused answer) c = tt
+  row_needs fields key m f on (ContextGiven conn cell caps algs air) c = (m.0, subst (λ g. FieldsOk tried g (Some key)) c.fields_is f, own cell c.own)
+  row_needs fields key m f on ContextReleased c = tt
+  row_needs fields key m f on (PairTaken conn origin) c = m.0
+  row_needs fields key m f on (PreparedByS1 w) c =
+      (m.0, subst (λ g. FieldsOk tried g (Some key)) c.fields_is f, own w.cell c.admits.own)
+  row_needs fields key m f on (PreparedByX2 w) c = (m.0, subst (λ g. FieldsOk tried g (Some key)) c.fields_is f, m.1, own w.cell c.admits.own)
+  row_needs fields key m f on (AckedByS1 ncc algs air) c = tt
+  row_needs fields key m f on (AckedByX2 algs air) c = tt
+  row_needs fields key m f on (PreparationCancelled from) c = tt
+  row_needs fields key m f on SourceReleased c = tt
+  row_needs fields key m f on (KeyRenewed conn number air count) c = m.0
 
   abbrev row_at : Interface → Outgoing Term ℕ → RecordRow
   row_at on x = record_row (plain_station (term_reading_by same) s) on (map_read unseen (term_reading_by same).ncc (content_of x))
@@ -226,14 +220,11 @@ module _ (G : Gifts) (sites : List Site) (tried : List (Tried Term ℕ)) (same :
   record_stepped on (PlainNas octets) outcome a f = unread_stepped on RecFault.Short outcome
   record_stepped on (SealedRrc dir station air srb u e text) outcome a f = unread_stepped on RecFault.Short outcome
   record_stepped on (UserPacket dir station air drb e text) outcome a f = unread_stepped on RecFault.Short outcome
-  record_stepped on (Between to fields None) outcome a f =
-      (station_kept G sites tried same s h.cells (OfRecord (row_at on (Between to fields None))) None tt h.keys, tt)
+  record_stepped on (Between to fields None) outcome a f = (record_kept G sites tried same s h.cells (row_at on (Between to fields None)) None tt h.keys, tt)
   record_stepped on (Between to fields (Some key)) outcome a f =
       let m = goes_may on to key.key a f.0 in (
-        station_kept G sites tried same s h.cells (OfRecord (row_at on (Between to fields (Some key)))) (Some key)
-            (row_needs fields key m f.1 (row_at on (Between to fields (Some key)))
-            (record_row_fits (term_reading_by same) s on (record { fields = fields; key = Some key }))
-            (record_own (plain_station (term_reading_by same) s) on (map_content unseen (term_reading_by same).ncc (record { fields = fields; key = Some key })))) h.keys,
+        record_kept G sites tried same s h.cells (row_at on (Between to fields (Some key))) (Some key)
+            (row_needs fields key m f.1 on (row_at on (Between to fields (Some key))) (record_has r s on (record { fields = fields; key = Some key }))) h.keys,
         may_hold G sites s.id key.key m.0,
       )
 

@@ -12,7 +12,7 @@ use Rattle.lte_machine.specs.World.{World}
 use Rattle.lte_properties.specs.Agreement.{is_made_at, ahead, Obeys, ObeysMade, ObeysAgreement}
 use Rattle.lte_properties.specs.Separation.{HeldBy, Those, GivenTo, GivenAt}
 use Rattle.lte_properties.specs.SharedKeys.{OutsideCannot, SharedBy, RenewedBy, SharedBetween, SharedAt, SharedApart}
-use Rattle.lte_properties.proofs.ChainNumbers.Choice.{by_some}
+use Rattle.lte_machine.proofs.Tests.{by_some}
 use Rattle.lte_properties.proofs.ChainNumbers.Lists.{OfSome, all_find, all_map}
 use Rattle.lte_properties.proofs.KeySeparation.Keys.{any_map, OwnCell, MadeFrom, MadeOk}
 use Rattle.lte_properties.proofs.KeySeparation.Run.{neither_derives, as_given}

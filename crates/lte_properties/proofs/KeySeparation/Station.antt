@@ -5,6 +5,7 @@ use Rattle.alg_choice.specs.declared.algs.Algs.{Algs}
 use Rattle.alg_choice.specs.declared.caps.Caps.{Caps}
 use Rattle.annex_a_keys.specs.Cell.{Place}
 use Rattle.lte_events.specs.Site.{Site, station_of}
+use Rattle.lte_events.specs.declared.acts.StationAct.{StationAct}
 use Rattle.key_model.specs.Term.{Term, Root, Kenb, Nh, Star, Alg}
 use Rattle.key_model.specs.Derivation.{Derivation}
 use Rattle.key_model.specs.Reading.{term_reading_by}
@@ -16,10 +17,11 @@ use Rattle.lte_machine.specs.Bearers.{Srb, Drb}
 use Rattle.lte_machine.specs.Wire.{Outgoing}
 use Rattle.lte_machine.specs.Reply.{Origin, Made, Tried, Reply, ByAttempt, Handover, BySource, ByTarget}
 use Rattle.lte_machine.specs.StationState.{Station, Context, Attempt, OverX2, OverS1, Within, X2Open, X2Ready, X2Commanded, S1Open, S1Ready, S1Commanded, Renewal, Renewing}
-use Rattle.lte_machine.specs.StationRows.{Admitted, RecordRow, RecordRefused, ContextGiven, ContextReleased, PairTaken, PreparedByS1, PreparedByX2, AckedByS1, AckedByX2, PreparationCancelled, SourceReleased, AirRow, AirRefused, SecurityStarted, RrcOpened, PacketOpened, CompletedByS1, CompletedWithin, CompletedByX2, ActRow, ActRefused, StartedByX2, StartedByS1, StartedWithin, HandoverCommanded, CancelledByX2, CancelledByS1, CancelledWithin, PathSwitchAsked, PacketSent, RrcSent, BearerSkipped, StationRow, OfRecord, OfAir, OfAct, KeyRenewed, ChangeCommanded}
-use Rattle.lte_machine.specs.StationKeys.{spent_in, commanded, given_up, with_security, with_rrc_taken, with_packet_taken, with_skipped, completed_by_s1, completed_within, completed_by_x2, started_by_x2, started_by_s1, started_within, commands, asks_again, sends_packet, sends_rrc, air_does, act_does, station_does, commands_change}
+use Rattle.lte_machine.specs.StationRows.{Admitted, RecordRow, RecordRefused, ContextGiven, ContextReleased, PairTaken, PreparedByS1, PreparedByX2, AckedByS1, AckedByX2, PreparationCancelled, SourceReleased, AirRow, AirRefused, SecurityStarted, RrcOpened, PacketOpened, CompletedByS1, CompletedWithin, CompletedByX2, ActRow, ActRefused, StartedByX2, StartedByS1, StartedWithin, HandoverCommanded, CancelledByX2, CancelledByS1, CancelledWithin, PathSwitchAsked, PacketSent, RrcSent, BearerSkipped, KeyRenewed, ChangeCommanded}
+use Rattle.lte_machine.specs.StationKeys.{spent_in, commanded, given_up, with_security, with_rrc_taken, with_packet_taken, with_skipped, completed_by_s1, completed_within, completed_by_x2, started_by_x2, started_by_s1, started_within, commands, asks_again, sends_packet, sends_rrc, air_does, act_does, commands_change}
 use Rattle.lte_machine.specs.StationRecords.{s1_acked, x2_acked, with_pair, with_s1_ack, with_x2_ack, source_release, admitted_made, context_given, pair_taken, prepared_by_s1, prepared_by_x2, record_does, key_renewed}
 use Rattle.lte_machine.specs.World.{with_one}
+use Rattle.lte_machine.proofs.StationActFacts.{StationActHas}
 use Rattle.lte_properties.proofs.ChainNumbers.Lists.{OfSome, all_append, all_filter, all_find}
 use Rattle.lte_properties.proofs.KeySeparation.Keys.{any_map, any_new, GivesIn, Gifts, May, MayHold, may_star, may_go, OfPairKey, ContextHas, PrepHas, StationHas, BaseGiven, TriedOk, HasTried, IsKenb, OwnCell, FlyOk, MadeBy, MadeOk, OutsAre, OwnPlace}
 
@@ -103,17 +105,9 @@ RecordNeeds G sites tried id (PreparedByX2 w) key =
 RecordNeeds G sites tried id (KeyRenewed conn number air count) key = May G sites id key.key
 RecordNeeds G sites tried id other key = ⊤
 
--- and of its choice: KeNB* goes to the station of its cell
-abbrev pub ActNeeds : List Site → ℕ → ActRow → Type 0
-ActNeeds sites id (StartedByX2 number target cell) = station_of cell sites ≡ Some target
-ActNeeds sites id (StartedWithin number air cell) = station_of cell sites ≡ Some id
-ActNeeds sites id other = ⊤
-
-abbrev pub RowNeeds : Gifts → List Site → List (Tried Term ℕ) → ℕ → StationRow → Option (NumberedKey Term ℕ) → Type 0
-RowNeeds G sites tried id (OfRecord row) None = ⊤
-RowNeeds G sites tried id (OfRecord row) (Some key) = RecordNeeds G sites tried id row key
-RowNeeds G sites tried id (OfAir row) key = ⊤
-RowNeeds G sites tried id (OfAct row) key = ActNeeds sites id row
+abbrev pub KeyNeeds : Gifts → List Site → List (Tried Term ℕ) → ℕ → RecordRow → Option (NumberedKey Term ℕ) → Type 0
+KeyNeeds G sites tried id row None = ⊤
+KeyNeeds G sites tried id row (Some key) = RecordNeeds G sites tried id row key
 
 -- the key from which KeNB* comes was given to the station that has it
 base_given : (G : Gifts) (sites : List Site) (id : ℕ) (t : Term) (pci earfcn : ℕ) → May G sites id t → BaseGiven G id (Star t pci earfcn)
@@ -165,7 +159,7 @@ module _ (G : Gifts) (sites : List Site) (tried : List (Tried Term ℕ)) (same :
   kenb_own (Alg t type i) k = tt
 
   given_kept : (conn : ℕ) (cell : Place) (caps : Caps) (algs : Algs) (air : ℕ) (key : Option (NumberedKey Term ℕ)) →
-      RowNeeds G sites tried s.id (OfRecord (ContextGiven conn cell caps algs air)) key → StationHas P C s → After (context_given (term_reading_by same) conn cell caps algs air key s)
+      KeyNeeds G sites tried s.id (ContextGiven conn cell caps algs air) key → StationHas P C s → After (context_given (term_reading_by same) conn cell caps algs air key s)
   given_kept conn cell caps algs air None n h = quiet s refl refl h
   given_kept conn cell caps algs air (Some key) n h = record {
     same = refl;
@@ -187,7 +181,7 @@ module _ (G : Gifts) (sites : List Site) (tried : List (Tried Term ℕ)) (same :
   released_flies conn (Some o) = (tt, tt)
 
   taken_kept : (conn : ℕ) (origin : Option Origin) (key : Option (NumberedKey Term ℕ)) →
-      RowNeeds G sites tried s.id (OfRecord (PairTaken conn origin)) key → StationHas P C s → After (pair_taken conn origin key s)
+      KeyNeeds G sites tried s.id (PairTaken conn origin) key → StationHas P C s → After (pair_taken conn origin key s)
   taken_kept conn origin None n h = quiet s refl refl h
   taken_kept conn origin (Some pair) n h =
       calm (record s { context = option_map (with_pair pair) s.context }) (source_release conn origin) refl refl (released_flies conn origin) (released_gives conn origin)
@@ -198,7 +192,7 @@ module _ (G : Gifts) (sites : List Site) (tried : List (Tried Term ℕ)) (same :
   AdmittedBy w key o = MadeBy G (admitted_made s.id w key) o
 
   prepared_s1_kept : (w : Admitted) (key : Option (NumberedKey Term ℕ)) →
-      RowNeeds G sites tried s.id (OfRecord (PreparedByS1 w)) key → StationHas P C s → After (prepared_by_s1 (term_reading_by same) w key s)
+      KeyNeeds G sites tried s.id (PreparedByS1 w) key → StationHas P C s → After (prepared_by_s1 (term_reading_by same) w key s)
   prepared_s1_kept w None n h = quiet s refl refl h
   prepared_s1_kept w (Some key) n h =
       let k = may_star G sites s.id key.key w.cell.pci w.cell.earfcn n.0 in record {
@@ -220,7 +214,7 @@ module _ (G : Gifts) (sites : List Site) (tried : List (Tried Term ℕ)) (same :
       }
 
   prepared_x2_kept : (w : Admitted) (key : Option (NumberedKey Term ℕ)) →
-      RowNeeds G sites tried s.id (OfRecord (PreparedByX2 w)) key → StationHas P C s → After (prepared_by_x2 (term_reading_by same) w key s)
+      KeyNeeds G sites tried s.id (PreparedByX2 w) key → StationHas P C s → After (prepared_by_x2 (term_reading_by same) w key s)
   prepared_x2_kept w None n h = quiet s refl refl h
   prepared_x2_kept w (Some key) n h = record {
     same = refl;
@@ -241,7 +235,7 @@ module _ (G : Gifts) (sites : List Site) (tried : List (Tried Term ℕ)) (same :
   }
 
   renewed_kept : (conn number air count : ℕ) (o : Option (Context Term ℕ)) (key : Option (NumberedKey Term ℕ)) →
-      RowNeeds G sites tried s.id (OfRecord (KeyRenewed conn number air count)) key → OfSome (ContextHas P C) o → StationHas P C s →
+      KeyNeeds G sites tried s.id (KeyRenewed conn number air count) key → OfSome (ContextHas P C) o → StationHas P C s →
       After (key_renewed (term_reading_by same) conn number air count o key s)
   renewed_kept conn number air count None key n c h = quiet s refl refl h
   renewed_kept conn number air count (Some context) None n c h = quiet s refl refl h
@@ -257,7 +251,7 @@ module _ (G : Gifts) (sites : List Site) (tried : List (Tried Term ℕ)) (same :
         makes = (base_given G sites s.id kenb.key context.cell.pci context.cell.earfcn n, c.3);
       }
 
-  record_kept : (row : RecordRow) (key : Option (NumberedKey Term ℕ)) → RowNeeds G sites tried s.id (OfRecord row) key → StationHas P C s →
+  pub record_kept : (row : RecordRow) (key : Option (NumberedKey Term ℕ)) → KeyNeeds G sites tried s.id row key → StationHas P C s →
       After (record_does (term_reading_by same) row key s)
   record_kept (RecordRefused answer) key n h = quiet s refl refl h
   record_kept (ContextGiven conn cell caps algs air) key n h = given_kept conn cell caps algs air key n h
@@ -293,7 +287,7 @@ module _ (G : Gifts) (sites : List Site) (tried : List (Tried Term ℕ)) (same :
     take None k = tt
     take (Some p) k = k.0
 
-  air_kept : (row : AirRow) → StationHas P C s → After (air_does (term_reading_by same) row s)
+  pub air_kept : (row : AirRow) → StationHas P C s → After (air_does (term_reading_by same) row s)
   air_kept (AirRefused answer) h = quiet s refl refl h
   air_kept (SecurityStarted count) h = mapped (with_security count) (λ c k. k) h
   air_kept (RrcOpened srb count text) h = mapped (with_rrc_taken srb count) (λ c k. k) h
@@ -376,30 +370,27 @@ module _ (G : Gifts) (sites : List Site) (tried : List (Tried Term ℕ)) (same :
   rrc_kept srb count text None c h = quiet s refl refl h
   rrc_kept srb count text (Some context) c h = calm _ _ refl refl tt (λ u a g. g) (record { context = c; preps = h.preps })
 
-  act_kept : (row : ActRow) → ActNeeds sites s.id row → StationHas P C s → After (act_does (term_reading_by same) row s)
-  act_kept (ActRefused answer) n h = quiet s refl refl h
-  act_kept (StartedByX2 number target cell) n h = started_x2_kept number target cell s.context n h.context h
-  act_kept (StartedByS1 number target cell) n h = started_s1_kept number target cell s.context h.context h
-  act_kept (StartedWithin number air cell) n h = started_within_kept number air cell s.context n h.context h
-  act_kept (HandoverCommanded order count) n h = commands_kept order count s.context h.context h
-  act_kept (ChangeCommanded renewal count) n h = commands_change_kept renewal count s.context h.context h
-  act_kept (CancelledByX2 conn number target) n h =
+  -- KeNB* goes to the station of its cell
+  goes : (cell : Place) (target : ℕ) → station_of cell s.cells ≡ Some target → station_of cell sites ≡ Some target
+  goes cell target e = subst (λ l. station_of cell l ≡ Some target) cells e
+
+  pub act_kept : (act : StationAct) (row : ActRow) → StationActHas (term_reading_by same) s act row → StationHas P C s → After (act_does (term_reading_by same) row s)
+  act_kept act (ActRefused answer) n h = quiet s refl refl h
+  act_kept act (StartedByX2 number target cell) n h = started_x2_kept number target cell s.context (goes cell target n.site) h.context h
+  act_kept act (StartedByS1 number target cell) n h = started_s1_kept number target cell s.context h.context h
+  act_kept act (StartedWithin number air cell) n h = started_within_kept number air cell s.context (goes cell s.id n.starts.site) h.context h
+  act_kept act (HandoverCommanded order count) n h = commands_kept order count s.context h.context h
+  act_kept act (ChangeCommanded renewal count) n h = commands_change_kept renewal count s.context h.context h
+  act_kept act (CancelledByX2 conn number target) n h =
       calm _ _ refl refl (tt, tt) (λ u a g. g) (record { context = context_map_has P C given_up (given_up_has P C) s.context h.context; preps = h.preps })
-  act_kept (CancelledByS1 conn number cell) n h =
+  act_kept act (CancelledByS1 conn number cell) n h =
       calm _ _ refl refl (tt, tt) (λ u a g. g) (record { context = context_map_has P C given_up (given_up_has P C) s.context h.context; preps = h.preps })
-  act_kept (CancelledWithin number) n h =
+  act_kept act (CancelledWithin number) n h =
       quiet _ refl refl (record {
         context = context_map_has P C given_up (given_up_has P C) s.context h.context;
         preps = all_filter (PrepHas P C) (λ p. not (is_of s.id number p)) s.preps h.preps;
       })
-  act_kept (PathSwitchAsked number) n h = asks_kept number s.context h.context h
-  act_kept (PacketSent drb count text) n h = packet_kept drb count text s.context h.context h
-  act_kept (RrcSent srb count text) n h = rrc_kept srb count text s.context h.context h
-  act_kept (BearerSkipped on n) m h = mapped (with_skipped on n) (λ c k. k) h
-
-  -- each row
-  pub station_kept : (row : StationRow) (key : Option (NumberedKey Term ℕ)) → RowNeeds G sites tried s.id row key → StationHas P C s →
-      After (station_does (term_reading_by same) row key s)
-  station_kept (OfRecord row) key n h = record_kept row key n h
-  station_kept (OfAir row) key n h = air_kept row h
-  station_kept (OfAct row) key n h = act_kept row n h
+  act_kept act (PathSwitchAsked number) n h = asks_kept number s.context h.context h
+  act_kept act (PacketSent drb count text) n h = packet_kept drb count text s.context h.context h
+  act_kept act (RrcSent srb count text) n h = rrc_kept srb count text s.context h.context h
+  act_kept act (BearerSkipped on n) m h = mapped (with_skipped on n) (λ c k. k) h

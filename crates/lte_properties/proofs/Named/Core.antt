@@ -33,7 +33,7 @@ use Rattle.lte_events.specs.declared.answers.Answer.{Answer}
 use Rattle.std.specs.Prelude.{nat_lt, length, drop}
 use Rattle.lte_events.specs.Site.{Site}
 use Rattle.lte_properties.proofs.Named.Facts.{LinkNamed, CoreNamed, FieldsNamed, ReadNamed, SentNamed, CoreInputNamed}
-use Rattle.lte_properties.proofs.Named.Choice.{either}
+use Rattle.lte_properties.proofs.Named.Facts.{either}
 
 module _ (P : ℕ → Type 0) (cells : List Site) (sites : (cell : Place) (id : ℕ) → station_of cell cells ≡ Some id → P id) where
   -- THE CHOICE

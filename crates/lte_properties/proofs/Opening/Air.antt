@@ -3,7 +3,6 @@ use Rattle.std.proofs.Common.{◌≡◌, ℕ, ◌≤◌, ◌<◌, Bool, List, le
 use Rattle.std.specs.Prelude.{⊤, slice_index}
 use Rattle.rec_base.specs.declared.uses.Dir.{Dir}
 use Rattle.alg_choice.specs.declared.algs.Algs.{Algs}
-use Rattle.alg_choice.specs.declared.caps.Caps.{Caps}
 use Rattle.annex_a_keys.specs.Cell.{Place}
 use Rattle.lte_events.specs.declared.answers.Answer.{Answer}
 use Rattle.key_model.specs.HandoverTable.{NumberedKey}
@@ -14,19 +13,18 @@ use Rattle.pdcp_guard.specs.AsKeys.{AsKeys}
 use Rattle.rrc_rec.specs.declared.records.RrcRecord.{RrcRecord}
 use Rattle.rrc_rec.specs.declared.records.RrcRecord.TheVariants.{SecurityModeCommand, SecurityModeComplete, Reconfiguration, ReconfigurationComplete, RrcData, KeyChange}
 use Rattle.rrc_rec.specs.Spelling.{spelling_of}
-use Rattle.ho_prep.specs.Prep.{Prep, at_air}
-use Rattle.x2_handover.specs.declared.orders.Order.{Order}
+use Rattle.lte_machine.proofs.StationCases.{Any, AnyKey, record_case, air_case, act_case}
 use Rattle.lte_machine.specs.Bearers.{Srb, Drb, Which, srb_counts, drb_counts}
 use Rattle.lte_machine.specs.Wire.{KeyUse, Ciphering, Outgoing, SealedNas, PlainNas, SealedRrc, UserPacket, Between}
-use Rattle.lte_machine.specs.Reply.{Origin, Made, Before}
+use Rattle.lte_machine.specs.Reply.{Origin, Made, Before, Reply}
 use Rattle.lte_machine.specs.PhoneState.{Partial, NasContext, Radio, Idle, Connecting, Connected, Phone}
 use Rattle.lte_machine.specs.PhoneRows as phone
 use Rattle.lte_machine.specs.PhoneRows.{PhoneRow}
 use Rattle.lte_machine.specs.PhoneKeys as phone_keys
 use Rattle.lte_machine.specs.PhoneKeys.{phone_does}
-use Rattle.lte_machine.specs.StationState.{Station, Context, Renewal}
+use Rattle.lte_machine.specs.StationState.{Station, Context}
 use Rattle.lte_machine.specs.StationRows as station
-use Rattle.lte_machine.specs.StationRows.{StationRow, Admitted}
+use Rattle.lte_machine.specs.StationRows.{StationRow}
 use Rattle.lte_machine.specs.StationKeys as station_keys
 use Rattle.lte_machine.specs.StationRecords as station_records
 use Rattle.lte_machine.specs.StationKeys.{station_does}
@@ -138,124 +136,62 @@ module _ (same : Term → Term → Bool) (g : Ghost) where
   abbrev r : Reading Term ℕ
   r = term_reading_by same
 
-  given_sends : (conn : ℕ) (cell : Place) (caps : Caps) (algs : Algs) (air : ℕ) (key : Option (NumberedKey Term ℕ)) (s : Station Term ℕ)
-      → FromStation g (station_records.context_given r conn cell caps algs air key s).1.sent
-  given_sends conn cell caps algs air None s = tt
-  given_sends conn cell caps algs air (Some received) s = λ sent e. absurd (no_data (SecurityModeCommand algs s.id air) tt sent e)
-
   source_sends : (conn : ℕ) (origin : Option Origin) → FromStation g (station_records.source_release conn origin)
   source_sends conn None = tt
   source_sends conn (Some o) = tt
 
-  pair_sends : (conn : ℕ) (origin : Option Origin) (key : Option (NumberedKey Term ℕ)) (s : Station Term ℕ)
-      → FromStation g (station_records.pair_taken conn origin key s).1.sent
-  pair_sends conn origin None s = tt
-  pair_sends conn origin (Some pair) s = source_sends conn origin
+  module _ (s : Station Term ℕ) (keys : ContextKeys g s.id s.context) where
+    abbrev Sends : Station Term ℕ × Reply Term ℕ → Type 0
+    Sends d = FromStation g d.1.sent
 
-  s1_sends : (w : Admitted) (key : Option (NumberedKey Term ℕ)) (s : Station Term ℕ) → FromStation g (station_records.prepared_by_s1 r w key s).1.sent
-  s1_sends w None s = tt
-  s1_sends w (Some pair) s = tt
-
-  x2_sends : (w : Admitted) (key : Option (NumberedKey Term ℕ)) (s : Station Term ℕ) → FromStation g (station_records.prepared_by_x2 r w key s).1.sent
-  x2_sends w None s = tt
-  x2_sends w (Some star) s = tt
-
-  renewed_sends : (conn number air count : ℕ) (o : Option (Context Term ℕ)) (key : Option (NumberedKey Term ℕ)) (s : Station Term ℕ)
-      → FromStation g (station_records.key_renewed r conn number air count o key s).1.sent
-  renewed_sends conn number air count None key s = tt
-  renewed_sends conn number air count (Some c) None s = tt
-  renewed_sends conn number air count (Some c) (Some kenb) s = λ sent e. absurd (no_data (KeyChange c.cell c.algs s.id air) tt sent e)
-
-  record_sends : (row : station.RecordRow) (key : Option (NumberedKey Term ℕ)) (s : Station Term ℕ) → FromStation g (station_records.record_does r row key s).1.sent
-  record_sends (station.RecordRefused answer) key s = tt
-  record_sends (station.ContextGiven conn cell caps algs air) key s = given_sends conn cell caps algs air key s
-  record_sends station.ContextReleased key s = tt
-  record_sends (station.PairTaken conn origin) key s = pair_sends conn origin key s
-  record_sends (station.PreparedByS1 w) key s = s1_sends w key s
-  record_sends (station.PreparedByX2 w) key s = x2_sends w key s
-  record_sends (station.AckedByS1 ncc algs air) key s = tt
-  record_sends (station.AckedByX2 algs air) key s = tt
-  record_sends (station.PreparationCancelled from) key s = tt
-  record_sends station.SourceReleased key s = tt
-  record_sends (station.KeyRenewed conn number air count) key s = renewed_sends conn number air count s.context key s
-
-  by_s1_sends : (count : ℕ) (p : Option (Prep Term ℕ)) (s : Station Term ℕ) → FromStation g (station_keys.completed_by_s1 r count p s).1.sent
-  by_s1_sends count None s = tt
-  by_s1_sends count (Some p) s = tt
-
-  within_sends : (count : ℕ) (origin : Option Origin) (p : Option (Prep Term ℕ)) (s : Station Term ℕ) → FromStation g (station_keys.completed_within r count origin p s).1.sent
-  within_sends count origin None s = tt
-  within_sends count origin (Some p) s = tt
-
-  by_x2_sends : (count number : ℕ) (p : Option (Prep Term ℕ)) (s : Station Term ℕ) → FromStation g (station_keys.completed_by_x2 r count number p s).1.sent
-  by_x2_sends count number None s = tt
-  by_x2_sends count number (Some p) s = tt
-
-  air_sends : (row : station.AirRow) (s : Station Term ℕ) → FromStation g (station_keys.air_does r row s).1.sent
-  air_sends (station.AirRefused answer) s = tt
-  air_sends (station.SecurityStarted count) s = tt
-  air_sends (station.RrcOpened srb count text) s = tt
-  air_sends (station.PacketOpened drb count text) s = tt
-  air_sends (station.CompletedByS1 air count) s = by_s1_sends count (at_air air s.preps) s
-  air_sends (station.CompletedWithin air count origin) s = within_sends count origin (at_air air s.preps) s
-  air_sends (station.CompletedByX2 air count number) s = by_x2_sends count number (at_air air s.preps) s
-
-  started_x2_sends : (number target : ℕ) (cell : Place) (o : Option (Context Term ℕ)) (s : Station Term ℕ) → FromStation g (station_keys.started_by_x2 r number target cell o s).1.sent
-  started_x2_sends number target cell None s = tt
-  started_x2_sends number target cell (Some c) s = tt
-
-  started_s1_sends : (number target : ℕ) (cell : Place) (o : Option (Context Term ℕ)) (s : Station Term ℕ) → FromStation g (station_keys.started_by_s1 number target cell o s).1.sent
-  started_s1_sends number target cell None s = tt
-  started_s1_sends number target cell (Some c) s = tt
-
-  started_within_sends : (number air : ℕ) (cell : Place) (o : Option (Context Term ℕ)) (s : Station Term ℕ) → FromStation g (station_keys.started_within r number air cell o s).1.sent
-  started_within_sends number air cell None s = tt
-  started_within_sends number air cell (Some c) s = tt
-
-  commands_sends : (order : Order) (count : ℕ) (o : Option (Context Term ℕ)) (s : Station Term ℕ) → FromStation g (station_keys.commands order count o s).1.sent
-  commands_sends order count None s = tt
-  commands_sends order count (Some c) s = λ sent e. absurd (no_data (Reconfiguration order.cell order.ncc order.algs order.station order.air) tt sent e)
-
-  change_sends : (renewal : Renewal) (count : ℕ) (o : Option (Context Term ℕ)) (s : Station Term ℕ) → FromStation g (station_keys.commands_change renewal count o s).1.sent
-  change_sends renewal count None s = tt
-  change_sends renewal count (Some c) s = λ sent e. absurd (no_data (KeyChange renewal.cell renewal.algs s.id renewal.air) tt sent e)
-
-  asks_sends : (number : ℕ) (o : Option (Context Term ℕ)) (s : Station Term ℕ) → FromStation g (station_keys.asks_again number o s).1.sent
-  asks_sends number None s = tt
-  asks_sends number (Some c) s = tt
-
-  packet_sends : (drb : Drb) (count : ℕ) (text : List ℕ) (o : Option (Context Term ℕ)) (s : Station Term ℕ) → ContextKeys g s.id o → (count < count_limit) × (length text ≤ 1500)
-      → FromStation g (station_keys.sends_packet drb count text o s).1.sent
-  packet_sends drb count text None s keys needs = tt
-  packet_sends drb count text (Some c) s keys needs = (needs.1, needs.0, refl, c.keys, keys, refl)
-
-  rrc_sends : (srb : Srb) (count : ℕ) (text : List ℕ) (o : Option (Context Term ℕ)) (s : Station Term ℕ) → ContextKeys g s.id o → (count < count_limit) × (length text ≤ 200)
-      → FromStation g (station_keys.sends_rrc srb count text o s).1.sent
-  rrc_sends srb count text None s keys needs = tt
-  rrc_sends srb count text (Some c) s keys needs = λ sent e.
-      (subst (λ t. length t ≤ 200) (data_in text sent e) needs.1, needs.0, refl, c.keys, keys, (refl, refl))
-
-  act_sends : (row : station.ActRow) (s : Station Term ℕ) → ContextKeys g s.id s.context → SendNeeds row → FromStation g (station_keys.act_does r row s).1.sent
-  act_sends (station.ActRefused answer) s keys needs = tt
-  act_sends (station.StartedByX2 number target cell) s keys needs = started_x2_sends number target cell s.context s
-  act_sends (station.StartedByS1 number target cell) s keys needs = started_s1_sends number target cell s.context s
-  act_sends (station.StartedWithin number air cell) s keys needs = started_within_sends number air cell s.context s
-  act_sends (station.HandoverCommanded order count) s keys needs = commands_sends order count s.context s
-  act_sends (station.ChangeCommanded renewal count) s keys needs = change_sends renewal count s.context s
-  act_sends (station.CancelledByX2 conn number target) s keys needs = tt
-  act_sends (station.CancelledByS1 conn number cell) s keys needs = tt
-  act_sends (station.CancelledWithin number) s keys needs = tt
-  act_sends (station.PathSwitchAsked number) s keys needs = asks_sends number s.context s
-  act_sends (station.PacketSent drb count text) s keys needs = packet_sends drb count text s.context s keys needs
-  act_sends (station.RrcSent srb count text) s keys needs = rrc_sends srb count text s.context s keys needs
-  act_sends (station.BearerSkipped on n) s keys needs = tt
-
-  -- any row of a station
-  pub station_sends : (row : StationRow) (key : Option (NumberedKey Term ℕ)) (s : Station Term ℕ) → ContextKeys g s.id s.context → StationNeeds row
-      → FromStation g (station_does r row key s).1.sent
-  station_sends (station.OfRecord row) key s keys needs = record_sends row key s
-  station_sends (station.OfAir row) key s keys needs = air_sends row s
-  station_sends (station.OfAct row) key s keys needs = act_sends row s keys needs
+    -- any row of a station
+    pub station_sends : (row : StationRow) (key : Option (NumberedKey Term ℕ)) → StationNeeds row → Sends (station_does r row key s)
+    station_sends (station.OfRecord row) key needs =
+      record_case r s Sends AnyKey
+      (record {
+        nothing = λ answer. tt;
+        given = λ conn cell caps algs air kenb k. λ sent x. absurd (no_data (SecurityModeCommand algs s.id air) tt sent x);
+        released = λ key k. tt;
+        taken = λ conn origin pair k. source_sends conn origin;
+        by_s1 = λ w pair k. tt;
+        by_x2 = λ w star k. tt;
+        acked_s1 = λ ncc algs air key k. tt;
+        acked_x2 = λ algs air key k. tt;
+        cancelled = λ from key k. tt;
+        left = λ key k. tt;
+        renewed = λ conn number air count c e kenb k. λ sent x. absurd (no_data (KeyChange c.cell c.algs s.id air) tt sent x);
+      })
+      row key tt
+    station_sends (station.OfAir row) key needs =
+      air_case r s Sends Any
+      (record {
+        nothing = λ answer. tt;
+        secured = λ count k. tt;
+        opened = λ srb count text k. tt;
+        packet = λ drb count text k. tt;
+        by_s1 = λ at count k p e. tt;
+        within = λ at count origin k p e. tt;
+        by_x2 = λ at count number k p e. tt;
+      })
+      row tt
+    station_sends (station.OfAct row) key needs =
+      act_case r s Sends SendNeeds
+      (record {
+        nothing = λ answer. tt;
+        by_x2 = λ number target cell k c e. tt;
+        by_s1 = λ number target cell k c e. tt;
+        within = λ number air cell k c e. tt;
+        commanded = λ order count k c e. λ sent x. absurd (no_data (Reconfiguration order.cell order.ncc order.algs order.station order.air) tt sent x);
+        changed = λ renewal count k c e. λ sent x. absurd (no_data (KeyChange renewal.cell renewal.algs s.id renewal.air) tt sent x);
+        cancelled_x2 = λ conn number target k. tt;
+        cancelled_s1 = λ conn number cell k. tt;
+        cancelled_within = λ number k. tt;
+        asked = λ number k c e. tt;
+        packet = λ drb count text k c e. (k.1, k.0, refl, c.keys, subst (ContextKeys g s.id) e keys, refl);
+        text = λ srb count text k c e. λ sent x. (subst (λ t. length t ≤ 200) (data_in text sent x) k.1, k.0, refl, c.keys, subst (ContextKeys g s.id) e keys, (refl, refl));
+        skipped = λ on n k. tt;
+      })
+      row needs
 
   -- WHAT THE PHONE SENDS
 

@@ -1,8 +1,6 @@
 -- What the choice of an act's row established: where data are sent on the air, a COUNT is left.
-use Rattle.std.proofs.Common.{◌≡◌, ℕ, ◌≤◌, ◌<◌, Bool, true, false, List, length, Option, Some, None, refl}
-use Rattle.std.specs.Prelude.{nat_le, ◌==◌}
-use Rattle.annex_a_keys.specs.Cell.{Place}
-use Rattle.lte_events.specs.declared.acts.HoKind.{HoKind}
+use Rattle.std.proofs.Common.{◌≡◌, ℕ, ◌≤◌, ◌<◌, Bool, true, false, List, length, Option, Some, None, refl, sym, subst}
+use Rattle.std.specs.Prelude.{nat_le}
 use Rattle.lte_events.specs.declared.acts.PhoneAct as acts
 use Rattle.lte_events.specs.declared.acts.PhoneAct.{PhoneAct}
 use Rattle.lte_events.specs.declared.acts.StationAct.{StationAct}
@@ -10,137 +8,48 @@ use Rattle.lte_events.specs.declared.acts.StationAct as station_acts
 use Rattle.key_model.specs.Term.{Term}
 use Rattle.key_model.specs.Reading.{Reading, term_reading_by}
 use Rattle.nas_count.specs.Estimate.{count_limit as nas_limit}
-use Rattle.pdcp_guard.specs.Counts.{count_limit, Counts}
-use Rattle.x2_handover.specs.declared.orders.Order.{Order}
+use Rattle.pdcp_guard.specs.Counts.{count_limit}
 use Rattle.lte_machine.specs.Bearers.{Which, OnSrb, OnDrb, which, is_spent, srb_counts, drb_counts}
 use Rattle.lte_machine.specs.Ranges.{IsPhoneAct, IsStationAct}
-use Rattle.lte_machine.specs.Reply.{Origin, unseen}
+use Rattle.lte_machine.specs.Reply.{unseen}
 use Rattle.lte_machine.specs.PhoneState.{NasContext, Radio, Idle, Connecting, Connected, Phone, map_radio}
 use Rattle.lte_machine.specs.PhoneRows as phone
 use Rattle.lte_machine.specs.PhoneChoice as phone_choice
 use Rattle.lte_machine.specs.PhoneStep.{plain_phone}
-use Rattle.lte_machine.specs.StationState.{OverX2, OverS1, Within, X2State, X2Open, X2Ready, X2Commanded, S1State, S1Open, S1Ready, S1Commanded, Renewing}
+use Rattle.lte_machine.specs.StationState.{Station}
 use Rattle.lte_machine.specs.StationRows as station
-use Rattle.lte_machine.specs.StationChoice as choice
-use Rattle.lte_machine.specs.StationChoice.{PlainStation, PlainContext, PlainAttempt}
-use Rattle.lte_properties.proofs.ChainNumbers.Choice.{by_test, above_of}
+use Rattle.lte_machine.specs.StationChoice.{act_row}
+use Rattle.lte_machine.specs.StationStep.{plain_station}
+use Rattle.lte_machine.proofs.StationActFacts.{StationActHas, station_act_has}
+use Rattle.lte_machine.proofs.Tests.{by_test, above_of}
 use Rattle.lte_properties.proofs.Agreement.Ghost.{Ghost}
 use Rattle.lte_properties.proofs.Opening.Air.{SendNeeds, ActNeeds}
-use Rattle.lte_events.specs.Site.{station_of}
 
 -- A STATION
 
-unless_needs : (counts : Counts) (row : station.ActRow) → (counts.send < count_limit → SendNeeds row) → SendNeeds (choice.unless_spent counts row)
-unless_needs counts row f = by_test SendNeeds (is_spent counts) _ _ (λ e. tt) (λ e. f (above_of count_limit counts.send e))
+module _ (r : Reading Term ℕ) (s : Station Term ℕ) (act : StationAct) where
+  sends : (row : station.ActRow) → StationActHas r s act row → IsStationAct act → SendNeeds row
+  sends (station.ActRefused answer) f h = tt
+  sends (station.StartedByX2 number target cell) f h = tt
+  sends (station.StartedByS1 number target cell) f h = tt
+  sends (station.StartedWithin number air cell) f h = tt
+  sends (station.HandoverCommanded order count) f h = tt
+  sends (station.ChangeCommanded renewal count) f h = tt
+  sends (station.CancelledByX2 conn number target) f h = tt
+  sends (station.CancelledByS1 conn number cell) f h = tt
+  sends (station.CancelledWithin number) f h = tt
+  sends (station.PathSwitchAsked number) f h = tt
+  sends (station.PacketSent drb count text) f h =
+      let short : IsStationAct (station_acts.TheVariants.SendUser f.bearer text) = subst IsStationAct f.act_is h in
+      (subst (λ n. n < count_limit) (sym f.count_is) (above_of count_limit (drb_counts drb f.context.bearers).send f.unspent), short.1)
+  sends (station.RrcSent srb count text) f h =
+      let short : IsStationAct (station_acts.TheVariants.SendRrc f.bearer text) = subst IsStationAct f.act_is h in
+      (subst (λ n. n < count_limit) (sym f.count_is) (above_of count_limit (srb_counts srb f.context.bearers).send f.unspent), short.1)
+  sends (station.BearerSkipped on n) f h = tt
 
-active_needs : (starting : Bool) (row : station.ActRow) → SendNeeds row → SendNeeds (choice.active_row starting row)
-active_needs true row h = tt
-active_needs false row h = h
-
-begun_needs : (s : PlainStation) (target : ℕ) (cell : Place) (kind : HoKind) → SendNeeds (choice.begun_row s target cell kind)
-begun_needs s target cell HoKind.X2 = by_test SendNeeds (choice.runs_out 1 s.next) _ _ (λ e. tt) (λ e. tt)
-begun_needs s target cell HoKind.S1 = by_test SendNeeds (choice.runs_out 1 s.next) _ _ (λ e. tt) (λ e. tt)
-begun_needs s target cell HoKind.Intra =
-    by_test SendNeeds (choice.is_full s) _ _ (λ e. tt) (λ e. by_test SendNeeds (choice.runs_out 2 s.next) _ _ (λ f. tt) (λ f. tt))
-
-alone_needs : (s : PlainStation) (target : ℕ) (cell : Place) (kind : HoKind) (o : Option PlainAttempt) → SendNeeds (choice.alone_row s target cell kind o)
-alone_needs s target cell kind (Some attempt) = tt
-alone_needs s target cell kind None = begun_needs s target cell kind
-
-target_needs : (s : PlainStation) (attempt : Option PlainAttempt) (cell : Place) (kind : HoKind) (o : Option ℕ) → SendNeeds (choice.target_row s attempt cell kind o)
-target_needs s attempt cell kind None = tt
-target_needs s attempt cell kind (Some target) =
-    by_test SendNeeds (choice.is_misplaced kind (target == s.id)) _ _ (λ e. tt) (λ e. alone_needs s target cell kind attempt)
-
-start_needs : (s : PlainStation) (kind : HoKind) (cell : Place) (o : Option PlainContext) → SendNeeds (choice.start_row s kind cell o)
-start_needs s kind cell None = tt
-start_needs s kind cell (Some c) = active_needs c.starting _ (target_needs s c.attempt cell kind (station_of cell s.cells))
-
-ordered_needs : (order : Order) (counts : Counts) → SendNeeds (choice.ordered_row order counts)
-ordered_needs order counts = unless_needs counts (station.HandoverCommanded order counts.send) (λ e. tt)
-
-x2_command_needs : (state : X2State (Unit {0}) ℕ) (counts : Counts) → SendNeeds (choice.x2_command_row state counts)
-x2_command_needs (X2Open start) counts = tt
-x2_command_needs (X2Ready acked) counts = ordered_needs _ counts
-x2_command_needs (X2Commanded sent) counts = ordered_needs _ counts
-
-s1_command_needs : (state : S1State) (counts : Counts) → SendNeeds (choice.s1_command_row state counts)
-s1_command_needs (S1Open start) counts = tt
-s1_command_needs (S1Ready acked) counts = ordered_needs _ counts
-s1_command_needs (S1Commanded sent) counts = ordered_needs _ counts
-
-command_needs_by : (o : Option PlainAttempt) (counts : Counts) → SendNeeds (choice.attempt_command_row o counts)
-command_needs_by None counts = tt
-command_needs_by (Some (OverX2 state)) counts = x2_command_needs state counts
-command_needs_by (Some (OverS1 state)) counts = s1_command_needs state counts
-command_needs_by (Some (Within state)) counts = x2_command_needs state counts
-command_needs_by (Some (Renewing renewal)) counts = unless_needs counts (station.ChangeCommanded renewal counts.send) (λ e. tt)
-
-command_needs : (o : Option PlainContext) → SendNeeds (choice.command_row o)
-command_needs None = tt
-command_needs (Some c) = command_needs_by c.attempt c.bearers.srb1
-
-x2_cancel_needs : (conn : ℕ) (state : X2State (Unit {0}) ℕ) → SendNeeds (choice.x2_cancel_row conn state)
-x2_cancel_needs conn (X2Open start) = tt
-x2_cancel_needs conn (X2Ready acked) = tt
-x2_cancel_needs conn (X2Commanded sent) = tt
-
-s1_cancel_needs : (conn : ℕ) (state : S1State) → SendNeeds (choice.s1_cancel_row conn state)
-s1_cancel_needs conn (S1Open start) = tt
-s1_cancel_needs conn (S1Ready acked) = tt
-s1_cancel_needs conn (S1Commanded sent) = tt
-
-within_cancel_needs : (state : X2State (Unit {0}) ℕ) → SendNeeds (choice.within_cancel_row state)
-within_cancel_needs (X2Open start) = tt
-within_cancel_needs (X2Ready acked) = tt
-within_cancel_needs (X2Commanded sent) = tt
-
-cancel_needs_by : (conn : ℕ) (o : Option PlainAttempt) → SendNeeds (choice.attempt_cancel_row conn o)
-cancel_needs_by conn None = tt
-cancel_needs_by conn (Some (OverX2 state)) = x2_cancel_needs conn state
-cancel_needs_by conn (Some (OverS1 state)) = s1_cancel_needs conn state
-cancel_needs_by conn (Some (Within state)) = within_cancel_needs state
-cancel_needs_by conn (Some (Renewing renewal)) = tt
-
-give_up_needs : (o : Option PlainContext) → SendNeeds (choice.give_up_row o)
-give_up_needs None = tt
-give_up_needs (Some c) = cancel_needs_by c.conn c.attempt
-
-came_needs : (next : ℕ) (o : Option Origin) → SendNeeds (choice.came_row next o)
-came_needs next None = tt
-came_needs next (Some origin) = by_test SendNeeds (choice.runs_out 1 next) _ _ (λ e. tt) (λ e. tt)
-
-ask_needs : (next : ℕ) (o : Option PlainContext) → SendNeeds (choice.ask_row next o)
-ask_needs next None = tt
-ask_needs next (Some c) = active_needs c.starting _ (came_needs next c.origin)
-
-packet_needs : (on : Which) (text : List ℕ) → length text ≤ 1500 → (o : Option PlainContext) → SendNeeds (choice.packet_row on text o)
-packet_needs (OnSrb srb) text short o = tt
-packet_needs (OnDrb drb) text short None = tt
-packet_needs (OnDrb drb) text short (Some c) =
-    let counts = drb_counts drb c.bearers in
-    active_needs c.starting _ (unless_needs counts (station.PacketSent drb counts.send text) (λ low. (low, short)))
-
-rrc_needs : (on : Which) (text : List ℕ) → length text ≤ 200 → (o : Option PlainContext) → SendNeeds (choice.send_rrc_row on text o)
-rrc_needs (OnDrb drb) text short o = tt
-rrc_needs (OnSrb srb) text short None = tt
-rrc_needs (OnSrb srb) text short (Some c) =
-    let counts = srb_counts srb c.bearers in
-    active_needs c.starting _ (unless_needs counts (station.RrcSent srb counts.send text) (λ low. (low, short)))
-
-skip_needs : (on : Which) (n : ℕ) (o : Option PlainContext) → SendNeeds (choice.skip_row on n o)
-skip_needs on n None = tt
-skip_needs on n (Some c) = active_needs c.starting _ tt
-
--- the row of an act of a station
-pub station_act_needs : (s : PlainStation) (act : StationAct) → IsStationAct act → SendNeeds (choice.act_row s act)
-station_act_needs s (station_acts.TheVariants.Start kind cell) h = start_needs s kind cell s.context
-station_act_needs s station_acts.TheVariants.Command h = command_needs s.context
-station_act_needs s station_acts.TheVariants.Cancel h = give_up_needs s.context
-station_act_needs s station_acts.TheVariants.Ask h = ask_needs s.next s.context
-station_act_needs s (station_acts.TheVariants.SendUser bearer text) h = packet_needs (which bearer) text h.1 s.context
-station_act_needs s (station_acts.TheVariants.SendRrc bearer text) h = rrc_needs (which bearer) text h.1 s.context
-station_act_needs s (station_acts.TheVariants.Skip bearer n) h = skip_needs (which bearer) n s.context
+  -- the row of an act of a station
+  pub station_act_needs : IsStationAct act → SendNeeds (act_row (plain_station r s) act)
+  station_act_needs h = sends (act_row (plain_station r s) act) (station_act_has r s act) h
 
 -- THE PHONE
 

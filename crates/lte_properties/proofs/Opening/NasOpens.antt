@@ -45,14 +45,13 @@ use Rattle.lte_machine.specs.PhoneKeys as keys
 use Rattle.lte_machine.specs.PhoneStep.{plain_phone}
 use Rattle.lte_machine.specs.CoreState.{Core, CorePartial, CoreContext, CoreLink, map_core_partial}
 use Rattle.lte_machine.specs.CoreChoice as core_choice
-use Rattle.lte_machine.specs.CoreChoice.{PlainCore}
 use Rattle.lte_machine.specs.CoreStep.{plain_core}
 use Rattle.lte_machine.specs.Machines.{sender_of}
 use Rattle.lte_machine.specs.Ladder.{RowOrigin, Of}
 use Rattle.lte_machine.specs.Distinct.{Member, keys_of}
 use Rattle.key_model.specs.Derivation.{Derivation}
 use Rattle.lte_properties.proofs.Opening.Openings.{SealedUnder, SenderIs}
-use Rattle.lte_properties.proofs.ChainNumbers.Choice.{by_test, above_of}
+use Rattle.lte_machine.proofs.Tests.{by_test, above_of}
 use Rattle.lte_properties.proofs.Opening.Counts.{nas_parts, header_down, header_other}
 use Rattle.lte_properties.proofs.Opening.Nas.{Choices, RootHas, SealedSo, SealedOk}
 use Rattle.lte_properties.proofs.Opening.NasRows.{CoreActNeeds, TakenNeeds, NasNeeds, SendNeeds, ActNeeds}

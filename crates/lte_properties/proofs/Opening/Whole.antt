@@ -21,7 +21,6 @@ use Rattle.lte_machine.specs.Ranges as ranges
 use Rattle.lte_machine.specs.PhoneState.{PhoneActs}
 use Rattle.lte_machine.specs.PhoneRows as phone
 use Rattle.lte_machine.specs.StationState.{StationActs}
-use Rattle.lte_machine.specs.StationStep.{plain_station}
 use Rattle.lte_machine.specs.CoreState.{CoreActs}
 use Rattle.lte_machine.specs.Run.{first_world}
 use Rattle.lte_machine.specs.World.{Machine, authenticated, auth_unless, known_root, next_root, record_at, delivery, class_of, is_sent, injected, happens}
@@ -160,7 +159,7 @@ module _ (same : Term → Term → Bool) (sender : Option (Outgoing Term ℕ) �
       phone_turn_keeps same sender opener c good between cells g k d w (PhoneActs act) None ok h
       (phone_act_needs same g (next_root w) w.phone act is) (phone_act_sends same (ghost k w) w.phone act is) later
   happens_keeps g k d w (Event.Station id act) is ok h one later =
-      station_turn_keeps same sender opener c good between cells g k d w id (StationActs act) None ok h (λ s o. station_act_needs (plain_station q s) act is) later
+      station_turn_keeps same sender opener c good between cells g k d w id (StationActs act) None ok h (λ s o. station_act_needs q s act is) later
   happens_keeps g k d w (Event.Core act) is ok h one later =
       core_turn_keeps same sender opener c good between cells g k d w (CoreActs act) None h tt (core_act_needs same w.core act is) later
   happens_keeps g k d w (Event.Deliver i) is ok h one later =

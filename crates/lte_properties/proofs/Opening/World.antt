@@ -336,7 +336,7 @@ module _ (same : Term → Term → Bool) (sender : Option (Outgoing Term ℕ) �
   turn_keeps g k d w id input came h needs (Some s) ok later =
       let outcome = opener (station_opens q s input) (station_pdu_in input) came in
       station_after_keeps g k d w id (station_step q s input outcome) h
-      (station_sends same (ghost k w) (station_row_of q s input outcome) (station_key input) s (context_keys (ghost k w) s.id s.context ok.0.0) (needs s outcome)) later
+      (station_sends same (ghost k w) s (context_keys (ghost k w) s.id s.context ok.0.0) (station_row_of q s input outcome) (station_key input) (needs s outcome)) later
 
   pub station_turn_keeps : (g : Choices) (k d : Conns) (w : TheWorld) (id : ℕ) (input : StationInput Term ℕ) (came : Option (Outgoing Term ℕ)) → WorldOk cells k w → PacketsOk g k w
       → ((s : Station Term ℕ) (outcome : Outcome) → StationNeeds (station_row_of q s input outcome))

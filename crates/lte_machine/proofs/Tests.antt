@@ -1,0 +1,29 @@
+-- What the tests of a choice say.
+use Rattle.std.proofs.Common.{◌≡◌, refl, ap, ℕ, ◌≤◌, ◌<◌, Bool, true, false, if◌then◌else◌, ◌==◌, nat_le, nat_lt, Option, Some, None, arith}
+use Rattle.std.proofs.lemmas.Bool.Decides.{nat_tests}
+
+-- by the two ends of a test
+pub by_test : {A : Type 0} (P : A → Type 0) (b : Bool) (x y : A) → (b ≡ true → P x) → (b ≡ false → P y) → P (if b then x else y)
+by_test P true x y f g = f refl
+by_test P false x y f g = g refl
+
+-- what the tests on numbers say
+pub above_of : (a b : ℕ) → nat_le a b ≡ false → b < a
+above_of a b e = grind (arith, nat_tests)
+
+pub at_least_of : (a b : ℕ) → nat_lt a b ≡ false → b ≤ a
+at_least_of a b e = grind (arith, nat_tests)
+
+pub same_of : (a b : ℕ) → (a == b) ≡ true → a ≡ b
+same_of a b e = grind (arith, nat_tests)
+
+-- an option that is there
+pub none_some : {A : Type 0} {x : A} → None ≡ Some x → ⊥
+none_some e = cc
+
+abbrev pub value_or : {A : Type 0} → A → Option A → A
+value_or d None = d
+value_or d (Some x) = x
+
+pub by_some : {A : Type 0} {x y : A} → Some x ≡ Some y → x ≡ y
+by_some {x = x} e = ap (value_or x) e
