@@ -13,16 +13,27 @@ use Rattle.alg_choice.specs.declared.algs.Eea.{Eea}
 use Rattle.alg_choice.specs.declared.algs.Eea.TheVariants.{Eea0, Eea2}
 use Rattle.alg_choice.specs.declared.caps.Caps.{Caps}
 use Rattle.annex_a_keys.specs.Cell.{Place, greatest_pci, greatest_earfcn, IsCell}
-use Rattle.rec_fields.specs.Field.{◌>>=◌, of_size, number_in, algs_at, caps_at, cell_at, text_of}
+use Rattle.rec_fields.specs.Field.{◌>>=◌, of_size, number_in, algs_at, caps_at, cell_at, rest_at}
 use Rattle.rec_fields.specs.Spelled.{algs_octet, cell_octets}
 
 -- the value of a step that did not fail
-pub bind_ok : {A B : Type 0} (r : Result A RecFault) (f : A → Result B RecFault) (y : B) → (r >>= f) ≡ Ok y → (x : A) × (r ≡ Ok x) × (f x ≡ Ok y)
+pub bind_ok : {F A B : Type 0} (r : Result A F) (f : A → Result B F) (y : B) → (r >>= f) ≡ Ok y → (x : A) × (r ≡ Ok x) × (f x ≡ Ok y)
 bind_ok (Ok x) f y e = (x, refl, e)
 bind_ok (Err d) f y e = absurd cc
 
+abbrev done : {F A : Type 0} → A → Result A F
+done x = Ok x
+
+pub ok_is : {F A : Type 0} (x y : A) → done {F = F} x ≡ done {F = F} y → x ≡ y
+ok_is x y e = cc
+
+-- a test that refuses
+pub passes : {F A : Type 0} (b : Bool) (d : F) (r : Result A F) (y : A) → cond b (Err d) r ≡ Ok y → (b ≡ false) × (r ≡ Ok y)
+passes true d r y e = absurd cc
+passes false d r y e = (refl, e)
+
 -- two tests, each of which refuses
-tests_ok : {A : Type 0} (b c : Bool) (d : RecFault) (x y : A) → cond (b || c) (Err d) (Ok x) ≡ Ok y → (b ≡ false) × (c ≡ false) × (x ≡ y)
+pub tests_ok : {F A : Type 0} (b c : Bool) (d : F) (x y : A) → cond (b || c) (Err d) (Ok x) ≡ Ok y → (b ≡ false) × (c ≡ false) × (x ≡ y)
 tests_ok true c d x y e = absurd cc
 tests_ok false true d x y e = absurd cc
 tests_ok false false d x y e = (refl, refl, cc)
@@ -42,10 +53,10 @@ size_is size octets x e =
     let high : length octets ≤ size = ltb-false _ _ tests.1 in
     omega arith
 
-octets_rest : (n : ℕ) (octets : List ℕ) → AreOctets octets → AreOctets (drop n octets)
+pub octets_rest : (n : ℕ) (octets : List ℕ) → AreOctets octets → AreOctets (drop n octets)
 octets_rest n octets h i = rw get_or-drop (h (n + i))
 
-octets_front : (n : ℕ) (octets : List ℕ) → AreOctets octets → AreOctets (take n octets)
+pub octets_front : (n : ℕ) (octets : List ℕ) → AreOctets octets → AreOctets (take n octets)
 octets_front n octets h i =
     elim (cases_lt i n) [
       | inl lt ↦ rw (get_or-take n octets i 0 lt) (h i)
@@ -121,12 +132,6 @@ octet_in_takes low high octets place n h e =
     let is = in_range_is low high octets place 1 n e in
     (octet_takes octets place h ∙ ap (λ m. m ∷ drop (place + 1) octets) is.0, is.1, is.2)
 
-abbrev done : {A : Type 0} → A → Result A RecFault
-done x = Ok x
-
-pub ok_is : {A : Type 0} (x y : A) → done x ≡ done y → x ≡ y
-ok_is x y e = cc
-
 -- the algorithms of an octet
 algs_by : (b c : Bool) (octet place : ℕ) (algs : Algs) → (b ≡ true → octet ≡ 0x02) → (c ≡ true → octet ≡ 0x22)
     → cond b (done (record { eea = Eea0 })) (cond c (done (record { eea = Eea2 })) (Err (BadField place))) ≡ Ok algs → octet ≡ algs_octet algs
@@ -197,24 +202,22 @@ cell_read octets place cell e f in_range =
     let earfcn = in_range_read 0 greatest_earfcn octets (place + 2) 4 cell.earfcn f (omega arith) in_range.1 in
     λ j. pci j >>= λ pci. earfcn j >>= λ earfcn. Ok (record { pci = pci; earfcn = earfcn })
 
--- a text
-text_by : (b : Bool) (x y : List ℕ) → cond b (Err Long) (done x) ≡ Ok y → (b ≡ false) × (x ≡ y)
-text_by true x y e = absurd cc
-text_by false x y e = (refl, cc)
+-- what stands to the end
+pub rest_takes : (most : ℕ) (octets : List ℕ) (place : ℕ) (x : List ℕ) → rest_at most octets place ≡ Ok x → (drop place octets ≡ x) × (length x ≤ most)
+unfolding rest_at
+rest_takes most octets place x e =
+    let room = passes (nat_lt (place + most) (length octets)) Long (Ok (drop place octets)) x e in
+    let within : length octets ≤ place + most = ltb-false _ _ room.0 in
+    let is = ok_is (drop place octets) x room.1 in
+    let size : length (drop place octets) ≡ length x = ap length is in
+    (is, omega (arith, length-drop place octets))
 
-pub text_takes : (kind : ℕ) (rest text : List ℕ) → text_of (kind ∷ rest) ≡ Ok text → (rest ≡ text) × (length text ≤ 200)
-unfolding text_of
-text_takes kind rest text e =
-    let is = text_by (nat_lt 201 (length (kind ∷ rest))) rest text e in
-    let bound : length (kind ∷ rest) ≤ 201 = ltb-false _ _ is.0 in
-    let size : length rest ≡ length text = ap length is.1 in
-    (is.1, omega arith)
-
-pub text_read : (kind : ℕ) (text : List ℕ) → length text ≤ 200 → text_of (kind ∷ text) ≡ Ok text
-unfolding text_of
-text_read kind text h =
-    let short : ltb 201 (length (kind ∷ text)) ≡ false = le-ltb _ _ (omega arith) in
-    rw short refl
+pub rest_read : (most : ℕ) (octets : List ℕ) (place : ℕ) (x : List ℕ) → length x ≤ most → drop place octets ≡ x → rest_at most octets place ≡ Ok x
+unfolding rest_at
+rest_read most octets place x h e =
+    let size : length (drop place octets) ≡ length x = ap length e in
+    let room : ltb (place + most) (length octets) ≡ false = le-ltb _ _ (omega (arith, length-drop place octets)) in
+    rw (room, e) refl
 
 -- a size that is that of the layout
 pub size_read : (size : ℕ) (octets : List ℕ) → length octets ≡ size → of_size size octets ≡ Ok tt

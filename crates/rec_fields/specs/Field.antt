@@ -10,9 +10,9 @@ use Rattle.annex_a_keys.specs.Cell.{Place, greatest_pci, greatest_earfcn}
 
 -- the first fault, from left to right
 infixl 10 ◌>>=◌
-abbrev pub ◌>>=◌ : {A B : Type 0} → Result A RecFault → (A → Result B RecFault) → Result B RecFault
+abbrev pub ◌>>=◌ : {F A B : Type 0} → Result A F → (A → Result B F) → Result B F
 (Ok x) >>= f = f x
-(Err e) >>= f = Err e
+(Err fault) >>= f = Err fault
 
 -- fewer octets than the layout has, or more
 unfoldable pub of_size : ℕ → List ℕ → Result (Unit {0}) RecFault
@@ -54,6 +54,10 @@ cell_at octets place = do
   earfcn ← number_in 0 greatest_earfcn octets (place + 2) 4
   Ok (record { pci = pci; earfcn = earfcn })
 
+-- what stands from a place to the end, at most so many octets
+unfoldable pub rest_at : ℕ → List ℕ → ℕ → Result (List ℕ) RecFault
+rest_at most octets place = if nat_lt (place + most) (length octets) then Err Long else Ok (drop place octets)
+
 -- the text behind the kind, of at most 200 octets
-unfoldable pub text_of : List ℕ → Result (List ℕ) RecFault
-text_of octets = if nat_lt 201 (length octets) then Err Long else Ok (drop 1 octets)
+abbrev pub text_of : List ℕ → Result (List ℕ) RecFault
+text_of octets = rest_at 200 octets 1

@@ -1,2 +1,4 @@
 pub mod Field
 pub mod Spelled
+pub mod Layout
+pub mod Record

@@ -1,5 +1,5 @@
 //! Fields that the records of NAS, RRC, S1 and X2 share: what the octets at a place read as, with the
-//! fault of each, and how a field is written.
+//! fault of each, and how a field is written. In `specs/`, the grammar of a record: its fields in order.
 #![tactic(auto)]
 
 mod reading;

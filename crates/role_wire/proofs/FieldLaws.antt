@@ -1,82 +1,25 @@
 -- Laws of fields: what is read at a place is spelled there, and what is spelled there is read.
-use Rattle.std.proofs.Common.{◌≡◌, ℕ, ◌+◌, ◌-◌, ◌<◌, ◌≤◌, ◌^◌, Bool, true, false, cond, ltb, eqb, List, [], ◌∷◌, ◌++◌, length, take, drop, Option, Some, None, Result, Ok, Err, refl, sym, ap, subst, ◌∙◌, append_assoc, arith, length-drop, length-append, drop-drop, lit<}
+use Rattle.std.proofs.Common.{◌≡◌, ℕ, ◌+◌, ◌-◌, ◌<◌, ◌≤◌, ◌^◌, Bool, true, false, cond, ltb, eqb, List, [], ◌∷◌, ◌++◌, length, take, drop, Option, Some, None, Ok, Err, refl, sym, ap, subst, ◌∙◌, append_assoc, arith, length-drop, length-append, drop-drop, lit<}
 use Rattle.std.specs.Prelude.{nat_lt, ◌||◌}
 use Rattle.std.specs.Option.{ok_or}
 use Rattle.std.proofs.lemmas.Bool.{ltb-false, le-ltb, eqb-true}
 use Rattle.std.proofs.lemmas.List.{take-append-drop, nil_from_length}
-use Rattle.std.proofs.Math.Seq.{drop-append_seam, take-append_seam}
-use Rattle.rec_base.specs.BigEndian.{number_of, octets_of, field_at, number_at}
-use Rattle.rec_base.proofs.Numbers.{AreOctets, number_of-one, number_of-octets_of, length-octets_of}
-use Rattle.rec_fields.proofs.Fields.{octet_takes, octet_is, number_takes}
+use Rattle.rec_base.specs.BigEndian.{octets_of, field_at, number_at}
+use Rattle.rec_base.proofs.Numbers.{AreOctets, length-octets_of}
+use Rattle.rec_fields.specs.Field.{◌>>=◌}
+use Rattle.rec_fields.proofs.Fields.{bind_ok, ok_is, passes, tests_ok, octet_takes, octet_is, number_takes}
+use Rattle.rec_fields.proofs.Layouts.{IsField, IsEnding, stands, behind, field_is, number_is, octet_there}
 use Rattle.rec_fields.specs.Spelled.{cell_octets}
 use Rattle.alg_choice.specs.declared.caps.Caps.{Caps}
 use Rattle.annex_a_keys.specs.Cell.{Place}
 use Rattle.annex_a_keys.specs.declared.cell.TheConstants.{GREATEST_PCI, GREATEST_EARFCN}
 use Rattle.role_wire.specs.Codes.{Codes, coded}
-use Rattle.role_wire.specs.Field.{◌>>=◌, number_in, coded_at, key_at, caps_at, cell_at, rest_at, ends_at}
+use Rattle.role_wire.specs.Field.{number_in, coded_at, key_at, caps_at, cell_at, rest_at, ends_at, small, word, code, key, caps, cell, ending}
 use Rattle.role_wire.specs.Ranges.{IsCell}
 
--- the value of a step that did not fail
-pub bind_ok : {A B : Type 0} (r : Result A ℕ) (f : A → Result B ℕ) (y : B) → (r >>= f) ≡ Ok y → (x : A) × (r ≡ Ok x) × (f x ≡ Ok y)
-bind_ok (Ok x) f y e = (x, refl, e)
-bind_ok (Err d) f y e = absurd cc
-
-abbrev done : {A : Type 0} → A → Result A ℕ
-done x = Ok x
-
-pub ok_is : {A : Type 0} (x y : A) → done x ≡ done y → x ≡ y
-ok_is x y e = cc
-
--- a test that refuses
-pub passes : {A : Type 0} (b : Bool) (place : ℕ) (r : Result A ℕ) (y : A) → cond b (Err place) r ≡ Ok y → (b ≡ false) × (r ≡ Ok y)
-passes true place r y e = absurd cc
-passes false place r y e = (refl, e)
-
--- two such tests
-both_pass : {A : Type 0} (b c : Bool) (place : ℕ) (x y : A) → cond (b || c) (Err place) (done x) ≡ Ok y → (b ≡ false) × (c ≡ false) × (x ≡ y)
-both_pass true c place x y e = absurd cc
-both_pass false true place x y e = absurd cc
-both_pass false false place x y e = (refl, refl, cc)
-
--- A field of a body: what is read at a place, its spelling, its width and its range.
-pub record Field (A : Type 0) : Type 1 where
-  pub read : List ℕ → ℕ → Result A ℕ
-  pub spell : A → List ℕ
-  pub width : ℕ
-  pub Fits : A → Type 0
-  -- what is read is spelled there
-  pub takes : (octets : List ℕ) (place : ℕ) (x : A) → AreOctets octets → read octets place ≡ Ok x
-      → (drop place octets ≡ spell x ++ drop (place + width) octets) × (place + width ≤ length octets) × Fits x
-  -- what is spelled there is read
-  pub again : (octets rest : List ℕ) (place : ℕ) (x : A) → Fits x → drop place octets ≡ spell x ++ rest
-      → (read octets place ≡ Ok x) × (drop (place + width) octets ≡ rest)
-
--- so many octets stand at a place where they are spelled
-pub stands : (octets front rest : List ℕ) (place : ℕ) → 0 < length front → drop place octets ≡ front ++ rest → place + length front ≤ length octets
-stands octets front rest place some e =
-    let size : length (drop place octets) ≡ length front + length rest = ap length e ∙ length-append front rest in
-    omega (arith, length-drop place octets)
-
--- what stands behind them
-pub behind : (octets front rest : List ℕ) (place width : ℕ) → length front ≡ width → drop place octets ≡ front ++ rest → drop (place + width) octets ≡ rest
-behind octets front rest place width size e =
-    sym (drop-drop width place octets) ∙ ap (drop width) e ∙ ap (λ w. drop w (front ++ rest)) (sym size) ∙ drop-append_seam front rest
-
--- the field there
-pub field_is : (octets front rest : List ℕ) (place width : ℕ) → length front ≡ width → drop place octets ≡ front ++ rest → field_at octets place width ≡ front
-unfolding field_at
-field_is octets front rest place width size e =
-    ap (take width) e ∙ ap (λ w. take w (front ++ rest)) (sym size) ∙ take-append_seam front rest
-
-pub number_is : (octets rest : List ℕ) (place width n : ℕ) → n < 256 ^ width → drop place octets ≡ octets_of width n ++ rest → number_at octets place width ≡ n
-unfolding number_at
-number_is octets rest place width n h e =
-    ap number_of (field_is octets (octets_of width n) rest place width (length-octets_of width n) e) ∙ number_of-octets_of width n h
-
-pub octet_there : (octets rest : List ℕ) (place n : ℕ) → drop place octets ≡ n ∷ rest → number_at octets place 1 ≡ n
-unfolding number_at
-octet_there octets rest place n e =
-    ap number_of (field_is octets (n ∷ []) rest place 1 refl e) ∙ number_of-one (n ∷ []) (omega arith)
+-- A field of a body finds itself whether octets are wanting.
+abbrev pub Anywhere : List ℕ → ℕ → Type 0
+Anywhere octets place = Unit {0}
 
 -- a number in its range
 pub number_takes_in : (low high width : ℕ) (octets : List ℕ) (place n : ℕ) → number_in low high octets place width ≡ Ok n
@@ -85,7 +28,7 @@ unfolding number_in
 number_takes_in low high width octets place n e =
     let m = number_at octets place width in
     let room = passes (nat_lt (length octets) (place + width)) (length octets) (cond (nat_lt m low || nat_lt high m) (Err place) (Ok m)) n e in
-    let tests = both_pass (nat_lt m low) (nat_lt high m) place m n room.1 in
+    let tests = tests_ok (nat_lt m low) (nat_lt high m) place m n room.1 in
     let within : place + width ≤ length octets = ltb-false _ _ room.0 in
     let above : low ≤ m = ltb-false _ _ tests.0 in
     let below : m ≤ high = ltb-false _ _ tests.1 in
@@ -115,14 +58,11 @@ small_again high octets rest place n h e = (
   behind octets (n ∷ []) rest place 1 refl e,
 )
 
-abbrev pub small : ℕ → Field ℕ
-small high = record {
-  read = λ octets place. number_in 0 high octets place 1;
-  spell = λ n. n ∷ [];
-  width = 1;
-  Fits = λ n. n ≤ high;
-  takes = small_takes high;
-  again = small_again high;
+pub small_is_field : (high : ℕ) → IsField Anywhere (small high)
+small_is_field high = record {
+  takes = λ octets place n fit within e. let t = small_takes high octets place n fit e in (t.0, t.2);
+  again = λ octets rest place n fits e. (small_again high octets rest place n fits e).0;
+  size = λ n fits. refl;
 }
 
 -- a number of four octets, at least this
@@ -141,14 +81,11 @@ word_again low octets rest place n h e =
       behind octets (octets_of 4 n) rest place 4 size e,
     )
 
-abbrev pub word : ℕ → Field ℕ
-word low = record {
-  read = λ octets place. number_in low (2 ^ 32 - 1) octets place 4;
-  spell = octets_of 4;
-  width = 4;
-  Fits = λ n. (low ≤ n) × (n < 2 ^ 32);
-  takes = word_takes low;
-  again = word_again low;
+pub word_is_field : (low : ℕ) → IsField Anywhere (word low)
+word_is_field low = record {
+  takes = λ octets place n fit within e. let t = word_takes low octets place n fit e in (t.0, t.2);
+  again = λ octets rest place n fits e. (word_again low octets rest place n fits e).0;
+  size = λ n fits. length-octets_of 4 n;
 }
 
 -- what an octet stands for, each with the octet that it is spelled by
@@ -200,14 +137,11 @@ code_again octet Fits codes is octets rest place x fits e =
     let there = octet_there octets rest place (octet x) e in
     (rw (room, there, is.again x fits) refl, behind octets (octet x ∷ []) rest place 1 refl e)
 
-abbrev pub code : {A : Type 0} (octet : A → ℕ) (Fits : A → Type 0) (codes : Codes A) → IsCoding octet Fits codes → Field A
-code octet Fits codes is = record {
-  read = coded_at codes;
-  spell = λ x. octet x ∷ [];
-  width = 1;
-  Fits = Fits;
-  takes = code_takes octet Fits codes is;
-  again = code_again octet Fits codes is;
+pub code_is_field : {A : Type 0} (octet : A → ℕ) (Fits : A → Type 0) (codes : Codes A) → IsCoding octet Fits codes → IsField Anywhere (code octet Fits codes)
+code_is_field octet Fits codes is = record {
+  takes = λ octets place x fit within e. let t = code_takes octet Fits codes is octets place x fit e in (t.0, t.2);
+  again = λ octets rest place x fits e. (code_again octet Fits codes is octets rest place x fits e).0;
+  size = λ x fits. refl;
 }
 
 -- a key
@@ -232,8 +166,12 @@ key_again octets rest place x size e =
     let room : ltb (length octets) (place + 32) ≡ false = le-ltb _ _ (omega arith) in
     (rw (room, field_is octets x rest place 32 size e) refl, behind octets x rest place 32 size e)
 
-abbrev pub key : Field (List ℕ)
-key = record { read = key_at; spell = λ x. x; width = 32; Fits = λ x. length x ≡ 32; takes = key_takes; again = key_again }
+pub key_is_field : IsField Anywhere key
+key_is_field = record {
+  takes = λ octets place x fit within e. let t = key_takes octets place x fit e in (t.0, t.2);
+  again = λ octets rest place x fits e. (key_again octets rest place x fits e).0;
+  size = λ x fits. fits;
+}
 
 -- the capabilities
 pub caps_takes : (octets : List ℕ) (place : ℕ) (x : Caps) → AreOctets octets → caps_at octets place ≡ Ok x
@@ -263,14 +201,11 @@ caps_again octets rest place x fits e =
     let second = octet_there octets rest (place + 1) x.eia next in
     (rw (room, first, second) refl, behind octets (x.eea ∷ x.eia ∷ []) rest place 2 refl e)
 
-abbrev pub caps : Field Caps
-caps = record {
-  read = caps_at;
-  spell = λ x. x.eea ∷ x.eia ∷ [];
-  width = 2;
-  Fits = λ x. (x.eea < 256) × (x.eia < 256);
-  takes = caps_takes;
-  again = caps_again;
+pub caps_is_field : IsField Anywhere caps
+caps_is_field = record {
+  takes = λ octets place x fit within e. let t = caps_takes octets place x fit e in (t.0, t.2);
+  again = λ octets rest place x fits e. (caps_again octets rest place x fits e).0;
+  size = λ x fits. refl;
 }
 
 -- a cell
@@ -311,8 +246,12 @@ cell_again octets rest place x fits e =
       ap (λ n. drop n octets) (sym six) ∙ behind octets (octets_of 4 x.earfcn) rest (place + 2) 4 size next,
     )
 
-abbrev pub cell : Field Place
-cell = record { read = cell_at; spell = cell_octets; width = 6; Fits = IsCell; takes = cell_takes; again = cell_again }
+pub cell_is_field : IsField Anywhere cell
+cell_is_field = record {
+  takes = λ octets place x fit within e. let t = cell_takes octets place x fit e in (t.0, t.2);
+  again = λ octets rest place x fits e. (cell_again octets rest place x fits e).0;
+  size = λ x fits. omega (arith, length-append (octets_of 2 x.pci) (octets_of 4 x.earfcn), length-octets_of 2 x.pci, length-octets_of 4 x.earfcn);
+}
 
 -- what stands to the end
 pub rest_takes : (most : ℕ) (octets : List ℕ) (place : ℕ) (x : List ℕ) → rest_at most octets place ≡ Ok x → (drop place octets ≡ x) × (length x ≤ most)
@@ -345,3 +284,12 @@ end_again octets place e =
     let size : length (drop place octets) ≡ 0 = ap length e in
     let room : ltb place (length octets) ≡ false = le-ltb _ _ (omega (arith, length-drop place octets)) in
     rw room refl
+
+pub ending_is : IsEnding Anywhere Anywhere ending
+ending_is = record {
+  enough = λ octets n m h whole. tt;
+  none_takes = λ octets place x whole e. end_takes octets place x e;
+  none_again = end_again;
+  rest_takes = rest_takes;
+  rest_again = rest_again;
+}

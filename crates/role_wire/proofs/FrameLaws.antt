@@ -15,7 +15,7 @@ use Rattle.role_wire.specs.Spelling.{body_spelling}
 use Rattle.role_wire.specs.Reading.{body_of}
 use Rattle.role_wire.specs.Ranges.{IsFrame, IsRole}
 use Rattle.role_wire.specs.Frame.{body_limit, framed, frame_spelling, size_of, of_body, frame_at, IsWhole, IsCut, IsTaken, FrameRead, IsBodyTaken, BodyRead}
-use Rattle.role_wire.proofs.FieldLaws.{field_is, number_is}
+use Rattle.rec_fields.proofs.Layouts.{field_is, number_is}
 use Rattle.role_wire.proofs.Grammar.{body_found, body_again}
 
 -- what a body reader answered
@@ -154,7 +154,7 @@ exact role first result (Some octets) (Some rest) read h =
     answers role first result read.taken rest read.is h ∙ ap (frame_at role first) (sym is)
 
 -- what is written is read again
-pub written_again : (role : Role) (first : Bool) (frame : FrameIn) (octets rest : List ℕ) → octets ≡ frame_spelling frame → length octets ≤ 4098
+pub written_again : (role : Role) (first : Bool) (frame : FrameIn) (octets rest : List ℕ) → octets ≡ frame_spelling frame → length octets ≤ 2 + body_limit
     → IsFrame role first frame → frame_at role first (octets ++ rest) ≡ Ok frame
 unfolding framed
 written_again role first frame octets rest spelled short is =

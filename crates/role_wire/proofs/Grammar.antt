@@ -1,9 +1,9 @@
 -- What is read of a body is spelled so, and what is spelled so is read.
-use Rattle.std.proofs.Common.{◌≡◌, ℕ, Bool, true, false, cond, eqb, List, [], ◌∷◌, length, drop, Result, Ok, refl, sym, ap, subst, ◌∙◌, arith}
-use Rattle.std.proofs.lemmas.Bool.{eqb-true, eqb-false, ne_eqb}
-use Rattle.rec_base.specs.BigEndian.{number_at, octets_of}
+use Rattle.std.proofs.Common.{◌≡◌, ℕ, Bool, true, false, List, [], ◌∷◌, Result, Ok, refl, sym, ap, subst, ◌∙◌, arith}
+use Rattle.rec_base.specs.BigEndian.{octets_of}
 use Rattle.rec_base.proofs.Numbers.{AreOctets}
-use Rattle.rec_fields.proofs.Fields.{octet_is, kind_takes}
+use Rattle.rec_fields.proofs.Fields.{bind_ok, ok_is}
+use Rattle.rec_fields.proofs.Layouts.{Spelled, IsRow, AreRows, rows_take, rows_on}
 use Rattle.edge_io.specs.declared.peers.Role.{Role}
 use Rattle.lte_events.specs.declared.acts.PhoneAct.{PhoneAct}
 use Rattle.lte_events.specs.declared.acts.StationAct.{StationAct}
@@ -15,23 +15,16 @@ use Rattle.lte_events.specs.declared.inputs.ActorIn.{ActorIn}
 use Rattle.role_wire.specs.declared.frames.FrameIn.{FrameIn}
 use Rattle.role_wire.specs.declared.frames.FrameIn.TheVariants.{Setup, Input}
 use Rattle.role_wire.specs.declared.frames.RoleSetup.{RoleSetup}
-use Rattle.role_wire.specs.Field.{◌>>=◌}
-use Rattle.role_wire.specs.Reading.{Rows, by_kind, read_by, phone_rows, station_rows, core_rows, setup_rows, input_of, body_of}
+use Rattle.rec_fields.specs.Field.{◌>>=◌}
+use Rattle.rec_fields.specs.Layout.{Rows, by_kind}
+use Rattle.role_wire.specs.Reading.{body_by, phone_rows, station_rows, core_rows, setup_rows, input_of, body_of}
 use Rattle.role_wire.specs.Spelling.{phone_octets, station_octets, core_octets, setup_octets, body_spelling}
 use Rattle.role_wire.specs.Ranges.{IsPhoneIn, PhoneInSized, IsStationIn, StationInSized, IsCoreIn, CoreInSized, IsSetup, SetupSized, IsFrame, IsFrameIn, IsSized, IsOf, IsRole}
-use Rattle.role_wire.proofs.FieldLaws.{bind_ok, ok_is, passes}
 use Rattle.role_wire.proofs.Layouts.{IsForm}
 use Rattle.role_wire.proofs.Forms.{nothing_form, caps_form, auth_form, auth_caps_form, pdu_form, nas_form, air_form, station_air_form, user_form, rrc_form, skip_any_form, skip_bearer_form, skip_nas_form, connect_form, start_form}
 use Rattle.role_wire.proofs.SetupForm.{first_form}
 
--- what is read of the octets is in its ranges and spelled by them
-abbrev Spelled : {A : Type 0} (spell : A → List ℕ) (Fits : A → Type 0) → List ℕ → A → Type 0
-Spelled spell Fits octets x = (octets ≡ spell x) × Fits x
-
--- a row of a table reads what is spelled under its kind
-abbrev IsRow : {A : Type 0} (spell : A → List ℕ) (Fits : A → Type 0) → ℕ × (List ℕ → Result A ℕ) → Type 0
-IsRow {A} spell Fits row = (octets : List ℕ) (x : A) → AreOctets octets → octets ≡ row.0 ∷ drop 1 octets → row.1 octets ≡ Ok x → Spelled spell Fits octets x
-
+-- a row reads what is spelled under its kind
 row : {A B : Type 0} {read : List ℕ → Result B ℕ} {form : B → List ℕ} {FormFits : B → Type 0} (spell : A → List ℕ) (Fits : A → Type 0) (kind : ℕ) (make : B → A)
     → IsForm read form FormFits → ((y : B) → kind ∷ form y ≡ spell (make y)) → ((y : B) → FormFits y → Fits (make y))
     → IsRow spell Fits (kind, λ octets. read octets >>= λ y. Ok (make y))
@@ -40,37 +33,15 @@ row {A} {B} {read} {form} {FormFits} spell Fits kind make is same fits octets x 
     let t = is.takes octets a.0 fit a.1 in
     subst (Spelled spell Fits octets) (ok_is (make a.0) x a.2) (front ∙ ap (λ t. kind ∷ t) t.0 ∙ same a.0, fits a.0 t.1)
 
-abbrev AreRows : {A : Type 0} (spell : A → List ℕ) (Fits : A → Type 0) → Rows A → Type 0
-AreRows spell Fits [] = Unit {0}
-AreRows spell Fits (row ∷ rows) = IsRow spell Fits row × AreRows spell Fits rows
-
-by_test : {A : Type 0} (P : A → Type 0) (b : Bool) (u v : Result A ℕ) (x : A) → (b ≡ true → u ≡ Ok x → P x) → (v ≡ Ok x → P x) → cond b u v ≡ Ok x → P x
-by_test P true u v x f g e = f refl e
-by_test P false u v x f g e = g e
-
-kinds_take : {A : Type 0} (spell : A → List ℕ) (Fits : A → Type 0) (rows : Rows A) (octets : List ℕ) (kind : ℕ) (x : A) → AreRows spell Fits rows → AreOctets octets
-    → octets ≡ kind ∷ drop 1 octets → by_kind rows kind octets ≡ Ok x → Spelled spell Fits octets x
-kinds_take spell Fits [] octets kind x are fit front e = absurd cc
-kinds_take spell Fits (row ∷ rows) octets kind x are fit front e =
-    by_test (Spelled spell Fits octets) (eqb kind row.0) (row.1 octets) (by_kind rows kind octets) x
-    (λ is k. are.0 octets x fit (front ∙ ap (λ n. n ∷ drop 1 octets) (eqb-true kind row.0 is)) k)
-    (λ k. kinds_take spell Fits rows octets kind x are.1 fit front k) e
-
-read_takes : {A : Type 0} (spell : A → List ℕ) (Fits : A → Type 0) (rows : Rows A) (octets : List ℕ) (x : A) → AreRows spell Fits rows → AreOctets octets
-    → read_by rows octets ≡ Ok x → Spelled spell Fits octets x
-unfolding read_by
-read_takes spell Fits rows octets x are fit e =
-    let some = passes (eqb (length octets) 0) 0 (by_kind rows (number_at octets 0 1) octets) x e in
-    let differs = eqb-false (length octets) 0 some.0 in
-    kinds_take spell Fits rows octets (number_at octets 0 1) x are fit (kind_takes octets (number_at octets 0 1) (omega arith) refl) some.1
+read_takes : {A : Type 0} (spell : A → List ℕ) (Fits : A → Type 0) (rows : Rows ℕ A) (octets : List ℕ) (x : A) → AreRows spell Fits rows → AreOctets octets
+    → body_by rows octets ≡ Ok x → Spelled spell Fits octets x
+unfolding body_by
+read_takes spell Fits rows octets x are fit e = rows_take 0 0 spell Fits rows octets x are fit e
 
 -- reading goes on by the kind
-read_on : {A : Type 0} (rows : Rows A) (kind : ℕ) (rest : List ℕ) → read_by rows (kind ∷ rest) ≡ by_kind rows kind (kind ∷ rest)
-unfolding read_by
-read_on rows kind rest =
-    let octets : List ℕ = kind ∷ rest in
-    let differs : eqb (length octets) 0 ≡ false = ne_eqb _ _ (omega arith) in
-    rw differs (ap (λ k. by_kind rows k octets) (octet_is octets 0 (omega arith)))
+read_on : {A : Type 0} (rows : Rows ℕ A) (kind : ℕ) (rest : List ℕ) → body_by rows (kind ∷ rest) ≡ by_kind 0 rows kind (kind ∷ rest)
+unfolding body_by
+read_on rows kind rest = rows_on 0 0 rows kind rest
 
 -- the phone
 abbrev PhoneFits : PhoneIn → Type 0
@@ -187,30 +158,30 @@ pub body_found : (role : Role) (first : Bool) (octets : List ℕ) (frame : Frame
     → body_of role first octets ≡ Ok frame → FrameFound role first octets frame
 unfolding body_of body_spelling
 body_found role true octets frame is fit e =
-    let a = bind_ok (read_by (setup_rows role) octets) (λ setup. Ok (Setup setup)) frame e in
+    let a = bind_ok (body_by (setup_rows role) octets) (λ setup. Ok (Setup setup)) frame e in
     let t = read_takes setup_octets (SetupOf role) (setup_rows role) octets a.0 (setup_are role) fit a.1 in
     subst (FrameFound role true octets) (ok_is (Setup a.0) frame a.2) (t.0, record { of = t.1.1; input = t.1.0.0; sized = t.1.0.1 })
 body_found Role.Phone false octets frame is fit e =
     let a = bind_ok (input_of Role.Phone octets) (λ input. Ok (Input input)) frame e in
-    let b = bind_ok (read_by phone_rows octets) (λ input. Ok (ActorIn.Phone input)) a.0 a.1 in
+    let b = bind_ok (body_by phone_rows octets) (λ input. Ok (ActorIn.Phone input)) a.0 a.1 in
     let t = read_takes phone_octets PhoneFits phone_rows octets b.0 phone_are fit b.1 in
     let input_is = ok_is (ActorIn.Phone b.0) a.0 b.2 in
     subst (FrameFound Role.Phone false octets) (ap Input input_is ∙ ok_is (Input a.0) frame a.2) (t.0, record { of = tt; input = t.1.0; sized = t.1.1 })
 body_found (Role.Station id) false octets frame is fit e =
     let a = bind_ok (input_of (Role.Station id) octets) (λ input. Ok (Input input)) frame e in
-    let b = bind_ok (read_by station_rows octets) (λ input. Ok (ActorIn.Station id input)) a.0 a.1 in
+    let b = bind_ok (body_by station_rows octets) (λ input. Ok (ActorIn.Station id input)) a.0 a.1 in
     let t = read_takes station_octets (λ x. IsStationIn x × StationInSized x) station_rows octets b.0 station_are fit b.1 in
     let input_is = ok_is (ActorIn.Station id b.0) a.0 b.2 in
     subst (FrameFound (Role.Station id) false octets) (ap Input input_is ∙ ok_is (Input a.0) frame a.2) (t.0, record { of = refl; input = (is, t.1.0); sized = t.1.1 })
 body_found Role.Core false octets frame is fit e =
     let a = bind_ok (input_of Role.Core octets) (λ input. Ok (Input input)) frame e in
-    let b = bind_ok (read_by core_rows octets) (λ input. Ok (ActorIn.Core input)) a.0 a.1 in
+    let b = bind_ok (body_by core_rows octets) (λ input. Ok (ActorIn.Core input)) a.0 a.1 in
     let t = read_takes core_octets (λ x. IsCoreIn x × CoreInSized x) core_rows octets b.0 core_are fit b.1 in
     let input_is = ok_is (ActorIn.Core b.0) a.0 b.2 in
     subst (FrameFound Role.Core false octets) (ap Input input_is ∙ ok_is (Input a.0) frame a.2) (t.0, record { of = tt; input = t.1.0; sized = t.1.1 })
 
 -- what is spelled so is read
-phone_again : (x : PhoneIn) → PhoneFits x → read_by phone_rows (phone_octets x) ≡ Ok x
+phone_again : (x : PhoneIn) → PhoneFits x → body_by phone_rows (phone_octets x) ≡ Ok x
 unfolding octets_of
 phone_again (PhoneIn.Auth ksi kasme) h =
     read_on phone_rows 0x01 (ksi ∷ kasme) ∙ ap (λ r. r >>= λ a. Ok (PhoneIn.Auth a.0 a.1)) (auth_form.again 0x01 (ksi, kasme) h)
@@ -229,7 +200,7 @@ phone_again (PhoneIn.Act (PhoneAct.SendNas text)) h =
 phone_again (PhoneIn.Act (PhoneAct.Skip bearer n)) h =
     read_on phone_rows 0x16 _ ∙ ap (λ r. r >>= λ s. Ok (PhoneIn.Act (PhoneAct.Skip s.0 s.1))) (skip_any_form.again 0x16 (bearer, n) (tt, (omega arith, h.1)))
 
-station_again : (x : StationIn) → IsStationIn x × StationInSized x → read_by station_rows (station_octets x) ≡ Ok x
+station_again : (x : StationIn) → IsStationIn x × StationInSized x → body_by station_rows (station_octets x) ≡ Ok x
 unfolding octets_of
 station_again (StationIn.Air air bearer pdu) h =
     read_on station_rows 0x03 _ ∙ ap (λ r. r >>= λ a. Ok (StationIn.Air a.0 a.1 a.2)) (air_form.again 0x03 (air, bearer, pdu) ((omega arith, h.1.0), (tt, h.1.1)))
@@ -247,7 +218,7 @@ station_again (StationIn.Act StationAct.Command) h = read_on station_rows 0x31 [
 station_again (StationIn.Act StationAct.Cancel) h = read_on station_rows 0x32 [] ∙ ap (λ r. r >>= λ none. Ok (StationIn.Act StationAct.Cancel)) (nothing_form.again 0x32 tt tt)
 station_again (StationIn.Act StationAct.Ask) h = read_on station_rows 0x33 [] ∙ ap (λ r. r >>= λ none. Ok (StationIn.Act StationAct.Ask)) (nothing_form.again 0x33 tt tt)
 
-core_again : (x : CoreIn) → IsCoreIn x × CoreInSized x → read_by core_rows (core_octets x) ≡ Ok x
+core_again : (x : CoreIn) → IsCoreIn x × CoreInSized x → body_by core_rows (core_octets x) ≡ Ok x
 unfolding octets_of
 core_again (CoreIn.Auth ksi kasme caps) h =
     read_on core_rows 0x01 _ ∙ ap (λ r. r >>= λ a. Ok (CoreIn.Auth a.0 a.1 a.2)) (auth_caps_form.again 0x01 (ksi, kasme, caps) (h.0, (h.1.0, (h.1.1, h.1.2))))
@@ -262,7 +233,7 @@ core_again (CoreIn.Act (CoreAct.Connect cell)) h =
     read_on core_rows 0x21 _ ∙ ap (λ r. r >>= λ cell. Ok (CoreIn.Act (CoreAct.Connect cell))) (connect_form.again 0x21 cell h.1)
 core_again (CoreIn.Act CoreAct.Release) h = read_on core_rows 0x22 [] ∙ ap (λ r. r >>= λ none. Ok (CoreIn.Act CoreAct.Release)) (nothing_form.again 0x22 tt tt)
 
-setup_again : (role : Role) (x : RoleSetup) → IsOf role true (Setup x) → SetupFits x → read_by (setup_rows role) (setup_octets x) ≡ Ok x
+setup_again : (role : Role) (x : RoleSetup) → IsOf role true (Setup x) → SetupFits x → body_by (setup_rows role) (setup_octets x) ≡ Ok x
 setup_again Role.Phone (RoleSetup.Phone caps) of h =
     read_on (setup_rows Role.Phone) 0x00 _ ∙ ap (λ r. r >>= λ caps. Ok (RoleSetup.Phone caps)) (caps_form.again 0x00 caps h.1)
 setup_again (Role.Station id) (RoleSetup.Station order first cells) of h =

@@ -9,7 +9,8 @@ use Rattle.std.proofs.lemmas.List.Folds.{list_any_none}
 use Rattle.std.proofs.lemmas.Map.Keys.{apart_from_distinct}
 use Rattle.rec_base.specs.BigEndian.{octets_of}
 use Rattle.rec_base.proofs.Numbers.{AreOctets}
-use Rattle.rec_fields.proofs.Fields.{octet_takes}
+use Rattle.rec_fields.proofs.Fields.{bind_ok, ok_is, passes, octet_takes}
+use Rattle.rec_fields.proofs.Layouts.{stands, behind, octet_there}
 use Rattle.rec_fields.specs.Spelled.{cell_octets}
 use Rattle.alg_choice.specs.declared.algs.Eea.{Eea}
 use Rattle.alg_choice.specs.declared.algs.Eea.TheVariants.{Eea0, Eea2}
@@ -17,11 +18,12 @@ use Rattle.alg_choice.specs.Algs.{identity_of}
 use Rattle.lte_events.specs.Site.{Site, is_site, IsCellTable}
 use Rattle.lte_events.proofs.SiteFacts.{same_cell, no_cell, one_more}
 use Rattle.role_wire.specs.Codes.{coded, eeas, eeas_but}
-use Rattle.role_wire.specs.Field.{◌>>=◌, number_in, coded_at, cell_at, ends_at}
+use Rattle.rec_fields.specs.Field.{◌>>=◌}
+use Rattle.role_wire.specs.Field.{number_in, coded_at, cell_at, ends_at}
 use Rattle.role_wire.specs.Body.{order_at, site_at, sites_at, cells_at, first_of}
 use Rattle.role_wire.specs.Spelling.{site_octets, first_octets}
 use Rattle.role_wire.specs.Ranges.{IsCell, IsOrder, IsFirst}
-use Rattle.role_wire.proofs.FieldLaws.{Field, IsCoding, bind_ok, ok_is, passes, small, word, code, cell, stands, behind, octet_there, number_takes_in, number_reads, end_takes, end_again}
+use Rattle.role_wire.proofs.FieldLaws.{IsCoding, small_takes, small_again, word_takes, word_again, code_takes, code_again, cell_takes, cell_again, number_takes_in, number_reads, end_takes, end_again}
 use Rattle.role_wire.proofs.Layouts.{IsForm}
 use Rattle.role_wire.proofs.Forms.{eea_coding}
 
@@ -35,12 +37,6 @@ but_again Eea2 Eea2 h = absurd (h refl)
 but_coding : (first : Eea) → IsCoding identity_of (λ second. second ≢ first) (eeas_but first)
 but_coding Eea0 = record { are = (refl, (λ (e : Eea2 ≡ Eea0). cc), tt); again = but_again Eea0 }
 but_coding Eea2 = record { are = (refl, (λ (e : Eea0 ≡ Eea2). cc), tt); again = but_again Eea2 }
-
-abbrev first_eea : Field Eea
-first_eea = code identity_of (λ e. Unit {0}) eeas eea_coding
-
-abbrev other_eea : Eea → Field Eea
-other_eea first = code identity_of (λ second. second ≢ first) (eeas_but first) (but_coding first)
 
 -- the spelling of a priority, and how many octets it has
 abbrev order_octets : List Eea → List ℕ
@@ -61,7 +57,7 @@ order_by true octets place count first order fit one two e f k =
     subst (OrderFound octets place) (ok_is (first ∷ []) order k) (whole, tt)
 order_by false octets place count first order fit one two e f k =
     let a = bind_ok (coded_at (eeas_but first) octets (place + 2)) (λ second. Ok (first ∷ second ∷ [])) order k in
-    let t = (other_eea first).takes octets (place + 2) a.0 fit a.1 in
+    let t = code_takes identity_of (λ second. second ≢ first) (eeas_but first) (but_coding first) octets (place + 2) a.0 fit a.1 in
     let place_is : place + 2 + 1 ≡ place + 1 + 2 = omega arith in
     let whole : drop place octets ≡ order_octets (first ∷ a.0 ∷ []) ++ drop (place + 1 + 2) octets =
     e ∙ (λ j. two refl j ∷ f j) ∙ ap (λ t. 2 ∷ identity_of first ∷ t) (t.0 ∙ ap (λ n. identity_of a.0 ∷ drop n octets) place_is) in
@@ -73,7 +69,7 @@ order_takes octets place order fit e =
     let a = bind_ok (number_in 1 2 octets place 1) (λ count. coded_at eeas octets (place + 1) >>= λ first. cond (eqb count 1) (Ok (first ∷ [])) (coded_at (eeas_but first) octets (place + 2) >>= λ second. Ok (first ∷ second ∷ []))) order e in
     let b = bind_ok (coded_at eeas octets (place + 1)) (λ first. cond (eqb a.0 1) (Ok (first ∷ [])) (coded_at (eeas_but first) octets (place + 2) >>= λ second. Ok (first ∷ second ∷ []))) order a.2 in
     let n = number_takes_in 1 2 1 octets place a.0 a.1 in
-    let t = first_eea.takes octets (place + 1) b.0 fit b.1 in
+    let t = code_takes identity_of (λ e. Unit {0}) eeas eea_coding octets (place + 1) b.0 fit b.1 in
     let two : place + 1 + 1 ≡ place + 2 = omega arith in
     let front : drop place octets ≡ a.0 ∷ drop (place + 1) octets = octet_takes octets place (omega arith) ∙ ap (λ m. m ∷ drop (place + 1) octets) n.1 in
     order_by (eqb a.0 1) octets place a.0 b.0 order fit (λ h. eqb-true a.0 1 h) (λ h. let differs = eqb-false a.0 1 h in omega arith) front
@@ -89,15 +85,15 @@ order_again octets rest place (first ∷ []) is e =
     let within = stands octets (1 ∷ identity_of first ∷ []) rest place (lit< tt) e in
     let count = number_reads 1 2 1 octets place 1 (omega arith) (octet_there octets (identity_of first ∷ rest) place 1 e) (omega arith) (omega arith) in
     let next = behind octets (1 ∷ []) (identity_of first ∷ rest) place 1 refl e in
-    let t = first_eea.again octets rest (place + 1) first tt next in
+    let t = code_again identity_of (λ e. Unit {0}) eeas eea_coding octets rest (place + 1) first tt next in
     (λ j. count j >>= λ count. t.0 j >>= λ first. cond (eqb count 1) (Ok (first ∷ [])) (coded_at (eeas_but first) octets (place + 2) >>= λ second. Ok (first ∷ second ∷ [])), t.1)
 order_again octets rest place (first ∷ second ∷ []) is e =
     let within = stands octets (2 ∷ identity_of first ∷ identity_of second ∷ []) rest place (lit< tt) e in
     let count = number_reads 1 2 1 octets place 2 (omega arith) (octet_there octets (identity_of first ∷ identity_of second ∷ rest) place 2 e) (omega arith) (omega arith) in
     let next = behind octets (2 ∷ []) (identity_of first ∷ identity_of second ∷ rest) place 1 refl e in
-    let t = first_eea.again octets (identity_of second ∷ rest) (place + 1) first tt next in
+    let t = code_again identity_of (λ e. Unit {0}) eeas eea_coding octets (identity_of second ∷ rest) (place + 1) first tt next in
     let place_is : place + 1 + 1 ≡ place + 2 = omega arith in
-    let s = (other_eea first).again octets rest (place + 2) second is (ap (λ n. drop n octets) (sym place_is) ∙ t.1) in
+    let s = code_again identity_of (λ second. second ≢ first) (eeas_but first) (but_coding first) octets rest (place + 2) second is (ap (λ n. drop n octets) (sym place_is) ∙ t.1) in
     let end_is : place + 1 + 2 ≡ place + 2 + 1 = omega arith in (
       (λ j. count j >>= λ count. t.0 j >>= λ first. cond (eqb count 1) (Ok (first ∷ [])) (coded_at (eeas_but first) octets (place + 2) >>= λ second. Ok (first ∷ second ∷ [])))
           ∙ ap (λ r. r >>= λ second. Ok (first ∷ second ∷ [])) s.0,
@@ -121,8 +117,8 @@ site_takes before octets place sites fit e =
     let b = bind_ok (cell_at octets (place + 1)) (λ cell. cond (list_any (is_site cell) before) (Err (place + 1)) (Ok (before ++ record { station = a.0; cell = cell } ∷ []))) sites a.2 in
     let site : Site = record { station = a.0; cell = b.0 } in
     let fresh = passes (list_any (is_site b.0) before) (place + 1) (Ok (before ++ site ∷ [])) sites b.2 in
-    let s = (small 7).takes octets place a.0 fit a.1 in
-    let c = cell.takes octets (place + 1) b.0 fit b.1 in
+    let s = small_takes 7 octets place a.0 fit a.1 in
+    let c = cell_takes octets (place + 1) b.0 fit b.1 in
     let seven : place + 1 + 6 ≡ place + 7 = omega arith in
     (site, sym (ok_is (before ++ site ∷ []) sites fresh.1), s.0 ∙ ap (λ t. a.0 ∷ t) (c.0 ∙ ap (λ n. cell_octets b.0 ++ drop n octets) seven), s.2, c.2, fresh.0)
 
@@ -200,8 +196,8 @@ site_again before more site octets rest place are e =
     subst (λ (x : Site). x.station ≤ 7) last (All-get_or (λ (x : Site). x.station ≤ 7) all (length before) site (omega arith) are.0.stations) in
     let is_cell : IsCell site.cell =
     subst (λ (x : Site). IsCell x.cell) last (All-get_or (λ (x : Site). IsCell x.cell) all (length before) site (omega arith) are.1) in
-    let s = (small 7).again octets (cell_octets site.cell ++ rest) place site.station station e in
-    let c = cell.again octets rest (place + 1) site.cell is_cell s.1 in
+    let s = small_again 7 octets (cell_octets site.cell ++ rest) place site.station station e in
+    let c = cell_again octets rest (place + 1) site.cell is_cell s.1 in
     let seven : place + 7 ≡ place + 1 + 6 = omega arith in (
       (λ j. s.0 j >>= λ station. c.0 j >>= λ cell. cond (list_any (is_site cell) before) (Err (place + 1)) (Ok (before ++ record { station = station; cell = cell } ∷ [])))
           ∙ ap (λ b. cond b (Err (place + 1)) (Ok (before ++ site ∷ []))) (fresh before more site are.0),
@@ -249,7 +245,7 @@ first_takes octets x fit e =
     let cells = c.0 in
     let d = bind_ok (ends_at octets (7 + length order + 7 * length cells)) (λ end. Ok (order, first, cells)) x c.2 in
     let o = order_takes octets 1 order fit a.1 in
-    let w = (word 1).takes octets (2 + length order) first fit b.1 in
+    let w = word_takes 1 octets (2 + length order) first fit b.1 in
     let s = cells_take octets (6 + length order) cells fit c.1 in
     let end = end_takes octets (7 + length order + 7 * length cells) d.0 d.1 in
     let six : 2 + length order + 4 ≡ 6 + length order = omega arith in
@@ -273,7 +269,7 @@ first_again kind x fits =
     let listed : List ℕ = length cells ∷ flat_map site_octets cells in
     let is = fits.2 in
     let o = order_again octets (octets_of 4 first ++ listed) 1 order is.is_order (append_assoc (order_octets order) (octets_of 4 first) listed) in
-    let w = (word 1).again octets listed (2 + length order) first (fits.0, is.is_number) o.1 in
+    let w = word_again 1 octets listed (2 + length order) first (fits.0, is.is_number) o.1 in
     let six : 6 + length order ≡ 2 + length order + 4 = omega arith in
     let s = cells_again octets [] (6 + length order) cells fits.1 (is.is_table, is.are_cells) (ap (λ n. drop n octets) six ∙ w.1 ∙ sym (append-nil listed)) in
     let last : 7 + length order + 7 * length cells ≡ 6 + length order + 1 + 7 * length cells = omega arith in

@@ -1,5 +1,5 @@
 -- How many octets a frame has.
-use Rattle.std.proofs.Common.{◌≡◌, ℕ, ◌*◌, ◌≤◌, Bool, List, [], ◌∷◌, ◌++◌, length, map, Ok, refl, arith, length-append}
+use Rattle.std.proofs.Common.{◌≡◌, ℕ, ◌+◌, ◌*◌, ◌≤◌, Bool, List, [], ◌∷◌, ◌++◌, length, map, Ok, refl, arith, length-append}
 use Rattle.std.proofs.lemmas.List.{length-map}
 use Rattle.std.specs.List.{flat_map}
 use Rattle.rec_base.specs.BigEndian.{octets_of}
@@ -20,12 +20,12 @@ use Rattle.role_wire.specs.declared.frames.FrameIn.TheVariants.{Setup, Input}
 use Rattle.role_wire.specs.declared.frames.RoleSetup.{RoleSetup}
 use Rattle.role_wire.specs.Spelling.{phone_octets, station_octets, core_octets, setup_octets, first_octets, site_octets, body_spelling}
 use Rattle.role_wire.specs.Ranges.{IsFrame, IsSized, IsOrder, IsFirst, PhoneInSized, StationInSized, CoreInSized, SetupSized}
-use Rattle.role_wire.specs.Frame.{framed, frame_spelling, frame_at}
+use Rattle.role_wire.specs.Frame.{body_limit, framed, frame_spelling, frame_at}
 use Rattle.role_wire.proofs.FrameLaws.{written_again}
 
 -- one octet or more, and no more than a length may say
 abbrev IsSize : List ℕ → Type 0
-IsSize octets = (1 ≤ length octets) × (length octets ≤ 4096)
+IsSize octets = (1 ≤ length octets) × (length octets ≤ body_limit)
 
 phone_size : (x : PhoneIn) → PhoneInSized x → IsSize (phone_octets x)
 unfolding octets_of
@@ -99,7 +99,7 @@ body_size (Input (ActorIn.Core x)) h = core_size x h
 
 -- a frame has 3 to 4,098 octets
 pub frame_size : (role : Role) (first : Bool) (frame : FrameIn) → IsFrame role first frame
-    → (3 ≤ length (frame_spelling frame)) × (length (frame_spelling frame) ≤ 4098)
+    → (3 ≤ length (frame_spelling frame)) × (length (frame_spelling frame) ≤ 2 + body_limit)
 unfolding framed
 frame_size role first frame is =
     let body = body_spelling frame in

@@ -1,104 +1,108 @@
 -- What stands in a body behind its kind, which is the octet at place 0: one definition for each form.
-use Rattle.std.specs.Prelude.{ℕ, zero, suc, ◌+◌, ◌*◌, ◌-◌, ◌^◌, ◌==◌, if◌then◌else◌, List, [], ◌∷◌, ◌++◌, length, Result, Ok, Err}
+use Rattle.std.specs.Prelude.{◌≡◌, ℕ, true, false, zero, suc, ◌+◌, ◌*◌, ◌-◌, ◌^◌, ◌==◌, if◌then◌else◌, List, [], ◌∷◌, ◌++◌, length, Result, Ok, Err}
 use Rattle.std.specs.List.{list_any}
 use Rattle.rec_base.specs.declared.bearers.Bearer.{Bearer}
+use Rattle.rec_base.specs.Bearer.{octet_of}
 use Rattle.alg_choice.specs.declared.algs.Eea.{Eea}
 use Rattle.alg_choice.specs.declared.caps.Caps.{Caps}
 use Rattle.annex_a_keys.specs.Cell.{Place}
 use Rattle.lte_events.specs.Site.{Site, is_site}
 use Rattle.lte_events.specs.declared.acts.HoKind.{HoKind}
-use Rattle.role_wire.specs.Codes.{Codes, srbs, drbs, bearers, ho_kinds, eeas, eeas_but}
-use Rattle.role_wire.specs.Field.{◌>>=◌, number_in, coded_at, key_at, caps_at, cell_at, rest_at, ends_at}
+use Rattle.role_wire.specs.Codes.{Codes, srbs, drbs, bearers, is_drb, ho_kinds, ho_octet, eeas, eeas_but}
+use Rattle.rec_fields.specs.Field.{◌>>=◌}
+use Rattle.rec_fields.specs.Layout.{Layout, Empty, Last, Rest, Then, read_by}
+use Rattle.role_wire.specs.Field.{number_in, coded_at, cell_at, ends_at, small, word, code, listed, key, caps, cell, ending}
 
 -- no field
+abbrev pub nothing_body : Layout ℕ
+nothing_body = Empty
+
 unfoldable pub nothing_of : List ℕ → Result (Unit {0}) ℕ
-nothing_of octets = ends_at octets 1
+nothing_of octets = read_by ending nothing_body octets 1 (λ vs. Ok vs)
 
 -- capabilities
+abbrev pub caps_body : Layout ℕ
+caps_body = Last caps
+
 unfoldable pub caps_of : List ℕ → Result Caps ℕ
-caps_of octets = do
-  caps ← caps_at octets 1
-  end ← ends_at octets 3
-  Ok caps
+caps_of octets = read_by ending caps_body octets 1 (λ vs. Ok vs)
 
 -- KSI, KASME
+abbrev pub auth_body : Layout ℕ
+auth_body = Then (small 6) (Last key)
+
 unfoldable pub auth_of : List ℕ → Result (ℕ × List ℕ) ℕ
-auth_of octets = do
-  ksi ← number_in 0 6 octets 1 1
-  kasme ← key_at octets 2
-  end ← ends_at octets 34
-  Ok (ksi, kasme)
+auth_of octets = read_by ending auth_body octets 1 (λ vs. Ok (vs.0, vs.1))
 
 -- KSI, KASME, capabilities
+abbrev pub auth_caps_body : Layout ℕ
+auth_caps_body = Then (small 6) (Then key (Last caps))
+
 unfoldable pub auth_caps_of : List ℕ → Result (ℕ × List ℕ × Caps) ℕ
-auth_caps_of octets = do
-  ksi ← number_in 0 6 octets 1 1
-  kasme ← key_at octets 2
-  caps ← caps_at octets 34
-  end ← ends_at octets 36
-  Ok (ksi, kasme, caps)
+auth_caps_of octets = read_by ending auth_caps_body octets 1 (λ vs. Ok (vs.0, vs.1.0, vs.1.1))
 
 -- a PDU or record
+abbrev pub pdu_body : Layout ℕ
+pdu_body = Rest 1536
+
 unfoldable pub pdu_of : List ℕ → Result (List ℕ) ℕ
-pdu_of octets = rest_at 1536 octets 1
+pdu_of octets = read_by ending pdu_body octets 1 (λ vs. Ok vs)
 
 -- air address, bearer, PDU
+abbrev pub air_body : Layout ℕ
+air_body = Then (word 0) (Then (listed octet_of bearers) (Rest 1536))
+
 unfoldable pub air_of : List ℕ → Result (ℕ × Bearer × List ℕ) ℕ
-air_of octets = do
-  air ← number_in 0 (2 ^ 32 - 1) octets 1 4
-  bearer ← coded_at bearers octets 5
-  pdu ← rest_at 1536 octets 6
-  Ok (air, bearer, pdu)
+air_of octets = read_by ending air_body octets 1 (λ vs. Ok (vs.0, vs.1.0, vs.1.1))
 
 -- station, air address, bearer, PDU
+abbrev pub station_air_body : Layout ℕ
+station_air_body = Then (small 7) air_body
+
 unfoldable pub station_air_of : List ℕ → Result (ℕ × ℕ × Bearer × List ℕ) ℕ
-station_air_of octets = do
-  station ← number_in 0 7 octets 1 1
-  air ← number_in 0 (2 ^ 32 - 1) octets 2 4
-  bearer ← coded_at bearers octets 6
-  pdu ← rest_at 1536 octets 7
-  Ok (station, air, bearer, pdu)
+station_air_of octets = read_by ending station_air_body octets 1 (λ vs. Ok (vs.0, vs.1.0, vs.1.1.0, vs.1.1.1))
 
 -- DRB, text
+abbrev pub user_body : Layout ℕ
+user_body = Then (code octet_of (λ b. is_drb b ≡ true) drbs) (Rest 1500)
+
 unfoldable pub user_of : List ℕ → Result (Bearer × List ℕ) ℕ
-user_of octets = do
-  bearer ← coded_at drbs octets 1
-  text ← rest_at 1500 octets 2
-  Ok (bearer, text)
+user_of octets = read_by ending user_body octets 1 (λ vs. Ok (vs.0, vs.1))
 
 -- SRB, text
+abbrev pub rrc_body : Layout ℕ
+rrc_body = Then (code octet_of (λ b. is_drb b ≡ false) srbs) (Rest 200)
+
 unfoldable pub rrc_of : List ℕ → Result (Bearer × List ℕ) ℕ
-rrc_of octets = do
-  bearer ← coded_at srbs octets 1
-  text ← rest_at 200 octets 2
-  Ok (bearer, text)
+rrc_of octets = read_by ending rrc_body octets 1 (λ vs. Ok (vs.0, vs.1))
 
 -- NAS text
+abbrev pub nas_body : Layout ℕ
+nas_body = Rest 200
+
 unfoldable pub nas_of : List ℕ → Result (List ℕ) ℕ
-nas_of octets = rest_at 200 octets 1
+nas_of octets = read_by ending nas_body octets 1 (λ vs. Ok vs)
 
 -- what is skipped, how many
-unfoldable pub skip_of : {A : Type 0} → Codes A → List ℕ → Result (A × ℕ) ℕ
-skip_of codes octets = do
-  what ← coded_at codes octets 1
-  n ← number_in 0 (2 ^ 32 - 1) octets 2 4
-  end ← ends_at octets 6
-  Ok (what, n)
+abbrev pub skip_body : {A : Type 0} → (A → ℕ) → Codes A → Layout ℕ
+skip_body octet codes = Then (listed octet codes) (Last (word 0))
+
+unfoldable pub skip_of : {A : Type 0} → (A → ℕ) → Codes A → List ℕ → Result (A × ℕ) ℕ
+skip_of octet codes octets = read_by ending (skip_body octet codes) octets 1 (λ vs. Ok (vs.0, vs.1))
 
 -- cell
+abbrev pub connect_body : Layout ℕ
+connect_body = Last cell
+
 unfoldable pub connect_of : List ℕ → Result Place ℕ
-connect_of octets = do
-  cell ← cell_at octets 1
-  end ← ends_at octets 7
-  Ok cell
+connect_of octets = read_by ending connect_body octets 1 (λ vs. Ok vs)
 
 -- kind of handover, cell
+abbrev pub start_body : Layout ℕ
+start_body = Then (listed ho_octet ho_kinds) (Last cell)
+
 unfoldable pub start_of : List ℕ → Result (HoKind × Place) ℕ
-start_of octets = do
-  kind ← coded_at ho_kinds octets 1
-  cell ← cell_at octets 2
-  end ← ends_at octets 8
-  Ok (kind, cell)
+start_of octets = read_by ending start_body octets 1 (λ vs. Ok (vs.0, vs.1))
 
 -- a count of 1 or 2, and so many encryption algorithms, different ones
 unfoldable pub order_at : List ℕ → ℕ → Result (List Eea) ℕ

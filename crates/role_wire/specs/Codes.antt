@@ -33,6 +33,10 @@ bearers = (0x01, Srb1) ∷ (0x02, Srb2) ∷ (0x81, Drb1) ∷ (0x82, Drb2) ∷ (0
 abbrev pub nas_alone : Codes (Unit {0})
 nas_alone = (0x00, tt) ∷ []
 
+-- and its octet
+abbrev pub nas_octet : Unit {0} → ℕ
+nas_octet nas = 0x00
+
 -- what a Skip of the phone names: NAS or a bearer
 abbrev pub nas_or_bearer : Codes (Option Bearer)
 nas_or_bearer =

@@ -1,18 +1,16 @@
 -- The fields of a body, read at a place. An error is the place of the first bad octet: where octets are
 -- wanting, the end.
-use Rattle.std.specs.Prelude.{ℕ, ◌+◌, ◌||◌, nat_lt, if◌then◌else◌, List, length, drop, Result, Ok, Err}
+use Rattle.std.specs.Prelude.{◌≡◌, ℕ, ◌+◌, ◌-◌, ◌^◌, ◌<◌, ◌≤◌, ◌||◌, nat_lt, if◌then◌else◌, List, [], ◌∷◌, length, drop, Result, Ok, Err}
 use Rattle.std.specs.Option.{ok_or}
-use Rattle.rec_base.specs.BigEndian.{number_at, field_at}
+use Rattle.rec_base.specs.BigEndian.{number_at, field_at, octets_of}
 use Rattle.alg_choice.specs.declared.caps.Caps.{Caps}
 use Rattle.annex_a_keys.specs.Cell.{Place}
 use Rattle.annex_a_keys.specs.declared.cell.TheConstants.{GREATEST_PCI, GREATEST_EARFCN}
+use Rattle.rec_fields.specs.Field.{◌>>=◌}
+use Rattle.rec_fields.specs.Layout.{Field, Ending}
+use Rattle.rec_fields.specs.Spelled.{cell_octets}
 use Rattle.role_wire.specs.Codes.{Codes, coded}
-
--- the first bad place, from left to right
-infixl 10 ◌>>=◌
-abbrev pub ◌>>=◌ : {A B : Type 0} → Result A ℕ → (A → Result B ℕ) → Result B ℕ
-(Ok x) >>= f = f x
-(Err place) >>= f = Err place
+use Rattle.role_wire.specs.Ranges.{IsCell}
 
 -- a number of this width, from `low` to `high`
 unfoldable pub number_in : ℕ → ℕ → List ℕ → ℕ → ℕ → Result ℕ ℕ
@@ -50,3 +48,40 @@ rest_at most octets place = if nat_lt (place + most) (length octets) then Err (p
 -- the body ends here
 unfoldable pub ends_at : List ℕ → ℕ → Result (Unit {0}) ℕ
 ends_at octets place = if nat_lt place (length octets) then Err place else Ok tt
+
+-- an octet, at most this
+abbrev pub small : ℕ → Field ℕ ℕ
+small high = record { read = λ octets place. number_in 0 high octets place 1; spell = λ n. n ∷ []; width = 1; Fits = λ n. n ≤ high }
+
+-- a number of four octets, at least this
+abbrev pub word : ℕ → Field ℕ ℕ
+word low = record {
+  read = λ octets place. number_in low (2 ^ 32 - 1) octets place 4;
+  spell = octets_of 4;
+  width = 4;
+  Fits = λ n. (low ≤ n) × (n < 2 ^ 32);
+}
+
+-- a value of a table, by its octet
+abbrev pub code : {A : Type 0} → (A → ℕ) → (A → Type 0) → Codes A → Field ℕ A
+code octet Fits codes = record { read = coded_at codes; spell = λ x. octet x ∷ []; width = 1; Fits = Fits }
+
+-- any value of a table
+abbrev pub listed : {A : Type 0} → (A → ℕ) → Codes A → Field ℕ A
+listed octet codes = code octet (λ x. Unit {0}) codes
+
+-- a key of 32 octets
+abbrev pub key : Field ℕ (List ℕ)
+key = record { read = key_at; spell = λ x. x; width = 32; Fits = λ x. length x ≡ 32 }
+
+-- the capabilities of a phone
+abbrev pub caps : Field ℕ Caps
+caps = record { read = caps_at; spell = λ x. x.eea ∷ x.eia ∷ []; width = 2; Fits = λ x. (x.eea < 256) × (x.eia < 256) }
+
+-- a cell
+abbrev pub cell : Field ℕ Place
+cell = record { read = cell_at; spell = cell_octets; width = 6; Fits = IsCell }
+
+-- a body ends behind its last field
+abbrev pub ending : Ending ℕ
+ending = record { none = ends_at; rest = rest_at }

@@ -1,8 +1,10 @@
 // What stands in a body behind its kind, one function for each form. An error is the place of the first
 // bad octet, counted from the kind.
 ghost use Rattle.std.specs.Prelude.{◌≡◌, ◌<◌, ◌≤◌, length};
-ghost use Rattle.role_wire.specs.Codes.{bearers, nas_alone, nas_or_bearer};
+ghost use Rattle.rec_base.specs.Bearer.{octet_of};
+ghost use Rattle.role_wire.specs.Codes.{bearers, nas_alone, nas_octet, nas_or_bearer, skip_octet};
 ghost use Rattle.role_wire.specs.Body.{nothing_of, caps_of, auth_of, auth_caps_of, pdu_of, air_of, station_air_of, user_of, rrc_of, nas_of, skip_of, connect_of, start_of};
+ghost use Rattle.role_wire.specs.Frame.{body_limit};
 
 use crate::fields::{
     bearer_at, caps_at, cell_at, drb_at, ends_at, ho_kind_at, key_at, nas_at, nas_or_bearer_at,
@@ -24,7 +26,7 @@ pub(crate) fn nothing(octets: &[u8]) -> Result<(), u16>
 // Capabilities.
 #[tactic(auto, unfolding(crate::specs::Body::caps_of))]
 pub(crate) fn caps(octets: &[u8]) -> Result<Caps, u16>
-    requires { length octets.now ≤ 4096 }
+    requires { length octets.now ≤ body_limit }
     ensures { result ≡ caps_of octets.now }
 {
     let caps = caps_at(octets, 1)?;
@@ -35,7 +37,7 @@ pub(crate) fn caps(octets: &[u8]) -> Result<Caps, u16>
 // KSI, 0 to 6, and KASME.
 #[tactic(auto, unfolding(crate::specs::Body::auth_of))]
 pub(crate) fn auth(octets: &[u8]) -> Result<(u8, Kasme), u16>
-    requires { length octets.now ≤ 4096 }
+    requires { length octets.now ≤ body_limit }
     ensures { result ≡ auth_of octets.now }
 {
     let ksi = octet_in(octets, 1, 0, 6)?;
@@ -47,7 +49,7 @@ pub(crate) fn auth(octets: &[u8]) -> Result<(u8, Kasme), u16>
 // KSI, 0 to 6, KASME and capabilities.
 #[tactic(auto, unfolding(crate::specs::Body::auth_caps_of))]
 pub(crate) fn auth_caps(octets: &[u8]) -> Result<(u8, Kasme, Caps), u16>
-    requires { length octets.now ≤ 4096 }
+    requires { length octets.now ≤ body_limit }
     ensures { result ≡ auth_caps_of octets.now }
 {
     let ksi = octet_in(octets, 1, 0, 6)?;
@@ -60,7 +62,7 @@ pub(crate) fn auth_caps(octets: &[u8]) -> Result<(u8, Kasme, Caps), u16>
 // A PDU or record, at most 1,536 octets.
 #[tactic(auto, unfolding(crate::specs::Body::pdu_of))]
 pub(crate) fn pdu(octets: &[u8]) -> Result<Octets, u16>
-    requires body { length octets.now ≤ 4096 }
+    requires body { length octets.now ≤ body_limit }
     requires kind { 0 < length octets.now }
     ensures { result ≡ pdu_of octets.now }
 {
@@ -70,7 +72,7 @@ pub(crate) fn pdu(octets: &[u8]) -> Result<Octets, u16>
 // Air address, bearer and PDU.
 #[tactic(auto, unfolding(crate::specs::Body::air_of))]
 pub(crate) fn air(octets: &[u8]) -> Result<(u32, Bearer, Octets), u16>
-    requires { length octets.now ≤ 4096 }
+    requires { length octets.now ≤ body_limit }
     ensures { result ≡ air_of octets.now }
 {
     let air = number_from(octets, 1, 0)?;
@@ -82,7 +84,7 @@ pub(crate) fn air(octets: &[u8]) -> Result<(u32, Bearer, Octets), u16>
 // Station, 0 to 7, air address, bearer and PDU.
 #[tactic(auto, unfolding(crate::specs::Body::station_air_of))]
 pub(crate) fn station_air(octets: &[u8]) -> Result<(u8, u32, Bearer, Octets), u16>
-    requires { length octets.now ≤ 4096 }
+    requires { length octets.now ≤ body_limit }
     ensures { result ≡ station_air_of octets.now }
 {
     let station = octet_in(octets, 1, 0, 7)?;
@@ -95,7 +97,7 @@ pub(crate) fn station_air(octets: &[u8]) -> Result<(u8, u32, Bearer, Octets), u1
 // DRB and user text, at most 1,500 octets.
 #[tactic(auto, unfolding(crate::specs::Body::user_of))]
 pub(crate) fn user(octets: &[u8]) -> Result<(Bearer, UserText), u16>
-    requires { length octets.now ≤ 4096 }
+    requires { length octets.now ≤ body_limit }
     ensures { result ≡ user_of octets.now }
 {
     let bearer = drb_at(octets, 1)?;
@@ -106,7 +108,7 @@ pub(crate) fn user(octets: &[u8]) -> Result<(Bearer, UserText), u16>
 // SRB and RRC text, at most 200 octets.
 #[tactic(auto, unfolding(crate::specs::Body::rrc_of))]
 pub(crate) fn rrc(octets: &[u8]) -> Result<(Bearer, ShortText), u16>
-    requires { length octets.now ≤ 4096 }
+    requires { length octets.now ≤ body_limit }
     ensures { result ≡ rrc_of octets.now }
 {
     let bearer = srb_at(octets, 1)?;
@@ -117,7 +119,7 @@ pub(crate) fn rrc(octets: &[u8]) -> Result<(Bearer, ShortText), u16>
 // NAS text, at most 200 octets.
 #[tactic(auto, unfolding(crate::specs::Body::nas_of))]
 pub(crate) fn nas(octets: &[u8]) -> Result<ShortText, u16>
-    requires body { length octets.now ≤ 4096 }
+    requires body { length octets.now ≤ body_limit }
     requires kind { 0 < length octets.now }
     ensures { result ≡ nas_of octets.now }
 {
@@ -127,8 +129,8 @@ pub(crate) fn nas(octets: &[u8]) -> Result<ShortText, u16>
 // NAS or a bearer, and how many COUNTs are skipped.
 #[tactic(auto, unfolding(crate::specs::Body::skip_of))]
 pub(crate) fn skip_any(octets: &[u8]) -> Result<(Option<Bearer>, u32), u16>
-    requires { length octets.now ≤ 4096 }
-    ensures { result ≡ skip_of nas_or_bearer octets.now }
+    requires { length octets.now ≤ body_limit }
+    ensures { result ≡ skip_of skip_octet nas_or_bearer octets.now }
 {
     let bearer = nas_or_bearer_at(octets, 1)?;
     let n = number_from(octets, 2, 0)?;
@@ -139,8 +141,8 @@ pub(crate) fn skip_any(octets: &[u8]) -> Result<(Option<Bearer>, u32), u16>
 // A bearer, and how many COUNTs are skipped.
 #[tactic(auto, unfolding(crate::specs::Body::skip_of))]
 pub(crate) fn skip_bearer(octets: &[u8]) -> Result<(Bearer, u32), u16>
-    requires { length octets.now ≤ 4096 }
-    ensures { result ≡ skip_of bearers octets.now }
+    requires { length octets.now ≤ body_limit }
+    ensures { result ≡ skip_of octet_of bearers octets.now }
 {
     let bearer = bearer_at(octets, 1)?;
     let n = number_from(octets, 2, 0)?;
@@ -151,8 +153,8 @@ pub(crate) fn skip_bearer(octets: &[u8]) -> Result<(Bearer, u32), u16>
 // NAS, and how many COUNTs are skipped.
 #[tactic(auto, unfolding(crate::specs::Body::skip_of))]
 pub(crate) fn skip_nas(octets: &[u8]) -> Result<((), u32), u16>
-    requires { length octets.now ≤ 4096 }
-    ensures { result ≡ skip_of nas_alone octets.now }
+    requires { length octets.now ≤ body_limit }
+    ensures { result ≡ skip_of nas_octet nas_alone octets.now }
 {
     let of_nas = nas_at(octets, 1)?;
     let n = number_from(octets, 2, 0)?;
@@ -163,7 +165,7 @@ pub(crate) fn skip_nas(octets: &[u8]) -> Result<((), u32), u16>
 // A cell.
 #[tactic(auto, unfolding(crate::specs::Body::connect_of))]
 pub(crate) fn connect(octets: &[u8]) -> Result<Cell, u16>
-    requires { length octets.now ≤ 4096 }
+    requires { length octets.now ≤ body_limit }
     ensures { result ≡ connect_of octets.now }
 {
     let cell = cell_at(octets, 1)?;
@@ -174,7 +176,7 @@ pub(crate) fn connect(octets: &[u8]) -> Result<Cell, u16>
 // A kind of handover, and a cell.
 #[tactic(auto, unfolding(crate::specs::Body::start_of))]
 pub(crate) fn start(octets: &[u8]) -> Result<(HoKind, Cell), u16>
-    requires { length octets.now ≤ 4096 }
+    requires { length octets.now ≤ body_limit }
     ensures { result ≡ start_of octets.now }
 {
     let kind = ho_kind_at(octets, 1)?;

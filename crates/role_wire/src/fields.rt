@@ -3,6 +3,7 @@
 ghost use Rattle.std.specs.Prelude.{◌≡◌, ◌≢◌, ◌+◌, ◌-◌, ◌^◌, ◌<◌, ◌≤◌, nat_lt, if◌then◌else◌, length, IfOk, OnOk, Ok, Err};
 ghost use Rattle.role_wire.specs.Codes.{srbs, drbs, bearers, nas_alone, nas_or_bearer, ho_kinds, eeas, eeas_but};
 ghost use Rattle.role_wire.specs.Field.{number_in, coded_at, key_at, caps_at, cell_at, rest_at, ends_at};
+ghost use Rattle.role_wire.specs.Frame.{body_limit};
 
 use alg_choice::{Caps, Eea};
 use annex_a_keys::{Cell, GREATEST_PCI};
@@ -11,8 +12,8 @@ use rec_base::{Bearer, Bounded, u8_at, u16_at, u32_at};
 
 // Nothing, where so many octets stand from a place on; else the end.
 fn room(octets: &[u8], place: usize, width: usize) -> Result<(), u16>
-    requires body { length octets.now ≤ 4096 }
-    requires place { place ≤ 4096 }
+    requires body { length octets.now ≤ body_limit }
+    requires place { place ≤ body_limit }
     requires width { width ≤ 32 }
     ensures value { result ≡ (if nat_lt (length octets.now) (place + width) then Err (length octets.now) else Ok tt) }
     ensures within { OnOk result (place + width ≤ length octets.now) }
@@ -26,8 +27,8 @@ fn room(octets: &[u8], place: usize, width: usize) -> Result<(), u16>
 // An octet from `low` to `high`.
 #[tactic(auto, unfolding(crate::specs::Field::number_in))]
 pub(crate) fn octet_in(octets: &[u8], place: usize, low: u8, high: u8) -> Result<u8, u16>
-    requires body { length octets.now ≤ 4096 }
-    requires place { place ≤ 4096 }
+    requires body { length octets.now ≤ body_limit }
+    requires place { place ≤ body_limit }
     ensures value { result ≡ number_in low high octets.now place 1 }
     ensures range { IfOk result (λ n. (low ≤ n) × (n ≤ high)) }
     ensures within { OnOk result (place + 1 ≤ length octets.now) }
@@ -43,8 +44,8 @@ pub(crate) fn octet_in(octets: &[u8], place: usize, low: u8, high: u8) -> Result
 // A number of four octets, at least `low`.
 #[tactic(auto, unfolding(crate::specs::Field::number_in))]
 pub(crate) fn number_from(octets: &[u8], place: usize, low: u32) -> Result<u32, u16>
-    requires body { length octets.now ≤ 4096 }
-    requires place { place ≤ 4096 }
+    requires body { length octets.now ≤ body_limit }
+    requires place { place ≤ body_limit }
     ensures value { result ≡ number_in low (2 ^ 32 - 1) octets.now place 4 }
     ensures within { OnOk result (place + 4 ≤ length octets.now) }
 {
@@ -59,8 +60,8 @@ pub(crate) fn number_from(octets: &[u8], place: usize, low: u32) -> Result<u32, 
 // A signalling bearer.
 #[tactic(auto, unfolding(crate::specs::Field::coded_at))]
 pub(crate) fn srb_at(octets: &[u8], place: usize) -> Result<Bearer, u16>
-    requires body { length octets.now ≤ 4096 }
-    requires place { place ≤ 4096 }
+    requires body { length octets.now ≤ body_limit }
+    requires place { place ≤ body_limit }
     ensures value { result ≡ coded_at srbs octets.now place }
     ensures within { OnOk result (place + 1 ≤ length octets.now) }
 {
@@ -75,8 +76,8 @@ pub(crate) fn srb_at(octets: &[u8], place: usize) -> Result<Bearer, u16>
 // A data bearer.
 #[tactic(auto, unfolding(crate::specs::Field::coded_at))]
 pub(crate) fn drb_at(octets: &[u8], place: usize) -> Result<Bearer, u16>
-    requires body { length octets.now ≤ 4096 }
-    requires place { place ≤ 4096 }
+    requires body { length octets.now ≤ body_limit }
+    requires place { place ≤ body_limit }
     ensures value { result ≡ coded_at drbs octets.now place }
     ensures within { OnOk result (place + 1 ≤ length octets.now) }
 {
@@ -93,8 +94,8 @@ pub(crate) fn drb_at(octets: &[u8], place: usize) -> Result<Bearer, u16>
 // Any bearer.
 #[tactic(auto, unfolding(crate::specs::Field::coded_at))]
 pub(crate) fn bearer_at(octets: &[u8], place: usize) -> Result<Bearer, u16>
-    requires body { length octets.now ≤ 4096 }
-    requires place { place ≤ 4096 }
+    requires body { length octets.now ≤ body_limit }
+    requires place { place ≤ body_limit }
     ensures value { result ≡ coded_at bearers octets.now place }
     ensures within { OnOk result (place + 1 ≤ length octets.now) }
 {
@@ -108,8 +109,8 @@ pub(crate) fn bearer_at(octets: &[u8], place: usize) -> Result<Bearer, u16>
 // 00 for NAS, or a bearer.
 #[tactic(auto, unfolding(crate::specs::Field::coded_at))]
 pub(crate) fn nas_or_bearer_at(octets: &[u8], place: usize) -> Result<Option<Bearer>, u16>
-    requires body { length octets.now ≤ 4096 }
-    requires place { place ≤ 4096 }
+    requires body { length octets.now ≤ body_limit }
+    requires place { place ≤ body_limit }
     ensures value { result ≡ coded_at nas_or_bearer octets.now place }
     ensures within { OnOk result (place + 1 ≤ length octets.now) }
 {
@@ -127,8 +128,8 @@ pub(crate) fn nas_or_bearer_at(octets: &[u8], place: usize) -> Result<Option<Bea
 // 00 for NAS.
 #[tactic(auto, unfolding(crate::specs::Field::coded_at))]
 pub(crate) fn nas_at(octets: &[u8], place: usize) -> Result<(), u16>
-    requires body { length octets.now ≤ 4096 }
-    requires place { place ≤ 4096 }
+    requires body { length octets.now ≤ body_limit }
+    requires place { place ≤ body_limit }
     ensures value { result ≡ coded_at nas_alone octets.now place }
     ensures within { OnOk result (place + 1 ≤ length octets.now) }
 {
@@ -142,8 +143,8 @@ pub(crate) fn nas_at(octets: &[u8], place: usize) -> Result<(), u16>
 // A kind of handover.
 #[tactic(auto, unfolding(crate::specs::Field::coded_at))]
 pub(crate) fn ho_kind_at(octets: &[u8], place: usize) -> Result<HoKind, u16>
-    requires body { length octets.now ≤ 4096 }
-    requires place { place ≤ 4096 }
+    requires body { length octets.now ≤ body_limit }
+    requires place { place ≤ body_limit }
     ensures value { result ≡ coded_at ho_kinds octets.now place }
     ensures within { OnOk result (place + 1 ≤ length octets.now) }
 {
@@ -159,8 +160,8 @@ pub(crate) fn ho_kind_at(octets: &[u8], place: usize) -> Result<HoKind, u16>
 // An encryption algorithm, by its identity (TS 33.401 5.1.3.2).
 #[tactic(auto, unfolding(crate::specs::Field::coded_at))]
 pub(crate) fn eea_at(octets: &[u8], place: usize) -> Result<Eea, u16>
-    requires body { length octets.now ≤ 4096 }
-    requires place { place ≤ 4096 }
+    requires body { length octets.now ≤ body_limit }
+    requires place { place ≤ body_limit }
     ensures value { result ≡ coded_at eeas octets.now place }
     ensures within { OnOk result (place + 1 ≤ length octets.now) }
 {
@@ -175,8 +176,8 @@ pub(crate) fn eea_at(octets: &[u8], place: usize) -> Result<Eea, u16>
 // An encryption algorithm other than a first one.
 #[tactic(auto, unfolding(crate::specs::Field::coded_at))]
 pub(crate) fn other_eea_at(octets: &[u8], place: usize, first: Eea) -> Result<Eea, u16>
-    requires body { length octets.now ≤ 4096 }
-    requires place { place ≤ 4096 }
+    requires body { length octets.now ≤ body_limit }
+    requires place { place ≤ body_limit }
     ensures value { result ≡ coded_at (eeas_but first) octets.now place }
     ensures within { OnOk result (place + 1 ≤ length octets.now) }
     ensures other { IfOk result (λ second. second ≢ first) }
@@ -192,8 +193,8 @@ pub(crate) fn other_eea_at(octets: &[u8], place: usize, first: Eea) -> Result<Ee
 // A key of 32 octets.
 #[tactic(auto, unfolding(crate::specs::Field::key_at))]
 pub(crate) fn key_at(octets: &[u8], place: usize) -> Result<[u8; 32], u16>
-    requires body { length octets.now ≤ 4096 }
-    requires place { place ≤ 4096 }
+    requires body { length octets.now ≤ body_limit }
+    requires place { place ≤ body_limit }
     ensures value { result ≡ key_at octets.now place }
     ensures within { OnOk result (place + 32 ≤ length octets.now) }
 {
@@ -204,8 +205,8 @@ pub(crate) fn key_at(octets: &[u8], place: usize) -> Result<[u8; 32], u16>
 // The capabilities of a phone (TS 24.301 9.9.3.34).
 #[tactic(auto, unfolding(crate::specs::Field::caps_at))]
 pub(crate) fn caps_at(octets: &[u8], place: usize) -> Result<Caps, u16>
-    requires body { length octets.now ≤ 4096 }
-    requires place { place ≤ 4096 }
+    requires body { length octets.now ≤ body_limit }
+    requires place { place ≤ body_limit }
     ensures value { result ≡ caps_at octets.now place }
     ensures within { OnOk result (place + 2 ≤ length octets.now) }
 {
@@ -219,7 +220,7 @@ pub(crate) fn caps_at(octets: &[u8], place: usize) -> Result<Caps, u16>
 // PCI and EARFCN-DL, two fields.
 #[tactic(auto, unfolding(crate::specs::Field::cell_at, crate::specs::Field::number_in))]
 pub(crate) fn cell_at(octets: &[u8], place: usize) -> Result<Cell, u16>
-    requires body { length octets.now ≤ 4096 }
+    requires body { length octets.now ≤ body_limit }
     requires place { place ≤ 4000 }
     ensures value { result ≡ cell_at octets.now place }
     ensures within { OnOk result (place + 6 ≤ length octets.now) }
@@ -240,7 +241,7 @@ pub(crate) fn cell_at(octets: &[u8], place: usize) -> Result<Cell, u16>
 // What stands to the end, at most `N` octets.
 #[tactic(auto, unfolding(crate::specs::Field::rest_at))]
 pub(crate) fn rest_at<const N: usize>(octets: &[u8], place: usize) -> Result<Bounded<N>, u16>
-    requires body { length octets.now ≤ 4096 }
+    requires body { length octets.now ≤ body_limit }
     requires place { place ≤ length octets.now }
     ensures { result ≡ rest_at N octets.now place }
 {
@@ -256,7 +257,7 @@ pub(crate) fn rest_at<const N: usize>(octets: &[u8], place: usize) -> Result<Bou
 // The body ends here.
 #[tactic(auto, unfolding(crate::specs::Field::ends_at))]
 pub(crate) fn ends_at(octets: &[u8], place: usize) -> Result<(), u16>
-    requires place { place ≤ 4096 }
+    requires place { place ≤ body_limit }
     ensures { result ≡ ends_at octets.now place }
 {
     if place < octets.len() {

@@ -1,8 +1,10 @@
 // A body, read by its kind. An error is the place of the first bad octet, counted from the kind.
 ghost use Rattle.std.specs.Prelude.{◌≡◌, ◌<◌, ◌≤◌, length, OnOk, IfOk};
+ghost use Rattle.rec_fields.specs.Layout.{by_kind};
 ghost use Rattle.role_wire.specs.Spelling.{body_spelling};
 ghost use Rattle.role_wire.specs.Ranges.{IsRole, IsFrame};
-ghost use Rattle.role_wire.specs.Reading.{by_kind, read_by, phone_rows, phone_act_rows, station_rows, station_act_rows, core_rows, core_act_rows, setup_rows, input_of, body_of};
+ghost use Rattle.role_wire.specs.Frame.{body_limit};
+ghost use Rattle.role_wire.specs.Reading.{body_by, phone_rows, phone_act_rows, station_rows, station_act_rows, core_rows, core_act_rows, setup_rows, input_of, body_of};
 
 use crate::bodies::{
     air, auth, auth_caps, caps, connect, nas, nothing, pdu, rrc, skip_any, skip_bearer, skip_nas,
@@ -16,7 +18,7 @@ use rec_base::u8_at;
 
 // The body of a frame, the first of a session or a later one.
 pub(crate) fn body(role: Role, first: bool, octets: &[u8]) -> Result<FrameIn, u16>
-    requires size { length octets.now ≤ 4096 }
+    requires size { length octets.now ≤ body_limit }
     requires role { IsRole role }
     ensures value { result ≡ body_of role first octets.now }
     ensures some { OnOk result (0 < length octets.now) }
@@ -28,7 +30,7 @@ pub(crate) fn body(role: Role, first: bool, octets: &[u8]) -> Result<FrameIn, u1
 // The same, by the place of the frame.
 #[tactic(auto, unfolding(crate::specs::Reading::body_of))]
 fn body_of(role: Role, first: bool, octets: &[u8]) -> Result<FrameIn, u16>
-    requires { length octets.now ≤ 4096 }
+    requires { length octets.now ≤ body_limit }
     ensures value { result ≡ body_of role first octets.now }
     ensures some { OnOk result (0 < length octets.now) }
 {
@@ -40,10 +42,10 @@ fn body_of(role: Role, first: bool, octets: &[u8]) -> Result<FrameIn, u16>
 }
 
 // What the actor of a role starts with.
-#[tactic(auto, unfolding(crate::specs::Reading::read_by))]
+#[tactic(auto, unfolding(crate::specs::Reading::body_by))]
 fn setup(role: Role, octets: &[u8]) -> Result<RoleSetup, u16>
-    requires { length octets.now ≤ 4096 }
-    ensures value { result ≡ read_by (setup_rows role) octets.now }
+    requires { length octets.now ≤ body_limit }
+    ensures value { result ≡ body_by (setup_rows role) octets.now }
     ensures some { OnOk result (0 < length octets.now) }
 {
     if octets.is_empty() || u8_at(octets, 0) != 0x00 {
@@ -64,7 +66,7 @@ fn setup(role: Role, octets: &[u8]) -> Result<RoleSetup, u16>
 
 // An input of the actor of a role.
 fn input(role: Role, octets: &[u8]) -> Result<ActorIn, u16>
-    requires { length octets.now ≤ 4096 }
+    requires { length octets.now ≤ body_limit }
     ensures value { result ≡ input_of role octets.now }
     ensures some { OnOk result (0 < length octets.now) }
 {
@@ -76,10 +78,10 @@ fn input(role: Role, octets: &[u8]) -> Result<ActorIn, u16>
 }
 
 // An input of the phone.
-#[tactic(auto, unfolding(crate::specs::Reading::read_by))]
+#[tactic(auto, unfolding(crate::specs::Reading::body_by))]
 fn phone_input(octets: &[u8]) -> Result<PhoneIn, u16>
-    requires { length octets.now ≤ 4096 }
-    ensures value { result ≡ read_by phone_rows octets.now }
+    requires { length octets.now ≤ body_limit }
+    ensures value { result ≡ body_by phone_rows octets.now }
     ensures some { OnOk result (0 < length octets.now) }
 {
     if octets.is_empty() {
@@ -101,9 +103,9 @@ fn phone_input(octets: &[u8]) -> Result<PhoneIn, u16>
 
 // An act of the phone.
 fn phone_act(kind: u8, octets: &[u8]) -> Result<PhoneIn, u16>
-    requires body { length octets.now ≤ 4096 }
+    requires body { length octets.now ≤ body_limit }
     requires kind { 0 < length octets.now }
-    ensures { result ≡ by_kind phone_act_rows kind octets.now }
+    ensures { result ≡ by_kind 0 phone_act_rows kind octets.now }
 {
     match kind {
         0x10 => {
@@ -136,10 +138,10 @@ fn phone_act(kind: u8, octets: &[u8]) -> Result<PhoneIn, u16>
 }
 
 // An input of a station.
-#[tactic(auto, unfolding(crate::specs::Reading::read_by))]
+#[tactic(auto, unfolding(crate::specs::Reading::body_by))]
 fn station_input(octets: &[u8]) -> Result<StationIn, u16>
-    requires { length octets.now ≤ 4096 }
-    ensures value { result ≡ read_by station_rows octets.now }
+    requires { length octets.now ≤ body_limit }
+    ensures value { result ≡ body_by station_rows octets.now }
     ensures some { OnOk result (0 < length octets.now) }
 {
     if octets.is_empty() {
@@ -158,8 +160,8 @@ fn station_input(octets: &[u8]) -> Result<StationIn, u16>
 
 // An act of a station.
 fn station_act(kind: u8, octets: &[u8]) -> Result<StationIn, u16>
-    requires { length octets.now ≤ 4096 }
-    ensures { result ≡ by_kind station_act_rows kind octets.now }
+    requires { length octets.now ≤ body_limit }
+    ensures { result ≡ by_kind 0 station_act_rows kind octets.now }
 {
     match kind {
         0x13 => {
@@ -195,10 +197,10 @@ fn station_act(kind: u8, octets: &[u8]) -> Result<StationIn, u16>
 }
 
 // An input of the core.
-#[tactic(auto, unfolding(crate::specs::Reading::read_by))]
+#[tactic(auto, unfolding(crate::specs::Reading::body_by))]
 fn core_input(octets: &[u8]) -> Result<CoreIn, u16>
-    requires { length octets.now ≤ 4096 }
-    ensures value { result ≡ read_by core_rows octets.now }
+    requires { length octets.now ≤ body_limit }
+    ensures value { result ≡ body_by core_rows octets.now }
     ensures some { OnOk result (0 < length octets.now) }
 {
     if octets.is_empty() {
@@ -217,9 +219,9 @@ fn core_input(octets: &[u8]) -> Result<CoreIn, u16>
 
 // An act of the core.
 fn core_act(kind: u8, octets: &[u8]) -> Result<CoreIn, u16>
-    requires body { length octets.now ≤ 4096 }
+    requires body { length octets.now ≤ body_limit }
     requires kind { 0 < length octets.now }
-    ensures { result ≡ by_kind core_act_rows kind octets.now }
+    ensures { result ≡ by_kind 0 core_act_rows kind octets.now }
 {
     match kind {
         0x15 => Ok(CoreIn::Act(CoreAct::SendNas(nas(octets)?))),

@@ -1,6 +1,7 @@
 // The body of a Setup of a station or the core.
 ghost use Rattle.std.specs.Prelude.{◌≡◌, ◌+◌, ◌<◌, ◌≤◌, [], length, IfOk};
 ghost use Rattle.role_wire.specs.Body.{order_at, site_at, sites_at, cells_at, first_of};
+ghost use Rattle.role_wire.specs.Frame.{body_limit};
 
 use crate::fields::{cell_at, eea_at, ends_at, number_from, octet_in, other_eea_at};
 use alg_choice::Priority;
@@ -9,7 +10,7 @@ use lte_events::Cells;
 // A count of 1 or 2, and so many encryption algorithms, different ones.
 #[tactic(auto, unfolding(crate::specs::Body::order_at))]
 fn order_at(octets: &[u8], place: usize) -> Result<Priority, u16>
-    requires body { length octets.now ≤ 4096 }
+    requires body { length octets.now ≤ body_limit }
     requires place { place ≤ 1 }
     ensures value { result ≡ order_at octets.now place }
     ensures count { IfOk result (λ order. (1 ≤ length order) × (length order ≤ 2)) }
@@ -26,7 +27,7 @@ fn order_at(octets: &[u8], place: usize) -> Result<Priority, u16>
 // The cells and one more, with its station, 0 to 7: the cell must not stand before.
 #[tactic(auto, unfolding(crate::specs::Body::site_at))]
 fn with_site(cells: Cells, octets: &[u8], place: usize) -> Result<Cells, u16>
-    requires body { length octets.now ≤ 4096 }
+    requires body { length octets.now ≤ body_limit }
     requires place { place ≤ 3000 }
     requires room { length cells < 32 }
     ensures value { result ≡ site_at cells octets.now place }
@@ -44,7 +45,7 @@ fn with_site(cells: Cells, octets: &[u8], place: usize) -> Result<Cells, u16>
 // So many stations with their cells.
 #[tactic(auto, unfolding(crate::specs::Body::sites_at))]
 fn sites_at(octets: &[u8], place: usize, count: u8) -> Result<Cells, u16>
-    requires body { length octets.now ≤ 4096 }
+    requires body { length octets.now ≤ body_limit }
     requires place { place ≤ 100 }
     requires count { count ≤ 32 }
     ensures value { result ≡ sites_at count [] octets.now place }
@@ -62,7 +63,7 @@ fn sites_at(octets: &[u8], place: usize, count: u8) -> Result<Cells, u16>
 // A count of 1 to 32, and so many stations with their cells.
 #[tactic(auto, unfolding(crate::specs::Body::cells_at))]
 fn cells_at(octets: &[u8], place: usize) -> Result<Cells, u16>
-    requires body { length octets.now ≤ 4096 }
+    requires body { length octets.now ≤ body_limit }
     requires place { place ≤ 50 }
     ensures value { result ≡ cells_at octets.now place }
     ensures within { IfOk result (λ cells. length cells ≤ 32) }
@@ -74,7 +75,7 @@ fn cells_at(octets: &[u8], place: usize) -> Result<Cells, u16>
 // Priority, first number, at least 1, and cells.
 #[tactic(auto, unfolding(crate::specs::Body::first_of))]
 pub(crate) fn first(octets: &[u8]) -> Result<(Priority, u32, Cells), u16>
-    requires { length octets.now ≤ 4096 }
+    requires { length octets.now ≤ body_limit }
     ensures { result ≡ first_of octets.now }
 {
     let order = order_at(octets, 1)?;

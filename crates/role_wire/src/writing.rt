@@ -8,7 +8,7 @@ ghost use Rattle.edge_io.specs.declared.peers.Role.{Role};
 ghost use Rattle.role_wire.specs.Codes.{skip_octet, ho_octet};
 ghost use Rattle.role_wire.specs.Spelling.{setup_octets, phone_octets, phone_act_octets, station_octets, station_act_octets, core_octets, core_act_octets, first_octets, site_octets};
 ghost use Rattle.role_wire.specs.Ranges.{IsFrame, IsFrameIn, IsSetup};
-ghost use Rattle.role_wire.specs.Frame.{framed, frame_spelling, frame_at};
+ghost use Rattle.role_wire.specs.Frame.{body_limit, framed, frame_spelling, frame_at};
 
 use crate::{Frame, FrameIn, RoleSetup};
 use alg_choice::Priority;
@@ -25,7 +25,7 @@ pub(crate) type Body = Bounded<4096>;
 #[tactic(auto, unfolding(crate::specs::Frame::framed))]
 pub(crate) fn framed(body: &Body) -> Frame
     ensures framed { result ≡ framed body.now }
-    ensures within { length result ≤ 4098 }
+    ensures within { length result ≤ 2 + body_limit }
 {
     let octets = body.as_slice();
     let mut out = Frame::new();
@@ -51,7 +51,7 @@ pub fn input_frame(frame: &FrameIn) -> Frame
 fn written(frame: &FrameIn) -> Frame
     requires { IsFrameIn frame.now }
     ensures spelled { result ≡ frame_spelling frame.now }
-    ensures within { length result ≤ 4098 }
+    ensures within { length result ≤ 2 + body_limit }
 {
     match frame {
         FrameIn::Setup(setup) => setup_frame(setup),
@@ -63,7 +63,7 @@ fn written(frame: &FrameIn) -> Frame
 #[tactic(auto, unfolding(crate::specs::Spelling::body_spelling))]
 pub fn actor_frame(input: &ActorIn) -> Frame
     ensures spelled { result ≡ frame_spelling (FrameIn.Input input.now) }
-    ensures within { length result ≤ 4098 }
+    ensures within { length result ≤ 2 + body_limit }
 {
     let body = match input {
         ActorIn::Phone(input) => phone_body(input),
@@ -78,7 +78,7 @@ pub fn actor_frame(input: &ActorIn) -> Frame
 pub fn setup_frame(setup: &RoleSetup) -> Frame
     requires { IsSetup setup.now }
     ensures spelled { result ≡ frame_spelling (FrameIn.Setup setup.now) }
-    ensures within { length result ≤ 4098 }
+    ensures within { length result ≤ 2 + body_limit }
 {
     framed(&setup_body(setup))
 }

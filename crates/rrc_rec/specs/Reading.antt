@@ -1,65 +1,43 @@
 -- Reading an RRC text: no octet, unknown kind, size, and then the fields from left to right.
-use Rattle.std.specs.Prelude.{ℕ, ◌==◌, if◌then◌else◌, List, length, Result, Ok, Err}
-use Rattle.rec_base.specs.BigEndian.{number_at}
+use Rattle.std.specs.Prelude.{ℕ, List, [], ◌∷◌, Result}
 use Rattle.rec_base.specs.declared.faults.RecFault.{RecFault}
-use Rattle.rec_base.specs.declared.faults.RecFault.TheVariants.{Short, BadKind}
-use Rattle.rec_fields.specs.Field.{◌>>=◌, of_size, station_at, ncc_at, from_one_at, algs_at, cell_at, text_of}
+use Rattle.rec_base.specs.declared.faults.RecFault.TheVariants.{BadKind}
+use Rattle.rec_fields.specs.Layout.{Rows, by_kind}
+use Rattle.rec_fields.specs.Record.{record_by, read_kinds}
 use Rattle.rrc_rec.specs.declared.records.RrcRecord.{RrcRecord}
-use Rattle.rrc_rec.specs.declared.records.RrcRecord.TheVariants.{SecurityModeCommand, SecurityModeComplete, Reconfiguration, ReconfigurationComplete, RrcData, KeyChange}
+use Rattle.rrc_rec.specs.declared.records.RrcRecord.TheVariants.{SecurityModeComplete, ReconfigurationComplete}
+use Rattle.rrc_rec.specs.Forms.{command, reconfiguration, key_change, bare_form, data_form}
 
--- algorithms, station, air address
 unfoldable pub command_of : List ℕ → Result RrcRecord RecFault
-command_of octets = do
-  size ← of_size 7 octets
-  algs ← algs_at octets 1
-  station ← station_at octets 2
-  air ← from_one_at octets 3
-  Ok (SecurityModeCommand algs station air)
+command_of octets = record_by command octets
 
--- cell, NCC, algorithms, station, air address
 unfoldable pub reconfiguration_of : List ℕ → Result RrcRecord RecFault
-reconfiguration_of octets = do
-  size ← of_size 14 octets
-  cell ← cell_at octets 1
-  ncc ← ncc_at octets 7
-  algs ← algs_at octets 8
-  station ← station_at octets 9
-  air ← from_one_at octets 10
-  Ok (Reconfiguration cell ncc algs station air)
+reconfiguration_of octets = record_by reconfiguration octets
 
--- a record of no fields
 unfoldable pub bare : List ℕ → RrcRecord → Result RrcRecord RecFault
-bare octets fixed = do
-  size ← of_size 1 octets
-  Ok fixed
+bare octets fixed = record_by (bare_form fixed) octets
 
--- a text to the end
 unfoldable pub data_of : List ℕ → Result RrcRecord RecFault
-data_of octets = do
-  text ← text_of octets
-  Ok (RrcData text)
+data_of octets = record_by data_form octets
 
--- cell, algorithms, station, air address
 unfoldable pub key_change_of : List ℕ → Result RrcRecord RecFault
-key_change_of octets = do
-  size ← of_size 13 octets
-  cell ← cell_at octets 1
-  algs ← algs_at octets 7
-  station ← station_at octets 8
-  air ← from_one_at octets 9
-  Ok (KeyChange cell algs station air)
+key_change_of octets = record_by key_change octets
+
+-- the kinds
+abbrev pub rrc_rows : Rows RecFault RrcRecord
+rrc_rows =
+    (0x01, command_of)
+    ∷ (0x02, λ octets. bare octets SecurityModeComplete)
+    ∷ (0x03, reconfiguration_of)
+    ∷ (0x04, λ octets. bare octets ReconfigurationComplete)
+    ∷ (0x05, data_of)
+    ∷ (0x06, key_change_of)
+    ∷ []
 
 -- by the kind
 abbrev pub of_kind : ℕ → List ℕ → Result RrcRecord RecFault
-of_kind kind octets =
-    if kind == 0x01 then command_of octets
-    else (if kind == 0x02 then bare octets SecurityModeComplete
-    else (if kind == 0x03 then reconfiguration_of octets
-    else (if kind == 0x04 then bare octets ReconfigurationComplete
-    else (if kind == 0x05 then data_of octets
-    else (if kind == 0x06 then key_change_of octets
-    else Err BadKind)))))
+of_kind kind octets = by_kind BadKind rrc_rows kind octets
 
 -- the record, or the first fault
 unfoldable pub read_rrc : List ℕ → Result RrcRecord RecFault
-read_rrc octets = if length octets == 0 then Err Short else of_kind (number_at octets 0 1) octets
+read_rrc octets = read_kinds rrc_rows octets

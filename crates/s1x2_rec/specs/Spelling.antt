@@ -1,46 +1,40 @@
 -- The records of S1 and X2, each with its one spelling.
-use Rattle.std.specs.Prelude.{◌≡◌, ℕ, ◌<◌, ◌≤◌, ◌^◌, List, [], ◌∷◌, ◌++◌, length, get_or, Option, Some, None}
+use Rattle.std.specs.Prelude.{◌≡◌, ℕ, ◌<◌, ◌≤◌, ◌^◌, List, [], ◌∷◌, length, get_or, Option, Some, None}
 use Rattle.key_model.specs.HandoverTable.{NumberedKey}
-use Rattle.rec_base.specs.BigEndian.{octets_of}
-use Rattle.rec_fields.specs.Spelled.{algs_octet, cell_octets}
+use Rattle.rec_fields.specs.Layout.{spelled_by}
 use Rattle.alg_choice.specs.declared.caps.Caps.{Caps}
 use Rattle.annex_a_keys.specs.Cell.{IsCell}
 use Rattle.s1x2_rec.specs.Fields.{Fields, kind_of, InitialContext, ContextRelease, PathSwitchRequest, PathSwitchAnswer, HandoverRequired, HandoverRequest, HandoverRequestAck, HandoverCommand, HandoverNotify, HandoverCancel, X2Request, X2Ack, X2Cancel, X2Release, ContextModification}
 use Rattle.s1x2_rec.specs.Content.{Content}
+use Rattle.s1x2_rec.specs.Forms.{initial_context, context_release, path_switch_request, path_switch_answer, handover_required, handover_request, handover_request_ack, handover_command, handover_notify, handover_cancel, x2_request, x2_ack, x2_cancel, x2_release, context_modification}
 
--- a key
+-- the octets of a key
 abbrev pub key_octets : Option (NumberedKey (List ℕ) ℕ) → List ℕ
 key_octets None = []
 key_octets (Some k) = k.key
 
--- its NCC, and then a key
-abbrev pub pair_octets : Option (NumberedKey (List ℕ) ℕ) → List ℕ
-pair_octets None = []
-pair_octets (Some k) = k.number ∷ k.key
+-- a key behind its NCC
+abbrev pub numbered : Option (NumberedKey (List ℕ) ℕ) → ℕ × List ℕ
+numbered None = (0, [])
+numbered (Some k) = (k.number, k.key)
 
--- the fields in order, numbers in four octets
+-- the fields in order
 abbrev pub fields_octets : Fields → Option (NumberedKey (List ℕ) ℕ) → List ℕ
-fields_octets (InitialContext conn cell caps) key = octets_of 4 conn ++ cell_octets cell ++ caps.eea ∷ caps.eia ∷ key_octets key
-fields_octets (ContextRelease conn) key = octets_of 4 conn
-fields_octets (PathSwitchRequest conn station number cell caps) key =
-    octets_of 4 conn ++ station ∷ octets_of 4 number ++ cell_octets cell ++ caps.eea ∷ caps.eia ∷ []
-fields_octets (PathSwitchAnswer conn number) key = octets_of 4 conn ++ octets_of 4 number ++ pair_octets key
-fields_octets (HandoverRequired conn station attempt cell) key = octets_of 4 conn ++ station ∷ octets_of 4 attempt ++ cell_octets cell
-fields_octets (HandoverRequest conn source attempt cell caps) key =
-    octets_of 4 conn ++ source ∷ octets_of 4 attempt ++ cell_octets cell ++ caps.eea ∷ caps.eia ∷ pair_octets key
-fields_octets (HandoverRequestAck conn source attempt cell ncc algs air) key =
-    octets_of 4 conn ++ source ∷ octets_of 4 attempt ++ cell_octets cell ++ ncc ∷ algs_octet algs ∷ octets_of 4 air
-fields_octets (HandoverCommand conn attempt cell ncc algs air) key =
-    octets_of 4 conn ++ octets_of 4 attempt ++ cell_octets cell ++ ncc ∷ algs_octet algs ∷ octets_of 4 air
-fields_octets (HandoverNotify conn station cell) key = octets_of 4 conn ++ station ∷ cell_octets cell
-fields_octets (HandoverCancel conn source attempt cell) key = octets_of 4 conn ++ source ∷ octets_of 4 attempt ++ cell_octets cell
-fields_octets (X2Request conn source attempt cell caps) key =
-    octets_of 4 conn ++ source ∷ octets_of 4 attempt ++ cell_octets cell ++ caps.eea ∷ caps.eia ∷ pair_octets key
-fields_octets (X2Ack conn attempt cell algs air) key =
-    octets_of 4 conn ++ octets_of 4 attempt ++ cell_octets cell ++ algs_octet algs ∷ octets_of 4 air
-fields_octets (X2Cancel conn source attempt) key = octets_of 4 conn ++ source ∷ octets_of 4 attempt
-fields_octets (X2Release conn attempt) key = octets_of 4 conn ++ octets_of 4 attempt
-fields_octets (ContextModification conn next) key = octets_of 4 conn ++ octets_of 4 next ++ key_octets key
+fields_octets (InitialContext conn cell caps) key = spelled_by initial_context.layout (conn, (cell, (caps, key_octets key)))
+fields_octets (ContextRelease conn) key = spelled_by context_release.layout conn
+fields_octets (PathSwitchRequest conn station number cell caps) key = spelled_by path_switch_request.layout (conn, (station, (number, (cell, caps))))
+fields_octets (PathSwitchAnswer conn number) key = spelled_by path_switch_answer.layout (conn, (number, numbered key))
+fields_octets (HandoverRequired conn station attempt cell) key = spelled_by handover_required.layout (conn, (station, (attempt, cell)))
+fields_octets (HandoverRequest conn source attempt cell caps) key = spelled_by handover_request.layout (conn, (source, (attempt, (cell, (caps, numbered key)))))
+fields_octets (HandoverRequestAck conn source attempt cell ncc algs air) key = spelled_by handover_request_ack.layout (conn, (source, (attempt, (cell, (ncc, (algs, air))))))
+fields_octets (HandoverCommand conn attempt cell ncc algs air) key = spelled_by handover_command.layout (conn, (attempt, (cell, (ncc, (algs, air)))))
+fields_octets (HandoverNotify conn station cell) key = spelled_by handover_notify.layout (conn, (station, cell))
+fields_octets (HandoverCancel conn source attempt cell) key = spelled_by handover_cancel.layout (conn, (source, (attempt, cell)))
+fields_octets (X2Request conn source attempt cell caps) key = spelled_by x2_request.layout (conn, (source, (attempt, (cell, (caps, numbered key)))))
+fields_octets (X2Ack conn attempt cell algs air) key = spelled_by x2_ack.layout (conn, (attempt, (cell, (algs, air))))
+fields_octets (X2Cancel conn source attempt) key = spelled_by x2_cancel.layout (conn, (source, attempt))
+fields_octets (X2Release conn attempt) key = spelled_by x2_release.layout (conn, attempt)
+fields_octets (ContextModification conn next) key = spelled_by context_modification.layout (conn, (next, key_octets key))
 
 -- the kind, and then the fields
 unfoldable pub spelling_of : Content (List ℕ) ℕ → List ℕ

@@ -1,5 +1,5 @@
 use Rattle.std.proofs.Common.{◌≡◌, ◌+◌, ◌-◌, suc, sym, ap, ◌∙◌, arith}
-use Rattle.role_wire.specs.Field.{◌>>=◌}
+use Rattle.rec_fields.specs.Field.{◌>>=◌}
 use Rattle.role_wire.specs.Body.{sites_at}
 use Rattle.role_wire.proofs.setups.sites_at.Goals as goal
 

@@ -1,0 +1,80 @@
+-- A record of NAS, RRC, S1 or X2: its size is judged first, and then its fields from left to right.
+use Rattle.std.specs.Prelude.{◌≡◌, ℕ, ◌+◌, ◌-◌, ◌^◌, ◌≤◌, ◌<◌, List, [], ◌∷◌, length, get_or, Result, Ok}
+use Rattle.rec_base.specs.BigEndian.{field_at, octets_of}
+use Rattle.rec_base.specs.declared.faults.RecFault.{RecFault}
+use Rattle.rec_base.specs.declared.faults.RecFault.TheVariants.{Short, BadKind}
+use Rattle.alg_choice.specs.declared.algs.Algs.{Algs}
+use Rattle.alg_choice.specs.declared.caps.Caps.{Caps}
+use Rattle.annex_a_keys.specs.Cell.{Place, IsCell}
+use Rattle.rec_fields.specs.Field.{◌>>=◌, of_size, number_in, from_one_at, algs_at, caps_at, cell_at, rest_at}
+use Rattle.rec_fields.specs.Spelled.{algs_octet, cell_octets}
+use Rattle.rec_fields.specs.Layout.{Field, Ending, Layout, Rest, Values, read_by, width_of, Rows, read_rows}
+
+-- an octet from `low` to `high`
+abbrev pub octet : ℕ → ℕ → Field RecFault ℕ
+octet low high = record {
+  read = λ octets place. number_in low high octets place 1;
+  spell = λ n. n ∷ [];
+  width = 1;
+  Fits = λ n. (low ≤ n) × (n ≤ high);
+}
+
+-- a station: 0 to 7
+abbrev pub station : Field RecFault ℕ
+station = octet 0 7
+
+-- NCC, of three bits (TS 36.331 6.3.3)
+abbrev pub ncc : Field RecFault ℕ
+ncc = octet 0 7
+
+-- a number of 32 bits, at least 1
+abbrev pub number : Field RecFault ℕ
+number = record { read = from_one_at; spell = octets_of 4; width = 4; Fits = λ n. (1 ≤ n) × (n < 2 ^ 32) }
+
+-- a cell
+abbrev pub cell : Field RecFault Place
+cell = record { read = cell_at; spell = cell_octets; width = 6; Fits = IsCell }
+
+-- the chosen algorithms
+abbrev pub algorithms : Field RecFault Algs
+algorithms = record { read = algs_at; spell = λ algs. algs_octet algs ∷ []; width = 1; Fits = λ algs. Unit {0} }
+
+-- the capabilities of a phone
+abbrev pub capabilities : Field RecFault Caps
+capabilities = record {
+  read = λ octets place. Ok (caps_at octets place);
+  spell = λ caps. caps.eea ∷ caps.eia ∷ [];
+  width = 2;
+  Fits = λ caps. (caps.eea < 256) × (caps.eia < 256);
+}
+
+-- a key of 32 octets
+abbrev pub key : Field RecFault (List ℕ)
+key = record {
+  read = λ octets place. Ok (field_at octets place 32);
+  spell = λ k. k;
+  width = 32;
+  Fits = λ k. (length k ≡ 32) × ((i : ℕ) → get_or k i 0 < 256);
+}
+
+-- nothing is left to judge at the end of a record that has the size of its layout
+abbrev pub sized : Ending RecFault
+sized = record { none = λ octets place. Ok tt; rest = rest_at }
+
+-- the size of a record that has a kind and these fields
+abbrev pub size_by : Layout RecFault → List ℕ → Result (Unit {0}) RecFault
+size_by (Rest most) octets = Ok tt
+size_by l octets = of_size (1 + width_of l) octets
+
+-- A kind of record: its fields, and what is made of their values.
+pub record Form (A : Type 0) : Type 1 where
+  pub layout : Layout RecFault
+  pub make : Values layout → A
+
+-- the record, or the first fault
+abbrev pub record_by : {A : Type 0} → Form A → List ℕ → Result A RecFault
+record_by form octets = size_by form.layout octets >>= λ size. read_by sized form.layout octets 1 (λ vs. Ok (form.make vs))
+
+-- the record that begins with its kind: no octet is Short, and then an unknown kind is BadKind
+abbrev pub read_kinds : {A : Type 0} → Rows RecFault A → List ℕ → Result A RecFault
+read_kinds rows octets = read_rows Short BadKind rows octets
