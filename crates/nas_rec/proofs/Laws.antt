@@ -9,7 +9,7 @@ use Rattle.rec_fields.proofs.Layouts.{IsField, AreRows, rows_take, rows_on}
 use Rattle.rec_fields.proofs.Records.{Reach, octet_is_field, algorithms_is_field, capabilities_is_field, caps_again, record_row, record_again}
 use Rattle.nas_rec.specs.declared.records.NasRecord.{NasRecord}
 use Rattle.nas_rec.specs.declared.records.NasRecord.TheVariants.{SecurityModeCommand, SecurityModeComplete, SecurityModeReject, ServiceRequest, NasData}
-use Rattle.nas_rec.specs.Forms.{any_capabilities, command, reject, bare_form, data_form}
+use Rattle.nas_rec.specs.Forms.{any_capabilities, command, complete, reject, service_request, any_text}
 use Rattle.nas_rec.specs.Spelling.{spelling_of, InRange}
 use Rattle.nas_rec.specs.Reading.{nas_rows, read_nas, command_of, reject_of, bare, data_of}
 
@@ -24,14 +24,14 @@ any_is_field = record {
 rows_are : AreRows spelling_of InRange nas_rows
 unfolding command_of reject_of bare data_of spelling_of
 rows_are = (
-  record_row spelling_of InRange 0x01 command (octet_is_field 0 6, (algorithms_is_field, any_is_field)) (λ vs. refl) (λ vs h. h.0.1),
+  record_row spelling_of InRange command (octet_is_field 0 6, (algorithms_is_field, any_is_field)) (λ vs. refl) (λ vs h. h.0.1),
   (
-    record_row spelling_of InRange 0x02 (bare_form SecurityModeComplete) tt (λ vs. refl) (λ vs h. tt),
+    record_row spelling_of InRange complete tt (λ vs. refl) (λ vs h. tt),
     (
-      record_row spelling_of InRange 0x03 reject (octet_is_field 23 24) (λ vs. refl) (λ vs h. h),
+      record_row spelling_of InRange reject (octet_is_field 23 24) (λ vs. refl) (λ vs h. h),
       (
-        record_row spelling_of InRange 0x04 (bare_form ServiceRequest) tt (λ vs. refl) (λ vs h. tt),
-        (record_row spelling_of InRange 0x05 data_form tt (λ vs. refl) (λ vs h. h), tt),
+        record_row spelling_of InRange service_request tt (λ vs. refl) (λ vs h. tt),
+        (record_row spelling_of InRange any_text tt (λ vs. refl) (λ vs h. h), tt),
       ),
     ),
   ),
@@ -46,14 +46,14 @@ read_is_spelled octets r fit e = rows_take Short BadKind spelling_of InRange nas
 pub spelled_is_read : (r : NasRecord) → InRange r → read_nas (spelling_of r) ≡ Ok r
 unfolding command_of reject_of bare data_of spelling_of read_nas
 spelled_is_read (SecurityModeCommand ksi algs caps) h =
-    rows_on Short BadKind nas_rows 0x01 (spelled_by command.layout (ksi, (algs, caps)))
-    ∙ record_again command (octet_is_field 0 6, (algorithms_is_field, any_is_field)) tt 0x01 (ksi, (algs, caps)) ((omega arith, h), (tt, tt))
+    rows_on Short BadKind nas_rows command.kind (spelled_by command.layout (ksi, (algs, caps)))
+    ∙ record_again command (octet_is_field 0 6, (algorithms_is_field, any_is_field)) tt (ksi, (algs, caps)) ((omega arith, h), (tt, tt))
 spelled_is_read SecurityModeComplete h =
-    rows_on Short BadKind nas_rows 0x02 [] ∙ record_again (bare_form SecurityModeComplete) tt tt 0x02 tt tt
+    rows_on Short BadKind nas_rows complete.kind [] ∙ record_again complete tt tt tt tt
 spelled_is_read (SecurityModeReject cause) h =
-    rows_on Short BadKind nas_rows 0x03 (cause ∷ []) ∙ record_again reject (octet_is_field 23 24) tt 0x03 cause h
-spelled_is_read ServiceRequest h = rows_on Short BadKind nas_rows 0x04 [] ∙ record_again (bare_form ServiceRequest) tt tt 0x04 tt tt
-spelled_is_read (NasData text) h = rows_on Short BadKind nas_rows 0x05 text ∙ record_again data_form tt tt 0x05 text h
+    rows_on Short BadKind nas_rows reject.kind (cause ∷ []) ∙ record_again reject (octet_is_field 23 24) tt cause h
+spelled_is_read ServiceRequest h = rows_on Short BadKind nas_rows service_request.kind [] ∙ record_again service_request tt tt tt tt
+spelled_is_read (NasData text) h = rows_on Short BadKind nas_rows any_text.kind text ∙ record_again any_text tt tt text h
 
 -- the same of what a reader answered
 pub found_in : (octets : List ℕ) (answer : Result NasRecord RecFault) → AreOctets octets → answer ≡ read_nas octets

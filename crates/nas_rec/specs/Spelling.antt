@@ -1,17 +1,17 @@
 -- The NAS texts, each with its one spelling.
-use Rattle.std.specs.Prelude.{ℕ, ◌≤◌, List, [], ◌∷◌, length}
-use Rattle.rec_fields.specs.Layout.{spelled_by}
+use Rattle.std.specs.Prelude.{ℕ, ◌≤◌, List, length}
+use Rattle.rec_fields.specs.Record.{spelled}
 use Rattle.nas_rec.specs.declared.records.NasRecord.{NasRecord}
 use Rattle.nas_rec.specs.declared.records.NasRecord.TheVariants.{SecurityModeCommand, SecurityModeComplete, SecurityModeReject, ServiceRequest, NasData}
-use Rattle.nas_rec.specs.Forms.{command, reject, data_form}
+use Rattle.nas_rec.specs.Forms.{command, complete, reject, service_request, any_text}
 
 -- the kind, and then the fields in order
 unfoldable pub spelling_of : NasRecord → List ℕ
-spelling_of (SecurityModeCommand ksi algs caps) = 0x01 ∷ spelled_by command.layout (ksi, (algs, caps))
-spelling_of SecurityModeComplete = 0x02 ∷ []
-spelling_of (SecurityModeReject cause) = 0x03 ∷ spelled_by reject.layout cause
-spelling_of ServiceRequest = 0x04 ∷ []
-spelling_of (NasData text) = 0x05 ∷ spelled_by data_form.layout text
+spelling_of (SecurityModeCommand ksi algs caps) = spelled command (ksi, (algs, caps))
+spelling_of SecurityModeComplete = spelled complete tt
+spelling_of (SecurityModeReject cause) = spelled reject cause
+spelling_of ServiceRequest = spelled service_request tt
+spelling_of (NasData text) = spelled any_text text
 
 -- each field is in its range: KSI 0 to 6 (TS 24.301 9.9.3.21), cause 23 or 24 (9.9.3.9)
 abbrev pub InRange : NasRecord → Type 0

@@ -8,7 +8,7 @@ use Rattle.alg_choice.specs.declared.caps.Caps.{Caps}
 use Rattle.annex_a_keys.specs.Cell.{Place, IsCell}
 use Rattle.rec_fields.specs.Field.{◌>>=◌, of_size, number_in, from_one_at, algs_at, caps_at, cell_at, rest_at}
 use Rattle.rec_fields.specs.Spelled.{algs_octet, cell_octets}
-use Rattle.rec_fields.specs.Layout.{Field, Ending, Layout, Rest, Values, read_by, width_of, Rows, read_rows}
+use Rattle.rec_fields.specs.Layout.{Field, Ending, Layout, Rest, Values, read_by, spelled_by, width_of, Rows, read_rows}
 
 -- an octet from `low` to `high`
 abbrev pub octet : ℕ → ℕ → Field RecFault ℕ
@@ -66,14 +66,22 @@ abbrev pub size_by : Layout RecFault → List ℕ → Result (Unit {0}) RecFault
 size_by (Rest most) octets = Ok tt
 size_by l octets = of_size (1 + width_of l) octets
 
--- A kind of record: its fields, and what is made of their values.
+-- A kind of record: its first octet, the fields after it, and what is made of their values.
 pub record Form (A : Type 0) : Type 1 where
+  pub kind : ℕ
   pub layout : Layout RecFault
   pub make : Values layout → A
 
--- the record, or the first fault
+-- the record of a layout, or the first fault
+abbrev pub read_layout : {A : Type 0} → (l : Layout RecFault) → (Values l → A) → List ℕ → Result A RecFault
+read_layout l make octets = size_by l octets >>= λ size. read_by sized l octets 1 (λ vs. Ok (make vs))
+
 abbrev pub record_by : {A : Type 0} → Form A → List ℕ → Result A RecFault
-record_by form octets = size_by form.layout octets >>= λ size. read_by sized form.layout octets 1 (λ vs. Ok (form.make vs))
+record_by form octets = read_layout form.layout form.make octets
+
+-- the kind, and then the fields
+abbrev pub spelled : {A : Type 0} → (form : Form A) → Values form.layout → List ℕ
+spelled form vs = form.kind ∷ spelled_by form.layout vs
 
 -- the record that begins with its kind: no octet is Short, and then an unknown kind is BadKind
 abbrev pub read_kinds : {A : Type 0} → Rows RecFault A → List ℕ → Result A RecFault

@@ -9,7 +9,7 @@ use Rattle.rec_fields.proofs.Layouts.{AreFields, AreRows, rows_take, rows_on}
 use Rattle.rec_fields.proofs.Records.{Reach, octet_is_field, number_is_field, cell_is_field, algorithms_is_field, record_row, record_again}
 use Rattle.rrc_rec.specs.declared.records.RrcRecord.{RrcRecord}
 use Rattle.rrc_rec.specs.declared.records.RrcRecord.TheVariants.{SecurityModeCommand, SecurityModeComplete, Reconfiguration, ReconfigurationComplete, RrcData, KeyChange}
-use Rattle.rrc_rec.specs.Forms.{command, reconfiguration, key_change, bare_form, data_form}
+use Rattle.rrc_rec.specs.Forms.{command, complete, reconfiguration, reconfigured, any_text, key_change}
 use Rattle.rrc_rec.specs.Spelling.{spelling_of, InRange}
 use Rattle.rrc_rec.specs.Reading.{rrc_rows, read_rrc, command_of, reconfiguration_of, bare, data_of, key_change_of}
 
@@ -26,16 +26,16 @@ key_change_fields = (cell_is_field, command_fields)
 rows_are : AreRows spelling_of InRange rrc_rows
 unfolding command_of reconfiguration_of bare data_of key_change_of spelling_of
 rows_are = (
-  record_row spelling_of InRange 0x01 command command_fields (λ vs. refl) (λ vs h. (h.1.0.1, h.1.1.0, h.1.1.1)),
+  record_row spelling_of InRange command command_fields (λ vs. refl) (λ vs h. (h.1.0.1, h.1.1.0, h.1.1.1)),
   (
-    record_row spelling_of InRange 0x02 (bare_form SecurityModeComplete) tt (λ vs. refl) (λ vs h. tt),
+    record_row spelling_of InRange complete tt (λ vs. refl) (λ vs h. tt),
     (
-      record_row spelling_of InRange 0x03 reconfiguration reconfiguration_fields (λ vs. refl) (λ vs h. (h.0, h.1.0.1, h.1.1.1.0.1, h.1.1.1.1.0, h.1.1.1.1.1)),
+      record_row spelling_of InRange reconfiguration reconfiguration_fields (λ vs. refl) (λ vs h. (h.0, h.1.0.1, h.1.1.1.0.1, h.1.1.1.1.0, h.1.1.1.1.1)),
       (
-        record_row spelling_of InRange 0x04 (bare_form ReconfigurationComplete) tt (λ vs. refl) (λ vs h. tt),
+        record_row spelling_of InRange reconfigured tt (λ vs. refl) (λ vs h. tt),
         (
-          record_row spelling_of InRange 0x05 data_form tt (λ vs. refl) (λ vs h. h),
-          (record_row spelling_of InRange 0x06 key_change key_change_fields (λ vs. refl) (λ vs h. (h.0, h.1.1.0.1, h.1.1.1.0, h.1.1.1.1)), tt),
+          record_row spelling_of InRange any_text tt (λ vs. refl) (λ vs h. h),
+          (record_row spelling_of InRange key_change key_change_fields (λ vs. refl) (λ vs h. (h.0, h.1.1.0.1, h.1.1.1.0, h.1.1.1.1)), tt),
         ),
       ),
     ),
@@ -51,19 +51,19 @@ read_is_spelled octets r fit e = rows_take Short BadKind spelling_of InRange rrc
 pub spelled_is_read : (r : RrcRecord) → InRange r → read_rrc (spelling_of r) ≡ Ok r
 unfolding command_of reconfiguration_of bare data_of key_change_of spelling_of read_rrc
 spelled_is_read (SecurityModeCommand algs station air) h =
-    rows_on Short BadKind rrc_rows 0x01 (spelled_by command.layout (algs, (station, air)))
-    ∙ record_again command command_fields tt 0x01 (algs, (station, air)) (tt, ((omega arith, h.0), (h.1, h.2)))
+    rows_on Short BadKind rrc_rows command.kind (spelled_by command.layout (algs, (station, air)))
+    ∙ record_again command command_fields tt (algs, (station, air)) (tt, ((omega arith, h.0), (h.1, h.2)))
 spelled_is_read SecurityModeComplete h =
-    rows_on Short BadKind rrc_rows 0x02 [] ∙ record_again (bare_form SecurityModeComplete) tt tt 0x02 tt tt
+    rows_on Short BadKind rrc_rows complete.kind [] ∙ record_again complete tt tt tt tt
 spelled_is_read (Reconfiguration cell ncc algs station air) h =
-    rows_on Short BadKind rrc_rows 0x03 (spelled_by reconfiguration.layout (cell, (ncc, (algs, (station, air)))))
-    ∙ record_again reconfiguration reconfiguration_fields tt 0x03 (cell, (ncc, (algs, (station, air)))) (h.0, ((omega arith, h.1), (tt, ((omega arith, h.2), (h.3, h.4)))))
+    rows_on Short BadKind rrc_rows reconfiguration.kind (spelled_by reconfiguration.layout (cell, (ncc, (algs, (station, air)))))
+    ∙ record_again reconfiguration reconfiguration_fields tt (cell, (ncc, (algs, (station, air)))) (h.0, ((omega arith, h.1), (tt, ((omega arith, h.2), (h.3, h.4)))))
 spelled_is_read ReconfigurationComplete h =
-    rows_on Short BadKind rrc_rows 0x04 [] ∙ record_again (bare_form ReconfigurationComplete) tt tt 0x04 tt tt
-spelled_is_read (RrcData text) h = rows_on Short BadKind rrc_rows 0x05 text ∙ record_again data_form tt tt 0x05 text h
+    rows_on Short BadKind rrc_rows reconfigured.kind [] ∙ record_again reconfigured tt tt tt tt
+spelled_is_read (RrcData text) h = rows_on Short BadKind rrc_rows any_text.kind text ∙ record_again any_text tt tt text h
 spelled_is_read (KeyChange cell algs station air) h =
-    rows_on Short BadKind rrc_rows 0x06 (spelled_by key_change.layout (cell, (algs, (station, air))))
-    ∙ record_again key_change key_change_fields tt 0x06 (cell, (algs, (station, air))) (h.0, (tt, ((omega arith, h.1), (h.2, h.3))))
+    rows_on Short BadKind rrc_rows key_change.kind (spelled_by key_change.layout (cell, (algs, (station, air))))
+    ∙ record_again key_change key_change_fields tt (cell, (algs, (station, air))) (h.0, (tt, ((omega arith, h.1), (h.2, h.3))))
 
 -- the same of what a reader answered
 pub found_in : (octets : List ℕ) (answer : Result RrcRecord RecFault) → AreOctets octets → answer ≡ read_rrc octets

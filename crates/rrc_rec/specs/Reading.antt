@@ -2,11 +2,11 @@
 use Rattle.std.specs.Prelude.{ℕ, List, [], ◌∷◌, Result}
 use Rattle.rec_base.specs.declared.faults.RecFault.{RecFault}
 use Rattle.rec_base.specs.declared.faults.RecFault.TheVariants.{BadKind}
-use Rattle.rec_fields.specs.Layout.{Rows, by_kind}
-use Rattle.rec_fields.specs.Record.{record_by, read_kinds}
+use Rattle.rec_fields.specs.Layout.{Empty, Rows, by_kind}
+use Rattle.rec_fields.specs.Record.{read_layout, record_by, read_kinds}
 use Rattle.rrc_rec.specs.declared.records.RrcRecord.{RrcRecord}
 use Rattle.rrc_rec.specs.declared.records.RrcRecord.TheVariants.{SecurityModeComplete, ReconfigurationComplete}
-use Rattle.rrc_rec.specs.Forms.{command, reconfiguration, key_change, bare_form, data_form}
+use Rattle.rrc_rec.specs.Forms.{command, complete, reconfiguration, reconfigured, any_text, key_change}
 
 unfoldable pub command_of : List ℕ → Result RrcRecord RecFault
 command_of octets = record_by command octets
@@ -15,10 +15,10 @@ unfoldable pub reconfiguration_of : List ℕ → Result RrcRecord RecFault
 reconfiguration_of octets = record_by reconfiguration octets
 
 unfoldable pub bare : List ℕ → RrcRecord → Result RrcRecord RecFault
-bare octets fixed = record_by (bare_form fixed) octets
+bare octets fixed = read_layout Empty (λ none. fixed) octets
 
 unfoldable pub data_of : List ℕ → Result RrcRecord RecFault
-data_of octets = record_by data_form octets
+data_of octets = record_by any_text octets
 
 unfoldable pub key_change_of : List ℕ → Result RrcRecord RecFault
 key_change_of octets = record_by key_change octets
@@ -26,12 +26,12 @@ key_change_of octets = record_by key_change octets
 -- the kinds
 abbrev pub rrc_rows : Rows RecFault RrcRecord
 rrc_rows =
-    (0x01, command_of)
-    ∷ (0x02, λ octets. bare octets SecurityModeComplete)
-    ∷ (0x03, reconfiguration_of)
-    ∷ (0x04, λ octets. bare octets ReconfigurationComplete)
-    ∷ (0x05, data_of)
-    ∷ (0x06, key_change_of)
+    (command.kind, command_of)
+    ∷ (complete.kind, λ octets. bare octets SecurityModeComplete)
+    ∷ (reconfiguration.kind, reconfiguration_of)
+    ∷ (reconfigured.kind, λ octets. bare octets ReconfigurationComplete)
+    ∷ (any_text.kind, data_of)
+    ∷ (key_change.kind, key_change_of)
     ∷ []
 
 -- by the kind

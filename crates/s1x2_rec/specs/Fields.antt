@@ -3,6 +3,7 @@ use Rattle.std.specs.Prelude.{ℕ}
 use Rattle.alg_choice.specs.declared.algs.Algs.{Algs}
 use Rattle.alg_choice.specs.declared.caps.Caps.{Caps}
 use Rattle.annex_a_keys.specs.Cell.{Place}
+use Rattle.s1x2_rec.specs.Forms.{initial_context, context_release, path_switch_request, path_switch_answer, handover_required, handover_request, handover_request_ack, handover_command, handover_notify, handover_cancel, x2_request, x2_ack, x2_cancel, x2_release, context_modification}
 
 -- what a record says beside its key and the NCC of that key
 pub data Fields : Type 0 where
@@ -37,20 +38,20 @@ pub data Fields : Type 0 where
   -- connection, next connection number
   ContextModification : ℕ → ℕ → Fields
 
--- the kind, the first octet, in hex: 20 to 29 and 34 on S1, 30 to 33 on X2
+-- the kind, the first octet: 20 to 29 and 34, in hex, on S1, 30 to 33 on X2
 abbrev pub kind_of : Fields → ℕ
-kind_of (InitialContext conn cell caps) = 0x20
-kind_of (ContextRelease conn) = 0x21
-kind_of (PathSwitchRequest conn station number cell caps) = 0x22
-kind_of (PathSwitchAnswer conn number) = 0x23
-kind_of (HandoverRequired conn station attempt cell) = 0x24
-kind_of (HandoverRequest conn source attempt cell caps) = 0x25
-kind_of (HandoverRequestAck conn source attempt cell ncc algs air) = 0x26
-kind_of (HandoverCommand conn attempt cell ncc algs air) = 0x27
-kind_of (HandoverNotify conn station cell) = 0x28
-kind_of (HandoverCancel conn source attempt cell) = 0x29
-kind_of (X2Request conn source attempt cell caps) = 0x30
-kind_of (X2Ack conn attempt cell algs air) = 0x31
-kind_of (X2Cancel conn source attempt) = 0x32
-kind_of (X2Release conn attempt) = 0x33
-kind_of (ContextModification conn next) = 0x34
+kind_of (InitialContext conn cell caps) = initial_context.kind
+kind_of (ContextRelease conn) = context_release.kind
+kind_of (PathSwitchRequest conn station number cell caps) = path_switch_request.kind
+kind_of (PathSwitchAnswer conn number) = path_switch_answer.kind
+kind_of (HandoverRequired conn station attempt cell) = handover_required.kind
+kind_of (HandoverRequest conn source attempt cell caps) = handover_request.kind
+kind_of (HandoverRequestAck conn source attempt cell ncc algs air) = handover_request_ack.kind
+kind_of (HandoverCommand conn attempt cell ncc algs air) = handover_command.kind
+kind_of (HandoverNotify conn station cell) = handover_notify.kind
+kind_of (HandoverCancel conn source attempt cell) = handover_cancel.kind
+kind_of (X2Request conn source attempt cell caps) = x2_request.kind
+kind_of (X2Ack conn attempt cell algs air) = x2_ack.kind
+kind_of (X2Cancel conn source attempt) = x2_cancel.kind
+kind_of (X2Release conn attempt) = x2_release.kind
+kind_of (ContextModification conn next) = context_modification.kind

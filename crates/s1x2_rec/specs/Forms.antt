@@ -7,6 +7,7 @@ use Rattle.s1x2_rec.specs.declared.records.CoreRecord.TheVariants.{InitialContex
 -- connection, cell, capabilities, KeNB
 abbrev pub initial_context : Form CoreRecord
 initial_context = record {
+  kind = 0x20;
   layout = Then number (Then cell (Then capabilities (Last key)));
   make = λ vs. InitialContext vs.0 vs.1.0 vs.1.1.0 vs.1.1.1;
 }
@@ -14,6 +15,7 @@ initial_context = record {
 -- connection
 abbrev pub context_release : Form CoreRecord
 context_release = record {
+  kind = 0x21;
   layout = Last number;
   make = λ vs. ContextRelease vs;
 }
@@ -21,6 +23,7 @@ context_release = record {
 -- connection, station, number, cell, capabilities
 abbrev pub path_switch_request : Form CoreRecord
 path_switch_request = record {
+  kind = 0x22;
   layout = Then number (Then station (Then number (Then cell (Last capabilities))));
   make = λ vs. PathSwitchRequest vs.0 vs.1.0 vs.1.1.0 vs.1.1.1.0 vs.1.1.1.1;
 }
@@ -28,6 +31,7 @@ path_switch_request = record {
 -- connection, number, NCC, NH
 abbrev pub path_switch_answer : Form CoreRecord
 path_switch_answer = record {
+  kind = 0x23;
   layout = Then number (Then number (Then ncc (Last key)));
   make = λ vs. PathSwitchAnswer vs.0 vs.1.0 vs.1.1.0 vs.1.1.1;
 }
@@ -35,6 +39,7 @@ path_switch_answer = record {
 -- connection, station, attempt, cell
 abbrev pub handover_required : Form CoreRecord
 handover_required = record {
+  kind = 0x24;
   layout = Then number (Then station (Then number (Last cell)));
   make = λ vs. HandoverRequired vs.0 vs.1.0 vs.1.1.0 vs.1.1.1;
 }
@@ -42,6 +47,7 @@ handover_required = record {
 -- connection, source, attempt, cell, capabilities, NCC, NH
 abbrev pub handover_request : Form CoreRecord
 handover_request = record {
+  kind = 0x25;
   layout = Then number (Then station (Then number (Then cell (Then capabilities (Then ncc (Last key))))));
   make = λ vs. HandoverRequest vs.0 vs.1.0 vs.1.1.0 vs.1.1.1.0 vs.1.1.1.1.0 vs.1.1.1.1.1.0 vs.1.1.1.1.1.1;
 }
@@ -49,6 +55,7 @@ handover_request = record {
 -- connection, source, attempt, cell, NCC, algorithms, air address
 abbrev pub handover_request_ack : Form CoreRecord
 handover_request_ack = record {
+  kind = 0x26;
   layout = Then number (Then station (Then number (Then cell (Then ncc (Then algorithms (Last number))))));
   make = λ vs. HandoverRequestAck vs.0 vs.1.0 vs.1.1.0 vs.1.1.1.0 vs.1.1.1.1.0 vs.1.1.1.1.1.0 vs.1.1.1.1.1.1;
 }
@@ -56,6 +63,7 @@ handover_request_ack = record {
 -- connection, attempt, cell, NCC, algorithms, air address
 abbrev pub handover_command : Form CoreRecord
 handover_command = record {
+  kind = 0x27;
   layout = Then number (Then number (Then cell (Then ncc (Then algorithms (Last number)))));
   make = λ vs. HandoverCommand vs.0 vs.1.0 vs.1.1.0 vs.1.1.1.0 vs.1.1.1.1.0 vs.1.1.1.1.1;
 }
@@ -63,6 +71,7 @@ handover_command = record {
 -- connection, station, cell
 abbrev pub handover_notify : Form CoreRecord
 handover_notify = record {
+  kind = 0x28;
   layout = Then number (Then station (Last cell));
   make = λ vs. HandoverNotify vs.0 vs.1.0 vs.1.1;
 }
@@ -70,6 +79,7 @@ handover_notify = record {
 -- connection, source, attempt, cell
 abbrev pub handover_cancel : Form CoreRecord
 handover_cancel = record {
+  kind = 0x29;
   layout = Then number (Then station (Then number (Last cell)));
   make = λ vs. HandoverCancel vs.0 vs.1.0 vs.1.1.0 vs.1.1.1;
 }
@@ -77,6 +87,7 @@ handover_cancel = record {
 -- connection, source, attempt, cell, capabilities, NCC, KeNB*
 abbrev pub x2_request : Form CoreRecord
 x2_request = record {
+  kind = 0x30;
   layout = Then number (Then station (Then number (Then cell (Then capabilities (Then ncc (Last key))))));
   make = λ vs. X2Request vs.0 vs.1.0 vs.1.1.0 vs.1.1.1.0 vs.1.1.1.1.0 vs.1.1.1.1.1.0 vs.1.1.1.1.1.1;
 }
@@ -84,6 +95,7 @@ x2_request = record {
 -- connection, attempt, cell, algorithms, air address
 abbrev pub x2_ack : Form CoreRecord
 x2_ack = record {
+  kind = 0x31;
   layout = Then number (Then number (Then cell (Then algorithms (Last number))));
   make = λ vs. X2Ack vs.0 vs.1.0 vs.1.1.0 vs.1.1.1.0 vs.1.1.1.1;
 }
@@ -91,6 +103,7 @@ x2_ack = record {
 -- connection, source, attempt
 abbrev pub x2_cancel : Form CoreRecord
 x2_cancel = record {
+  kind = 0x32;
   layout = Then number (Then station (Last number));
   make = λ vs. X2Cancel vs.0 vs.1.0 vs.1.1;
 }
@@ -98,6 +111,7 @@ x2_cancel = record {
 -- connection, attempt
 abbrev pub x2_release : Form CoreRecord
 x2_release = record {
+  kind = 0x33;
   layout = Then number (Last number);
   make = λ vs. X2Release vs.0 vs.1;
 }
@@ -105,6 +119,7 @@ x2_release = record {
 -- connection, next connection number, KeNB
 abbrev pub context_modification : Form CoreRecord
 context_modification = record {
+  kind = 0x34;
   layout = Then number (Then number (Last key));
   make = λ vs. ContextModification vs.0 vs.1.0 vs.1.1;
 }

@@ -1,5 +1,5 @@
+pub mod Forms
 pub mod Fields
 pub mod Content
-pub mod Forms
 pub mod Spelling
 pub mod Reading

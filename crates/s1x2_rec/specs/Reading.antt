@@ -55,21 +55,21 @@ context_modification_of octets = record_by context_modification octets
 -- the kinds
 abbrev pub core_rows : Rows RecFault CoreRecord
 core_rows =
-    (0x20, initial_context_of)
-    ∷ (0x21, context_release_of)
-    ∷ (0x22, path_switch_request_of)
-    ∷ (0x23, path_switch_answer_of)
-    ∷ (0x24, handover_required_of)
-    ∷ (0x25, handover_request_of)
-    ∷ (0x26, handover_request_ack_of)
-    ∷ (0x27, handover_command_of)
-    ∷ (0x28, handover_notify_of)
-    ∷ (0x29, handover_cancel_of)
-    ∷ (0x30, x2_request_of)
-    ∷ (0x31, x2_ack_of)
-    ∷ (0x32, x2_cancel_of)
-    ∷ (0x33, x2_release_of)
-    ∷ (0x34, context_modification_of)
+    (initial_context.kind, initial_context_of)
+    ∷ (context_release.kind, context_release_of)
+    ∷ (path_switch_request.kind, path_switch_request_of)
+    ∷ (path_switch_answer.kind, path_switch_answer_of)
+    ∷ (handover_required.kind, handover_required_of)
+    ∷ (handover_request.kind, handover_request_of)
+    ∷ (handover_request_ack.kind, handover_request_ack_of)
+    ∷ (handover_command.kind, handover_command_of)
+    ∷ (handover_notify.kind, handover_notify_of)
+    ∷ (handover_cancel.kind, handover_cancel_of)
+    ∷ (x2_request.kind, x2_request_of)
+    ∷ (x2_ack.kind, x2_ack_of)
+    ∷ (x2_cancel.kind, x2_cancel_of)
+    ∷ (x2_release.kind, x2_release_of)
+    ∷ (context_modification.kind, context_modification_of)
     ∷ []
 
 -- the record, or the first fault
