@@ -17,57 +17,57 @@ use Rattle.lte_machine.specs.Reply.{only, finished}
 
 -- rows that are done whatever the state holds
 
-authenticated-done : {K C : Type 0} (ksi : ℕ) (caps : Caps) (root : Option K) (s : Core K C) → (authenticated ksi caps root s).1.answer ≡ Done
+pub authenticated-done : {K C : Type 0} (ksi : ℕ) (caps : Caps) (root : Option K) (s : Core K C) → (authenticated ksi caps root s).1.answer ≡ Done
 authenticated-done ksi caps None s = refl
 authenticated-done ksi caps (Some root) s = refl
 
-smc_started-done : {K C : Type 0} (r : Reading K C) (ksi : ℕ) (algs : Algs) (caps : Caps) (count : ℕ) (partial : Option (CorePartial K)) (s : Core K C) → (smc_started r ksi algs caps count partial s).1.answer ≡ Done
+pub smc_started-done : {K C : Type 0} (r : Reading K C) (ksi : ℕ) (algs : Algs) (caps : Caps) (count : ℕ) (partial : Option (CorePartial K)) (s : Core K C) → (smc_started r ksi algs caps count partial s).1.answer ≡ Done
 smc_started-done r ksi algs caps count None s = refl
 smc_started-done r ksi algs caps count (Some partial) s = refl
 
-smc_complete-done : {K C : Type 0} (count : ℕ) (partial : Option (CorePartial K)) (keys : Option (Keys K)) (s : Core K C) → (smc_complete count partial keys s).1.answer ≡ Done
+pub smc_complete-done : {K C : Type 0} (count : ℕ) (partial : Option (CorePartial K)) (keys : Option (Keys K)) (s : Core K C) → (smc_complete count partial keys s).1.answer ≡ Done
 smc_complete-done count None keys s = refl
 smc_complete-done count (Some partial) None s = refl
 smc_complete-done count (Some partial) (Some keys) s = refl
 
-key_changed-done : {K C : Type 0} (r : Reading K C) (count conn next station : ℕ) (partial : Option (CorePartial K)) (keys : Option (Keys K)) (s : Core K C) → (key_changed r count conn next station partial keys s).1.answer ≡ Done
+pub key_changed-done : {K C : Type 0} (r : Reading K C) (count conn next station : ℕ) (partial : Option (CorePartial K)) (keys : Option (Keys K)) (s : Core K C) → (key_changed r count conn next station partial keys s).1.answer ≡ Done
 key_changed-done r count conn next station None keys s = refl
 key_changed-done r count conn next station (Some partial) None s = refl
 key_changed-done r count conn next station (Some partial) (Some keys) s = refl
 
-service_asked-done : {K C : Type 0} (count : ℕ) (context : Option (CoreContext K)) (s : Core K C) → (service_asked count context s).1.answer ≡ Done
+pub service_asked-done : {K C : Type 0} (count : ℕ) (context : Option (CoreContext K)) (s : Core K C) → (service_asked count context s).1.answer ≡ Done
 service_asked-done count None s = refl
 service_asked-done count (Some context) s = refl
 
-nas_opened-done : {K C : Type 0} (count : ℕ) (text : List ℕ) (context : Option (CoreContext K)) (s : Core K C) → (nas_opened count text context s).1.answer ≡ Done
+pub nas_opened-done : {K C : Type 0} (count : ℕ) (text : List ℕ) (context : Option (CoreContext K)) (s : Core K C) → (nas_opened count text context s).1.answer ≡ Done
 nas_opened-done count text None s = refl
 nas_opened-done count text (Some context) s = refl
 
-sealed_reject-done : {K C : Type 0} (count : ℕ) (context : Option (CoreContext K)) (s : Core K C) → (sealed_reject count context s).1.answer ≡ Done
+pub sealed_reject-done : {K C : Type 0} (count : ℕ) (context : Option (CoreContext K)) (s : Core K C) → (sealed_reject count context s).1.answer ≡ Done
 sealed_reject-done count None s = refl
 sealed_reject-done count (Some context) s = refl
 
-nas_sent-done : {K C : Type 0} (count : ℕ) (text : List ℕ) (context : Option (CoreContext K)) (s : Core K C) → (nas_sent count text context s).1.answer ≡ Done
+pub nas_sent-done : {K C : Type 0} (count : ℕ) (text : List ℕ) (context : Option (CoreContext K)) (s : Core K C) → (nas_sent count text context s).1.answer ≡ Done
 nas_sent-done count text None s = refl
 nas_sent-done count text (Some context) s = refl
 
-nas_skipped-done : {K C : Type 0} (n : ℕ) (context : Option (CoreContext K)) (s : Core K C) → (nas_skipped n context s).1.answer ≡ Done
+pub nas_skipped-done : {K C : Type 0} (n : ℕ) (context : Option (CoreContext K)) (s : Core K C) → (nas_skipped n context s).1.answer ≡ Done
 nas_skipped-done n None s = refl
 nas_skipped-done n (Some context) s = refl
 
-context_set_up-done : {K C : Type 0} (r : Reading K C) (conn : ℕ) (cell : Place) (target : ℕ) (caps : Caps) (count : ℕ) (context : Option (CoreContext K)) (s : Core K C) → (context_set_up r conn cell target caps count context s).1.answer ≡ Done
+pub context_set_up-done : {K C : Type 0} (r : Reading K C) (conn : ℕ) (cell : Place) (target : ℕ) (caps : Caps) (count : ℕ) (context : Option (CoreContext K)) (s : Core K C) → (context_set_up r conn cell target caps count context s).1.answer ≡ Done
 context_set_up-done r conn cell target caps count None s = refl
 context_set_up-done r conn cell target caps count (Some context) s = refl
 
-path_switched-done : {K C : Type 0} (r : Reading K C) (conn : ℕ) (station : ℕ) (number : ℕ) (alarm : Bool) (link : Option (CoreLink K C)) (s : Core K C) → (path_switched r conn station number alarm link s).1.answer ≡ Done
+pub path_switched-done : {K C : Type 0} (r : Reading K C) (conn : ℕ) (station : ℕ) (number : ℕ) (alarm : Bool) (link : Option (CoreLink K C)) (s : Core K C) → (path_switched r conn station number alarm link s).1.answer ≡ Done
 path_switched-done r conn station number alarm None s = refl
 path_switched-done r conn station number alarm (Some link) s = refl
 
-handover_asked-done : {K C : Type 0} (r : Reading K C) (conn : ℕ) (source : ℕ) (attempt : ℕ) (cell : Place) (target : ℕ) (caps : Caps) (link : Option (CoreLink K C)) (s : Core K C) → (handover_asked r conn source attempt cell target caps link s).1.answer ≡ Done
+pub handover_asked-done : {K C : Type 0} (r : Reading K C) (conn : ℕ) (source : ℕ) (attempt : ℕ) (cell : Place) (target : ℕ) (caps : Caps) (link : Option (CoreLink K C)) (s : Core K C) → (handover_asked r conn source attempt cell target caps link s).1.answer ≡ Done
 handover_asked-done r conn source attempt cell target caps None s = refl
 handover_asked-done r conn source attempt cell target caps (Some link) s = refl
 
-handover_notified-done : {K C : Type 0} (station : ℕ) (link : Option (CoreLink K C)) (s : Core K C) → (handover_notified station link s).1.answer ≡ Done
+pub handover_notified-done : {K C : Type 0} (station : ℕ) (link : Option (CoreLink K C)) (s : Core K C) → (handover_notified station link s).1.answer ≡ Done
 handover_notified-done station None s = refl
 handover_notified-done station (Some link) s = refl
 

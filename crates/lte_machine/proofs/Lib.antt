@@ -3,6 +3,9 @@ pub mod RecordFacts
 pub mod AirFacts
 pub mod StationActFacts
 pub mod StationCases
+pub mod NasFacts
+pub mod ActFacts
+pub mod S1Facts
 pub mod Opens
 pub mod AnnexB
 pub mod PhoneMap

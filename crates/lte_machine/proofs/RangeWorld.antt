@@ -119,7 +119,7 @@ module _ (same : Term → Term → Bool) (root : ℕ → List ℕ → Term) (oct
   core_turn_ranged : (w : TheWorld) (i : CoreInput Term ℕ) (came : Option (Outgoing Term ℕ)) → CoreInputRanged i → Ranged w → Ranged (core_turn m w i came).0
   core_turn_ranged w i came f h =
       let outcome = m.opener (core_opens m.reading w.core i) (core_pdu_in i) came in
-      core_after_ranged w (core_step m.reading w.core i outcome) (core_step_ranged same w.core i outcome h.0 f) h
+      core_after_ranged w (core_step m.reading w.core i outcome) (core_step_ranged same w.core h.0 i outcome f) h
 
   turn_ranged : (w : TheWorld) (id : ℕ) (i : StationInput Term ℕ) (came : Option (Outgoing Term ℕ)) (o : Option (Station Term ℕ)) → StationInputRanged i → StationIs o →
       Ranged w → Ranged (turn_of m w id i came o).0
@@ -132,7 +132,7 @@ module _ (same : Term → Term → Bool) (root : ℕ → List ℕ → Term) (oct
   station_turn_ranged w id i came f h = turn_ranged w id i came (station_of_id id w.stations) f (found_station id w.stations h.1) h
 
   auth_ranged : (w : TheWorld) (ksi : ℕ) (key : Term) (caps : Caps) (o : Option ℕ) → IsCaps caps → Ranged w → Ranged (auth_unless m w ksi key caps o).0
-  auth_ranged w ksi key caps None f h = ((core_step_ranged same w.core (CoreAuth ksi key caps) (Opened []) h.0 f).0, h.1, h.2)
+  auth_ranged w ksi key caps None f h = ((core_step_ranged same w.core h.0 (CoreAuth ksi key caps) (Opened []) f).0, h.1, h.2)
   auth_ranged w ksi key caps (Some row) f h = h
 
   arrives_ranged : (w : TheWorld) (to : Address) (pdu : List ℕ) (came : Option (Outgoing Term ℕ)) → SentRanged came → Ranged w → Ranged (arrives m w to pdu came).0

@@ -1,6 +1,5 @@
 pub mod Bearers
 pub mod Core
-pub mod CoreFront
 pub mod Lists
 pub mod Order
 pub mod Phone

@@ -1,6 +1,5 @@
 pub mod All
 pub mod Attempts
-pub mod Choice
 pub mod Core
 pub mod CoreKeeps
 pub mod Ever

@@ -4,7 +4,6 @@ pub mod EveryLine
 pub mod EveryRun
 pub mod Freshness
 pub mod KeySeparation
-pub mod NasWalk
 pub mod Named
 pub mod Opening
 pub mod SameKeys

@@ -1,38 +1,37 @@
 -- What the rows of the core leave of the invariant of agreement, and what its choice of a row establishes.
-use Rattle.std.proofs.Common.{◌≡◌, ℕ, suc, ◌+◌, ◌<◌, ◌≤◌, refl, sym, ◌∙◌, ap, subst, arith, Bool, true, false, cond, List, Option, Some, None, option_map, Result, Ok, Err}
-use Rattle.std.specs.Prelude.{◌==◌, nat_le, slice_index, ⊤}
+use Rattle.std.proofs.Common.{◌≡◌, ℕ, suc, ◌+◌, ◌<◌, ◌≤◌, refl, sym, ◌∙◌, ap, subst, arith, Bool, true, false, cond, List, Option, Some, None}
+use Rattle.std.specs.Prelude.{◌==◌, ⊤}
 use Rattle.std.proofs.lemmas.Bool.{eqb-true}
 use Rattle.std.proofs.lemmas.Bool.Decides.{nat_tests}
 use Rattle.alg_choice.specs.declared.algs.Algs.{Algs}
-use Rattle.alg_choice.specs.declared.algs.Eea.{Eea}
 use Rattle.alg_choice.specs.declared.caps.Caps.{Caps}
-use Rattle.alg_choice.specs.declared.choices.NoAlgorithm.{NoAlgorithm as NoneChosen}
-use Rattle.alg_choice.specs.Choice.{choice_of}
 use Rattle.annex_a_keys.specs.Cell.{Place}
+use Rattle.rec_base.specs.declared.faults.RecFault.{RecFault}
 use Rattle.lte_events.specs.declared.acts.CoreAct.{CoreAct}
-use Rattle.lte_events.specs.declared.acts.CoreAct.TheVariants.{StartSmc, Connect, Release, SendNas, Skip}
 use Rattle.lte_events.specs.declared.addresses.Address.{Address}
+use Rattle.lte_events.specs.declared.answers.Answer.TheVariants.{BadRecord}
 use Rattle.lte_events.specs.Site.{Site, station_of}
 use Rattle.key_model.specs.Term.{Term, Kenb, Nh}
-use Rattle.key_model.specs.Chain.{nh, ncc_of}
+use Rattle.key_model.specs.Chain.{nh}
 use Rattle.key_model.specs.HandoverTable.{NumberedKey}
 use Rattle.key_model.specs.Reading.{term_reading_by}
-use Rattle.nas_count.specs.Estimate.{count_limit}
 use Rattle.nas_guard.specs.Keys.{Keys}
 use Rattle.nh_chain.specs.Chain.{begun}
-use Rattle.s1x2_rec.specs.Fields.{Fields, InitialContext, ContextRelease, PathSwitchRequest, PathSwitchAnswer, HandoverRequired, HandoverRequest, HandoverRequestAck, HandoverCommand, HandoverNotify, HandoverCancel, X2Request, X2Ack, X2Cancel, X2Release, ContextModification}
-use Rattle.lte_machine.specs.Reply.{unseen, ByTarget}
-use Rattle.lte_machine.specs.CoreState.{Core, CorePartial, CoreContext, CoreLink, map_core_link}
-use Rattle.lte_machine.specs.CoreRows.{CoreNasRow, NasRefused, PlainReject, SmcComplete, SmcChange, ServiceAsked, NasOpened, SealedReject, CoreRecordRow, RecordRefused, PathSwitched, HandoverAsked, HandoverOrdered, HandoverNotified, HandoverCancelled, CoreActRow, ActRefused, SmcStarted, ContextSetUp, ContextReleased, NasSent, NasSkipped, CoreRow, OfNas, OfRecord, OfAct, OfAuth}
-use Rattle.lte_machine.specs.CoreKeys.{CoreDone, authenticated, smc_started, smc_complete, key_changed, service_asked, nas_opened, sealed_reject, nas_sent, nas_skipped, context_set_up, path_switched, handover_asked, handover_notified, core_does_nas, core_does_record, core_does_act, core_does}
-use Rattle.lte_machine.specs.CoreChoice.{PlainCore, asked_at, caps_in_use, cancelled_at, of_link, core_fields_row, smc_row, start_smc_row, connect_row, release_row, send_nas_row, skip_nas_row, core_act_row, NUMBERS}
+use Rattle.s1x2_rec.specs.Fields.{Fields}
+use Rattle.lte_machine.specs.Opening.{Outcome}
+use Rattle.lte_machine.specs.Reply.{ByTarget}
+use Rattle.lte_machine.specs.CoreState.{Core, CorePartial, CoreContext, CoreLink}
+use Rattle.lte_machine.specs.CoreRows.{CoreNasRow, NasRefused, PlainReject, SmcComplete, SmcChange, ServiceAsked, NasOpened, SealedReject, CoreRecordRow, RecordRefused, PathSwitched, HandoverAsked, HandoverOrdered, HandoverNotified, HandoverCancelled, CoreActRow, ActRefused, SmcStarted, ContextSetUp, ContextReleased, NasSent, NasSkipped}
+use Rattle.lte_machine.specs.CoreKeys.{CoreDone, smc_started, smc_complete, key_changed, service_asked, nas_opened, sealed_reject, nas_sent, nas_skipped, context_set_up, path_switched, handover_asked, handover_notified, core_does_nas, core_does_record, core_does_act}
+use Rattle.lte_machine.specs.CoreChoice.{core_fields_row, core_act_row}
 use Rattle.lte_machine.specs.CoreStep.{plain_core}
+use Rattle.lte_machine.proofs.ActFacts.{ActHas, act_has}
+use Rattle.lte_machine.proofs.NasFacts.{NasHas, Completes, nas_row, nas_has}
+use Rattle.lte_machine.proofs.S1Facts.{LinkIs, RecordHas, record_has}
 use Rattle.lte_properties.specs.ChainBelow.{AllOf}
-use Rattle.lte_properties.proofs.Agreement.Ghost.{Ghost, chain_at, PairOk, TriedOk, CoreLinkOk, CoreOk, AskedIs, IsOther, AckIs, HasNcc, BetweenOk, OutOk}
+use Rattle.lte_properties.proofs.Agreement.Ghost.{Ghost, chain_at, PairOk, TriedOk, CoreLinkOk, CoreOk, AskedIs, IsOther, BetweenOk, OutOk}
 use Rattle.lte_properties.proofs.Agreement.Later.{Later, later_itself, same_found}
 use Rattle.lte_properties.proofs.Agreement.Phone.{all_found}
-use Rattle.lte_properties.proofs.NasWalk.{IfChange}
-use Rattle.lte_properties.proofs.Agreement.PhoneWalk.{by_test}
 
 -- the connections after a step of the core
 abbrev pub with_conns : Ghost → (ℕ → Term) → (ℕ → ℕ) → (ℕ → ℕ) → ℕ → Ghost
@@ -54,36 +53,6 @@ CoreGoes cells g d =
     (root : ℕ → Term) × (count : ℕ → ℕ) × (top : ℕ → ℕ) × (next : ℕ)
     × Later g (with_conns g root count top next) × CoreOk cells (with_conns g root count top next) d.0
     × OutOk (with_conns g root count top next) d.1.sent × StaysOff d.0.link g.top top
-
--- the core's connection is this one
-abbrev pub LinkConn : Option (CoreLink Term ℕ) → ℕ → Type 0
-LinkConn None conn = ⊤
-LinkConn (Some link) conn = link.conn ≡ conn
-
--- what the rows need
-abbrev pub CoreRecordNeeds : List Site → Ghost → Core Term ℕ → CoreRecordRow → Type 0
-CoreRecordNeeds cells g s (PathSwitched conn station number alarm) = LinkConn s.link conn
-CoreRecordNeeds cells g s (HandoverAsked conn source attempt cell target caps) =
-    LinkConn s.link conn × AskedIs g conn source attempt cell ByTarget IsOther × (station_of cell cells ≡ Some target)
-CoreRecordNeeds cells g s (HandoverOrdered conn source attempt cell ncc algs air) = AckIs g source attempt algs air (HasNcc ncc)
-CoreRecordNeeds cells g s other = ⊤
-
--- a key change begins the next connection, with the KeNB of COUNT 0
-abbrev pub ChangeNeeds : Core Term ℕ → ℕ → ℕ → ℕ → ℕ → Type 0
-ChangeNeeds s count conn next station = (next ≡ s.next) × (count ≡ 0)
-
-abbrev pub CoreNasNeeds : Core Term ℕ → CoreNasRow → Type 0
-CoreNasNeeds s row = IfChange (ChangeNeeds s) row
-
-abbrev pub CoreActNeeds : Core Term ℕ → CoreActRow → Type 0
-CoreActNeeds s (ContextSetUp conn cell target caps count) = conn ≡ s.next
-CoreActNeeds s other = ⊤
-
-abbrev pub CoreNeeds : List Site → Ghost → Core Term ℕ → CoreRow → Type 0
-CoreNeeds cells g s (OfNas row) = CoreNasNeeds s row
-CoreNeeds cells g s (OfRecord row) = CoreRecordNeeds cells g s row
-CoreNeeds cells g s (OfAct row) = CoreActNeeds s row
-CoreNeeds cells g s other = ⊤
 
 -- a value at one number
 abbrev at_number : {A : Type 0} → ℕ → A → (ℕ → A) → ℕ → A
@@ -209,7 +178,7 @@ module _ (same : Term → Term → Bool) (cells : List Site) (g : Ghost) (tried_
     pair_up conn e = subst (λ c. PairOk stepped_ghost c (record { key = Nh link.chain.root link.chain.sync; number = link.chain.number + 1 })) e
         (k.0, equal_below number_up, key_up)
 
-  switched_goes : (conn station number : ℕ) (alarm : Bool) (o : Option (CoreLink Term ℕ)) (s : Core Term ℕ) → CoreOk cells g s → CoreLinkOk g o → LinkConn o conn
+  switched_goes : (conn station number : ℕ) (alarm : Bool) (o : Option (CoreLink Term ℕ)) (s : Core Term ℕ) → CoreOk cells g s → CoreLinkOk g o → LinkIs o conn
       → CoreGoes cells g (path_switched (term_reading_by same) conn station number alarm o s)
   switched_goes conn station number alarm None s h k is = (g.root, g.count, g.top, g.next, later_itself g, h, tt, as_before _ g.top)
   switched_goes conn station number alarm (Some link) s h k is = (
@@ -224,7 +193,7 @@ module _ (same : Term → Term → Bool) (cells : List Site) (g : Ghost) (tried_
   )
 
   asked_goes : (conn source attempt : ℕ) (cell : Place) (target : ℕ) (caps : Caps) (o : Option (CoreLink Term ℕ)) (s : Core Term ℕ) → CoreOk cells g s → CoreLinkOk g o
-      → LinkConn o conn → AskedIs g conn source attempt cell ByTarget IsOther → station_of cell cells ≡ Some target
+      → LinkIs o conn → AskedIs g conn source attempt cell ByTarget IsOther → station_of cell cells ≡ Some target
       → CoreGoes cells g (handover_asked (term_reading_by same) conn source attempt cell target caps o s)
   asked_goes conn source attempt cell target caps None s h k is asked there = (g.root, g.count, g.top, g.next, later_itself g, h, tt, as_before _ g.top)
   asked_goes conn source attempt cell target caps (Some link) s h k is asked there =
@@ -249,15 +218,26 @@ module _ (same : Term → Term → Bool) (cells : List Site) (g : Ghost) (tried_
   notified_goes station None s h k = (g.root, g.count, g.top, g.next, later_itself g, h, tt, as_before _ g.top)
   notified_goes station (Some link) s h k = (g.root, g.count, g.top, g.next, later_itself g, (k, h.1, h.2), tt, (λ i off. omega arith))
 
-  core_record_goes : (row : CoreRecordRow) (s : Core Term ℕ) → CoreOk cells g s → CoreRecordNeeds cells g s row
+  -- a record that does not read, and one that does
+  pub core_unread_goes : (fault : RecFault) (s : Core Term ℕ) → CoreOk cells g s → CoreGoes cells g (core_does_record (term_reading_by same) (RecordRefused (BadRecord fault)) s)
+  core_unread_goes fault s h = (g.root, g.count, g.top, g.next, later_itself g, h, tt, as_before _ g.top)
+
+  record_goes : (to : Address) (fields : Fields) (key : Option (NumberedKey Term ℕ)) → BetweenOk g to fields key → (row : CoreRecordRow) (s : Core Term ℕ) → CoreOk cells g s → RecordHas s fields row
       → CoreGoes cells g (core_does_record (term_reading_by same) row s)
-  core_record_goes (RecordRefused answer) s h needs = (g.root, g.count, g.top, g.next, later_itself g, h, tt, as_before _ g.top)
-  core_record_goes (PathSwitched conn station number alarm) s h needs = switched_goes conn station number alarm s.link s h h.0 needs
-  core_record_goes (HandoverAsked conn source attempt cell target caps) s h needs =
-      asked_goes conn source attempt cell target caps s.link s h h.0 needs.0 needs.1 needs.2
-  core_record_goes (HandoverOrdered conn source attempt cell ncc algs air) s h needs = (g.root, g.count, g.top, g.next, later_itself g, h, needs, as_before _ g.top)
-  core_record_goes (HandoverNotified station) s h needs = notified_goes station s.link s h h.0
-  core_record_goes (HandoverCancelled conn source attempt cell target) s h needs = (g.root, g.count, g.top, g.next, later_itself g, h, tt, as_before _ g.top)
+  record_goes to fields key k (RecordRefused answer) s h f = (g.root, g.count, g.top, g.next, later_itself g, h, tt, as_before _ g.top)
+  record_goes to fields key k (PathSwitched conn station number alarm) s h f = switched_goes conn station number alarm s.link s h h.0 f.linked
+  record_goes to fields key k (HandoverAsked conn source attempt cell target caps) s h f =
+      asked_goes conn source attempt cell target caps s.link s h h.0 f.linked (subst (λ x. BetweenOk g to x key) f.fields_is k)
+      (subst (λ x. station_of cell x ≡ Some target) h.2 f.site)
+  record_goes to fields key k (HandoverOrdered conn source attempt cell ncc algs air) s h f =
+      (g.root, g.count, g.top, g.next, later_itself g, h, subst (λ x. BetweenOk g to x key) f.0 k, as_before _ g.top)
+  record_goes to fields key k (HandoverNotified station) s h f = notified_goes station s.link s h h.0
+  record_goes to fields key k (HandoverCancelled conn source attempt cell target) s h f = (g.root, g.count, g.top, g.next, later_itself g, h, tt, as_before _ g.top)
+
+  pub core_record_goes : (to : Address) (fields : Fields) (key : Option (NumberedKey Term ℕ)) → BetweenOk g to fields key → (s : Core Term ℕ) → CoreOk cells g s
+      → CoreGoes cells g (core_does_record (term_reading_by same) (core_fields_row (plain_core (term_reading_by same) s) fields) s)
+  core_record_goes to fields key k s h =
+      record_goes to fields key k (core_fields_row (plain_core (term_reading_by same) s) fields) s h (record_has (term_reading_by same) s fields)
 
   -- NAS, and acts
 
@@ -296,14 +276,20 @@ module _ (same : Term → Term → Bool) (cells : List Site) (g : Ghost) (tried_
   reject_goes count None s h = (g.root, g.count, g.top, g.next, later_itself g, h, tt, as_before _ g.top)
   reject_goes count (Some c) s h = (g.root, g.count, g.top, g.next, later_itself g, h, tt, as_before _ g.top)
 
-  core_nas_goes : (row : CoreNasRow) (s : Core Term ℕ) → CoreOk cells g s → CoreNasNeeds s row → CoreGoes cells g (core_does_nas (term_reading_by same) row s)
-  core_nas_goes (NasRefused answer) s h needs = (g.root, g.count, g.top, g.next, later_itself g, h, tt, as_before _ g.top)
-  core_nas_goes PlainReject s h needs = (g.root, g.count, g.top, g.next, later_itself g, h, tt, as_before _ g.top)
-  core_nas_goes (SmcComplete count) s h needs = smc_goes count s.partial s.procedure s h
-  core_nas_goes (SmcChange count conn next station) s h needs = key_changed_goes count conn next station s.partial s.procedure s h needs
-  core_nas_goes (ServiceAsked count) s h needs = service_goes count s.context s h
-  core_nas_goes (NasOpened count text) s h needs = opened_goes count text s.context s h
-  core_nas_goes (SealedReject count) s h needs = reject_goes count s.context s h
+  nas_goes : (pdu : List ℕ) (outcome : Outcome) (row : CoreNasRow) (s : Core Term ℕ) → CoreOk cells g s → ((count : ℕ) → Completes (term_reading_by same) s pdu outcome count → count ≡ 0)
+      → NasHas (term_reading_by same) s pdu outcome row → CoreGoes cells g (core_does_nas (term_reading_by same) row s)
+  nas_goes pdu outcome (NasRefused answer) s h zero f = (g.root, g.count, g.top, g.next, later_itself g, h, tt, as_before _ g.top)
+  nas_goes pdu outcome PlainReject s h zero f = (g.root, g.count, g.top, g.next, later_itself g, h, tt, as_before _ g.top)
+  nas_goes pdu outcome (SmcComplete count) s h zero f = smc_goes count s.partial s.procedure s h
+  nas_goes pdu outcome (SmcChange count conn next station) s h zero f = key_changed_goes count conn next station s.partial s.procedure s h (f.1.next_is, zero count f.0)
+  nas_goes pdu outcome (ServiceAsked count) s h zero f = service_goes count s.context s h
+  nas_goes pdu outcome (NasOpened count text) s h zero f = opened_goes count text s.context s h
+  nas_goes pdu outcome (SealedReject count) s h zero f = reject_goes count s.context s h
+
+  -- a message, where each Complete that opened has COUNT 0
+  pub core_nas_goes : (pdu : List ℕ) (outcome : Outcome) (s : Core Term ℕ) → CoreOk cells g s → ((count : ℕ) → Completes (term_reading_by same) s pdu outcome count → count ≡ 0)
+      → CoreGoes cells g (core_does_nas (term_reading_by same) (nas_row (term_reading_by same) s pdu outcome) s)
+  core_nas_goes pdu outcome s h zero = nas_goes pdu outcome (nas_row (term_reading_by same) s pdu outcome) s h zero (nas_has (term_reading_by same) s pdu outcome)
 
   started_goes : (ksi : ℕ) (algs : Algs) (caps : Caps) (count : ℕ) (o : Option (CorePartial Term)) (s : Core Term ℕ) → CoreOk cells g s
       → CoreGoes cells g (smc_started (term_reading_by same) ksi algs caps count o s)
@@ -318,104 +304,13 @@ module _ (same : Term → Term → Bool) (cells : List Site) (g : Ghost) (tried_
   skipped_goes n None s h = (g.root, g.count, g.top, g.next, later_itself g, h, tt, as_before _ g.top)
   skipped_goes n (Some c) s h = (g.root, g.count, g.top, g.next, later_itself g, h, tt, as_before _ g.top)
 
-  core_act_goes : (row : CoreActRow) (s : Core Term ℕ) → CoreOk cells g s → CoreActNeeds s row → CoreGoes cells g (core_does_act (term_reading_by same) row s)
-  core_act_goes (ActRefused answer) s h needs = (g.root, g.count, g.top, g.next, later_itself g, h, tt, as_before _ g.top)
-  core_act_goes (SmcStarted ksi algs caps count) s h needs = started_goes ksi algs caps count s.partial s h
-  core_act_goes (ContextSetUp conn cell target caps count) s h needs = set_up_goes conn cell target caps count s.context s h needs
-  core_act_goes (ContextReleased conn station) s h needs = (g.root, g.count, g.top, g.next, later_itself g, (tt, h.1, h.2), tt, as_before None g.top)
-  core_act_goes (NasSent count text) s h needs = nas_sent_goes count text s.context s h
-  core_act_goes (NasSkipped n) s h needs = skipped_goes n s.context s h
+  act_goes : (act : CoreAct) (row : CoreActRow) (s : Core Term ℕ) → CoreOk cells g s → ActHas s act row → CoreGoes cells g (core_does_act (term_reading_by same) row s)
+  act_goes act (ActRefused answer) s h f = (g.root, g.count, g.top, g.next, later_itself g, h, tt, as_before _ g.top)
+  act_goes act (SmcStarted ksi algs caps count) s h f = started_goes ksi algs caps count s.partial s h
+  act_goes act (ContextSetUp conn cell target caps count) s h f = set_up_goes conn cell target caps count s.context s h f.conn_is
+  act_goes act (ContextReleased conn station) s h f = (g.root, g.count, g.top, g.next, later_itself g, (tt, h.1, h.2), tt, as_before None g.top)
+  act_goes act (NasSent count text) s h f = nas_sent_goes count text s.context s h
+  act_goes act (NasSkipped n) s h f = skipped_goes n s.context s h
 
-  auth_goes : (ksi : ℕ) (caps : Caps) (o : Option Term) (s : Core Term ℕ) → CoreOk cells g s → CoreGoes cells g (authenticated ksi caps o s)
-  auth_goes ksi caps None s h = (g.root, g.count, g.top, g.next, later_itself g, h, tt, as_before _ g.top)
-  auth_goes ksi caps (Some root) s h = (g.root, g.count, g.top, g.next, later_itself g, h, tt, as_before _ g.top)
-
-  -- each row
-  pub core_goes : (row : CoreRow) (root : Option Term) (s : Core Term ℕ) → CoreOk cells g s → CoreNeeds cells g s row
-      → CoreGoes cells g (core_does (term_reading_by same) row root s)
-  core_goes (OfNas row) root s h needs = core_nas_goes row s h needs
-  core_goes (OfRecord row) root s h needs = core_record_goes row s h needs
-  core_goes (OfAct row) root s h needs = core_act_goes row s h needs
-  core_goes (OfAuth ksi caps) root s h needs = auth_goes ksi caps root s h
-
--- THE CHOICE
-
-module _ (same : Term → Term → Bool) (cells : List Site) (g : Ghost) (s : Core Term ℕ) (h : CoreOk cells g s) where
-  plain : PlainCore
-  plain = plain_core (term_reading_by same) s
-
-  abbrev Needs : CoreRecordRow → Type 0
-  Needs row = CoreRecordNeeds cells g s row
-
-  linked : (o : Option (CoreLink Term ℕ)) → s.link ≡ o → (conn : ℕ) (row : CoreRecordRow) → (LinkConn s.link conn → Needs row)
-      → Needs (of_link (option_map (map_core_link unseen ncc_of) o) conn row)
-  linked None is conn row f = tt
-  linked (Some link) is conn row f =
-      by_test Needs (link.conn == conn) _ _ (λ b. f (subst (λ o. LinkConn o conn) (sym is) (eqb-true link.conn conn b))) (λ b. tt)
-
-  asked_walks : (conn source attempt : ℕ) (cell : Place) (caps : Caps) (t : Option ℕ) → station_of cell s.cells ≡ t
-      → LinkConn s.link conn → AskedIs g conn source attempt cell ByTarget IsOther → Needs (asked_at conn source attempt cell caps t)
-  asked_walks conn source attempt cell caps None e is asked = tt
-  asked_walks conn source attempt cell caps (Some target) e is asked = (is, asked, subst (λ x. station_of cell x ≡ Some target) h.2 e)
-
-  cancelled_walks : (conn source attempt : ℕ) (cell : Place) (t : Option ℕ) → Needs (cancelled_at conn source attempt cell t)
-  cancelled_walks conn source attempt cell None = tt
-  cancelled_walks conn source attempt cell (Some target) = tt
-
-  pub core_record_walks : (to : Address) (fields : Fields) (key : Option (NumberedKey Term ℕ)) → BetweenOk g to fields key
-      → CoreRecordNeeds cells g s (core_fields_row (plain_core (term_reading_by same) s) fields)
-  unfolding plain
-  core_record_walks to (InitialContext conn cell caps) key k = tt
-  core_record_walks to (ContextRelease conn) key k = tt
-  core_record_walks to (PathSwitchRequest conn station number cell caps) key k =
-      linked s.link refl conn _ (λ is. by_test Needs (nat_le number (slice_index s.requests station)) _ _ (λ b. tt) (λ b. is))
-  core_record_walks to (PathSwitchAnswer conn number) key k = tt
-  core_record_walks to (HandoverRequired conn source attempt cell) key k =
-      linked s.link refl conn _ (λ is. by_test Needs (nat_le attempt (slice_index s.attempts source)) _ _ (λ b. tt)
-      (λ b. asked_walks conn source attempt cell (caps_in_use plain.context) (station_of cell s.cells) refl is k))
-  core_record_walks to (HandoverRequest conn source attempt cell caps) key k = tt
-  core_record_walks to (HandoverRequestAck conn source attempt cell ncc algs air) key k = linked s.link refl conn _ (λ is. k)
-  core_record_walks to (HandoverCommand conn attempt cell ncc algs air) key k = tt
-  core_record_walks to (HandoverNotify conn station cell) key k = linked s.link refl conn _ (λ is. tt)
-  core_record_walks to (HandoverCancel conn source attempt cell) key k =
-      linked s.link refl conn _ (λ is. cancelled_walks conn source attempt cell (station_of cell s.cells))
-  core_record_walks to (X2Request conn source attempt cell caps) key k = tt
-  core_record_walks to (X2Ack conn attempt cell algs air) key k = tt
-  core_record_walks to (X2Cancel conn source attempt) key k = tt
-  core_record_walks to (X2Release conn attempt) key k = tt
-  core_record_walks to (ContextModification conn next) key k = tt
-
-  smc_walks : (partial : CorePartial (Unit {0})) (answer : Result Algs NoneChosen) → CoreActNeeds s (smc_row partial answer)
-  smc_walks partial (Err none) = tt
-  smc_walks partial (Ok algs) = by_test (CoreActNeeds s) (nat_le count_limit partial.send) _ _ (λ b. tt) (λ b. tt)
-
-  start_walks : (priority : List Eea) (o : Option (CorePartial (Unit {0}))) (p : Option (Keys (Unit {0}))) → CoreActNeeds s (start_smc_row priority o p)
-  start_walks priority None p = tt
-  start_walks priority (Some partial) (Some keys) = tt
-  start_walks priority (Some partial) None = smc_walks partial (choice_of priority partial.caps)
-
-  connect_walks : (cell : Place) (t : Option ℕ) (o : Option (CoreContext (Unit {0}))) (trigger : Option ℕ) → CoreActNeeds s (connect_row s.next cell t o trigger)
-  connect_walks cell None o trigger = tt
-  connect_walks cell (Some target) None trigger = tt
-  connect_walks cell (Some target) (Some c) None = tt
-  connect_walks cell (Some target) (Some c) (Some count) = by_test (CoreActNeeds s) (nat_le NUMBERS s.next) _ _ (λ b. tt) (λ b. refl)
-
-  release_walks : (o : Option (CoreLink (Unit {0}) ℕ)) → CoreActNeeds s (release_row o)
-  release_walks None = tt
-  release_walks (Some link) = tt
-
-  send_walks : (o : Option (CoreContext (Unit {0}))) (text : List ℕ) → CoreActNeeds s (send_nas_row o text)
-  send_walks None text = tt
-  send_walks (Some c) text = by_test (CoreActNeeds s) (nat_le count_limit c.nas.send) _ _ (λ b. tt) (λ b. tt)
-
-  skip_walks : (o : Option (CoreContext (Unit {0}))) (n : ℕ) → CoreActNeeds s (skip_nas_row o n)
-  skip_walks None n = tt
-  skip_walks (Some c) n = tt
-
-  pub core_act_walks : (act : CoreAct) → CoreActNeeds s (core_act_row (plain_core (term_reading_by same) s) act)
-  unfolding plain
-  core_act_walks StartSmc = start_walks s.priority plain.partial plain.procedure
-  core_act_walks (Connect cell) = connect_walks cell (station_of cell s.cells) plain.context s.trigger
-  core_act_walks Release = release_walks plain.link
-  core_act_walks (SendNas text) = send_walks plain.context text
-  core_act_walks (Skip n) = skip_walks plain.context n
+  pub core_act_goes : (act : CoreAct) (s : Core Term ℕ) → CoreOk cells g s → CoreGoes cells g (core_does_act (term_reading_by same) (core_act_row (plain_core (term_reading_by same) s) act) s)
+  core_act_goes act s h = act_goes act (core_act_row (plain_core (term_reading_by same) s) act) s h (act_has (term_reading_by same) s act)

@@ -34,8 +34,8 @@ use Rattle.lte_properties.proofs.Agreement.Later.{Later, later_itself, later_aft
 use Rattle.lte_properties.proofs.Agreement.PhoneWalk.{CameDown, by_test}
 use Rattle.lte_properties.proofs.Agreement.Told.{SiteOk}
 use Rattle.lte_properties.proofs.Agreement.StationOpens.{CameUp}
-use Rattle.lte_properties.proofs.Agreement.Core.{equal_below, StaysOff, as_before, core_record_walks, core_act_walks}
-use Rattle.lte_properties.proofs.Agreement.CoreOpens.{CameNas, core_nas_walks}
+use Rattle.lte_properties.proofs.Agreement.Core.{equal_below, StaysOff, as_before, core_unread_goes, core_record_goes, core_nas_goes, core_act_goes}
+use Rattle.lte_properties.proofs.Agreement.CoreOpens.{CameNas, core_nas_zero}
 use Rattle.lte_properties.proofs.Agreement.StationWalk.{CellFits}
 use Rattle.lte_properties.specs.ChainHolds.{run, noted, core_numbers, Holds}
 use Rattle.lte_properties.proofs.Agreement.Openings.{Along}
@@ -71,7 +71,8 @@ module _ (same : Term → Term → Bool) (root : ℕ → List ℕ → Term) (oct
       → IsHonestAt (core_attempts m w (CoreNasPdu pdu) came) → Goes cells c w (core_turn m w (CoreNasPdu pdu) came).0
   core_nas c w pdu came h k honest =
       core_turn_goes same root octets sender opener tell cells cells_ok c w (CoreNasPdu pdu) came h
-      (core_nas_walks same w.core pdu came k (outcome_of m (core_attempts m w (CoreNasPdu pdu) came)) honest)
+      (core_nas_goes same cells (ghost c w) h.tried pdu (outcome_of m (core_attempts m w (CoreNasPdu pdu) came)) w.core h.core
+      (core_nas_zero same w.core pdu came k (outcome_of m (core_attempts m w (CoreNasPdu pdu) came)) honest))
 
   station_air : (c : Conns) (w : TheWorld) (id air : ℕ) (bearer : Bearer) (pdu : List ℕ) (came : Option (Outgoing Term ℕ)) → WorldOk cells c w → AllOf StationAbove w.stations
       → CameUp (ghost c w) id air came → IsHonestAt (station_attempts m w id (AirPdu air bearer pdu) came)
@@ -88,7 +89,8 @@ module _ (same : Term → Term → Bool) (root : ℕ → List ℕ → Term) (oct
   foreign_goes c w (Address.Phone station air bearer) pdu h settled above honest calm = phone_air c w station air bearer pdu None h settled tt honest calm
   foreign_goes c w Address.CoreNas pdu h settled above honest calm = core_nas c w pdu None h tt honest
   foreign_goes c w Address.CoreS1 pdu h settled above honest calm =
-      core_turn_goes same root octets sender opener tell cells cells_ok c w (CoreRecord (Err RecFault.Short)) None h tt
+      core_turn_goes same root octets sender opener tell cells cells_ok c w (CoreRecord (Err RecFault.Short)) None h
+      (core_unread_goes same cells (ghost c w) h.tried RecFault.Short w.core h.core)
   foreign_goes c w (Address.StationAir station air bearer) pdu h settled above honest calm = station_air c w station air bearer pdu None h above tt honest
   foreign_goes c w (Address.StationS1 station) pdu h settled above honest calm =
       station_s1_goes same root octets sender opener tell cells cells_ok c w station None h above tt
@@ -105,7 +107,7 @@ module _ (same : Term → Term → Bool) (root : ℕ → List ℕ → Term) (oct
   between_goes c w Address.CoreNas fields key pdu h settled above k flight honest calm = core_nas c w pdu _ h tt honest
   between_goes c w Address.CoreS1 fields key pdu h settled above k flight honest calm =
       core_turn_goes same root octets sender opener tell cells cells_ok c w (CoreRecord (Ok (record { fields = fields; key = key }))) (Some (Between Address.CoreS1 fields key)) h
-      (core_record_walks same cells (ghost c w) w.core h.core Address.CoreS1 fields key k)
+      (core_record_goes same cells (ghost c w) h.tried Address.CoreS1 fields key k w.core h.core)
   between_goes c w (Address.StationAir station air bearer) fields key pdu h settled above k flight honest calm = station_air c w station air bearer pdu _ h above tt honest
   between_goes c w (Address.StationS1 station) fields key pdu h settled above k flight honest calm =
       station_s1_goes same root octets sender opener tell cells cells_ok c w station (Some (Between (Address.StationS1 station) fields key)) h above (
@@ -178,7 +180,7 @@ module _ (same : Term → Term → Bool) (root : ℕ → List ℕ → Term) (oct
       station_acts_goes same root octets sender opener tell cells cells_ok c w id act is h above
   happens_goes c w (Event.Core act) is h settled above flight honest calm =
       core_turn_goes same root octets sender opener tell cells cells_ok c w (CoreActs act) None h
-      (core_act_walks same cells (ghost c w) w.core h.core act)
+      (core_act_goes same cells (ghost c w) h.tried act w.core h.core)
   happens_goes c w (Event.Deliver i) is h settled above flight honest calm =
       delivered_goes c w (record_at i w.sent) h settled above (all_chosen (SentOk (ghost c w)) i w.sent h.sent)
       (flight_turned w.stations (record_at i w.sent)

@@ -28,8 +28,7 @@ use Rattle.lte_machine.specs.StationKeys.{station_does}
 use Rattle.lte_machine.specs.StationStep.{station_step, station_row_of, station_key}
 use Rattle.lte_machine.specs.CoreState.{CoreInput}
 use Rattle.lte_machine.specs.CoreKeys.{CoreDone}
-use Rattle.lte_machine.specs.CoreChoice.{core_row}
-use Rattle.lte_machine.specs.CoreStep.{plain_core, core_root, core_front_of, core_step}
+use Rattle.lte_machine.specs.CoreStep.{core_step}
 use Rattle.lte_machine.specs.World.{Machine, World, with_one, phone_after, core_after, station_after, by_world, phone_turn, core_turn, station_of_id, turn_of, station_turn, content_in}
 use Rattle.lte_machine.specs.Step.{phone_attempts, core_attempts, attempts_at}
 use Rattle.lte_properties.specs.ChainBelow.{AllOf}
@@ -53,7 +52,7 @@ use Rattle.lte_properties.proofs.Agreement.Station.{StationGoes, NewMade, NewTri
 use Rattle.lte_properties.proofs.Agreement.StationAct.{ActNeeds, act_goes}
 use Rattle.lte_properties.proofs.Agreement.StationWalk.{CellFits, s1_walks, x2_walks}
 use Rattle.lte_properties.proofs.Agreement.StationOpens.{CameUp, air_row_walks, act_walks}
-use Rattle.lte_properties.proofs.Agreement.Core.{StaysOff, as_before, CoreGoes, CoreNeeds, core_goes}
+use Rattle.lte_properties.proofs.Agreement.Core.{StaysOff, as_before, CoreGoes}
 
 abbrev pub TheWorld : Type 0
 TheWorld = World Term ℕ (Outgoing Term ℕ)
@@ -256,13 +255,9 @@ module _ (same : Term → Term → Bool) (root : ℕ → List ℕ → Term) (oct
       )
 
   pub core_turn_goes : (c : Conns) (w : TheWorld) (input : CoreInput Term ℕ) (came : Option (Outgoing Term ℕ)) → WorldOk cells c w
-      → CoreNeeds cells (ghost c w) w.core (core_row (plain_core (term_reading_by same) w.core) (core_front_of (term_reading_by same) w.core input) (outcome_of m (core_attempts m w input came)))
+      → CoreGoes cells (ghost c w) (core_step (term_reading_by same) w.core input (outcome_of m (core_attempts m w input came)))
       → Goes cells c w (core_turn m w input came).0
-  core_turn_goes c w input came h needs =
-      core_after_goes c w (core_step (term_reading_by same) w.core input (outcome_of m (core_attempts m w input came))) h
-      (core_goes same cells (ghost c w) h.tried
-      (core_row (plain_core (term_reading_by same) w.core) (core_front_of (term_reading_by same) w.core input) (outcome_of m (core_attempts m w input came)))
-      (core_root input) w.core h.core needs)
+  core_turn_goes c w input came h k = core_after_goes c w (core_step (term_reading_by same) w.core input (outcome_of m (core_attempts m w input came))) h k
 
   -- A STATION
 

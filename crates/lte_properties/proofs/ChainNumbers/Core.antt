@@ -1,130 +1,37 @@
 -- What each row of the core keeps of the chain numbers.
-use Rattle.std.proofs.Common.{◌≡◌, refl, sym, ap, ◌∙◌, subst, ℕ, ◌+◌, ◌≤◌, ◌<◌, ◌==◌, nat_le, Bool, false, List, slice_index, Option, Some, None, option_map, Result, Ok, Err, le_of_eq, lt_of_le_of_lt, arith}
-use Rattle.lte_events.specs.Site.{station_of}
+use Rattle.std.proofs.Common.{◌≡◌, refl, sym, ap, ◌∙◌, subst, ℕ, ◌+◌, ◌≤◌, ◌<◌, ◌==◌, Bool, false, List, Option, Some, None, Err, le_of_eq, lt_of_le_of_lt, arith}
 use Rattle.std.proofs.lemmas.Bool.Decides.{nat_tests}
 use Rattle.std.specs.Prelude.{⊤}
 use Rattle.alg_choice.specs.declared.algs.Algs.{Algs}
-use Rattle.alg_choice.specs.declared.algs.Eea.{Eea}
 use Rattle.alg_choice.specs.declared.caps.Caps.{Caps}
-use Rattle.alg_choice.specs.declared.choices.NoAlgorithm.{NoAlgorithm as NoneChosen}
-use Rattle.alg_choice.specs.Choice.{choice_of}
 use Rattle.annex_a_keys.specs.Cell.{Place}
+use Rattle.rec_base.specs.declared.faults.RecFault.{RecFault}
 use Rattle.lte_events.specs.declared.acts.CoreAct.{CoreAct}
-use Rattle.lte_events.specs.declared.acts.CoreAct.TheVariants.{StartSmc, Connect, Release, SendNas, Skip}
-use Rattle.nas_count.specs.Estimate.{count_limit}
+use Rattle.lte_events.specs.declared.addresses.Address.{Address}
 use Rattle.nas_guard.specs.Keys.{Keys}
 use Rattle.key_model.specs.Term.{Term}
 use Rattle.key_model.specs.HandoverTable.{NumberedKey}
-use Rattle.key_model.specs.Reading.{Reading, term_reading_by}
+use Rattle.key_model.specs.Reading.{term_reading_by}
 use Rattle.nh_chain.specs.Chain.{stepped}
-use Rattle.s1x2_rec.specs.Fields.{Fields, InitialContext, ContextRelease, PathSwitchRequest, PathSwitchAnswer, HandoverRequired, HandoverRequest, HandoverRequestAck, HandoverCommand, HandoverNotify, HandoverCancel, X2Request, X2Ack, X2Cancel, X2Release, ContextModification}
-use Rattle.s1x2_rec.specs.Content.{Content, map_content}
-use Rattle.lte_machine.specs.Reply.{unseen}
-use Rattle.lte_machine.specs.Wire.{Outgoing}
-use Rattle.lte_machine.specs.StationState.{Station, Context}
-use Rattle.lte_machine.specs.CoreState.{Core, CorePartial, CoreContext, CoreLink, map_core_link}
-use Rattle.lte_machine.specs.CoreRows.{CoreNasRow, NasRefused, PlainReject, SmcComplete, ServiceAsked, NasOpened, SealedReject, CoreRecordRow, RecordRefused, PathSwitched, HandoverAsked, HandoverOrdered, HandoverNotified, HandoverCancelled, CoreActRow, ActRefused, SmcStarted, ContextSetUp, ContextReleased, NasSent, NasSkipped, CoreRow, OfNas, OfRecord, OfAct, OfAuth, SmcChange}
-use Rattle.lte_machine.specs.CoreChoice.{PlainCore, path_switch_row, asked_at, required_row, cancelled_at, of_link, core_fields_row, core_record_row, smc_row, start_smc_row, NUMBERS, connect_row, release_row, send_nas_row, skip_nas_row, core_act_row}
-use Rattle.lte_machine.specs.CoreKeys.{authenticated, smc_started, smc_complete, service_asked, nas_opened, sealed_reject, nas_sent, nas_skipped, context_set_up, path_switched, handover_asked, handover_notified, core_does_nas, core_does_record, core_does_act, core_does, key_changed}
-use Rattle.lte_machine.specs.CoreStep.{plain_core}
-use Rattle.lte_properties.specs.ChainBelow.{OfPair, star_in, EachNumber, AtMost, IsUnder, ContextBelow, RecordBelow, LinkTop, CoreTop}
+use Rattle.s1x2_rec.specs.Fields.{Fields}
+use Rattle.lte_machine.specs.Machines.{content_of}
+use Rattle.lte_machine.specs.Opening.{Outcome}
+use Rattle.lte_machine.specs.Wire.{Outgoing, SealedNas, PlainNas, SealedRrc, UserPacket, Between}
 use Rattle.lte_machine.specs.StationKeys.{spent_in}
+use Rattle.lte_machine.specs.StationState.{Station, Context}
+use Rattle.lte_machine.specs.CoreState.{Core, CorePartial, CoreContext, CoreLink, CoreInput, CoreAuth, CoreActs, CoreNasPdu, CoreRecord}
+use Rattle.lte_machine.specs.CoreRows.{CoreNasRow, NasRefused, PlainReject, SmcComplete, SmcChange, ServiceAsked, NasOpened, SealedReject, CoreRecordRow, RecordRefused, PathSwitched, HandoverAsked, HandoverOrdered, HandoverNotified, HandoverCancelled, CoreActRow, ActRefused, SmcStarted, ContextSetUp, ContextReleased, NasSent, NasSkipped}
+use Rattle.lte_machine.specs.CoreChoice.{core_fields_row, core_act_row}
+use Rattle.lte_machine.specs.CoreKeys.{authenticated, smc_started, smc_complete, service_asked, nas_opened, sealed_reject, nas_sent, nas_skipped, context_set_up, path_switched, handover_asked, handover_notified, core_does_nas, core_does_record, core_does_act, key_changed}
+use Rattle.lte_machine.specs.CoreStep.{plain_core, core_step}
+use Rattle.lte_machine.proofs.ActFacts.{ActHas, act_has}
+use Rattle.lte_machine.proofs.NasFacts.{NasHas, nas_row, nas_has}
+use Rattle.lte_machine.proofs.S1Facts.{LinkIs, RecordHas, record_has}
+use Rattle.lte_machine.proofs.Tests.{by_test, same_of}
+use Rattle.lte_properties.specs.ChainBelow.{OfPair, star_in, EachNumber, AtMost, IsUnder, ContextBelow, RecordBelow, LinkTop, CoreTop}
 use Rattle.lte_properties.specs.ChainAbove.{RequestOk, AnswerOk, InFlight}
 use Rattle.lte_properties.specs.ChainHolds.{noted}
-use Rattle.lte_properties.proofs.ChainNumbers.RowFacts.{LinkIs, CoreFits, CoreDraws, NasDraws}
-use Rattle.lte_machine.proofs.Tests.{by_test, same_of}
 use Rattle.lte_properties.proofs.ChainNumbers.Lists.{OfSome}
-
--- THE CHOICE
-
-module _ {K C : Type 0} (r : Reading K C) (s : Core K C) where
-  -- a record of the connection
-  of_link_fits : (fields : Fields) (o : Option (CoreLink K C)) (conn : ℕ) (row : CoreRecordRow) → (LinkIs o conn → CoreFits o fields row) →
-      CoreFits o fields (of_link (option_map (map_core_link unseen r.ncc) o) conn row)
-  of_link_fits fields None conn row f = tt
-  of_link_fits fields (Some link) conn row f =
-      by_test (CoreFits (Some link) fields) (link.conn == conn) _ _ (λ e. f (same_of link.conn conn e)) (λ e. tt)
-
-  path_switch_fits : (conn station number : ℕ) (cell : Place) (caps : Caps) → LinkIs s.link conn →
-      CoreFits s.link (PathSwitchRequest conn station number cell caps) (path_switch_row (plain_core r s) conn station number caps)
-  path_switch_fits conn station number cell caps h =
-      by_test (CoreFits s.link (PathSwitchRequest conn station number cell caps)) (nat_le number (slice_index s.requests station)) _ _
-      (λ e. tt) (λ e. (h, cell, caps, refl))
-
-  asked_at_fits : (conn source attempt : ℕ) (cell : Place) (caps : Caps) (o : Option ℕ) → LinkIs s.link conn →
-      CoreFits s.link (HandoverRequired conn source attempt cell) (asked_at conn source attempt cell caps o)
-  asked_at_fits conn source attempt cell caps None h = tt
-  asked_at_fits conn source attempt cell caps (Some target) h = (h, refl)
-
-  required_fits : (conn source attempt : ℕ) (cell : Place) → LinkIs s.link conn →
-      CoreFits s.link (HandoverRequired conn source attempt cell) (required_row (plain_core r s) conn source attempt cell)
-  required_fits conn source attempt cell h =
-      by_test (CoreFits s.link (HandoverRequired conn source attempt cell)) (nat_le attempt (slice_index s.attempts source)) _ _
-      (λ e. tt) (λ e. asked_at_fits conn source attempt cell _ (station_of cell s.cells) h)
-
-  cancelled_at_fits : (fields : Fields) (conn source attempt : ℕ) (cell : Place) (o : Option ℕ) → CoreFits s.link fields (cancelled_at conn source attempt cell o)
-  cancelled_at_fits fields conn source attempt cell None = tt
-  cancelled_at_fits fields conn source attempt cell (Some target) = tt
-
-  core_fields_fits : (fields : Fields) → CoreFits s.link fields (core_fields_row (plain_core r s) fields)
-  core_fields_fits (InitialContext conn cell caps) = tt
-  core_fields_fits (ContextRelease conn) = tt
-  core_fields_fits (PathSwitchRequest conn station number cell caps) =
-      of_link_fits _ s.link conn _ (λ h. path_switch_fits conn station number cell caps h)
-  core_fields_fits (PathSwitchAnswer conn number) = tt
-  core_fields_fits (HandoverRequired conn station attempt cell) =
-      of_link_fits _ s.link conn _ (λ h. required_fits conn station attempt cell h)
-  core_fields_fits (HandoverRequest conn source attempt cell caps) = tt
-  core_fields_fits (HandoverRequestAck conn source attempt cell ncc algs air) = of_link_fits _ s.link conn _ (λ h. tt)
-  core_fields_fits (HandoverCommand conn attempt cell ncc algs air) = tt
-  core_fields_fits (HandoverNotify conn station cell) = of_link_fits _ s.link conn _ (λ h. tt)
-  core_fields_fits (HandoverCancel conn source attempt cell) =
-      of_link_fits _ s.link conn _ (λ h. cancelled_at_fits _ conn source attempt cell (station_of cell s.cells))
-  core_fields_fits (X2Request conn source attempt cell caps) = tt
-  core_fields_fits (X2Ack conn attempt cell algs air) = tt
-  core_fields_fits (X2Cancel conn source attempt) = tt
-  core_fields_fits (X2Release conn attempt) = tt
-  core_fields_fits (ContextModification conn next) = tt
-
-  -- a record that reads
-  pub core_record_fits : (content : Content K C) →
-      CoreFits s.link content.fields (core_record_row (plain_core r s) (Ok (map_content unseen r.ncc content)))
-  core_record_fits content = core_fields_fits content.fields
-
--- a new connection has the next number
-smc_draws : (next : ℕ) (partial : CorePartial (Unit {0})) (chosen : Result Algs NoneChosen) → CoreDraws next (smc_row partial chosen)
-smc_draws next partial (Err none) = tt
-smc_draws next partial (Ok algs) = by_test (CoreDraws next) (nat_le count_limit partial.send) _ _ (λ e. tt) (λ e. tt)
-
-start_smc_draws : (next : ℕ) (priority : List Eea) (o : Option (CorePartial (Unit {0}))) (p : Option (Keys (Unit {0}))) → CoreDraws next (start_smc_row priority o p)
-start_smc_draws next priority None p = tt
-start_smc_draws next priority (Some partial) (Some keys) = tt
-start_smc_draws next priority (Some partial) None = smc_draws next partial (choice_of priority partial.caps)
-
-connect_draws : (next : ℕ) (cell : Place) (target : Option ℕ) (context : Option (CoreContext (Unit {0}))) (trigger : Option ℕ) → CoreDraws next (connect_row next cell target context trigger)
-connect_draws next cell None context trigger = tt
-connect_draws next cell (Some target) None trigger = tt
-connect_draws next cell (Some target) (Some context) None = tt
-connect_draws next cell (Some target) (Some context) (Some count) = by_test (CoreDraws next) (nat_le NUMBERS next) _ _ (λ e. tt) (λ e. refl)
-
-release_draws : (next : ℕ) (o : Option (CoreLink (Unit {0}) ℕ)) → CoreDraws next (release_row o)
-release_draws next None = tt
-release_draws next (Some link) = tt
-
-send_nas_draws : (next : ℕ) (o : Option (CoreContext (Unit {0}))) (text : List ℕ) → CoreDraws next (send_nas_row o text)
-send_nas_draws next None text = tt
-send_nas_draws next (Some context) text = by_test (CoreDraws next) (nat_le count_limit context.nas.send) _ _ (λ e. tt) (λ e. tt)
-
-skip_nas_draws : (next : ℕ) (o : Option (CoreContext (Unit {0}))) (n : ℕ) → CoreDraws next (skip_nas_row o n)
-skip_nas_draws next None n = tt
-skip_nas_draws next (Some context) n = tt
-
-pub core_act_draws : (s : PlainCore) (act : CoreAct) → CoreDraws s.next (core_act_row s act)
-core_act_draws s StartSmc = start_smc_draws s.next s.priority s.partial s.procedure
-core_act_draws s (Connect cell) = connect_draws s.next cell (station_of cell s.cells) s.context s.trigger
-core_act_draws s Release = release_draws s.next s.link
-core_act_draws s (SendNas text) = send_nas_draws s.next s.context text
-core_act_draws s (Skip n) = skip_nas_draws s.next s.context n
 
 -- THE CORE'S NUMBERS
 
@@ -160,20 +67,6 @@ pub record CoreKept (top : ℕ → ℕ) (Asked : Station Term ℕ → Type 0) (t
   pub rises : (conn : ℕ) → top conn ≤ noted t.link top conn
   pub sends : OfSome (RecordBelow (noted t.link top)) x
   pub flies : (u : Station Term ℕ) → ContextBelow top u.context → Asked u → OfSome (InFlight u) x
-
--- what a row needs of the requests in flight to a station: the one that is answered fits it
-abbrev pub Asked : CoreRow → Station Term ℕ → Type 0
-Asked (OfRecord (PathSwitched conn station number alarm)) u =
-    station ≡ u.id → (number < u.next) × RequestOk u.context conn number
-Asked other u = ⊤
-
--- what it needs of its choice
-abbrev pub CoreNeeds : Core Term ℕ → CoreRow → Type 0
-CoreNeeds s (OfRecord (PathSwitched conn station number alarm)) = LinkIs s.link conn
-CoreNeeds s (OfRecord (HandoverAsked conn source attempt cell target caps)) = LinkIs s.link conn
-CoreNeeds s (OfAct row) = CoreDraws s.next row
-CoreNeeds s (OfNas row) = NasDraws s.link s.next row
-CoreNeeds s other = ⊤
 
 -- no pair is sent
 abbrev pub Plainly : Option (Outgoing Term ℕ) → Type 0
@@ -252,15 +145,15 @@ module _ (top : ℕ → ℕ) (A : Station Term ℕ → Type 0) (s : Core Term �
   key_changed_kept same count conn next station (Some partial) (Some keys) e =
       link_moves _ _ _ refl (omega arith) (omega arith) (le_of_eq (h.1 next (le_of_eq (sym e)))) (omega arith) (λ u k a. tt)
 
-  nas_kept : (same : Term → Term → Bool) (row : CoreNasRow) → NasDraws s.link s.next row →
+  nas_kept : (same : Term → Term → Bool) (pdu : List ℕ) (outcome : Outcome) (row : CoreNasRow) → NasHas (term_reading_by same) s pdu outcome row →
       CoreKept top A (core_does_nas (term_reading_by same) row s).0 (core_does_nas (term_reading_by same) row s).1.sent
-  nas_kept same (NasRefused answer) d = silent_kept s refl refl
-  nas_kept same PlainReject d = silent_kept _ refl refl
-  nas_kept same (SmcComplete count) d = smc_complete_kept count s.partial s.procedure
-  nas_kept same (SmcChange count conn next station) d = key_changed_kept same count conn next station s.partial s.procedure d.1
-  nas_kept same (ServiceAsked count) d = service_asked_kept count s.context
-  nas_kept same (NasOpened count text) d = nas_opened_kept count text s.context
-  nas_kept same (SealedReject count) d = sealed_reject_kept count s.context
+  nas_kept same pdu outcome (NasRefused answer) f = silent_kept s refl refl
+  nas_kept same pdu outcome PlainReject f = silent_kept _ refl refl
+  nas_kept same pdu outcome (SmcComplete count) f = smc_complete_kept count s.partial s.procedure
+  nas_kept same pdu outcome (SmcChange count conn next station) f = key_changed_kept same count conn next station s.partial s.procedure f.1.next_is
+  nas_kept same pdu outcome (ServiceAsked count) f = service_asked_kept count s.context
+  nas_kept same pdu outcome (NasOpened count text) f = nas_opened_kept count text s.context
+  nas_kept same pdu outcome (SealedReject count) f = sealed_reject_kept count s.context
 
   -- by an act, and by an authentication
   smc_started_kept : (same : Term → Term → Bool) (ksi : ℕ) (algs : Algs) (caps : Caps) (count : ℕ) (o : Option (CorePartial Term)) →
@@ -283,14 +176,14 @@ module _ (top : ℕ → ℕ) (A : Station Term ℕ → Type 0) (s : Core Term �
   context_set_up_kept same conn cell target caps count (Some c) e =
       link_moves _ _ _ refl (omega arith) (omega arith) (le_of_eq (h.1 conn (le_of_eq (sym e)))) (omega arith) (λ u k a. tt)
 
-  act_kept : (same : Term → Term → Bool) (row : CoreActRow) → CoreDraws s.next row →
+  act_kept : (same : Term → Term → Bool) (act : CoreAct) (row : CoreActRow) → ActHas s act row →
       CoreKept top A (core_does_act (term_reading_by same) row s).0 (core_does_act (term_reading_by same) row s).1.sent
-  act_kept same (ActRefused answer) d = silent_kept s refl refl
-  act_kept same (SmcStarted ksi algs caps count) d = smc_started_kept same ksi algs caps count s.partial
-  act_kept same (ContextSetUp conn cell target caps count) d = context_set_up_kept same conn cell target caps count s.context d
-  act_kept same (ContextReleased conn station) d = link_ends _ _ refl refl ((λ top. tt), (λ u. tt))
-  act_kept same (NasSent count text) d = nas_sent_kept count text s.context
-  act_kept same (NasSkipped n) d = nas_skipped_kept n s.context
+  act_kept same act (ActRefused answer) f = silent_kept s refl refl
+  act_kept same act (SmcStarted ksi algs caps count) f = smc_started_kept same ksi algs caps count s.partial
+  act_kept same act (ContextSetUp conn cell target caps count) f = context_set_up_kept same conn cell target caps count s.context f.conn_is
+  act_kept same act (ContextReleased conn station) f = link_ends _ _ refl refl ((λ top. tt), (λ u. tt))
+  act_kept same act (NasSent count text) f = nas_sent_kept count text s.context
+  act_kept same act (NasSkipped n) f = nas_skipped_kept n s.context
 
   authenticated_kept : (ksi : ℕ) (caps : Caps) (o : Option Term) → CoreKept top A (authenticated ksi caps o s).0 (authenticated ksi caps o s).1.sent
   authenticated_kept ksi caps None = silent_kept s refl refl
@@ -317,15 +210,16 @@ module _ (top : ℕ → ℕ) (same : Term → Term → Bool) (s : Core Term ℕ)
   link_number o link e k = subst (LinkTop top s.next) e k
 
   -- the chain goes one step on
-  path_switched_kept : (conn station number : ℕ) (alarm : Bool) (o : Option (CoreLink Term ℕ)) → s.link ≡ o → LinkIs o conn →
-      CoreKept top (Asked (OfRecord (PathSwitched conn station number alarm)))
+  path_switched_kept : (A : Station Term ℕ → Type 0) (conn station number : ℕ) (alarm : Bool) (o : Option (CoreLink Term ℕ)) → s.link ≡ o → LinkIs o conn →
+      ((u : Station Term ℕ) → A u → station ≡ u.id → (number < u.next) × RequestOk u.context conn number) →
+      CoreKept top A
       (path_switched (term_reading_by same) conn station number alarm o s).0 (path_switched (term_reading_by same) conn station number alarm o s).1.sent
-  path_switched_kept conn station number alarm None e i = absurd i
-  path_switched_kept conn station number alarm (Some link) e i =
+  path_switched_kept A conn station number alarm None e i fits = absurd i
+  path_switched_kept A conn station number alarm (Some link) e i fits =
       let k = link_number s.link link e h.0 in
-      link_moves top _ s h _ (record { conn = link.conn; chain = stepped (term_reading_by same) link.chain; station = station }) _ refl (omega arith) k.1 (step_up link k.0)
+      link_moves top A s h _ (record { conn = link.conn; chain = stepped (term_reading_by same) link.chain; station = station }) _ refl (omega arith) k.1 (step_up link k.0)
       (answer_below link i k.0)
-      (λ u c a f. let q = a f in (q.0, answer_ok top u.context conn number _ c q.1 (above link i k.0)))
+      (λ u c a f. let q = fits u a f in (q.0, answer_ok top u.context conn number _ c q.1 (above link i k.0)))
     where
       step_up : (link : CoreLink Term ℕ) → link.chain.number ≡ top link.conn → top link.conn ≤ link.chain.number + 1
       step_up link k = omega arith
@@ -364,19 +258,41 @@ module _ (top : ℕ → ℕ) (same : Term → Term → Bool) (s : Core Term ℕ)
       let k = link_number s.link link e h.0 in
       link_moves top A s h _ (record link { station = station }) None refl (omega arith) k.1 (le_of_eq (sym k.0)) tt (λ u c a. tt)
 
-  record_kept : (row : CoreRecordRow) → CoreNeeds s (OfRecord row) →
-      CoreKept top (Asked (OfRecord row)) (core_does_record (term_reading_by same) row s).0 (core_does_record (term_reading_by same) row s).1.sent
-  record_kept (RecordRefused answer) n = silent_kept top _ s h s refl refl
-  record_kept (PathSwitched conn station number alarm) n = path_switched_kept conn station number alarm s.link refl n
-  record_kept (HandoverAsked conn source attempt cell target caps) n = handover_asked_kept _ conn source attempt cell target caps s.link refl n
-  record_kept (HandoverOrdered conn source attempt cell ncc algs air) n = link_stays top _ s h s _ refl refl ((λ top. tt), (λ u. tt))
-  record_kept (HandoverNotified station) n = handover_notified_kept _ station s.link refl
-  record_kept (HandoverCancelled conn source attempt cell target) n = link_stays top _ s h s _ refl refl ((λ top. tt), (λ u. tt))
+  record_kept : (to : Address) (fields : Fields) (key : Option (NumberedKey Term ℕ)) (row : CoreRecordRow) → RecordHas s fields row →
+      CoreKept top (λ u. InFlight u (Between to fields key)) (core_does_record (term_reading_by same) row s).0 (core_does_record (term_reading_by same) row s).1.sent
+  record_kept to fields key (RecordRefused answer) f = silent_kept top _ s h s refl refl
+  record_kept to fields key (PathSwitched conn station number alarm) f =
+      path_switched_kept _ conn station number alarm s.link refl f.linked (λ u a. subst (λ g. InFlight u (Between to g key)) f.fields_is a)
+  record_kept to fields key (HandoverAsked conn source attempt cell target caps) f = handover_asked_kept _ conn source attempt cell target caps s.link refl f.linked
+  record_kept to fields key (HandoverOrdered conn source attempt cell ncc algs air) f = link_stays top _ s h s _ refl refl ((λ top. tt), (λ u. tt))
+  record_kept to fields key (HandoverNotified station) f = handover_notified_kept _ station s.link refl
+  record_kept to fields key (HandoverCancelled conn source attempt cell target) f = link_stays top _ s h s _ refl refl ((λ top. tt), (λ u. tt))
 
--- each row of the core
-pub core_does_kept : (top : ℕ → ℕ) (same : Term → Term → Bool) (s : Core Term ℕ) (row : CoreRow) (root : Option Term) → CoreNeeds s row → CoreTop top s →
-    CoreKept top (Asked row) (core_does (term_reading_by same) row root s).0 (core_does (term_reading_by same) row root s).1.sent
-core_does_kept top same s (OfNas row) root n h = nas_kept top _ s h same row n
-core_does_kept top same s (OfRecord row) root n h = record_kept top same s h row n
-core_does_kept top same s (OfAct row) root n h = act_kept top _ s h same row n
-core_does_kept top same s (OfAuth ksi caps) root n h = authenticated_kept top _ s h ksi caps root
+-- A STEP OF THE CORE
+
+abbrev pub CoreStepKept : (ℕ → ℕ) → (Term → Term → Bool) → Core Term ℕ → (Station Term ℕ → Type 0) → CoreInput Term ℕ → Outcome → Type 0
+CoreStepKept top same s A input outcome = let d = core_step (term_reading_by same) s input outcome in CoreKept top A d.0 d.1.sent
+
+module _ (top : ℕ → ℕ) (same : Term → Term → Bool) (s : Core Term ℕ) (h : CoreTop top s) where
+  pub core_auth_kept : (ksi : ℕ) (root : Term) (caps : Caps) (outcome : Outcome) → CoreStepKept top same s (λ u. ⊤) (CoreAuth ksi root caps) outcome
+  core_auth_kept ksi root caps outcome = authenticated_kept top _ s h ksi caps (Some root)
+
+  pub core_act_kept : (act : CoreAct) (outcome : Outcome) → CoreStepKept top same s (λ u. ⊤) (CoreActs act) outcome
+  core_act_kept act outcome =
+      act_kept top _ s h same act (core_act_row (plain_core (term_reading_by same) s) act) (act_has (term_reading_by same) s act)
+
+  pub core_nas_kept : (pdu : List ℕ) (outcome : Outcome) → CoreStepKept top same s (λ u. ⊤) (CoreNasPdu pdu) outcome
+  core_nas_kept pdu outcome =
+      nas_kept top _ s h same pdu outcome (nas_row (term_reading_by same) s pdu outcome) (nas_has (term_reading_by same) s pdu outcome)
+
+  -- a record that was not sent, and one that was
+  pub core_unread_kept : (A : Station Term ℕ → Type 0) (fault : RecFault) (outcome : Outcome) → CoreStepKept top same s A (CoreRecord (Err fault)) outcome
+  core_unread_kept A fault outcome = silent_kept top A s h s refl refl
+
+  pub core_record_kept : (x : Outgoing Term ℕ) (outcome : Outcome) → CoreStepKept top same s (λ u. InFlight u x) (CoreRecord (content_of x)) outcome
+  core_record_kept (SealedNas dir header u e text) outcome = silent_kept top _ s h s refl refl
+  core_record_kept (PlainNas octets) outcome = silent_kept top _ s h s refl refl
+  core_record_kept (SealedRrc dir station air srb u e text) outcome = silent_kept top _ s h s refl refl
+  core_record_kept (UserPacket dir station air drb e text) outcome = silent_kept top _ s h s refl refl
+  core_record_kept (Between to fields key) outcome =
+      record_kept top same s h to fields key (core_fields_row (plain_core (term_reading_by same) s) fields) (record_has (term_reading_by same) s fields)

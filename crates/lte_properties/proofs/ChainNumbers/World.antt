@@ -1,5 +1,5 @@
 -- The chain numbers in every world of every run.
-use Rattle.std.proofs.Common.{◌≡◌, refl, sym, ap, ◌∙◌, subst, ℕ, ◌≤◌, ◌==◌, Bool, true, false, List, [], ◌∷◌, Option, Some, None, Result, Err, le_trans, arith}
+use Rattle.std.proofs.Common.{◌≡◌, refl, sym, ap, ◌∙◌, ℕ, ◌≤◌, ◌==◌, Bool, true, false, List, [], ◌∷◌, Option, Some, None, Err, le_trans, arith}
 use Rattle.std.proofs.lemmas.Bool.Decides.{nat_tests}
 use Rattle.std.specs.Prelude.{⊤}
 use Rattle.std.specs.List.{position_from}
@@ -19,34 +19,28 @@ use Rattle.key_model.specs.Term.{Term, Root}
 use Rattle.key_model.specs.HandoverTable.{NumberedKey}
 use Rattle.key_model.specs.Reading.{term_reading_by}
 use Rattle.s1x2_rec.specs.Fields.{Fields, InitialContext, ContextRelease, PathSwitchRequest, PathSwitchAnswer, HandoverRequired, HandoverRequest, HandoverRequestAck, HandoverCommand, HandoverNotify, HandoverCancel, X2Request, X2Ack, X2Cancel, X2Release, ContextModification}
-use Rattle.s1x2_rec.specs.Content.{Content}
 use Rattle.lte_machine.specs.Wire.{KeyUse, Outgoing, SealedNas, PlainNas, SealedRrc, UserPacket, Between, address_of}
 use Rattle.lte_machine.specs.Ciphers.{Ciphers, octets_of}
 use Rattle.lte_machine.specs.Opening.{Opening, Outcome, Opened, open_octets, open_by_uses}
-use Rattle.lte_machine.specs.Reply.{Reply, unseen}
+use Rattle.lte_machine.specs.Reply.{Reply}
 use Rattle.lte_machine.specs.PhoneState.{Phone, PhoneInput, PhoneActs, PhoneNasPdu, PhoneAirPdu}
 use Rattle.lte_machine.specs.PhoneChoice.{phone_row}
 use Rattle.lte_machine.specs.PhoneStep.{plain_phone, front_of, phone_root, phone_opens, phone_pdu_in, phone_step}
-use Rattle.lte_machine.specs.StationState.{Station, Context, StationInput, StationActs, AirPdu, StationRecord, Interface, OnS1, OnX2, map_read}
+use Rattle.lte_machine.specs.StationState.{Station, Context, StationInput, StationActs, AirPdu, StationRecord, Interface, OnS1, OnX2}
 use Rattle.lte_machine.specs.StationStep.{station_opens, station_pdu_in, station_step}
-use Rattle.lte_machine.specs.CoreState.{Core, CoreInput, CoreAuth, CoreActs, CoreNasPdu, CoreRecord, CoreLink}
-use Rattle.lte_machine.specs.CoreRows.{CoreRecordRow, RecordRefused, PathSwitched, HandoverAsked, HandoverOrdered, HandoverNotified, HandoverCancelled, CoreRow, OfRecord, OfAuth, CoreNasRow, NasRefused, PlainReject, SmcComplete, SmcChange, ServiceAsked, NasOpened, SealedReject}
-use Rattle.lte_machine.specs.CoreChoice.{core_record_row, core_row}
-use Rattle.lte_machine.specs.CoreStep.{plain_core, core_root, core_front_of, core_opens, core_pdu_in, core_step}
+use Rattle.lte_machine.specs.CoreState.{Core, CoreInput, CoreAuth, CoreActs, CoreNasPdu, CoreRecord}
+use Rattle.lte_machine.specs.CoreStep.{core_opens, core_pdu_in, core_step}
 use Rattle.lte_machine.specs.World.{Machine, World, with_one, phone_after, core_after, station_after, by_world, phone_turn, core_turn, station_of_id, turn_of, station_turn, authenticated, auth_unless, known_root, next_root, content_in, arrives, record_at, delivery, class_of, is_sent, injected, happens}
 use Rattle.lte_machine.specs.Machines.{content_of, sender_of, machine_over, opening_by_octets}
 use Rattle.lte_machine.specs.Run.{stations_of, first_world}
 use Rattle.lte_properties.specs.ChainBelow.{AllOf, AtMost, ContextBelow, PrepBelow, StationBelow, conn_of, RecordBelow}
 use Rattle.lte_properties.specs.ChainAbove.{StationAbove, InFlight}
 use Rattle.lte_properties.specs.ChainHolds.{machine_by, run, noted, core_numbers, Holds, ChainNumbersHold}
-use Rattle.lte_properties.proofs.ChainNumbers.RowFacts.{CoreFits, LinkIs, NasDraws}
 use Rattle.lte_properties.proofs.ChainNumbers.Lists.{OfSome, all_one, all_find, all_map, all_both, all_put, all_chosen}
 use Rattle.lte_properties.proofs.ChainNumbers.Moves.{flight_moves}
 use Rattle.lte_properties.proofs.ChainNumbers.Station.{OwnRequest, SentOk}
-use Rattle.lte_properties.proofs.ChainNumbers.Core.{core_record_fits, core_act_draws, CoreKept, Asked, CoreNeeds, Plainly, each_weaker, core_does_kept, silent_kept}
+use Rattle.lte_properties.proofs.ChainNumbers.Core.{CoreKept, CoreStepKept, Plainly, each_weaker, core_auth_kept, core_act_kept, core_nas_kept, core_unread_kept, core_record_kept, silent_kept}
 use Rattle.lte_properties.proofs.ChainNumbers.Needs.{StepKept, to_of, act_step_kept, air_step_kept, record_step_kept, unread_step_kept, phone_does_plain}
-use Rattle.lte_properties.proofs.NasWalk.{IfChange, nas_row, nas_walk}
-use Rattle.lte_machine.proofs.Tests.{none_some, by_some}
 
 -- a station's request is no other station's
 other_flies : (u : Station Term ℕ) (id : ℕ) (x : Outgoing Term ℕ) → (u.id ≡ id → ⊥) → OwnRequest id x → InFlight u x
@@ -180,9 +174,6 @@ module _ (same : Term → Term → Bool) (root : ℕ → List ℕ → Term) (oct
   abbrev Now : (ℕ → ℕ) → TheWorld → Type 0
   Now top u = Holds (noted u.core.link top) u
 
-  abbrev core_row_of : TheWorld → CoreInput Term ℕ → Outcome → CoreRow
-  core_row_of w input outcome = core_row (plain_core (term_reading_by same) w.core) (core_front_of (term_reading_by same) w.core input) outcome
-
   -- what a station's input needs of a station of that number
   abbrev Steps : (ℕ → ℕ) → ℕ → StationInput Term ℕ → (Station Term ℕ → Type 0) → Type 0
   Steps top id input Q = (s : Station Term ℕ) → s.id ≡ id → StationBelow top s → StationAbove s → Q s → (outcome : Outcome) →
@@ -240,92 +231,34 @@ module _ (same : Term → Term → Bool) (root : ℕ → List ℕ → Term) (oct
       let row = phone_row (plain_phone (term_reading_by same) w.phone) (front_of (term_reading_by same) w.phone input) outcome in
       noted_holds top (phone_after m w d).0 (phone_after_holds top w d (phone_does_plain same row (phone_root input) w.phone) h)
 
-  core_turn_holds : (top : ℕ → ℕ) (w : TheWorld) (input : CoreInput Term ℕ) (came : Option (Outgoing Term ℕ)) →
-      ((outcome : Outcome) → CoreNeeds w.core (core_row_of w input outcome)) → ((outcome : Outcome) → AllOf (Asked (core_row_of w input outcome)) w.stations) →
-      Holds top w → Now top (core_turn m w input came).0
-  core_turn_holds top w input came n a h =
+  core_turn_holds : (top : ℕ → ℕ) (w : TheWorld) (A : Station Term ℕ → Type 0) (input : CoreInput Term ℕ) (came : Option (Outgoing Term ℕ)) →
+      ((outcome : Outcome) → CoreStepKept top same w.core A input outcome) → AllOf A w.stations → Holds top w → Now top (core_turn m w input came).0
+  core_turn_holds top w A input came k a h =
       let outcome = opener (core_opens (term_reading_by same) w.core input) (core_pdu_in input) came in
-      core_after_holds top (Asked (core_row_of w input outcome)) w (core_step (term_reading_by same) w.core input outcome)
-      (core_does_kept top same w.core (core_row_of w input outcome) (core_root input) (n outcome) h.core) (a outcome) h
+      core_after_holds top A w (core_step (term_reading_by same) w.core input outcome) (k outcome) a h
 
-  -- A RECORD AT THE CORE
-
-  core_needs_of : (s : Core Term ℕ) (fields : Fields) (row : CoreRecordRow) → CoreFits s.link fields row → CoreNeeds s (OfRecord row)
-  core_needs_of s fields (RecordRefused answer) h = tt
-  core_needs_of s fields (PathSwitched conn station number alarm) h = h.0
-  core_needs_of s fields (HandoverAsked conn source attempt cell target caps) h = h.0
-  core_needs_of s fields (HandoverOrdered conn source attempt cell ncc algs air) h = tt
-  core_needs_of s fields (HandoverNotified station) h = tt
-  core_needs_of s fields (HandoverCancelled conn source attempt cell target) h = tt
-
-  asked_of : (s : Core Term ℕ) (u : Station Term ℕ) (to : Address) (fields : Fields) (key : Option (NumberedKey Term ℕ)) (row : CoreRecordRow) → CoreFits s.link fields row →
-      InFlight u (Between to fields key) → Asked (OfRecord row) u
-  asked_of s u to fields key (RecordRefused answer) h f = tt
-  asked_of s u to fields key (PathSwitched conn station number alarm) h f = subst (λ g. InFlight u (Between to g key)) h.3 f
-  asked_of s u to fields key (HandoverAsked conn source attempt cell target caps) h f = tt
-  asked_of s u to fields key (HandoverOrdered conn source attempt cell ncc algs air) h f = tt
-  asked_of s u to fields key (HandoverNotified station) h f = tt
-  asked_of s u to fields key (HandoverCancelled conn source attempt cell target) h f = tt
-
-  abbrev row_at_core : TheWorld → Result (Content Term ℕ) RecFault → CoreRecordRow
-  row_at_core w read = core_record_row (plain_core (term_reading_by same) w.core) (map_read unseen (term_reading_by same).ncc read)
-
-  came_needs : (w : TheWorld) (x : Outgoing Term ℕ) → CoreNeeds w.core (OfRecord (row_at_core w (content_of x)))
-  came_needs w (SealedNas dir header u e text) = tt
-  came_needs w (PlainNas octets) = tt
-  came_needs w (SealedRrc dir station air srb u e text) = tt
-  came_needs w (UserPacket dir station air drb e text) = tt
-  came_needs w (Between to fields key) =
-      core_needs_of w.core fields (row_at_core w (content_of (Between to fields key))) (core_record_fits (term_reading_by same) w.core (record { fields = fields; key = key }))
-
-  came_asked : (w : TheWorld) (x : Outgoing Term ℕ) (u : Station Term ℕ) → InFlight u x → Asked (OfRecord (row_at_core w (content_of x))) u
-  came_asked w (SealedNas dir header v e text) u f = tt
-  came_asked w (PlainNas octets) u f = tt
-  came_asked w (SealedRrc dir station air srb v e text) u f = tt
-  came_asked w (UserPacket dir station air drb e text) u f = tt
-  came_asked w (Between to fields key) u f =
-      asked_of w.core u to fields key (row_at_core w (content_of (Between to fields key))) (core_record_fits (term_reading_by same) w.core (record { fields = fields; key = key })) f
+  -- of every station
+  each : (w : TheWorld) → AllOf (λ s. ⊤) w.stations
+  each w = all_each (λ s. ⊤) (λ s. tt) w.stations
 
   core_record_holds : (top : ℕ → ℕ) (w : TheWorld) (to : Address) (came : Option (Outgoing Term ℕ)) → CameOk top w to came → Holds top w →
       Now top (core_turn m w (CoreRecord (content_in m came)) came).0
   core_record_holds top w to None c h =
-      core_turn_holds top w (CoreRecord (Err RecFault.Short)) None (λ o. tt) (λ o. all_each (λ s. ⊤) (λ s. tt) w.stations) h
+      core_turn_holds top w (λ u. ⊤) (CoreRecord (Err RecFault.Short)) None (core_unread_kept top same w.core h.core (λ u. ⊤) RecFault.Short) (each w) h
   core_record_holds top w to (Some x) c h =
-      core_turn_holds top w (CoreRecord (content_of x)) (Some x) (λ o. came_needs w x)
-      (λ o. all_map (λ s. InFlight s x) (Asked (OfRecord (row_at_core w (content_of x)))) (λ s f. came_asked w x s f) w.stations c.2) h
+      core_turn_holds top w (λ u. InFlight u x) (CoreRecord (content_of x)) (Some x) (core_record_kept top same w.core h.core x) c.2 h
 
   core_acts_holds : (top : ℕ → ℕ) (w : TheWorld) (act : CoreAct) (came : Option (Outgoing Term ℕ)) → Holds top w → Now top (core_turn m w (CoreActs act) came).0
-  core_acts_holds top w act came h =
-      core_turn_holds top w (CoreActs act) came (λ o. core_act_draws (plain_core (term_reading_by same) w.core) act) (λ o. all_each (λ s. ⊤) (λ s. tt) w.stations) h
+  core_acts_holds top w act came h = core_turn_holds top w (λ u. ⊤) (CoreActs act) came (core_act_kept top same w.core h.core act) (each w) h
 
   core_nas_holds : (top : ℕ → ℕ) (w : TheWorld) (pdu : List ℕ) (came : Option (Outgoing Term ℕ)) → Holds top w → Now top (core_turn m w (CoreNasPdu pdu) came).0
-  core_nas_holds top w pdu came h =
-      core_turn_holds top w (CoreNasPdu pdu) came (λ o. changes w.core pdu o) (λ o. all_each (λ s. ⊤) (λ s. tt) w.stations) h
-    where
-      link_is : (link : CoreLink Term ℕ) (o : Option (CoreLink Term ℕ)) → o ≡ Some link → LinkIs o link.conn
-      link_is link None e = absurd (none_some e)
-      link_is link (Some x) e = ap (λ l. l.conn) (by_some e)
-
-      draws : (s : Core Term ℕ) (row : CoreNasRow) → IfChange (λ count conn next station. LinkIs s.link conn × (next ≡ s.next)) row → NasDraws s.link s.next row
-      draws s (NasRefused answer) h = tt
-      draws s PlainReject h = tt
-      draws s (SmcComplete count) h = tt
-      draws s (SmcChange count conn next station) h = h
-      draws s (ServiceAsked count) h = tt
-      draws s (NasOpened count text) h = tt
-      draws s (SealedReject count) h = tt
-
-      changes : (s : Core Term ℕ) (pdu : List ℕ) (o : Outcome) → NasDraws s.link s.next (nas_row (term_reading_by same) s pdu o)
-      changes s pdu o =
-          draws s (nas_row (term_reading_by same) s pdu o)
-          (nas_walk (term_reading_by same) (λ count conn next station. LinkIs s.link conn × (next ≡ s.next)) s pdu o
-          (λ count text link e f g h i. (link_is link s.link g, refl)))
+  core_nas_holds top w pdu came h = core_turn_holds top w (λ u. ⊤) (CoreNasPdu pdu) came (core_nas_kept top same w.core h.core pdu) (each w) h
 
   -- AN EVENT
 
   authenticated_holds : (top : ℕ → ℕ) (w : TheWorld) (ksi : ℕ) (key : Term) (caps : Caps) → Holds top w → Now top (authenticated m w ksi key caps).0
   authenticated_holds top w ksi key caps h =
-      let k = core_does_kept top same w.core (OfAuth ksi caps) (Some key) tt h.core in
+      let k = core_auth_kept top same w.core h.core ksi key caps (Opened []) in
       let new = noted (core_step (term_reading_by same) w.core (CoreAuth ksi key caps) (Opened [])).0.link top in
       record {
         core = k.core;

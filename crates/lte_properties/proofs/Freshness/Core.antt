@@ -1,27 +1,31 @@
 -- What each row of the core keeps of the keys that it gives and uses.
 use Rattle.std.proofs.Common.{◌≡◌, refl, sym, ap, subst, ℕ, ◌+◌, ◌<◌, ◌≤◌, ◌⊎◌, inl, inr, Bool, List, Option, Some, None, arith}
-use Rattle.std.specs.Prelude.{IfSome, ⊤}
+use Rattle.std.specs.Prelude.{IfSome}
 use Rattle.alg_choice.specs.declared.algs.Algs.{Algs}
 use Rattle.alg_choice.specs.declared.caps.Caps.{Caps}
 use Rattle.alg_choice.specs.Algs.{identity_of, eia2_identity}
 use Rattle.annex_a_keys.specs.Cell.{Place}
 use Rattle.rec_base.specs.declared.uses.Dir.TheVariants.{Down}
+use Rattle.lte_events.specs.declared.acts.CoreAct.{CoreAct}
 use Rattle.key_model.specs.Term.{Term, Kenb, Alg}
 use Rattle.key_model.specs.Reading.{term_reading_by}
 use Rattle.nas_count.specs.Estimate.{count_limit}
 use Rattle.nas_guard.specs.Keys.{Keys}
 use Rattle.nas_guard.specs.Seal.{nas_bearer}
 use Rattle.lte_machine.specs.Bearers.{skipped}
+use Rattle.lte_machine.specs.Opening.{Outcome}
 use Rattle.lte_machine.specs.Wire.{KeyUse, Outgoing, nas_use}
 use Rattle.lte_machine.specs.CoreState.{Core, CorePartial, CoreContext, CoreLink}
 use Rattle.lte_machine.specs.CoreRows.{CoreNasRow, NasRefused, PlainReject, SmcComplete, ServiceAsked, NasOpened, SealedReject, CoreRecordRow, RecordRefused, PathSwitched, HandoverAsked, HandoverOrdered, HandoverNotified, HandoverCancelled, CoreActRow, ActRefused, SmcStarted, ContextSetUp, ContextReleased, NasSent, NasSkipped, SmcChange}
 use Rattle.lte_machine.specs.CoreKeys.{smc_started, smc_complete, nas_taken, nas_sent_to, service_asked, nas_opened, sealed_reject, nas_sent, nas_skipped, context_set_up, path_switched, handover_asked, handover_notified, core_does_nas, core_does_record, core_does_act, nas_text, key_changed}
 use Rattle.lte_machine.specs.World.{uses_in}
+use Rattle.lte_machine.proofs.ActFacts.{ActHas}
+use Rattle.lte_machine.proofs.NasFacts.{NasHas, NextIn, opens_above}
+use Rattle.lte_machine.proofs.Tests.{by_some}
 use Rattle.lte_properties.specs.ChainBelow.{AllOf}
 use Rattle.lte_properties.proofs.Freshness.Sequence.{authentication_of}
 use Rattle.lte_properties.proofs.Freshness.Uses.{Home, home_at, Homes, Grows, OnKey, IsNas, NasDown, CoreUse, AllApart}
 use Rattle.lte_properties.proofs.Freshness.Stands.{IsPast, NasKeysOf, core_partial_root, core_context_root, due, core_mark, CoreStands, RecordStands}
-use Rattle.lte_machine.proofs.Tests.{by_some}
 use Rattle.lte_properties.proofs.Freshness.Order.{homed, homed_here, homed_is, homed_grows}
 use Rattle.lte_properties.proofs.Freshness.Lists.{both_apart}
 use Rattle.lte_properties.proofs.Freshness.PhoneNas.{types_apart}
@@ -39,20 +43,6 @@ pub record CoreKeeps (roots : ℕ) (given : Homes) (s t : Core Term ℕ) (sent :
   pub uses : AllOf (NewDown roots s t) (uses_in sent)
   pub apart : AllApart (uses_in sent)
   pub sends : (taken : Homes) → IfSome sent (RecordStands taken new)
-
--- what a row needs of its choice: a COUNT taken is not below the next one, and a COUNT sent with is the next one
-abbrev pub CoreNasNeeds : Option (CoreContext Term) → CoreNasRow → Type 0
-CoreNasNeeds context (ServiceAsked count) = IfSome context (λ c. c.nas.receive ≤ count)
-CoreNasNeeds context (NasOpened count text) = IfSome context (λ c. c.nas.receive ≤ count)
-CoreNasNeeds context (SealedReject count) = IfSome context (λ c. c.nas.receive ≤ count)
-CoreNasNeeds context other = ⊤
-
--- an act sends with the next COUNT, and connects for the trigger
-abbrev pub CoreActNeeds : Core Term ℕ → CoreActRow → Type 0
-CoreActNeeds s (SmcStarted ksi algs caps count) = IfSome s.partial (λ p. count ≡ p.send)
-CoreActNeeds s (ContextSetUp conn cell target caps count) = s.trigger ≡ Some count
-CoreActNeeds s (NasSent count text) = IfSome s.context (λ c. count ≡ c.nas.send)
-CoreActNeeds s other = ⊤
 
 module _ (roots : ℕ) (given : Homes) where
   -- no key is given, no COUNT taken
@@ -161,19 +151,19 @@ module _ (roots : ℕ) (given : Homes) where
   -- rows of NAS
 
   -- a Service Request
-  asked_keeps : (count : ℕ) (s : Core Term ℕ) (o : Option (CoreContext Term)) → CoreNasNeeds o (ServiceAsked count) → CoreStands roots given (record s { context = o }) →
+  asked_keeps : (count : ℕ) (s : Core Term ℕ) (o : Option (CoreContext Term)) → NextIn o count → CoreStands roots given (record s { context = o }) →
       let d = service_asked count o (record s { context = o }) in CoreKeeps roots given (record s { context = o }) d.0 d.1.sent
   asked_keeps count s None le h = still (record s { context = None }) h
   asked_keeps count s (Some c) le h = keeps _ _ None (asked_stands s c count le h) (λ k n u. u) tt tt (λ taken. tt)
 
   -- a NAS text that was taken
-  opened_keeps : (count : ℕ) (text : List ℕ) (s : Core Term ℕ) (o : Option (CoreContext Term)) → CoreNasNeeds o (NasOpened count text) → CoreStands roots given (record s { context = o }) →
+  opened_keeps : (count : ℕ) (text : List ℕ) (s : Core Term ℕ) (o : Option (CoreContext Term)) → NextIn o count → CoreStands roots given (record s { context = o }) →
       let d = nas_opened count text o (record s { context = o }) in CoreKeeps roots given (record s { context = o }) d.0 d.1.sent
   opened_keeps count text s None le h = still (record s { context = None }) h
   opened_keeps count text s (Some c) le h = keeps _ _ None (taken_stands s c count s.procedure le h h.2) (λ k n u. u) tt tt (λ taken. tt)
 
   -- a protected Security Mode Reject
-  reject_keeps : (count : ℕ) (s : Core Term ℕ) (o : Option (CoreContext Term)) → CoreNasNeeds o (SealedReject count) → CoreStands roots given (record s { context = o }) →
+  reject_keeps : (count : ℕ) (s : Core Term ℕ) (o : Option (CoreContext Term)) → NextIn o count → CoreStands roots given (record s { context = o }) →
       let d = sealed_reject count o (record s { context = o }) in CoreKeeps roots given (record s { context = o }) d.0 d.1.sent
   reject_keeps count s None le h = still (record s { context = None }) h
   reject_keeps count s (Some c) le h = keeps _ _ None (taken_stands s c count None le h tt) (λ k n u. u) tt tt (λ taken. tt)
@@ -212,15 +202,15 @@ module _ (roots : ℕ) (given : Homes) where
       (λ k n u. (u.0, tt, u.1)) tt tt (λ taken. tt)
 
   -- a row of a NAS message
-  pub core_nas_keeps : (same : Term → Term → Bool) (row : CoreNasRow) (s : Core Term ℕ) → CoreNasNeeds s.context row → CoreStands roots given s →
+  pub core_nas_keeps : (same : Term → Term → Bool) (s : Core Term ℕ) (pdu : List ℕ) (outcome : Outcome) (row : CoreNasRow) → NasHas (term_reading_by same) s pdu outcome row → CoreStands roots given s →
       let d = core_does_nas (term_reading_by same) row s in CoreKeeps roots given s d.0 d.1.sent
-  core_nas_keeps same (NasRefused answer) s n h = still s h
-  core_nas_keeps same PlainReject s n h = keeps s (record s { procedure = None }) None (h.0, h.1, tt, h.3, h.4) (λ k count u. u) tt tt (λ taken. tt)
-  core_nas_keeps same (SmcComplete count) s n h = complete_keeps count s s.partial s.procedure h
-  core_nas_keeps same (SmcChange count conn next station) s n h = changed_keeps same count conn next station s s.partial s.procedure h
-  core_nas_keeps same (ServiceAsked count) s n h = asked_keeps count s s.context n h
-  core_nas_keeps same (NasOpened count text) s n h = opened_keeps count text s s.context n h
-  core_nas_keeps same (SealedReject count) s n h = reject_keeps count s s.context n h
+  core_nas_keeps same s pdu outcome (NasRefused answer) f h = still s h
+  core_nas_keeps same s pdu outcome PlainReject f h = keeps s (record s { procedure = None }) None (h.0, h.1, tt, h.3, h.4) (λ k count u. u) tt tt (λ taken. tt)
+  core_nas_keeps same s pdu outcome (SmcComplete count) f h = complete_keeps count s s.partial s.procedure h
+  core_nas_keeps same s pdu outcome (SmcChange count conn next station) f h = changed_keeps same count conn next station s s.partial s.procedure h
+  core_nas_keeps same s pdu outcome (ServiceAsked count) f h = asked_keeps count s s.context (opens_above f) h
+  core_nas_keeps same s pdu outcome (NasOpened count text) f h = opened_keeps count text s s.context (opens_above f) h
+  core_nas_keeps same s pdu outcome (SealedReject count) f h = reject_keeps count s s.context (opens_above f.3) h
 
   -- records of S1 move the chain alone
 
@@ -314,11 +304,13 @@ module _ (roots : ℕ) (given : Homes) where
             (h.0.1.0, h.0.1.1, (omega arith, λ i. let x = h.3 in let y = by_some e in omega arith))
 
   -- a row of an act
-  pub core_act_keeps : (same : Term → Term → Bool) (row : CoreActRow) (s : Core Term ℕ) → CoreActNeeds s row → CoreStands roots given s →
+  pub core_act_keeps : (same : Term → Term → Bool) (s : Core Term ℕ) (act : CoreAct) (row : CoreActRow) → ActHas s act row → CoreStands roots given s →
       let d = core_does_act (term_reading_by same) row s in CoreKeeps roots given s d.0 d.1.sent
-  core_act_keeps same (ActRefused answer) s n h = still s h
-  core_act_keeps same (SmcStarted ksi algs caps count) s n h = started_keeps same ksi algs caps count s s.partial n h
-  core_act_keeps same (ContextSetUp conn cell target caps count) s n h = set_up_keeps same conn cell target caps count s s.context s.trigger n h
-  core_act_keeps same (ContextReleased conn station) s n h = keeps s _ _ h (λ k count u. u) tt tt (λ taken. tt)
-  core_act_keeps same (NasSent count text) s n h = sent_keeps count text s s.context n h
-  core_act_keeps same (NasSkipped m) s n h = skipped_keeps m s s.context h
+  core_act_keeps same s act (ActRefused answer) f h = still s h
+  core_act_keeps same s act (SmcStarted ksi algs caps count) f h =
+      started_keeps same ksi algs caps count s s.partial (subst (λ o. IfSome o (λ p. count ≡ p.send)) (sym f.holds) f.count_is) h
+  core_act_keeps same s act (ContextSetUp conn cell target caps count) f h = set_up_keeps same conn cell target caps count s s.context s.trigger f.triggered h
+  core_act_keeps same s act (ContextReleased conn station) f h = keeps s _ _ h (λ k count u. u) tt tt (λ taken. tt)
+  core_act_keeps same s act (NasSent count text) f h =
+      sent_keeps count text s s.context (subst (λ o. IfSome o (λ c. count ≡ c.nas.send)) (sym f.in_use) f.count_is) h
+  core_act_keeps same s act (NasSkipped m) f h = skipped_keeps m s s.context h

@@ -32,6 +32,8 @@ use Rattle.lte_machine.specs.CoreStep.{core_step, core_opens}
 use Rattle.lte_machine.specs.World.{Machine, World, by_world, phone_turn, core_turn, turn_of, station_of_id, content_in, arrives, newest_if, record_at, delivery, injected, is_sent, class_of, auth_unless, known_root, next_root, happens}
 use Rattle.lte_machine.specs.Machines.{sender_of}
 use Rattle.lte_machine.specs.Step.{attempts_at, arrival_attempts, delivery_attempts, injection_attempts}
+use Rattle.lte_machine.proofs.ActFacts.{act_has}
+use Rattle.lte_machine.proofs.NasFacts.{nas_has}
 use Rattle.lte_properties.specs.ChainBelow.{AllOf}
 use Rattle.lte_properties.specs.ChainHolds.{machine_by, run}
 use Rattle.lte_properties.proofs.Freshness.Premises.{srb_accepted, SealedAsAccepted, SentUnder, AllSentUnder}
@@ -47,7 +49,6 @@ use Rattle.lte_properties.proofs.Freshness.Lists.{one_root_more}
 use Rattle.lte_properties.proofs.Freshness.Phone as phone
 use Rattle.lte_properties.proofs.Freshness.PhoneNas as phone_nas
 use Rattle.lte_properties.proofs.Freshness.Core.{core_nas_keeps, core_record_keeps, core_act_keeps}
-use Rattle.lte_properties.proofs.Freshness.CoreFront.{nas_needs, act_needs}
 use Rattle.lte_properties.proofs.Freshness.Station as station
 use Rattle.lte_properties.proofs.Freshness.StationFront.{air_row_needs, record_needs, GoesHere, on_s1, on_x2}
 use Rattle.lte_properties.proofs.Freshness.World.{phone_fresh, core_fresh, station_fresh}
@@ -230,11 +231,11 @@ module _ (same : Term → Term → Bool) (itself : IsReflexive same) (octets : O
     core_turn_fresh (CoreAuth ksi root caps) came t h = absurd t
     core_turn_fresh (CoreActs act) came t h =
         core_fresh m w (λ o. refl) h (core_step r w.core (CoreActs act) (opener (core_opens r w.core (CoreActs act)) [] came))
-        (core_act_keeps h.roots h.given same _ w.core (act_needs r w.core act) h.core)
+        (core_act_keeps h.roots h.given same w.core act _ (act_has r w.core act) h.core)
     core_turn_fresh (CoreNasPdu pdu) came t h =
         let outcome = opener (core_opens r w.core (CoreNasPdu pdu)) pdu came in
         core_fresh m w (λ o. refl) h (core_step r w.core (CoreNasPdu pdu) outcome)
-        (core_nas_keeps h.roots h.given same _ w.core (nas_needs r w.core pdu outcome) h.core)
+        (core_nas_keeps h.roots h.given same w.core pdu outcome _ (nas_has r w.core pdu outcome) h.core)
     core_turn_fresh (CoreRecord read) came t h =
         core_fresh m w (λ o. refl) h (core_step r w.core (CoreRecord read) (opener (core_opens r w.core (CoreRecord read)) [] came))
         (core_record_keeps h.roots h.given same _ w.core h.core)

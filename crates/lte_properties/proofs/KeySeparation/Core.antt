@@ -1,36 +1,46 @@
 -- What each row of the core keeps: it gives each key to one station, since each key that it gives is a later one.
-use Rattle.std.proofs.Common.{◌≡◌, refl, sym, ◌∙◌, subst, ℕ, suc, ◌+◌, ◌≤◌, ◌<◌, ◌⊎◌, inl, inr, Bool, List, [], Option, Some, None, arith}
+use Rattle.std.proofs.Common.{◌≡◌, refl, sym, ◌∙◌, subst, ℕ, suc, ◌+◌, ◌≤◌, ◌<◌, ◌⊎◌, inl, inr, Bool, List, [], Option, Some, None, Result, Ok, Err, arith}
 use Rattle.std.specs.Prelude.{⊤}
 use Rattle.alg_choice.specs.declared.algs.Algs.{Algs}
 use Rattle.alg_choice.specs.declared.caps.Caps.{Caps}
 use Rattle.annex_a_keys.specs.Cell.{Place}
+use Rattle.rec_base.specs.declared.faults.RecFault.{RecFault}
 use Rattle.lte_events.specs.Site.{Site}
+use Rattle.lte_events.specs.declared.acts.CoreAct.{CoreAct}
 use Rattle.lte_events.specs.declared.addresses.Address.TheVariants.{StationS1}
+use Rattle.lte_events.specs.declared.answers.Answer.TheVariants.{BadRecord}
 use Rattle.nas_count.specs.Estimate.{count_limit}
 use Rattle.nas_guard.specs.Keys.{Keys}
 use Rattle.key_model.specs.Term.{Term, Kenb, Nh, IsRoot, IsDerivationKey, IsWellFormed}
+use Rattle.key_model.specs.HandoverTable.{NumberedKey}
 use Rattle.key_model.specs.Number.{chain_number}
 use Rattle.key_model.specs.Reading.{term_reading_by}
+use Rattle.s1x2_rec.specs.Content.{Content}
 use Rattle.s1x2_rec.specs.Fields.{Fields, InitialContext, ContextRelease, PathSwitchAnswer, HandoverRequest, ContextModification}
 use Rattle.nh_chain.specs.Chain.{ChainState, stepped, present_pair}
 use Rattle.lte_machine.specs.Bearers.{skipped}
 use Rattle.lte_machine.specs.Wire.{Outgoing, Between}
-use Rattle.lte_machine.specs.Reply.{Reply, Tried, ByTarget}
-use Rattle.lte_machine.specs.CoreState.{Core, CorePartial, CoreContext, CoreLink}
+use Rattle.lte_machine.specs.Opening.{Outcome}
+use Rattle.lte_machine.specs.Reply.{Reply, Tried, ByTarget, only}
+use Rattle.lte_machine.specs.CoreState.{Core, CorePartial, CoreContext, CoreLink, CoreInput, CoreActs, CoreNasPdu, CoreRecord}
+use Rattle.lte_machine.specs.CoreChoice.{core_fields_row, core_act_row}
+use Rattle.lte_machine.specs.CoreStep.{plain_core, core_step}
 use Rattle.lte_machine.specs.CoreRows.{CoreNasRow, NasRefused, PlainReject, SmcComplete, ServiceAsked, NasOpened, SealedReject, CoreRecordRow, RecordRefused, PathSwitched, HandoverAsked, HandoverOrdered, HandoverNotified, HandoverCancelled, CoreActRow, ActRefused, SmcStarted, ContextSetUp, ContextReleased, NasSent, NasSkipped, SmcChange}
 use Rattle.lte_machine.specs.CoreKeys.{CoreDone, authenticated, smc_started, smc_complete, service_asked, nas_opened, sealed_reject, nas_sent, nas_skipped, context_set_up, path_switched, handover_asked, handover_notified, core_does_nas, core_does_record, core_does_act, key_changed, new_context}
 use Rattle.lte_machine.specs.World.{with_one}
+use Rattle.lte_machine.proofs.ActFacts.{ActHas, act_has}
+use Rattle.lte_machine.proofs.NasFacts.{NasHas, NextIn, nas_row, nas_has, opens_above}
+use Rattle.lte_machine.proofs.S1Facts.{RecordHas, record_has}
 use Rattle.lte_properties.specs.Separation.{GivenTo}
 use Rattle.lte_properties.proofs.ChainNumbers.Lists.{OfSome}
-use Rattle.lte_properties.proofs.KeySeparation.Keys.{Gifts, GivesIn, given_new, given_split, HasTried, FlyOk, OutsAre}
+use Rattle.lte_properties.proofs.KeySeparation.Keys.{Gifts, GivesIn, given_new, given_split, HasTried, FieldsOk, FlyOk, OutsAre}
 use Rattle.lte_properties.proofs.KeySeparation.Phone.{root_derives}
-use Rattle.lte_properties.proofs.KeySeparation.Choice.{NextIn, RowNext, ActTriggered}
 use Rattle.lte_properties.proofs.KeySeparation.CoreKeeps.{root_number, count_of, BelowPartial, next_count, BelowContext, Past, AtMost, PartialOk, ContextOk, TriggerOk, ChainOk, LinkOk, CoreOk, CoreKept, below_partial_same, past_same}
 
--- what a row needs of the record: a request for a handover is of an attempt
-abbrev pub RecordNeeds : List (Tried Term ℕ) → CoreRecordRow → Type 0
-RecordNeeds tried (HandoverAsked conn source attempt cell target caps) = HasTried tried source attempt ByTarget
-RecordNeeds tried other = ⊤
+-- a record that was read: one that asks for a handover is of an attempt
+abbrev pub ReadOk : List (Tried Term ℕ) → Result (Content Term ℕ) RecFault → Type 0
+ReadOk tried (Ok content) = FieldsOk tried content.fields content.key
+ReadOk tried (Err fault) = ⊤
 
 -- a chain goes on to a key that was not given
 not_itself : (n : ℕ) → suc n ≤ n → ⊥
@@ -186,14 +196,14 @@ module _ (roots : ℕ) (xs : List (Outgoing Term ℕ)) (sites : List Site) (trie
   reject_kept count None n h = calm _ _ h (λ u id g. g) tt tt
   reject_kept count (Some c) n h = count_kept count c n _ _ h refl refl refl refl refl refl
 
-  pub nas_kept : (row : CoreNasRow) → RowNext s.context row → Before s → After (core_does_nas (term_reading_by same) row s)
-  nas_kept (NasRefused answer) n h = calm _ _ h (λ u id g. g) tt tt
-  nas_kept PlainReject n h = quiet s _ _ h refl h.partial h.context h.trigger (λ u k. k) (λ u id g. g) tt tt
-  nas_kept (SmcComplete count) n h = complete_kept count s.partial s.procedure h
-  nas_kept (SmcChange count conn next station) n h = changed_kept count conn next station s.partial s.procedure h
-  nas_kept (ServiceAsked count) n h = asked_kept count s.context n h
-  nas_kept (NasOpened count text) n h = opened_kept count text s.context n h
-  nas_kept (SealedReject count) n h = reject_kept count s.context n h
+  nas_kept : (pdu : List ℕ) (outcome : Outcome) (row : CoreNasRow) → NasHas (term_reading_by same) s pdu outcome row → Before s → After (core_does_nas (term_reading_by same) row s)
+  nas_kept pdu outcome (NasRefused answer) f h = calm _ _ h (λ u id g. g) tt tt
+  nas_kept pdu outcome PlainReject f h = quiet s _ _ h refl h.partial h.context h.trigger (λ u k. k) (λ u id g. g) tt tt
+  nas_kept pdu outcome (SmcComplete count) f h = complete_kept count s.partial s.procedure h
+  nas_kept pdu outcome (SmcChange count conn next station) f h = changed_kept count conn next station s.partial s.procedure h
+  nas_kept pdu outcome (ServiceAsked count) f h = asked_kept count s.context (opens_above f) h
+  nas_kept pdu outcome (NasOpened count text) f h = opened_kept count text s.context (opens_above f) h
+  nas_kept pdu outcome (SealedReject count) f h = reject_kept count s.context (opens_above f.3) h
 
   -- A CHAIN GOES ONE STEP ON
 
@@ -283,13 +293,14 @@ module _ (roots : ℕ) (xs : List (Outgoing Term ℕ)) (sites : List Site) (trie
     fresh = λ u a b g k. k;
   }
 
-  pub record_kept : (row : CoreRecordRow) → RecordNeeds tried row → Before s → After (core_does_record (term_reading_by same) row s)
-  record_kept (RecordRefused answer) n h = calm _ _ h (λ u id g. g) tt tt
-  record_kept (PathSwitched conn station number alarm) n h = switched_kept conn station number alarm s.link h
-  record_kept (HandoverAsked conn source attempt cell target caps) n h = asked_over_kept conn source attempt cell target caps s.link n h
-  record_kept (HandoverOrdered conn source attempt cell ncc algs air) n h = calm _ _ h (λ u id g. g) tt (tt, tt)
-  record_kept (HandoverNotified station) n h = notified_kept station s.link h
-  record_kept (HandoverCancelled conn source attempt cell target) n h = calm _ _ h (λ u id g. g) tt (tt, tt)
+  record_kept : (fields : Fields) (key : Option (NumberedKey Term ℕ)) (row : CoreRecordRow) → RecordHas s fields row → FieldsOk tried fields key → Before s → After (core_does_record (term_reading_by same) row s)
+  record_kept fields key (RecordRefused answer) f k h = calm _ _ h (λ u id g. g) tt tt
+  record_kept fields key (PathSwitched conn station number alarm) f k h = switched_kept conn station number alarm s.link h
+  record_kept fields key (HandoverAsked conn source attempt cell target caps) f k h =
+      asked_over_kept conn source attempt cell target caps s.link (subst (λ g. FieldsOk tried g key) f.fields_is k) h
+  record_kept fields key (HandoverOrdered conn source attempt cell ncc algs air) f k h = calm _ _ h (λ u id g. g) tt (tt, tt)
+  record_kept fields key (HandoverNotified station) f k h = notified_kept station s.link h
+  record_kept fields key (HandoverCancelled conn source attempt cell target) f k h = calm _ _ h (λ u id g. g) tt (tt, tt)
 
   -- BY AN ACT
 
@@ -367,11 +378,11 @@ module _ (roots : ℕ) (xs : List (Outgoing Term ℕ)) (sites : List Site) (trie
       triggered None k = tt
       triggered (Some old) k = k
 
-  pub act_kept : (row : CoreActRow) → ActTriggered s.trigger row → Before s → After (core_does_act (term_reading_by same) row s)
-  act_kept (ActRefused answer) n h = calm _ _ h (λ u id g. g) tt tt
-  act_kept (SmcStarted ksi algs caps count) n h = started_kept ksi algs caps count s.partial h
-  act_kept (ContextSetUp conn cell target caps count) n h = set_up_kept conn cell target caps count s.context n h
-  act_kept (ContextReleased conn station) n h = record {
+  act_kept : (act : CoreAct) (row : CoreActRow) → ActHas s act row → Before s → After (core_does_act (term_reading_by same) row s)
+  act_kept act (ActRefused answer) f h = calm _ _ h (λ u id g. g) tt tt
+  act_kept act (SmcStarted ksi algs caps count) f h = started_kept ksi algs caps count s.partial h
+  act_kept act (ContextSetUp conn cell target caps count) f h = set_up_kept conn cell target caps count s.context f.triggered h
+  act_kept act (ContextReleased conn station) f h = record {
     ok = record {
       partial = h.partial;
       context = h.context;
@@ -383,8 +394,31 @@ module _ (roots : ℕ) (xs : List (Outgoing Term ℕ)) (sites : List Site) (trie
     sends = (tt, tt);
     fresh = λ u a b g k. k;
   }
-  act_kept (NasSent count text) n h = nas_sent_kept count text s.context h
-  act_kept (NasSkipped m) n h = nas_skipped_kept m s.context h
+  act_kept act (NasSent count text) f h = nas_sent_kept count text s.context h
+  act_kept act (NasSkipped m) f h = nas_skipped_kept m s.context h
+
+  -- A STEP
+
+  abbrev Step : CoreInput Term ℕ → Outcome → Type 0
+  Step input outcome = After (core_step (term_reading_by same) s input outcome)
+
+  pub act_step : (act : CoreAct) (outcome : Outcome) → Before s → Step (CoreActs act) outcome
+  act_step act outcome h =
+      let k = act_kept act (core_act_row (plain_core (term_reading_by same) s) act) (act_has (term_reading_by same) s act) h in
+      record { ok = k.ok; outs = k.outs; sends = k.sends; fresh = k.fresh }
+
+  pub nas_step : (pdu : List ℕ) (outcome : Outcome) → Before s → Step (CoreNasPdu pdu) outcome
+  nas_step pdu outcome h =
+      let k = nas_kept pdu outcome (nas_row (term_reading_by same) s pdu outcome) (nas_has (term_reading_by same) s pdu outcome) h in
+      record { ok = k.ok; outs = k.outs; sends = k.sends; fresh = k.fresh }
+
+  pub read_step : (read : Result (Content Term ℕ) RecFault) (outcome : Outcome) → ReadOk tried read → Before s → Step (CoreRecord read) outcome
+  read_step (Err fault) outcome f h =
+      let k = calm s (only (BadRecord fault)) h (λ u id g. g) tt tt in record { ok = k.ok; outs = k.outs; sends = k.sends; fresh = k.fresh }
+  read_step (Ok content) outcome f h =
+      let row = core_fields_row (plain_core (term_reading_by same) s) content.fields in
+      let k = record_kept content.fields content.key row (record_has (term_reading_by same) s content.fields) f h in
+      record { ok = k.ok; outs = k.outs; sends = k.sends; fresh = k.fresh }
 
 -- AN AUTHENTICATION
 

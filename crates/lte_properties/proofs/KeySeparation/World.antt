@@ -1,5 +1,5 @@
 -- Which keys are held and given, in every world of every run.
-use Rattle.std.proofs.Common.{◌≡◌, refl, sym, ap, ◌∙◌, subst, ℕ, ◌==◌, Bool, true, List, [], ◌∷◌, Option, Some, None, option_map, Result, Err}
+use Rattle.std.proofs.Common.{◌≡◌, refl, sym, ap, ◌∙◌, subst, ℕ, ◌==◌, Bool, true, List, [], ◌∷◌, Option, Some, None, Result, Err}
 use Rattle.std.specs.Prelude.{⊤}
 use Rattle.std.specs.List.{position_from}
 use Rattle.alg_choice.specs.declared.caps.Caps.{Caps}
@@ -16,39 +16,31 @@ use Rattle.lte_events.specs.declared.setups.Setup.{Setup}
 use Rattle.lte_events.specs.declared.setups.StationSetup.{StationSetup}
 use Rattle.lte_events.specs.Site.{Site}
 use Rattle.key_model.specs.Term.{Term, Root, IsRoot, IsWellFormed}
-use Rattle.key_model.specs.HandoverTable.{NumberedKey}
 use Rattle.key_model.specs.Reading.{term_reading_by}
-use Rattle.s1x2_rec.specs.Fields.{Fields}
 use Rattle.s1x2_rec.specs.Content.{Content}
 use Rattle.lte_machine.specs.Wire.{KeyUse, Outgoing, SealedNas, PlainNas, SealedRrc, UserPacket, Between, address_of}
 use Rattle.lte_machine.specs.Opening.{Opening, Outcome, Opened}
-use Rattle.lte_machine.specs.Reply.{Reply, unseen}
+use Rattle.lte_machine.specs.Reply.{Reply}
 use Rattle.lte_machine.specs.PhoneState.{Phone as PhoneState, PhoneInput, PhoneActs, PhoneNasPdu, PhoneAirPdu}
 use Rattle.lte_machine.specs.PhoneChoice.{phone_row}
 use Rattle.lte_machine.specs.PhoneRows.{Authenticated, OfAuth}
 use Rattle.lte_machine.specs.PhoneStep.{plain_phone, front_of, phone_root, phone_opens, phone_pdu_in, phone_step}
-use Rattle.lte_machine.specs.StationState.{Station, StationInput, StationActs, AirPdu, StationRecord, Interface, OnS1, OnX2, map_read}
+use Rattle.lte_machine.specs.StationState.{Station, StationInput, StationActs, AirPdu, StationRecord, Interface, OnS1, OnX2}
 use Rattle.lte_machine.specs.StationStep.{station_opens, station_pdu_in, station_step}
-use Rattle.lte_machine.specs.CoreState.{Core, CoreContext, CoreInput, CoreAuth, CoreActs, CoreNasPdu, CoreRecord, map_core_context}
-use Rattle.lte_machine.specs.CoreRows.{CoreNasRow, NasRefused, PlainReject, SmcComplete, ServiceAsked, NasOpened, SealedReject, CoreRecordRow, PathSwitched, HandoverAsked, HandoverOrdered, HandoverNotified, HandoverCancelled, SmcChange}
-use Rattle.lte_machine.specs.CoreRows as core_rows
-use Rattle.lte_machine.specs.CoreChoice.{core_header, core_nas_front, core_nas_row, core_record_row, core_act_row}
-use Rattle.lte_machine.specs.CoreStep.{plain_core, core_opens, core_pdu_in, core_received, core_step}
+use Rattle.lte_machine.specs.CoreState.{Core, CoreInput, CoreAuth, CoreActs, CoreNasPdu, CoreRecord}
+use Rattle.lte_machine.specs.CoreStep.{core_opens, core_pdu_in, core_received, core_step}
 use Rattle.lte_machine.specs.World.{Machine, World, AtPhone, AtCore, AtStation, with_one, phone_after, core_after, station_after, by_world, phone_turn, core_turn, station_of_id, turn_of, station_turn, authenticated, auth_unless, known_root, next_root, content_in, arrives, record_at, delivery, class_of, is_sent, injected, happens}
 use Rattle.lte_machine.specs.Machines.{content_of}
 use Rattle.lte_machine.specs.Run.{stations_of, first_world}
 use Rattle.lte_properties.specs.ChainBelow.{AllOf}
 use Rattle.lte_properties.specs.ChainHolds.{machine_by, run}
-use Rattle.lte_properties.proofs.ChainNumbers.RowFacts.{CoreFits}
 use Rattle.lte_properties.specs.Separation.{GivenTo}
 use Rattle.lte_properties.proofs.ChainNumbers.Lists.{OfSome, all_append, all_find, all_put, all_chosen}
-use Rattle.lte_properties.proofs.ChainNumbers.Core.{core_record_fits}
-use Rattle.lte_properties.proofs.KeySeparation.Keys.{Gifts, May, MayHold, StationHas, StationOk, TriedOk, KeyGoes, FieldsOk, FlyOk, MadeOk, HoldOk, step_held, holder_may_grows, station_ok_grows, tried_ok_grows, fly_grows, made_ok_grows, OwnPlace}
+use Rattle.lte_properties.proofs.KeySeparation.Keys.{Gifts, May, MayHold, StationHas, StationOk, TriedOk, KeyGoes, FlyOk, MadeOk, HoldOk, step_held, holder_may_grows, station_ok_grows, tried_ok_grows, fly_grows, made_ok_grows, OwnPlace}
 use Rattle.lte_properties.proofs.KeySeparation.Phone.{PhoneKept, keyless_flies, phone_kept}
 use Rattle.lte_properties.proofs.KeySeparation.Core as core
 use Rattle.lte_properties.proofs.KeySeparation.CoreKeeps.{CoreOk, CoreKept}
 use Rattle.lte_properties.proofs.KeySeparation.Core.{auth_kept}
-use Rattle.lte_properties.proofs.KeySeparation.Choice.{RowNext, nas_next, act_triggered}
 use Rattle.lte_properties.proofs.KeySeparation.Holders.{Holders, keyless_gives, roots_stay, roots_rise, some_map, outs_map, station_at, StationStepped, is_one, once_one, core_stays, grows, stations_grow, flying_grow, held_grow, tried_grow, made_grow, act_stepped, air_stepped, unread_stepped, record_stepped}
 
 module _ (sites : List Site) (same : Term → Term → Bool) (octets : Outgoing Term ℕ → List ℕ) (sender : Option (Outgoing Term ℕ) → Option (KeyUse Term)) (opener : Opening Term → List ℕ → Option (Outgoing Term ℕ) → Outcome) where
@@ -186,52 +178,14 @@ module _ (sites : List Site) (same : Term → Term → Bool) (octets : Outgoing 
 
   core_acts_holds : (w : TheWorld) (act : CoreAct) (came : Option (Outgoing Term ℕ)) → Holders sites w → Holders sites (core_turn m w (CoreActs act) came).0
   core_acts_holds w act came h =
-      core_turn_holds w (CoreActs act) came tt (λ outcome. let k = core.act_kept (next_root w) w.sent sites w.tried same w.core (core_act_row (plain_core (term_reading_by same) w.core) act)
-      (act_triggered (plain_core (term_reading_by same) w.core) act) h.core in
-      record { ok = k.ok; outs = k.outs; sends = k.sends; fresh = k.fresh }) h
-
-  unseen_next : (o : Option (CoreContext Term)) (row : CoreNasRow) → RowNext (option_map (map_core_context unseen) o) row → RowNext o row
-  unseen_next None row h = none row where
-    none : (row : CoreNasRow) → RowNext {K = Term} None row
-    none (NasRefused answer) = tt
-    none PlainReject = tt
-    none (SmcComplete count) = tt
-    none (SmcChange count conn next station) = tt
-    none (ServiceAsked count) = tt
-    none (NasOpened count text) = tt
-    none (SealedReject count) = tt
-  unseen_next (Some c) (NasRefused answer) h = tt
-  unseen_next (Some c) PlainReject h = tt
-  unseen_next (Some c) (SmcComplete count) h = tt
-  unseen_next (Some c) (SmcChange count conn next station) h = tt
-  unseen_next (Some c) (ServiceAsked count) h = h
-  unseen_next (Some c) (NasOpened count text) h = h
-  unseen_next (Some c) (SealedReject count) h = h
+      core_turn_holds w (CoreActs act) came tt (λ outcome. core.act_step (next_root w) w.sent sites w.tried same w.core act outcome h.core) h
 
   core_nas_holds : (w : TheWorld) (pdu : List ℕ) (came : Option (Outgoing Term ℕ)) → Holders sites w → Holders sites (core_turn m w (CoreNasPdu pdu) came).0
   core_nas_holds w pdu came h =
-      let plain = plain_core (term_reading_by same) w.core in
-      core_turn_holds w (CoreNasPdu pdu) came tt (λ outcome. let row = core_nas_row plain.procedure plain.next plain.link (core_nas_front plain.procedure plain.context pdu (core_header pdu)) outcome in
-      let k = core.nas_kept (next_root w) w.sent sites w.tried same w.core row (unseen_next w.core.context row (nas_next plain pdu (core_header pdu) outcome)) h.core in
-      record { ok = k.ok; outs = k.outs; sends = k.sends; fresh = k.fresh }) h
+      core_turn_holds w (CoreNasPdu pdu) came tt (λ outcome. core.nas_step (next_root w) w.sent sites w.tried same w.core pdu outcome h.core) h
 
-  -- a record that asks for a handover is of an attempt
-  record_needs : (w : TheWorld) (fields : Fields) (key : Option (NumberedKey Term ℕ)) (row : CoreRecordRow) → CoreFits w.core.link fields row → FieldsOk w.tried fields key → core.RecordNeeds w.tried row
-  record_needs w fields key (core_rows.RecordRefused answer) r f = tt
-  record_needs w fields key (PathSwitched conn station number alarm) r f = tt
-  record_needs w fields key (HandoverAsked conn source attempt cell target caps) r f = subst (λ g. FieldsOk w.tried g key) r.1 f
-  record_needs w fields key (HandoverOrdered conn source attempt cell ncc algs air) r f = tt
-  record_needs w fields key (HandoverNotified station) r f = tt
-  record_needs w fields key (HandoverCancelled conn source attempt cell target) r f = tt
-
-  abbrev core_row_at : TheWorld → Outgoing Term ℕ → CoreRecordRow
-  core_row_at w x = core_record_row (plain_core (term_reading_by same) w.core) (map_read unseen (term_reading_by same).ncc (content_of x))
-
-  read_kept : (w : TheWorld) (read : Result (Content Term ℕ) RecFault) → core.RecordNeeds w.tried (core_record_row (plain_core (term_reading_by same) w.core) (map_read unseen (term_reading_by same).ncc read)) →
-      Holders sites w → Kept w (CoreRecord read)
-  read_kept w read n h outcome =
-      let k = core.record_kept (next_root w) w.sent sites w.tried same w.core (core_record_row (plain_core (term_reading_by same) w.core) (map_read unseen (term_reading_by same).ncc read)) n h.core in
-      record { ok = k.ok; outs = k.outs; sends = k.sends; fresh = k.fresh }
+  read_kept : (w : TheWorld) (read : Result (Content Term ℕ) RecFault) → core.ReadOk w.tried read → Holders sites w → Kept w (CoreRecord read)
+  read_kept w read f h outcome = core.read_step (next_root w) w.sent sites w.tried same w.core read outcome f h.core
 
   no_key_comes : (to : Address) (t : Term) (w : TheWorld) → to ≡ CoreS1 → KeyGoes (GivenTo w.sent) sites to t → ⊥
   no_key_comes to t w e k = subst (λ a. KeyGoes (GivenTo w.sent) sites a t) e k
@@ -243,8 +197,7 @@ module _ (sites : List Site) (same : Term → Term → Bool) (octets : Outgoing 
   came_holds w (SealedRrc dir station air srb u e text) a f h = core_turn_holds w (CoreRecord (Err RecFault.Short)) (Some (SealedRrc dir station air srb u e text)) tt (read_kept w (Err RecFault.Short) tt h) h
   came_holds w (UserPacket dir station air drb e text) a f h = core_turn_holds w (CoreRecord (Err RecFault.Short)) (Some (UserPacket dir station air drb e text)) tt (read_kept w (Err RecFault.Short) tt h) h
   came_holds w (Between to fields None) a f h =
-      core_turn_holds w (CoreRecord (content_of (Between to fields None))) (Some (Between to fields None)) tt (read_kept w (content_of (Between to fields None))
-      (record_needs w fields None (core_row_at w (Between to fields None)) (core_record_fits (term_reading_by same) w.core (record { fields = fields; key = None })) f.1) h) h
+      core_turn_holds w (CoreRecord (content_of (Between to fields None))) (Some (Between to fields None)) tt (read_kept w (content_of (Between to fields None)) f.1 h) h
   came_holds w (Between to fields (Some key)) a f h = absurd (no_key_comes to key.key w a f.0)
 
   core_record_holds : (w : TheWorld) (came : Option (Outgoing Term ℕ)) → CameOk w CoreS1 came → Holders sites w → Holders sites (core_turn m w (CoreRecord (content_in m came)) came).0

@@ -1,5 +1,5 @@
 -- Which stations are named by what the actors hold and by what was sent between them.
-use Rattle.std.proofs.Common.{◌≡◌, ℕ, Bool, true, false, if◌then◌else◌, List, Option, Some, None, option_map, Result, Ok, Err}
+use Rattle.std.proofs.Common.{◌≡◌, ℕ, List, Option, Some, None, option_map, Result, Ok, Err}
 use Rattle.std.specs.Prelude.{⊤}
 use Rattle.rec_base.specs.declared.faults.RecFault.{RecFault}
 use Rattle.lte_events.specs.Site.{Site}
@@ -13,11 +13,6 @@ use Rattle.lte_machine.specs.StationState.{Station, Context, Attempt, OverX2, X2
 use Rattle.lte_machine.specs.CoreState.{Core, CoreLink, CoreInput, CoreRecord}
 use Rattle.lte_properties.specs.ChainBelow.{AllOf}
 use Rattle.lte_properties.specs.Reach.{IsAmong}
-
--- by the two ends of a test
-pub either : {A : Type 0} (Q : A → Type 0) (b : Bool) (x y : A) → Q x → Q y → Q (if b then x else y)
-either Q true x y h k = h
-either Q false x y h k = k
 
 -- by whatever says that a station is one of them
 module _ (P : ℕ → Type 0) where

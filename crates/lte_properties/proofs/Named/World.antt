@@ -97,7 +97,7 @@ module _ (P : ℕ → Type 0) (cells : List Site) (sites : (cell : Place) (id : 
       core_turn_named i came f =
           let outcome = m.opener (core_opens m.reading w.core i) (core_pdu_in i) came in
           let d = core_step m.reading w.core i outcome in
-          let k = core_step_named P cells sites same w.core i outcome h.core f in
+          let k = core_step_named P cells sites same w.core h.core i outcome f in
           record { core = k.0; stations = h.stations; sent = all_one (λ x. RecordNamed P x) d.1.sent w.sent h.sent (some_sent d.1.sent k.1); made = h.made }
 
       turn_named : (id : ℕ) (i : StationInput Term ℕ) (came : Option (Outgoing Term ℕ)) → InputNamed P i → (o : Option (Station Term ℕ)) → OfSome (λ s. StationNamed P cells s × ((s.id == id) ≡ true)) o
@@ -118,7 +118,7 @@ module _ (P : ℕ → Type 0) (cells : List Site) (sites : (cell : Place) (id : 
 
       auth_named : (ksi : ℕ) (key : Term) (caps : Caps) (o : Option ℕ) → AllNamed (auth_unless m w ksi key caps o).0
       auth_named ksi key caps None =
-          record { core = (core_step_named P cells sites same w.core (CoreAuth ksi key caps) (Opened []) h.core tt).0; stations = h.stations; sent = h.sent; made = h.made }
+          record { core = (core_step_named P cells sites same w.core h.core (CoreAuth ksi key caps) (Opened []) tt).0; stations = h.stations; sent = h.sent; made = h.made }
       auth_named ksi key caps (Some row) = record { core = h.core; stations = h.stations; sent = h.sent; made = h.made }
 
       arrives_named : (to : Address) (pdu : List ℕ) (came : Option (Outgoing Term ℕ)) → SentNamed P came → AllNamed (arrives m w to pdu came).0

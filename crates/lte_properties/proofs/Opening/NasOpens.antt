@@ -1,20 +1,15 @@
 -- What the choice of a row established: algorithms that are chosen for a KASME, and COUNTs that are left.
 use Rattle.std.proofs.Common.{◌≡◌, ℕ, ◌+◌, ◌*◌, ◌≤◌, Bool, true, false, List, [], ◌∷◌, ◌++◌, length, map, inl, inr, Option, Some, None, option_map, Result, Ok, Err, refl, ap, sym, subst, ◌∙◌, arith}
 use Rattle.lte_machine.specs.Kinds.{same_caps}
-use Rattle.lte_events.specs.Site.{station_of}
 use Rattle.std.specs.Prelude.{⊤, nat_le, ◌==◌}
 use Rattle.std.proofs.lemmas.Bool.Decides.{nat_tests}
 use Rattle.rec_base.specs.declared.faults.RecFault.{RecFault}
 use Rattle.rec_base.specs.declared.uses.Dir.TheVariants.{Up, Down}
 use Rattle.alg_choice.specs.Algs.{eia2_identity}
-use Rattle.alg_choice.specs.Choice.{choice_of, are_supported}
+use Rattle.alg_choice.specs.Choice.{are_supported}
 use Rattle.alg_choice.specs.declared.algs.Algs.{Algs}
-use Rattle.alg_choice.specs.declared.algs.Eea.{Eea}
 use Rattle.alg_choice.specs.declared.caps.Caps.{Caps}
-use Rattle.alg_choice.specs.declared.choices.NoAlgorithm.{NoAlgorithm as NoneChosen}
-use Rattle.annex_a_keys.specs.Cell.{Place}
-use Rattle.lte_events.specs.declared.acts.CoreAct.{CoreAct}
-use Rattle.lte_events.specs.declared.acts.CoreAct.TheVariants.{StartSmc, Connect, Release, SendNas, Skip}
+use Rattle.lte_events.specs.declared.acts.CoreAct.TheVariants.{SendNas, Skip}
 use Rattle.lte_events.specs.declared.acts.PhoneAct as acts
 use Rattle.lte_events.specs.declared.acts.PhoneAct.{PhoneAct}
 use Rattle.lte_events.specs.declared.answers.Answer.{Answer}
@@ -23,7 +18,6 @@ use Rattle.key_model.specs.Term.{Term, Alg}
 use Rattle.key_model.specs.Reading.{Reading, term_reading_by}
 use Rattle.nas_count.specs.Estimate.{count_limit, estimate_of}
 use Rattle.nas_count.specs.declared.sending.CountSpent.{CountSpent}
-use Rattle.nas_guard.specs.Keys.{Keys}
 use Rattle.nas_guard.specs.Seal.{first_octet}
 use Rattle.nas_guard.specs.Open.{sn_in, sent_in, first_in}
 use Rattle.nas_rec.specs.declared.records.NasRecord.{NasRecord}
@@ -36,16 +30,13 @@ use Rattle.lte_machine.specs.Wire.{KeyUse, Ciphering, Outgoing, SealedNas, Plain
 use Rattle.lte_machine.specs.Ciphers.{Ciphers, AreCiphers, ciphered_by, nas_octets}
 use Rattle.lte_machine.specs.Opening.{Opening, Outcome, Opened, Differs}
 use Rattle.lte_machine.specs.Reply.{unseen}
-use Rattle.lte_machine.specs.Ranges.{IsCoreAct, IsPhoneAct}
+use Rattle.lte_machine.specs.Ranges.{IsPhoneAct}
 use Rattle.lte_machine.specs.PhoneState.{Partial, NasContext, Radio, Idle, Connecting, Connected, Phone, map_context}
 use Rattle.lte_machine.specs.PhoneRows as phone
 use Rattle.lte_machine.specs.PhoneChoice as choice
 use Rattle.lte_machine.specs.PhoneChoice.{PlainPhone, header_for_phone}
 use Rattle.lte_machine.specs.PhoneKeys as keys
 use Rattle.lte_machine.specs.PhoneStep.{plain_phone}
-use Rattle.lte_machine.specs.CoreState.{Core, CorePartial, CoreContext, CoreLink, map_core_partial}
-use Rattle.lte_machine.specs.CoreChoice as core_choice
-use Rattle.lte_machine.specs.CoreStep.{plain_core}
 use Rattle.lte_machine.specs.Machines.{sender_of}
 use Rattle.lte_machine.specs.Ladder.{RowOrigin, Of}
 use Rattle.lte_machine.specs.Distinct.{Member, keys_of}
@@ -54,54 +45,7 @@ use Rattle.lte_properties.proofs.Opening.Openings.{SealedUnder, SenderIs}
 use Rattle.lte_machine.proofs.Tests.{by_test, above_of}
 use Rattle.lte_properties.proofs.Opening.Counts.{nas_parts, header_down, header_other}
 use Rattle.lte_properties.proofs.Opening.Nas.{Choices, RootHas, SealedSo, SealedOk}
-use Rattle.lte_properties.proofs.Opening.NasRows.{CoreActNeeds, TakenNeeds, NasNeeds, SendNeeds, ActNeeds}
-
--- ACTS OF THE CORE
-
-smc_needs : (priority : List Eea) (p : CorePartial Term) (chosen : Result Algs NoneChosen) → choice_of priority p.caps ≡ chosen
-    → CoreActNeeds priority (Some p) (core_choice.smc_row (map_core_partial unseen p) chosen)
-smc_needs priority p (Err none) e = tt
-smc_needs priority p (Ok algs) e = by_test (CoreActNeeds priority (Some p)) (nat_le count_limit p.send) _ _ (λ f. tt) (λ f. (refl, e))
-
-start_needs : (priority : List Eea) (o : Option (CorePartial Term)) (procedure : Option (Keys (Unit {0})))
-    → CoreActNeeds priority o (core_choice.start_smc_row priority (option_map (map_core_partial unseen) o) procedure)
-start_needs priority None procedure = tt
-start_needs priority (Some p) (Some k) = tt
-start_needs priority (Some p) None = smc_needs priority p (choice_of priority p.caps) refl
-
-connect_needs : (priority : List Eea) (o : Option (CorePartial Term)) (next : ℕ) (cell : Place) (target : Option ℕ) (context : Option (CoreContext (Unit {0}))) (trigger : Option ℕ)
-    → CoreActNeeds priority o (core_choice.connect_row next cell target context trigger)
-connect_needs priority o next cell None context trigger = tt
-connect_needs priority o next cell (Some target) None trigger = tt
-connect_needs priority o next cell (Some target) (Some context) None = tt
-connect_needs priority o next cell (Some target) (Some context) (Some count) =
-    by_test (CoreActNeeds priority o) (nat_le core_choice.NUMBERS next) _ _ (λ f. tt) (λ f. tt)
-
-release_needs : (priority : List Eea) (o : Option (CorePartial Term)) (link : Option (CoreLink (Unit {0}) ℕ)) → CoreActNeeds priority o (core_choice.release_row link)
-release_needs priority o None = tt
-release_needs priority o (Some link) = tt
-
-send_needs : (priority : List Eea) (o : Option (CorePartial Term)) (context : Option (CoreContext (Unit {0}))) (text : List ℕ) → length text ≤ 200
-    → CoreActNeeds priority o (core_choice.send_nas_row context text)
-send_needs priority o None text short = tt
-send_needs priority o (Some context) text short =
-    by_test (CoreActNeeds priority o) (nat_le count_limit context.nas.send) _ _ (λ f. tt) (λ f. (above_of count_limit context.nas.send f, short))
-
-skip_needs : (priority : List Eea) (o : Option (CorePartial Term)) (context : Option (CoreContext (Unit {0}))) (n : ℕ)
-    → CoreActNeeds priority o (core_choice.skip_nas_row context n)
-skip_needs priority o None n = tt
-skip_needs priority o (Some context) n = tt
-
--- the row of an act
-pub core_act_needs : (same : Term → Term → Bool) (s : Core Term ℕ) (act : CoreAct) → IsCoreAct act
-    → CoreActNeeds s.priority s.partial (core_choice.core_act_row (plain_core (term_reading_by same) s) act)
-core_act_needs same s StartSmc h = start_needs s.priority s.partial (plain_core (term_reading_by same) s).procedure
-core_act_needs same s (Connect cell) h =
-    let plain = plain_core (term_reading_by same) s in
-    connect_needs s.priority s.partial s.next cell (station_of cell s.cells) plain.context s.trigger
-core_act_needs same s Release h = release_needs s.priority s.partial (plain_core (term_reading_by same) s).link
-core_act_needs same s (SendNas text) h = send_needs s.priority s.partial (plain_core (term_reading_by same) s).context text h.1
-core_act_needs same s (Skip n) h = skip_needs s.priority s.partial (plain_core (term_reading_by same) s).context n
+use Rattle.lte_properties.proofs.Opening.NasRows.{TakenNeeds, NasNeeds, SendNeeds, ActNeeds}
 
 -- ACTS OF THE PHONE
 

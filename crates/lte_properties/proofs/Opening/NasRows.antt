@@ -8,6 +8,7 @@ use Rattle.alg_choice.specs.declared.algs.Algs.{Algs}
 use Rattle.alg_choice.specs.declared.algs.Eea.{Eea}
 use Rattle.alg_choice.specs.declared.caps.Caps.{Caps}
 use Rattle.annex_a_keys.specs.Cell.{Place}
+use Rattle.lte_events.specs.declared.acts.CoreAct.{CoreAct}
 use Rattle.lte_events.specs.declared.answers.Answer.{Answer}
 use Rattle.key_model.specs.Term.{Term}
 use Rattle.key_model.specs.Reading.{Reading, term_reading_by}
@@ -28,6 +29,9 @@ use Rattle.lte_machine.specs.CoreRows as core
 use Rattle.lte_machine.specs.CoreRows.{CoreNasRow, CoreRecordRow, CoreActRow, CoreRow}
 use Rattle.lte_machine.specs.CoreKeys as core_keys
 use Rattle.lte_machine.specs.CoreKeys.{CoreDone, core_does}
+use Rattle.lte_machine.specs.Ranges.{IsCoreAct}
+use Rattle.lte_machine.proofs.ActFacts.{ActHas, Starts, Sends}
+use Rattle.lte_machine.proofs.Tests.{above_of}
 use Rattle.lte_properties.proofs.Opening.Nas.{Choices, nas_keys, IsRootOf, AnyNumber, ChosenIs, RootHas, ContextOk, PhoneContextOk, CoreContextOk, CorePartialOk, ProcedureOk, PhoneOk, CoreOk, SealedSo, ciphered_for, SealedOk, OutOk}
 use Rattle.lte_machine.specs.Reply.{Before}
 
@@ -38,13 +42,15 @@ abbrev pub StartNeeds : List Eea → ℕ → Algs → Option (CorePartial Term) 
 StartNeeds priority ksi algs None = ⊤
 StartNeeds priority ksi algs (Some p) = (ksi ≡ p.ksi) × (choice_of priority p.caps ≡ Ok algs)
 
-abbrev pub CoreActNeeds : List Eea → Option (CorePartial Term) → CoreActRow → Type 0
-CoreActNeeds priority partial (core.SmcStarted ksi algs caps count) = StartNeeds priority ksi algs partial
-CoreActNeeds priority partial (core.NasSent count text) = (count < count_limit) × (length text ≤ 200)
-CoreActNeeds priority partial other = ⊤
+started_needs : (s : Core Term ℕ) (act : CoreAct) (ksi : ℕ) (algs : Algs) (caps : Caps) (count : ℕ) → Starts s act ksi algs caps count → StartNeeds s.priority ksi algs s.partial
+started_needs s act ksi algs caps count f = subst (StartNeeds s.priority ksi algs) (sym f.holds) (f.ksi_is, f.chosen)
+
+sent_needs : (s : Core Term ℕ) (act : CoreAct) (count : ℕ) (text : List ℕ) → Sends s act count text → IsCoreAct act → (count < count_limit) × (length text ≤ 200)
+sent_needs s act count text f is =
+    (subst (λ n. n < count_limit) (sym f.count_is) (above_of count_limit f.context.nas.send f.left), (subst IsCoreAct f.act_is is).1)
 
 abbrev pub CoreRowNeeds : Core Term ℕ → CoreRow → Type 0
-CoreRowNeeds s (core.OfAct row) = CoreActNeeds s.priority s.partial row
+CoreRowNeeds s (core.OfAct row) = (act : CoreAct) × ActHas s act row × IsCoreAct act
 CoreRowNeeds s other = ⊤
 
 module _ (same : Term → Term → Bool) (g : Choices) (next : ℕ) where
@@ -156,13 +162,13 @@ module _ (same : Term → Term → Bool) (g : Choices) (next : ℕ) where
   core_record_goes (core.HandoverNotified station) s h = notified_goes station s.link s h
   core_record_goes (core.HandoverCancelled conn source attempt cell target) s h = (h, tt)
 
-  core_act_goes : (row : CoreActRow) (s : Core Term ℕ) → CoreOk g next s → CoreActNeeds s.priority s.partial row → CoreGoes (core_keys.core_does_act r row s)
-  core_act_goes (core.ActRefused answer) s h needs = (h, tt)
-  core_act_goes (core.SmcStarted ksi algs caps count) s h needs = smc_started_goes ksi algs caps count s.partial s h h.0 needs
-  core_act_goes (core.ContextSetUp conn cell target caps count) s h needs = set_up_goes conn cell target caps count s.context s h
-  core_act_goes (core.ContextReleased conn station) s h needs = (h, tt)
-  core_act_goes (core.NasSent count text) s h needs = core_sent_goes count text s.context s h h.2 needs
-  core_act_goes (core.NasSkipped n) s h needs = core_skipped_goes n s.context s h h.2
+  core_act_goes : (act : CoreAct) (row : CoreActRow) (s : Core Term ℕ) → CoreOk g next s → ActHas s act row → IsCoreAct act → CoreGoes (core_keys.core_does_act r row s)
+  core_act_goes act (core.ActRefused answer) s h f is = (h, tt)
+  core_act_goes act (core.SmcStarted ksi algs caps count) s h f is = smc_started_goes ksi algs caps count s.partial s h h.0 (started_needs s act ksi algs caps count f)
+  core_act_goes act (core.ContextSetUp conn cell target caps count) s h f is = set_up_goes conn cell target caps count s.context s h
+  core_act_goes act (core.ContextReleased conn station) s h f is = (h, tt)
+  core_act_goes act (core.NasSent count text) s h f is = core_sent_goes count text s.context s h h.2 (sent_needs s act count text f is)
+  core_act_goes act (core.NasSkipped n) s h f is = core_skipped_goes n s.context s h h.2
 
   -- a new KASME
   abbrev pub CoreRootNeeds : Core Term ℕ → ℕ → Caps → Option Term → Type 0
@@ -183,7 +189,7 @@ module _ (same : Term → Term → Bool) (g : Choices) (next : ℕ) where
       → CoreGoes (core_does r row root s)
   core_goes (core.OfNas row) root s other h needs = core_nas_goes row s h
   core_goes (core.OfRecord row) root s other h needs = core_record_goes row s h
-  core_goes (core.OfAct row) root s other h needs = core_act_goes row s h needs
+  core_goes (core.OfAct row) root s other h needs = core_act_goes needs.0 row s h needs.1 needs.2
   core_goes (core.OfAuth ksi caps) root s other h needs = absurd other
 
   -- THE PHONE

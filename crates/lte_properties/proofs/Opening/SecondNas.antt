@@ -28,7 +28,6 @@ use Rattle.lte_machine.specs.CoreChoice as core_choice
 use Rattle.lte_machine.specs.CoreChoice.{core_header}
 use Rattle.lte_machine.specs.CoreKeys as core_keys
 use Rattle.lte_machine.specs.CoreState.{Core, CorePartial, CoreContext}
-use Rattle.lte_machine.specs.CoreStep.{plain_core}
 use Rattle.lte_machine.specs.Opening.{Opening, OpensNas, OpensSrb, CipheredElse, judged, same_uses, same_ciphering}
 use Rattle.lte_machine.specs.PhoneChoice as choice
 use Rattle.lte_machine.specs.PhoneChoice.{PlainPhone, is_for_phone, header_for_phone}
@@ -37,6 +36,7 @@ use Rattle.lte_machine.specs.PhoneState.{Partial, NasContext, Phone}
 use Rattle.lte_machine.specs.PhoneStep.{plain_phone}
 use Rattle.lte_machine.specs.Bearers.{Srb}
 use Rattle.lte_machine.specs.Wire.{KeyUse, Ciphering, ciphering_if, ciphering_by, nas_use, nas_ciphering, Outgoing, SealedNas, PlainNas, SealedRrc, UserPacket, Between}
+use Rattle.lte_machine.proofs.NasFacts.{FrontHas, nas_front, front_has}
 use Rattle.lte_properties.specs.SecondCase.{sender_at}
 use Rattle.lte_properties.proofs.Agreement.Opener.{one_use, one_ciphering, plain_header}
 use Rattle.lte_properties.proofs.Agreement.PhoneWalk.{by_test}
@@ -228,31 +228,10 @@ module _ (g : Choices) (next : ℕ) where
       protected_never header count type (Some d) k (Some (UserPacket dir station air drb f text)) h = λ e. absurd cc
       protected_never header count type (Some d) k (Some (Between to fields key)) h = λ e. absurd cc
 
-      opens_complete_never : core_header pdu ≡ Ok 4 → (count : Result ℕ CountSpent) → NeverCore (core_choice.opens_complete count)
-      opens_complete_never type (Err spent) = λ e. absurd cc
-      opens_complete_never type (Ok count) = complete_never count type s.partial s.procedure own.1 came is
+      front_never : (front : core_choice.CoreNasFront) → FrontHas q s pdu front → NeverCore front
+      front_never (core_choice.NasSettled row) f = λ e. absurd cc
+      front_never (core_choice.OpensComplete count) f = complete_never count f.header s.partial s.procedure own.1 came is
+      front_never (core_choice.OpensProtected header count) f = protected_never header count f.header_is s.context own.2 came is
 
-      complete_front_never : core_header pdu ≡ Ok 4 → (o : Option (Keys (Unit {0}))) → NeverCore (core_choice.complete_front o pdu)
-      complete_front_never type None = λ e. absurd cc
-      complete_front_never type (Some k) = opens_complete_never type (estimate_of 0 (sn_in pdu))
-
-      opens_protected_never : (header : ℕ) → core_header pdu ≡ Ok header → (count : Result ℕ CountSpent) → NeverCore (core_choice.opens_protected header count)
-      opens_protected_never header type (Err spent) = λ e. absurd cc
-      opens_protected_never header type (Ok count) = protected_never header count type s.context own.2 came is
-
-      protected_front_never : (header : ℕ) → core_header pdu ≡ Ok header → (o : Option (CoreContext (Unit {0}))) → NeverCore (core_choice.protected_front o header pdu)
-      protected_front_never header type None = λ e. absurd cc
-      protected_front_never header type (Some k) = opens_protected_never header type (estimate_of k.nas.receive (sn_in pdu))
-
-      core_front_never : (procedure : Option (Keys (Unit {0}))) (context : Option (CoreContext (Unit {0}))) (o : Result ℕ Answer) → core_header pdu ≡ o
-          → NeverCore (core_choice.core_nas_front procedure context pdu o)
-      core_front_never procedure context (Err answer) type = λ e. absurd cc
-      core_front_never procedure context (Ok header) type =
-          by_test NeverCore (header == 0) _ _ (λ f e. absurd cc)
-          (λ f. by_test NeverCore (nat_lt (length pdu) 6) _ _ (λ x e. absurd cc)
-          (λ x. by_test NeverCore (header == 4) _ _
-          (λ y. let four : header ≡ 4 = grind (arith, nat_tests) in complete_front_never (type ∙ ap Ok four) procedure)
-          (λ y. protected_front_never header type context)))
-
-      pub core_nas_never : NeverCore (core_choice.core_nas_front (plain_core q s).procedure (plain_core q s).context pdu (core_header pdu))
-      core_nas_never = core_front_never (plain_core q s).procedure (plain_core q s).context (core_header pdu) refl
+      pub core_nas_never : NeverCore (nas_front q s pdu)
+      core_nas_never = front_never (nas_front q s pdu) (front_has q s pdu)

@@ -27,6 +27,7 @@ use Rattle.lte_machine.specs.World.{Machine, authenticated, auth_unless, known_r
 use Rattle.lte_machine.specs.Step.{delivery_attempts, injection_attempts}
 use Rattle.lte_machine.specs.Machines.{machine_over, sender_of}
 use Rattle.lte_machine.specs.Distinct.{keys_of}
+use Rattle.lte_machine.proofs.ActFacts.{act_has}
 use Rattle.lte_properties.specs.ChainBelow.{AllOf}
 use Rattle.lte_properties.specs.ChainHolds.{machine_by, run, noted, Holds}
 use Rattle.lte_properties.proofs.Agreement.Openings.{Honest, Calm, Along, OpensByTerms}
@@ -47,7 +48,7 @@ use Rattle.lte_properties.proofs.SameKeys.{IsReflexive}
 use Rattle.lte_properties.proofs.Opening.Delivered.{opens_where_fits}
 use Rattle.lte_properties.proofs.Opening.Nas.{Choices, SentOk, More, phone_more, core_more, sent_more}
 use Rattle.lte_properties.proofs.Opening.NasRows.{phone_goes, core_auth_goes}
-use Rattle.lte_properties.proofs.Opening.NasOpens.{core_act_needs, phone_act_needs}
+use Rattle.lte_properties.proofs.Opening.NasOpens.{phone_act_needs}
 use Rattle.lte_properties.proofs.Opening.Air.{AirOk, air_later}
 use Rattle.lte_properties.proofs.Opening.AirWalk.{station_act_needs, phone_act_sends}
 use Rattle.lte_properties.proofs.Opening.World.{PacketsOk, Keeps, one_root_more, chosen_at, chosen_below, chosen_there, CameTo, arrives_keeps, by_world_keeps, phone_turn_keeps, core_turn_keeps, station_turn_keeps}
@@ -161,7 +162,7 @@ module _ (same : Term → Term → Bool) (sender : Option (Outgoing Term ℕ) �
   happens_keeps g k d w (Event.Station id act) is ok h one later =
       station_turn_keeps same sender opener c good between cells g k d w id (StationActs act) None ok h (λ s o. station_act_needs q s act is) later
   happens_keeps g k d w (Event.Core act) is ok h one later =
-      core_turn_keeps same sender opener c good between cells g k d w (CoreActs act) None h tt (core_act_needs same w.core act is) later
+      core_turn_keeps same sender opener c good between cells g k d w (CoreActs act) None h tt (act, act_has q w.core act, is) later
   happens_keeps g k d w (Event.Deliver i) is ok h one later =
       delivered_keeps g k d w (record_at i w.sent) ok h (all_chosen (SentOk g (next_root w)) i w.sent h.nas) one later
   happens_keeps g k d w (Event.Inject to pdu) is ok h one later =
