@@ -26,6 +26,7 @@ reject = record { kind = 0x03; layout = Last (octet 23 24); make = SecurityModeR
 abbrev pub complete : Form NasRecord
 complete = record { kind = 0x02; layout = Empty; make = λ none. SecurityModeComplete }
 
+-- no field
 abbrev pub service_request : Form NasRecord
 service_request = record { kind = 0x04; layout = Empty; make = λ none. ServiceRequest }
 

@@ -7,6 +7,7 @@ use Rattle.nas_rec.specs.declared.records.NasRecord.{NasRecord}
 use Rattle.nas_rec.specs.declared.records.NasRecord.TheVariants.{SecurityModeComplete, ServiceRequest}
 use Rattle.nas_rec.specs.Forms.{command, complete, reject, service_request, any_text}
 
+-- each form as read, or the first fault
 unfoldable pub command_of : List ℕ → Result NasRecord RecFault
 command_of octets = record_by command octets
 

@@ -76,6 +76,7 @@ pub record Form (A : Type 0) : Type 1 where
 abbrev pub read_layout : {A : Type 0} → (l : Layout RecFault) → (Values l → A) → List ℕ → Result A RecFault
 read_layout l make octets = size_by l octets >>= λ size. read_by sized l octets 1 (λ vs. Ok (make vs))
 
+-- the record of a form, or the first fault
 abbrev pub record_by : {A : Type 0} → Form A → List ℕ → Result A RecFault
 record_by form octets = read_layout form.layout form.make octets
 

@@ -28,6 +28,7 @@ key_change = record {
 abbrev pub complete : Form RrcRecord
 complete = record { kind = 0x02; layout = Empty; make = λ none. SecurityModeComplete }
 
+-- no field
 abbrev pub reconfigured : Form RrcRecord
 reconfigured = record { kind = 0x04; layout = Empty; make = λ none. ReconfigurationComplete }
 

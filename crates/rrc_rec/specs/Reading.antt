@@ -8,6 +8,7 @@ use Rattle.rrc_rec.specs.declared.records.RrcRecord.{RrcRecord}
 use Rattle.rrc_rec.specs.declared.records.RrcRecord.TheVariants.{SecurityModeComplete, ReconfigurationComplete}
 use Rattle.rrc_rec.specs.Forms.{command, complete, reconfiguration, reconfigured, any_text, key_change}
 
+-- each form as read, or the first fault
 unfoldable pub command_of : List ℕ → Result RrcRecord RecFault
 command_of octets = record_by command octets
 

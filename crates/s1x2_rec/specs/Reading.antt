@@ -7,6 +7,7 @@ use Rattle.s1x2_rec.specs.declared.records.CoreRecord.{CoreRecord}
 use Rattle.s1x2_rec.specs.Content.{Content, content_of}
 use Rattle.s1x2_rec.specs.Forms.{initial_context, context_release, path_switch_request, path_switch_answer, handover_required, handover_request, handover_request_ack, handover_command, handover_notify, handover_cancel, x2_request, x2_ack, x2_cancel, x2_release, context_modification}
 
+-- each form as read, or the first fault
 unfoldable pub initial_context_of : List ℕ → Result CoreRecord RecFault
 initial_context_of octets = record_by initial_context octets
 
