@@ -5,7 +5,6 @@ pub mod Starting
 pub mod Applied
 pub mod SoFar
 pub mod CoreText
-pub mod Adding
 pub mod Once
 pub mod Journal
 pub mod Promised

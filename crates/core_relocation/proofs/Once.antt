@@ -1,8 +1,7 @@
 -- Each key that a core sends to a station goes in one record.
-use Rattle.std.proofs.Common.{◌≡◌, refl, sym, ap, ◌∙◌, subst, ℕ, zero, suc, List, [], ◌∷◌, ◌++◌, length, map, Option, Some, None, option_map, Result, Ok, inl, inr}
+use Rattle.std.proofs.Common.{◌≡◌, refl, sym, ap, ◌∙◌, subst, ℕ, zero, suc, List, [], ◌∷◌, ◌++◌, length, map, Option, Some, None, option_map, inl, inr}
 use Rattle.std.specs.Prelude.{◌⊎◌, slice_get}
 use Rattle.rec_base.specs.declared.uses.Dir.TheVariants.{Up, Down}
-use Rattle.lte_events.specs.Site.{Site}
 use Rattle.lte_events.specs.declared.addresses.Address.{Address}
 use Rattle.lte_events.specs.declared.events.Event.{Event}
 use Rattle.lte_events.specs.declared.setups.Setup.{Setup}
@@ -12,16 +11,14 @@ use Rattle.key_model.specs.HandoverTable.{NumberedKey}
 use Rattle.key_model.specs.Term.{Term, Root}
 use Rattle.key_model.specs.Value.{value_of, same_value}
 use Rattle.s1x2_rec.specs.Fields.{Fields, PathSwitchAnswer, HandoverRequest}
-use Rattle.s1x2_rec.specs.Reading.{read_core}
 use Rattle.lte_machine.specs.BothRuns.{annex_b_terms, octet_run, written_run}
-use Rattle.lte_machine.specs.Ciphers.{annex_b, octets_of, written}
-use Rattle.lte_machine.specs.Distinct.{Member, keys_of}
+use Rattle.lte_machine.specs.Ciphers.{annex_b, octets_of}
 use Rattle.lte_machine.specs.Known.{SentKnown, IsReported, AllReported}
-use Rattle.lte_machine.specs.Machines.{Kept, kept_in_values, machine_by, sender_of, written_in_values, written_machine}
+use Rattle.lte_machine.specs.Machines.{Kept, kept_in_values, sender_of, written_in_values, written_machine}
 use Rattle.lte_machine.specs.Opening.{Opening, Outcome, open_by_uses, open_octets}
 use Rattle.lte_machine.specs.Ranges.{AllOf, IsEvent, IsSetup}
 use Rattle.lte_machine.specs.Run.{Running, run, first_world}
-use Rattle.lte_machine.specs.Wire.{KeyUse, Outgoing, SealedNas, PlainNas, SealedRrc, UserPacket, Between}
+use Rattle.lte_machine.specs.Wire.{Outgoing, SealedNas, PlainNas, SealedRrc, UserPacket, Between}
 use Rattle.lte_machine.specs.World.{Machine, World, with_one, happens}
 use Rattle.lte_machine.proofs.EventByEvent.{written_still}
 use Rattle.lte_machine.proofs.LadderRun.{all_reported, ladder_always}
@@ -31,9 +28,8 @@ use Rattle.lte_machine.proofs.StillRun.{still_is_run}
 use Rattle.lte_properties.specs.Separation.{Gives, GivenTo}
 use Rattle.lte_properties.proofs.KeySeparation.Holders.{Holders}
 use Rattle.lte_properties.proofs.KeySeparation.Keys.{GivesIn}
-use Rattle.lte_properties.proofs.KeySeparation.World.{first_holds, happens_holds}
+use Rattle.lte_properties.proofs.KeySeparation.World.{first_holds, happens_goes}
 use Rattle.core_relocation.specs.Once.{nh_of, nh_read, nh_sent, NoNhTwice}
-use Rattle.core_relocation.proofs.Adding.{happens_adds}
 
 abbrev TheWorld : Type 0
 TheWorld = World Term ℕ (Outgoing Term ℕ)
@@ -132,9 +128,8 @@ module _ (setup : Setup) (set : IsSetup setup) where
   run_apart : (w : TheWorld) (es : List Event) → Holders setup.cells w → Apart w.sent → Apart (run m w es).sent
   run_apart w [] h apart = apart
   run_apart w (e ∷ es) h apart =
-      let adds = happens_adds setup.cells same_value octets sender_of opener w e h in
-      run_apart (happens m w e).0 es (happens_holds setup.cells same_value octets sender_of opener w e h)
-      (subst Apart (sym adds.is) (more_apart w.sent adds.sent apart adds.fresh))
+      let goes = happens_goes setup.cells same_value octets sender_of opener w h e in
+      run_apart (happens m w e).0 es goes.holders (subst Apart (sym goes.is) (more_apart w.sent goes.sent apart goes.fresh))
 
   run_ranged : (w : TheWorld) (es : List Event) → AllOf IsEvent es → Ranged w → Ranged (run m w es)
   run_ranged w [] are h = h

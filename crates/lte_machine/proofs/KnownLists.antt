@@ -69,6 +69,21 @@ pub all_more : {A : Type 0} (P Q : A → Type 0) → ((x : A) → P x → Q x) �
 all_more P Q f [] h = tt
 all_more P Q f (x ∷ xs) h = (f x h.0, all_more P Q f xs h.1)
 
+-- what is so of each in two ways
+pub all_both : {A : Type 0} (P Q R : A → Type 0) → ((x : A) → P x → Q x → R x) → (xs : List A) → AllOf P xs → AllOf Q xs → AllOf R xs
+all_both P Q R f [] h k = tt
+all_both P Q R f (x ∷ xs) h k = (f x h.0 k.0, all_both P Q R f xs h.1 k.1)
+
+-- what is so of everything
+pub all_each : {A : Type 0} (P : A → Type 0) → ((x : A) → P x) → (xs : List A) → AllOf P xs
+all_each P f [] = tt
+all_each P f (x ∷ xs) = (f x, all_each P f xs)
+
+-- what is so of all of a list is so of each
+pub each_of : {A B : Type 0} (P : A → B → Type 0) (xs : List B) → AllOf (λ x. (y : A) → AllOf (P y) xs → P y x) xs
+each_of P [] = tt
+each_of P (x ∷ xs) = ((λ y h. h.0), all_more (λ z. (y : _) → AllOf (P y) xs → P y z) (λ z. (y : _) → AllOf (P y) (x ∷ xs) → P y z) (λ z f y h. f y h.1) xs (each_of P xs))
+
 module _ (P : Station Term ℕ → Type 0) (id : ℕ) (new : Station Term ℕ) (n : P new) where
   put_one : (b : Bool) (s : Station Term ℕ) → P s → P (put_if b new s)
   put_one true s p = n

@@ -1,10 +1,7 @@
 -- Every key of every world of every run was reported, and the rows of its ladder stand for the distinct terms.
-use Rattle.std.proofs.Common.{◌≡◌, refl, ℕ, ◌==◌, List, [], ◌∷◌, ◌++◌, map, Option, Some, None, option_map, inl}
-use Rattle.std.specs.List.{position_from}
+use Rattle.std.proofs.Common.{◌≡◌, refl, ℕ, List, [], ◌∷◌, ◌++◌, map, Option, Some, None, option_map, inl}
 use Rattle.alg_choice.specs.declared.caps.Caps.{Caps}
-use Rattle.lte_events.specs.declared.addresses.Address.{Address}
 use Rattle.lte_events.specs.declared.answers.Answer.{Answer}
-use Rattle.lte_events.specs.declared.answers.Answer.TheVariants.{NoUe, NoRecord, Sent, RepeatedRoot}
 use Rattle.lte_events.specs.declared.events.Event.{Event}
 use Rattle.lte_events.specs.declared.setups.Setup.{Setup}
 use Rattle.lte_events.specs.declared.setups.StationSetup.{StationSetup}
@@ -14,33 +11,34 @@ use Rattle.key_model.specs.HandoverTable.{NumberedKey}
 use Rattle.key_model.specs.Reading.{Reading, term_reading_by}
 use Rattle.key_model.specs.Term.{Term}
 use Rattle.key_model.specs.Value.{same_value}
-use Rattle.lte_machine.specs.Wire.{KeyUse, Outgoing, SealedNas, PlainNas, SealedRrc, UserPacket, Between, address_of}
+use Rattle.lte_machine.specs.Wire.{KeyUse, Outgoing, SealedNas, PlainNas, SealedRrc, UserPacket, Between}
 use Rattle.lte_machine.specs.Opening.{Opening, Outcome}
 use Rattle.lte_machine.specs.Ranges.{AllOf}
 use Rattle.lte_machine.specs.Reply.{Reply}
 use Rattle.lte_machine.specs.Ladder.{RowOrigin, OfRoot, Of}
-use Rattle.lte_machine.specs.PhoneState.{Phone, PhoneInput, PhoneActs, PhoneNasPdu, PhoneAirPdu}
+use Rattle.lte_machine.specs.PhoneState.{Phone, PhoneInput}
 use Rattle.lte_machine.specs.PhoneRows.{Authenticated, OfAuth}
 use Rattle.lte_machine.specs.PhoneChoice.{phone_row}
 use Rattle.lte_machine.specs.PhoneStep.{plain_phone, front_of, phone_root, phone_opens, phone_pdu_in, phone_step}
-use Rattle.lte_machine.specs.StationState.{Station, StationInput, StationActs, AirPdu, StationRecord, OnS1, OnX2}
+use Rattle.lte_machine.specs.StationState.{Station, StationInput, StationActs, AirPdu, StationRecord}
 use Rattle.lte_machine.specs.StationStep.{key_read, station_key, station_opens, station_pdu_in, station_row_of, station_step}
 use Rattle.lte_machine.specs.CoreState.{Core, CoreInput, CoreActs, CoreNasPdu, CoreRecord}
 use Rattle.lte_machine.specs.CoreRows.{OfAuth as OfCoreAuth}
 use Rattle.lte_machine.specs.CoreChoice.{core_row}
 use Rattle.lte_machine.specs.CoreStep.{plain_core, core_front_of, core_root, core_received, core_opens, core_pdu_in, core_step}
-use Rattle.lte_machine.specs.World.{Holder, AtPhone, AtCore, AtStation, Machine, World, holds, uses_in, phone_after, core_after, station_after, by_world, phone_turn, core_turn, station_of_id, turn_of, station_turn, authenticated, auth_unless, known_root, next_root, content_in, arrives, record_at, delivery, class_of, is_sent, injected, happens}
+use Rattle.lte_machine.specs.World.{Holder, AtPhone, AtCore, AtStation, Machine, World, holds, uses_in, phone_after, core_after, station_after, by_world, phone_turn, core_turn, turn_of, authenticated, known_root, next_root, content_in, happens}
 use Rattle.lte_machine.specs.Machines.{content_of, machine_by}
 use Rattle.lte_machine.specs.Run.{stations_of, first_world}
 use Rattle.lte_machine.specs.Distinct.{keys_of, Member}
 use Rattle.lte_machine.proofs.Mixed.{run}
 use Rattle.lte_machine.specs.Known.{PairKnown, StationKnown, SentKnown, IsReported, AllReported}
 use Rattle.lte_machine.proofs.History.{Laddered, no_history}
-use Rattle.lte_machine.proofs.KnownLists.{OfSome, all_append, all_one, all_find, all_chosen, all_more, all_put, AllOut, phone_more, station_more, core_more, sent_more, uses_in_known}
+use Rattle.lte_machine.proofs.KnownLists.{OfSome, all_append, all_one, all_more, all_put, AllOut, phone_more, station_more, core_more, sent_more, uses_in_known}
 use Rattle.lte_machine.proofs.KnownLadder.{still_in, new_in, outs_in, laddered_chain, laddered_root}
 use Rattle.lte_machine.proofs.KnownPhone.{PhoneKeeps, phone_does_keeps}
 use Rattle.lte_machine.proofs.KnownStation.{StationKeeps, station_does_keeps}
 use Rattle.lte_machine.proofs.KnownCore.{CoreKeeps, core_does_keeps}
+use Rattle.lte_machine.proofs.Routing.{Turns, no_root, happens_by}
 
 -- a world whose keys were all reported, each derived from keys reported before
 pub record Grounds (w : World Term ℕ (Outgoing Term ℕ)) : Type 0 where
@@ -203,20 +201,14 @@ module _ (root : ℕ → List ℕ → Term) (octets : Outgoing Term ℕ → List
       (some_more (IsReported w) Q (after_more w d.1.derived) (core_root input) k) g.keys.core)
       c g
 
-  turn_of_grounds : (w : TheWorld) (id : ℕ) (input : StationInput Term ℕ) (came : Option (Outgoing Term ℕ)) (o : Option (Station Term ℕ)) → PairKnown (IsReported w) (station_key input) →
-      OfSome (StationKnown (IsReported w)) o → Grounds w → Grounds (turn_of m w id input came o).0
-  turn_of_grounds w id input came None k h g = by_world_grounds w NoUe g
-  turn_of_grounds w id input came (Some s) k h g =
+  station_turn_grounds : (w : TheWorld) (id : ℕ) (input : StationInput Term ℕ) (came : Option (Outgoing Term ℕ)) (s : Station Term ℕ) → PairKnown (IsReported w) (station_key input) →
+      StationKnown (IsReported w) s → Grounds w → Grounds (turn_of m w id input came (Some s)).0
+  station_turn_grounds w id input came s k h g =
       let outcome = opener (station_opens r s input) (station_pdu_in input) came in
       let d = station_step r s input outcome in
       station_after_grounds w id d
       (station_does_keeps same_value (IsReported w) (After w d.1.derived) (after_more w d.1.derived) (station_row_of r s input outcome) (station_key input) s k h)
       (pair_key_known (IsReported w) (station_key input) k) g
-
-  station_turn_grounds : (w : TheWorld) (id : ℕ) (input : StationInput Term ℕ) (came : Option (Outgoing Term ℕ)) → PairKnown (IsReported w) (station_key input) →
-      Grounds w → Grounds (station_turn m w id input came).0
-  station_turn_grounds w id input came k g =
-      turn_of_grounds w id input came (station_of_id id w.stations) k (all_find (StationKnown (IsReported w)) (λ s. s.id == id) w.stations g.keys.stations) g
 
   -- AN EVENT
 
@@ -239,10 +231,6 @@ module _ (root : ℕ → List ℕ → Term) (octets : Outgoing Term ℕ → List
         };
       }
 
-  auth_grounds : (w : TheWorld) (ksi : ℕ) (key : Term) (caps : Caps) (o : Option ℕ) → known_root m w key ≡ o → Grounds w → Grounds (auth_unless m w ksi key caps o).0
-  auth_grounds w ksi key caps None is g = authenticated_grounds w ksi key caps is g
-  auth_grounds w ksi key caps (Some row) is g = by_world_grounds w (RepeatedRoot row) g
-
   read_known : (w : TheWorld) (came : Option (Outgoing Term ℕ)) → CameKnown w came → PairKnown (IsReported w) (key_read (content_in m came))
   read_known w None c = tt
   read_known w (Some x) c = content_known (IsReported w) x c
@@ -251,32 +239,22 @@ module _ (root : ℕ → List ℕ → Term) (octets : Outgoing Term ℕ → List
   core_read_known w None c = tt
   core_read_known w (Some x) c = core_key_known (IsReported w) x c
 
-  arrives_grounds : (w : TheWorld) (to : Address) (pdu : List ℕ) (came : Option (Outgoing Term ℕ)) → CameKnown w came → Grounds w → Grounds (arrives m w to pdu came).0
-  arrives_grounds w Address.PhoneNas pdu came c g = phone_turn_grounds w (PhoneNasPdu pdu) came tt g
-  arrives_grounds w (Address.Phone station air bearer) pdu came c g = phone_turn_grounds w (PhoneAirPdu station air bearer pdu) came tt g
-  arrives_grounds w Address.CoreNas pdu came c g = core_turn_grounds w (CoreNasPdu pdu) came tt tt g
-  arrives_grounds w Address.CoreS1 pdu came c g = core_turn_grounds w (CoreRecord (content_in m came)) came tt (core_read_known w came c) g
-  arrives_grounds w (Address.StationAir station air bearer) pdu came c g = station_turn_grounds w station (AirPdu air bearer pdu) came tt g
-  arrives_grounds w (Address.StationS1 station) pdu came c g = station_turn_grounds w station (StationRecord OnS1 (content_in m came)) came (read_known w came c) g
-  arrives_grounds w (Address.StationX2 station) pdu came c g = station_turn_grounds w station (StationRecord OnX2 (content_in m came)) came (read_known w came c) g
-
-  delivered_grounds : (w : TheWorld) (o : Option (Outgoing Term ℕ)) → CameKnown w o → Grounds w → Grounds (delivery m w o).0
-  delivered_grounds w None c g = by_world_grounds w NoRecord g
-  delivered_grounds w (Some x) c g = arrives_grounds w (address_of x) (octets x) (Some x) c g
-
-  injected_grounds : (w : TheWorld) (to : Address) (pdu : List ℕ) (o : Option ℕ) → Grounds w → Grounds (injected m w to pdu o).0
-  injected_grounds w to pdu None g = arrives_grounds w to pdu None tt g
-  injected_grounds w to pdu (Some number) g = by_world_grounds w (Sent number) g
+  turns : (w : TheWorld) → Grounds w → Turns m w (λ e. Unit {0}) (λ to pdu came. CameKnown w came) (StationKnown (IsReported w)) (λ done a. Grounds done.0)
+  turns w g = record {
+    auth = λ ksi key caps is new. authenticated_grounds w ksi (root (next_root w) key) caps new g;
+    phone = λ input came turn is. phone_turn_grounds w input came (no_root (IsReported w) input turn) g;
+    core_acts = λ act is. core_turn_grounds w (CoreActs act) None tt tt g;
+    core_nas = λ pdu came is. core_turn_grounds w (CoreNasPdu pdu) came tt tt g;
+    core_record = λ pdu came is. core_turn_grounds w (CoreRecord (content_in m came)) came tt (core_read_known w came is) g;
+    station_acts = λ id act is s f. station_turn_grounds w id (StationActs act) None s tt f.holds g;
+    station_air = λ id air bearer pdu came is s f. station_turn_grounds w id (AirPdu air bearer pdu) came s tt f.holds g;
+    station_record = λ on id pdu came is s f. station_turn_grounds w id (StationRecord on (content_in m came)) came s (read_known w came is) f.holds g;
+    none = λ answer. by_world_grounds w answer g;
+  }
 
   -- every event keeps it
   pub happens_grounds : (w : TheWorld) (e : Event) → Grounds w → Grounds (happens m w e).0
-  happens_grounds w (Event.Auth ksi key caps) g =
-      let k : Term = root (next_root w) key in auth_grounds w ksi k caps (known_root m w k) refl g
-  happens_grounds w (Event.Phone act) g = phone_turn_grounds w (PhoneActs act) None tt g
-  happens_grounds w (Event.Station id act) g = station_turn_grounds w id (StationActs act) None tt g
-  happens_grounds w (Event.Core act) g = core_turn_grounds w (CoreActs act) None tt tt g
-  happens_grounds w (Event.Deliver i) g = delivered_grounds w (record_at i w.sent) (all_chosen (SentKnown (IsReported w)) i w.sent g.keys.sent) g
-  happens_grounds w (Event.Inject to pdu) g = injected_grounds w to pdu (position_from (is_sent m (class_of to) pdu) 0 w.sent) g
+  happens_grounds w e g = happens_by (turns w g) (λ to pdu. tt) g.keys.sent g.keys.stations e tt
 
   -- every run keeps it
   pub run_grounds : (w : TheWorld) (es : List Event) → Grounds w → Grounds (run m w es)

@@ -33,6 +33,9 @@ mod WideCell
 mod Edges
 pub mod Rows
 pub mod History
+pub mod KnownLists
+pub mod Routing
+pub mod StationIds
 pub mod RangeKeys
 pub mod RangeHolds
 pub mod RangeStation
@@ -41,7 +44,6 @@ pub mod RangePhone
 pub mod RangeWorld
 mod RangeExample
 pub mod WholeRun
-pub mod KnownLists
 pub mod KnownPhone
 pub mod KnownCore
 pub mod KnownStation

@@ -17,6 +17,7 @@ use Rattle.lte_machine.specs.StationState.{Station, Context, Attempt, OverX2, Ov
 use Rattle.lte_machine.specs.CoreState.{Core, CorePartial, CoreContext, CoreLink, CoreInput, CoreAuth, CoreActs, CoreNasPdu, CoreRecord}
 use Rattle.lte_machine.specs.World.{World}
 use Rattle.lte_machine.proofs.RangeKeys.{IsDerived}
+use Rattle.lte_machine.proofs.KnownLists.{OfSome}
 
 -- the key of a record is derived, and its NCC is at most this
 abbrev pub HasKey : ℕ → Option (NumberedKey Term ℕ) → Type 0
@@ -42,8 +43,7 @@ RecordRanged (Between to fields key) = FieldsInRange fields × KeyRanged fields 
 RecordRanged other = Unit {0}
 
 abbrev pub SentRanged : Option (Outgoing Term ℕ) → Type 0
-SentRanged None = Unit {0}
-SentRanged (Some x) = RecordRanged x
+SentRanged = OfSome RecordRanged
 
 -- A STATION
 

@@ -20,7 +20,8 @@ use Rattle.lte_machine.specs.Run.{Running, replay, report, stations_of, first_wo
 use Rattle.lte_machine.specs.World.{Machine, World, record_at}
 use Rattle.lte_machine.proofs.InOctets.{agree, KeepsBack, run_in_octets, tale_in_octets}
 use Rattle.lte_machine.proofs.RangeHolds.{RecordRanged, SentRanged, Ranged}
-use Rattle.lte_machine.proofs.RangeWorld.{chosen_ranged, ranged_keeps, first_ranged, reads_back}
+use Rattle.lte_machine.proofs.KnownLists.{all_chosen}
+use Rattle.lte_machine.proofs.RangeWorld.{ranged_keeps, first_ranged, reads_back}
 use Rattle.lte_machine.proofs.WorldMap.{BackAt, BackIf, BackOf}
 
 -- THE FIRST WORLD
@@ -68,7 +69,7 @@ module _ (c : Ciphers (List ℕ)) where
   ranged_back w (Event.Phone act) h = tt
   ranged_back w (Event.Station id act) h = tt
   ranged_back w (Event.Core act) h = tt
-  ranged_back w (Event.Deliver i) h = sent_back (record_at i w.sent) (chosen_ranged i w.sent h.2)
+  ranged_back w (Event.Deliver i) h = sent_back (record_at i w.sent) (all_chosen RecordRanged i w.sent h.2)
   ranged_back w (Event.Inject to octets) h = tt
 
   -- so ranges are a property of worlds by which what was sent reads back

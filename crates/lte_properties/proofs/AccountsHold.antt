@@ -21,11 +21,12 @@ use Rattle.lte_machine.specs.StationState.{Station, StationInput, StationActs, A
 use Rattle.lte_machine.specs.StationStep.{key_read, station_key, station_step, station_opens, station_pdu_in}
 use Rattle.lte_machine.specs.CoreState.{Core, CoreInput, CoreActs, CoreNasPdu, CoreRecord}
 use Rattle.lte_machine.specs.CoreStep.{core_step, core_opens, core_pdu_in, core_received}
-use Rattle.lte_machine.specs.Wire.{KeyUse, Outgoing, uses_of, address_of}
+use Rattle.lte_machine.specs.Wire.{KeyUse, Outgoing, uses_of}
 use Rattle.lte_machine.specs.World.{Machine, World, Holder, AtPhone, AtCore, AtStation, holds, with_one, uses_in, phone_after, core_after, station_after, by_world, phone_turn, core_turn, turn_of, station_of_id, auth_unless, known_root, next_root, content_in, arrives, record_at, delivery, class_of, is_sent, injected, happens}
 use Rattle.lte_machine.specs.Machines.{machine_by}
 use Rattle.lte_machine.specs.Ranges.{AllOf}
 use Rattle.lte_machine.specs.Run.{run}
+use Rattle.lte_machine.proofs.Routing.{happens_each}
 use Rattle.lte_properties.specs.Accounts.{UsesAreThoseSent, IsRowOf, key_at, key_of_record, key_delivered, with_read, each_holds, Gains, HoldersGain}
 
 -- USES
@@ -45,44 +46,13 @@ module _ (same : Term → Term → Bool) (root : ℕ → List ℕ → Term) (oct
     one : (o : Option (Outgoing Term ℕ)) → w.uses ++ uses_in o ≡ flat_map uses_of (with_one o w.sent)
     one o = uses_kept w.uses w.sent o h
 
-    turn_uses : (id : ℕ) (input : StationInput Term ℕ) (came : Option (Outgoing Term ℕ)) (o : Option (Station Term ℕ)) → UsesAreThoseSent (turn_of m w id input came o).0
-    turn_uses id input came None = h
-    turn_uses id input came (Some s) = one (station_step m.reading s input (opener (station_opens m.reading s input) (station_pdu_in input) came)).1.sent
-
-    phone_uses : (input : PhoneInput Term) (came : Option (Outgoing Term ℕ)) → UsesAreThoseSent (phone_turn m w input came).0
-    phone_uses input came = one (phone_step m.reading w.phone input (opener (phone_opens m.reading w.phone input) (phone_pdu_in input) came)).1.sent
-
-    core_uses : (input : CoreInput Term ℕ) (came : Option (Outgoing Term ℕ)) → UsesAreThoseSent (core_turn m w input came).0
-    core_uses input came = one (core_step m.reading w.core input (opener (core_opens m.reading w.core input) (core_pdu_in input) came)).1.sent
-
-    arrives_uses : (to : Address) (pdu : List ℕ) (came : Option (Outgoing Term ℕ)) → UsesAreThoseSent (arrives m w to pdu came).0
-    arrives_uses Address.PhoneNas pdu came = phone_uses (PhoneNasPdu pdu) came
-    arrives_uses (Address.Phone station air bearer) pdu came = phone_uses (PhoneAirPdu station air bearer pdu) came
-    arrives_uses Address.CoreNas pdu came = core_uses (CoreNasPdu pdu) came
-    arrives_uses Address.CoreS1 pdu came = core_uses (CoreRecord (content_in m came)) came
-    arrives_uses (Address.StationAir station air bearer) pdu came = turn_uses station (AirPdu air bearer pdu) came (station_of_id station w.stations)
-    arrives_uses (Address.StationS1 station) pdu came = turn_uses station (StationRecord OnS1 (content_in m came)) came (station_of_id station w.stations)
-    arrives_uses (Address.StationX2 station) pdu came = turn_uses station (StationRecord OnX2 (content_in m came)) came (station_of_id station w.stations)
-
-    delivered_uses : (o : Option (Outgoing Term ℕ)) → UsesAreThoseSent (delivery m w o).0
-    delivered_uses None = h
-    delivered_uses (Some x) = arrives_uses (address_of x) (octets x) (Some x)
-
-    injected_uses : (to : Address) (pdu : List ℕ) (o : Option ℕ) → UsesAreThoseSent (injected m w to pdu o).0
-    injected_uses to pdu None = arrives_uses to pdu None
-    injected_uses to pdu (Some number) = h
-
-    auth_uses : (ksi : ℕ) (key : Term) (caps : Caps) (o : Option ℕ) → UsesAreThoseSent (auth_unless m w ksi key caps o).0
-    auth_uses ksi key caps None = h
-    auth_uses ksi key caps (Some row) = h
-
     happens_uses : (e : Event) → UsesAreThoseSent (happens m w e).0
-    happens_uses (Event.Auth ksi key caps) = auth_uses ksi (root (next_root w) key) caps (known_root m w (root (next_root w) key))
-    happens_uses (Event.Phone act) = phone_uses (PhoneActs act) None
-    happens_uses (Event.Station id act) = turn_uses id (StationActs act) None (station_of_id id w.stations)
-    happens_uses (Event.Core act) = core_uses (CoreActs act) None
-    happens_uses (Event.Deliver i) = delivered_uses (record_at i w.sent)
-    happens_uses (Event.Inject to pdu) = injected_uses to pdu (position_from (is_sent m (class_of to) pdu) 0 w.sent)
+    happens_uses =
+        happens_each m w (λ done a. UsesAreThoseSent done.0) (λ ksi key caps. h)
+        (λ input came turn. one (phone_step m.reading w.phone input (opener (phone_opens m.reading w.phone input) (phone_pdu_in input) came)).1.sent)
+        (λ input came. one (core_step m.reading w.core input (opener (core_opens m.reading w.core input) (core_pdu_in input) came)).1.sent)
+        (λ id input came s there own. one (station_step m.reading s input (opener (station_opens m.reading s input) (station_pdu_in input) came)).1.sent)
+        (λ answer. h)
 
   pub uses_are_sent : (w : World Term ℕ (Outgoing Term ℕ)) (es : List Event) → UsesAreThoseSent w → UsesAreThoseSent (run m w es)
   uses_are_sent w [] h = h

@@ -26,4 +26,5 @@ pub mod Terms
 pub mod Told
 pub mod Whole
 pub mod World
+pub mod Came
 pub mod Openings

@@ -19,12 +19,12 @@ use Rattle.lte_machine.specs.World.{World, Line, station_of_id}
 use Rattle.lte_machine.proofs.AnnexB.{annex_b_ciphers}
 use Rattle.lte_machine.proofs.EventByEvent.{step_happens, each_of_first}
 use Rattle.lte_machine.proofs.Fitting.{all_of, setup_fits, events_fit}
+use Rattle.lte_machine.proofs.StationIds.{run_ids, still_here}
 use Rattle.lte_machine.proofs.StillRun.{still_is_run}
 use Rattle.lte_machine.proofs.KnownLists.{OfSome, all_get}
 use Rattle.lte_properties.specs.Reach.{AllReach, ReachesActor}
 use Rattle.lte_properties.proofs.EveryRun.{reach}
-use Rattle.lte_properties.proofs.Named.Reaches.{sites, first_named, first_here, happens_reaches}
-use Rattle.lte_properties.proofs.Named.World.{run_here}
+use Rattle.lte_properties.proofs.Named.Reaches.{first_here, happens_reaches}
 
 abbrev TheWorld : Type 0
 TheWorld = World Term ℕ (Outgoing Term ℕ)
@@ -39,8 +39,8 @@ module _ (setup : Setup) (events : List Event) (fits : SetupFits setup) (can : C
   -- the stations of the setup are there after any events
   here : (es : List Event) (id : ℕ) → HasId id setup.stations → (s : Station Term ℕ) × (station_of_id id (run (written_machine annex_b) (first_world setup) es).stations ≡ Some s)
   here es id h =
-      run_here (λ n. HasId n setup.stations) setup.cells (sites setup set) same_value Root (octets_of annex_b_terms written_in_values) sender_of (open_by_uses same_value annex_b_terms)
-      (first_world setup) es (first_named setup set) id (first_here setup.cells setup.stations id h)
+      let first = first_here setup.cells setup.stations id h in
+      still_here id (run (written_machine annex_b) (first_world setup) es).stations (first_world {S = Outgoing Term ℕ} setup).stations (run_ids (written_machine annex_b) (first_world setup) es) first.0 first.1
 
   pub step_reaches : (k : ℕ) (w : TheWorld) (e : Event) (u : TheWorld) (line : Line Term) → IsStep setup events k w e u line → ReachesActor line
   step_reaches k w e u line is =

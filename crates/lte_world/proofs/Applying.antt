@@ -1,7 +1,5 @@
 -- One event of the world is one event of the run.
 use Rattle.std.proofs.Common.{◌≡◌, refl, sym, ap, subst, ◌∙◌, ℕ, suc, ◌+◌, List, [], ◌∷◌, ◌++◌, Option, Some, None, Result, Ok, Err, arith}
-use Rattle.std.specs.List.{position_from}
-use Rattle.alg_choice.specs.declared.caps.Caps.{Caps}
 use Rattle.lte_events.specs.Conditions as conditions
 use Rattle.lte_events.specs.Conditions.{CanHappen, EventFits}
 use Rattle.lte_events.specs.declared.addresses.Address.{Address}
@@ -18,15 +16,15 @@ use Rattle.lte_machine.specs.Ciphers.{annex_b}
 use Rattle.lte_machine.specs.Machines.{Kept}
 use Rattle.lte_machine.specs.Ladder.{Clash, ladder_of}
 use Rattle.lte_machine.specs.Opening.{Opening, Outcome, open_octets}
-use Rattle.lte_machine.specs.StationState.{Station, StationInput, StationActs, AirPdu, StationRecord, OnS1, OnX2}
 use Rattle.lte_machine.specs.Ranges.{AllOf, AreOctets, IsText, IsPhoneAct, IsStationAct, IsCoreAct, TakesInjected, IsEvent, IsSetup}
 use Rattle.lte_machine.specs.Run.{RunState, Running, Stopped, after, turn, replay, reported, event_report, first_world}
 use Rattle.lte_machine.specs.Step.{StepResult, Continues, Stops, by_ladder, by_chance, opening_chance, attempted, next}
 use Rattle.lte_machine.specs.Tuples.{Chance}
 use Rattle.lte_machine.specs.World as world
-use Rattle.lte_machine.specs.World.{Machine, World, auth_unless, known_root, next_root, station_of_id, turn_of, content_in, arrives, delivery, record_at, injected, is_sent, class_of, happens}
+use Rattle.lte_machine.specs.World.{World, happens}
 use Rattle.lte_machine.proofs.AnnexB.{annex_b_ciphers}
 use Rattle.lte_machine.proofs.KnownLists.{all_append}
+use Rattle.lte_machine.proofs.Routing.{happens_each}
 use Rattle.lte_machine.proofs.WholeRun.{run_is_value}
 use Rattle.run_stores.specs.Additions.{CanKeep}
 use Rattle.run_stores.specs.Proofs.{chance_of}
@@ -65,38 +63,8 @@ module _ (w : World (List ℕ) ℕ Kept) where
   abbrev One : World (List ℕ) ℕ Kept → Type 0
   One u = u.events ≡ w.events + 1
 
-  auth_one : (ksi : ℕ) (key : List ℕ) (caps : Caps) (o : Option ℕ) → One (auth_unless octets w ksi key caps o).0
-  auth_one ksi key caps None = refl
-  auth_one ksi key caps (Some row) = refl
-
-  turn_one : (id : ℕ) (i : StationInput (List ℕ) ℕ) (came : Option Kept) (o : Option (Station (List ℕ) ℕ)) → One (turn_of octets w id i came o).0
-  turn_one id i came None = refl
-  turn_one id i came (Some s) = refl
-
-  arrives_one : (to : Address) (pdu : List ℕ) (came : Option Kept) → One (arrives octets w to pdu came).0
-  arrives_one Address.PhoneNas pdu came = refl
-  arrives_one (Address.Phone station air bearer) pdu came = refl
-  arrives_one Address.CoreNas pdu came = refl
-  arrives_one Address.CoreS1 pdu came = refl
-  arrives_one (Address.StationAir station air bearer) pdu came = turn_one station (AirPdu air bearer pdu) came (station_of_id station w.stations)
-  arrives_one (Address.StationS1 station) pdu came = turn_one station (StationRecord OnS1 (content_in octets came)) came (station_of_id station w.stations)
-  arrives_one (Address.StationX2 station) pdu came = turn_one station (StationRecord OnX2 (content_in octets came)) came (station_of_id station w.stations)
-
-  delivered_one : (o : Option Kept) → One (delivery octets w o).0
-  delivered_one None = refl
-  delivered_one (Some x) = arrives_one x.to x.octets (Some x)
-
-  injected_one : (to : Address) (pdu : List ℕ) (o : Option ℕ) → One (injected octets w to pdu o).0
-  injected_one to pdu None = arrives_one to pdu None
-  injected_one to pdu (Some number) = refl
-
   happens_one : (e : Event) → One (happens octets w e).0
-  happens_one (Event.Auth ksi key caps) = auth_one ksi key caps (known_root octets w key)
-  happens_one (Event.Phone act) = refl
-  happens_one (Event.Station id act) = turn_one id (StationActs act) None (station_of_id id w.stations)
-  happens_one (Event.Core act) = refl
-  happens_one (Event.Deliver i) = delivered_one (record_at i w.sent)
-  happens_one (Event.Inject to pdu) = injected_one to pdu (position_from (is_sent octets (class_of to) pdu) 0 w.sent)
+  happens_one = happens_each octets w (λ done a. One done.0) (λ ksi key caps. refl) (λ input came turn. refl) (λ input came. refl) (λ id input came s there own. refl) (λ answer. refl)
 
   ladder_goes : (c : Option (Clash (List ℕ))) (h : World (List ℕ) ℕ Kept × world.Line (List ℕ)) (u : World (List ℕ) ℕ Kept) (l : world.Line (List ℕ)) → by_ladder c h ≡ Continues u l → h.0 ≡ u
   ladder_goes None h u l e = cc

@@ -1,7 +1,6 @@
 pub mod Deriving
 pub mod Holders
 pub mod Settled
-pub mod StationIds
 pub mod Stations
 pub mod Turning
 pub mod Applying

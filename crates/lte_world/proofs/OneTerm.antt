@@ -1,9 +1,6 @@
 -- Two keys of one value, of which the phone took the one and a station made the other, are one key.
 use Rattle.std.proofs.Common.{◌≡◌, refl, sym, ◌∙◌, subst, ℕ, zero, suc, ◌<◌, ◌≤◌, ◌==◌, Bool, true, false, cond, List, [], ◌∷◌, ◌++◌, take, Option, Some, None, inl, inr, arith}
 use Rattle.std.specs.Prelude.{◌⊎◌}
-use Rattle.std.specs.List.{position_from}
-use Rattle.alg_choice.specs.declared.caps.Caps.{Caps}
-use Rattle.lte_events.specs.declared.addresses.Address.{Address}
 use Rattle.lte_events.specs.declared.events.Event.{Event}
 use Rattle.lte_events.specs.declared.setups.Setup.{Setup}
 use Rattle.key_model.specs.Term.{Term, Root}
@@ -12,7 +9,6 @@ use Rattle.key_model.specs.Value.{value_of, same_value}
 use Rattle.lte_machine.specs.BothRuns.{annex_b_terms, written_run}
 use Rattle.lte_machine.specs.ByEvent.{IsStep}
 use Rattle.lte_machine.specs.Ciphers.{annex_b, octets_of}
-use Rattle.lte_machine.specs.CoreState.{CoreInput, CoreActs, CoreNasPdu, CoreRecord}
 use Rattle.lte_machine.specs.Distinct.{Member, keys_of}
 use Rattle.lte_machine.specs.Known.{RadioKnown, StationKnown, ContextKnown, PrepKnown, IsReported, AllReported}
 use Rattle.lte_machine.specs.Ladder.{RowOrigin}
@@ -20,20 +16,21 @@ use Rattle.lte_machine.specs.Machines.{machine_by, sender_of, written_machine, w
 use Rattle.lte_machine.specs.Opening.{Opening, Outcome, open_octets, open_by_uses}
 use Rattle.lte_machine.specs.PhoneChoice.{phone_row}
 use Rattle.lte_machine.specs.PhoneKeys.{phone_does}
-use Rattle.lte_machine.specs.PhoneState.{Radio, Idle, Connecting, Connected, PhoneInput, PhoneActs, PhoneNasPdu, PhoneAirPdu}
+use Rattle.lte_machine.specs.PhoneState.{Radio, Idle, Connecting, Connected, PhoneInput}
 use Rattle.lte_machine.specs.PhoneStep.{plain_phone, front_of, phone_root, phone_opens, phone_pdu_in}
 use Rattle.lte_machine.specs.Ranges.{AllOf}
 use Rattle.lte_machine.specs.Reply.{Made, Took}
 use Rattle.lte_machine.specs.Run.{Running, run, first_world}
 use Rattle.lte_machine.specs.StationKeys.{station_does}
-use Rattle.lte_machine.specs.StationState.{Station, Context, StationInput, StationActs, AirPdu, StationRecord, OnS1, OnX2}
+use Rattle.lte_machine.specs.StationState.{Station, Context, StationInput}
 use Rattle.lte_machine.specs.StationStep.{station_opens, station_pdu_in, station_row_of, station_key}
-use Rattle.lte_machine.specs.Wire.{KeyUse, Outgoing, address_of}
-use Rattle.lte_machine.specs.World.{Machine, World, Line, with_one, put_if, put_station, phone_turn, core_turn, station_of_id, turn_of, auth_unless, known_root, next_root, content_in, arrives, record_at, delivery, class_of, is_sent, injected, happens}
+use Rattle.lte_machine.specs.Wire.{KeyUse, Outgoing}
+use Rattle.lte_machine.specs.World.{Machine, World, Line, with_one, put_if, put_station, phone_turn, station_of_id, turn_of, happens}
 use Rattle.ho_prep.specs.Prep.{Prep}
 use Rattle.lte_machine.proofs.EventByEvent.{step_takes, step_happens}
 use Rattle.lte_machine.proofs.LadderRun.{ladder_always, all_reported}
 use Rattle.lte_machine.proofs.StillRun.{still_is_run}
+use Rattle.lte_machine.proofs.Routing.{happens_each}
 use Rattle.lte_properties.specs.BySteps.{MakesAt, TakesAt}
 use Rattle.lte_properties.proofs.AccountsHold.{happens_gains}
 use Rattle.lte_world.proofs.MadeKeys.{InContext, InPreps, HasKey, MadeIs, station_holds}
@@ -92,45 +89,17 @@ module _ (same : Term → Term → Bool) (root : ℕ → List ℕ → Term) (oct
         let done = phone_does (term_reading_by same) row (phone_root input) w.phone in
         (inl refl, took_by w.took done.1.took done.0.radio (phone_takes same row (phone_root input) w.phone))
 
-    core_stands : (input : CoreInput Term ℕ) (came : Option (Outgoing Term ℕ)) → Both w (core_turn m w input came)
-    core_stands input came = (inl refl, inl refl)
-
-    turn_stands : (id : ℕ) (input : StationInput Term ℕ) (came : Option (Outgoing Term ℕ)) (o : Option (Station Term ℕ)) → station_of_id id w.stations ≡ o → Both w (turn_of m w id input came o)
-    turn_stands id input came None e = (inl refl, inl refl)
-    turn_stands id input came (Some s) e =
+    station_stands : (id : ℕ) (input : StationInput Term ℕ) (came : Option (Outgoing Term ℕ)) (s : Station Term ℕ) → station_of_id id w.stations ≡ Some s → Both w (turn_of m w id input came (Some s))
+    station_stands id input came s there =
         let outcome = opener (station_opens (term_reading_by same) s input) (station_pdu_in input) came in
         let row = station_row_of (term_reading_by same) s input outcome in
         let done = station_does (term_reading_by same) row (station_key input) s in
-        (made_by w.made done.1.made id done.0 (station_holds same row (station_key input) s) w.stations s e, inl refl)
-
-    arrives_stands : (to : Address) (pdu : List ℕ) (came : Option (Outgoing Term ℕ)) → Both w (arrives m w to pdu came)
-    arrives_stands Address.PhoneNas pdu came = phone_stands (PhoneNasPdu pdu) came
-    arrives_stands (Address.Phone station air bearer) pdu came = phone_stands (PhoneAirPdu station air bearer pdu) came
-    arrives_stands Address.CoreNas pdu came = core_stands (CoreNasPdu pdu) came
-    arrives_stands Address.CoreS1 pdu came = core_stands (CoreRecord (content_in m came)) came
-    arrives_stands (Address.StationAir station air bearer) pdu came = turn_stands station (AirPdu air bearer pdu) came (station_of_id station w.stations) refl
-    arrives_stands (Address.StationS1 station) pdu came = turn_stands station (StationRecord OnS1 (content_in m came)) came (station_of_id station w.stations) refl
-    arrives_stands (Address.StationX2 station) pdu came = turn_stands station (StationRecord OnX2 (content_in m came)) came (station_of_id station w.stations) refl
-
-    delivered_stands : (o : Option (Outgoing Term ℕ)) → Both w (delivery m w o)
-    delivered_stands None = (inl refl, inl refl)
-    delivered_stands (Some x) = arrives_stands (address_of x) (octets x) (Some x)
-
-    injected_stands : (to : Address) (pdu : List ℕ) (o : Option ℕ) → Both w (injected m w to pdu o)
-    injected_stands to pdu None = arrives_stands to pdu None
-    injected_stands to pdu (Some number) = (inl refl, inl refl)
-
-    auth_stands : (ksi : ℕ) (key : Term) (caps : Caps) (o : Option ℕ) → Both w (auth_unless m w ksi key caps o)
-    auth_stands ksi key caps None = (inl refl, inl refl)
-    auth_stands ksi key caps (Some row) = (inl refl, inl refl)
+        (made_by w.made done.1.made id done.0 (station_holds same row (station_key input) s) w.stations s there, inl refl)
 
     pub happens_stands : (e : Event) → Both w (happens m w e)
-    happens_stands (Event.Auth ksi key caps) = let k = root (next_root w) key in auth_stands ksi k caps (known_root m w k)
-    happens_stands (Event.Phone act) = phone_stands (PhoneActs act) None
-    happens_stands (Event.Station id act) = turn_stands id (StationActs act) None (station_of_id id w.stations) refl
-    happens_stands (Event.Core act) = core_stands (CoreActs act) None
-    happens_stands (Event.Deliver i) = delivered_stands (record_at i w.sent)
-    happens_stands (Event.Inject to pdu) = injected_stands to pdu (position_from (is_sent m (class_of to) pdu) 0 w.sent)
+    happens_stands =
+        happens_each m w (λ done a. Both w done) (λ ksi key caps. (inl refl, inl refl)) (λ input came turn. phone_stands input came) (λ input came. (inl refl, inl refl))
+        (λ id input came s there own. station_stands id input came s there) (λ answer. (inl refl, inl refl))
 
 -- IN A RUN
 

@@ -25,7 +25,8 @@ use Rattle.run_stores.specs.Rows.{world_rows}
 use Rattle.lte_world.specs.InOctets.{NoTwoEqual, IsJoined}
 use Rattle.lte_world.specs.Systems.{Actors, Are}
 use Rattle.lte_world.specs.Whole.{Whole, unless_over, run_of, InRun, Goes, Stands, context_kenb, phone_kenb_in, station_kenb_in}
-use Rattle.lte_world.proofs.StationsStand.{found_id, stations_stand}
+use Rattle.lte_machine.proofs.Routing.{found_id}
+use Rattle.lte_world.proofs.StationsStand.{stations_stand}
 
 -- LISTS OF USES
 

@@ -1,9 +1,6 @@
 -- A line that a world answers: its step, its place among the answers, and what the headline says of it.
 use Rattle.std.proofs.Common.{◌≡◌, refl, sym, ap, subst, ◌∙◌, ℕ, Bool, List, [], ◌∷◌, ◌++◌, length, map, Option, Some, None, Result, Ok}
 use Rattle.std.specs.Prelude.{slice_get}
-use Rattle.std.specs.List.{position_from}
-use Rattle.alg_choice.specs.declared.caps.Caps.{Caps}
-use Rattle.lte_events.specs.declared.addresses.Address.{Address}
 use Rattle.lte_events.specs.declared.events.Event.{Event}
 use Rattle.lte_events.specs.declared.lines.Line.{Line}
 use Rattle.lte_events.specs.declared.setups.Setup.{Setup}
@@ -14,11 +11,11 @@ use Rattle.lte_machine.specs.Machines.{Kept}
 use Rattle.lte_machine.specs.Opening.{open_octets}
 use Rattle.lte_machine.specs.Ranges.{AllOf, IsEvent, IsSetup}
 use Rattle.lte_machine.specs.Run.{RunState, Running, Stopped, event_report, reported}
-use Rattle.lte_machine.specs.StationState.{Station, StationInput, StationActs, AirPdu, StationRecord, OnS1, OnX2}
 use Rattle.lte_machine.specs.Step.{StepResult, Continues, Stops, next}
 use Rattle.lte_machine.specs.World as world
-use Rattle.lte_machine.specs.World.{World, auth_unless, known_root, station_of_id, turn_of, content_in, arrives, delivery, record_at, injected, is_sent, class_of, happens}
+use Rattle.lte_machine.specs.World.{World, happens}
 use Rattle.lte_machine.proofs.EventByEvent.{step_is}
+use Rattle.lte_machine.proofs.Routing.{happens_each}
 use Rattle.lte_properties.specs.InOctets.{FarNeverThere}
 use Rattle.lte_properties.proofs.FarNever.{far_never}
 use Rattle.lte_world.specs.declared.faults.WorldFault.{WorldFault}
@@ -34,38 +31,8 @@ module _ (w : World (List ℕ) ℕ Kept) where
   abbrev AtStep : World (List ℕ) ℕ Kept × world.Line (List ℕ) → Type 0
   AtStep h = h.1.step ≡ w.events
 
-  auth_at : (ksi : ℕ) (key : List ℕ) (caps : Caps) (o : Option ℕ) → AtStep (auth_unless octets w ksi key caps o)
-  auth_at ksi key caps None = refl
-  auth_at ksi key caps (Some row) = refl
-
-  turn_at : (id : ℕ) (i : StationInput (List ℕ) ℕ) (came : Option Kept) (o : Option (Station (List ℕ) ℕ)) → AtStep (turn_of octets w id i came o)
-  turn_at id i came None = refl
-  turn_at id i came (Some s) = refl
-
-  arrives_at : (to : Address) (pdu : List ℕ) (came : Option Kept) → AtStep (arrives octets w to pdu came)
-  arrives_at Address.PhoneNas pdu came = refl
-  arrives_at (Address.Phone station air bearer) pdu came = refl
-  arrives_at Address.CoreNas pdu came = refl
-  arrives_at Address.CoreS1 pdu came = refl
-  arrives_at (Address.StationAir station air bearer) pdu came = turn_at station (AirPdu air bearer pdu) came (station_of_id station w.stations)
-  arrives_at (Address.StationS1 station) pdu came = turn_at station (StationRecord OnS1 (content_in octets came)) came (station_of_id station w.stations)
-  arrives_at (Address.StationX2 station) pdu came = turn_at station (StationRecord OnX2 (content_in octets came)) came (station_of_id station w.stations)
-
-  delivered_at : (o : Option Kept) → AtStep (delivery octets w o)
-  delivered_at None = refl
-  delivered_at (Some x) = arrives_at x.to x.octets (Some x)
-
-  injected_at : (to : Address) (pdu : List ℕ) (o : Option ℕ) → AtStep (injected octets w to pdu o)
-  injected_at to pdu None = arrives_at to pdu None
-  injected_at to pdu (Some number) = refl
-
   happens_at : (e : Event) → AtStep (happens octets w e)
-  happens_at (Event.Auth ksi key caps) = auth_at ksi key caps (known_root octets w key)
-  happens_at (Event.Phone act) = refl
-  happens_at (Event.Station id act) = turn_at id (StationActs act) None (station_of_id id w.stations)
-  happens_at (Event.Core act) = refl
-  happens_at (Event.Deliver i) = delivered_at (record_at i w.sent)
-  happens_at (Event.Inject to pdu) = injected_at to pdu (position_from (is_sent octets (class_of to) pdu) 0 w.sent)
+  happens_at = happens_each octets w (λ done a. AtStep done) (λ ksi key caps. refl) (λ input came turn. refl) (λ input came. refl) (λ id input came s there own. refl) (λ answer. refl)
 
   next_at : (e : Event) (u : World (List ℕ) ℕ Kept) (l : world.Line (List ℕ)) → next (open_octets annex_b) octets w e ≡ Continues u l → l.step ≡ w.events
   next_at e u l is = ap (λ (x : world.Line (List ℕ)). x.step) (step_is (open_octets annex_b) octets w e u l is).1 ∙ happens_at e

@@ -37,7 +37,7 @@ use Rattle.lte_world.specs.Networks.{Stores, Fits}
 use Rattle.lte_world.specs.Settling.{after, Settles, SettledBy, SettledAs}
 use Rattle.lte_world.specs.Systems.{octets, Actors, Are, CameOut, comes, PhoneTurns, PhoneCan, CoreTurns, CoreCan, StationTurns, StationCan, StepsAt}
 use Rattle.lte_world.proofs.Refusing.{by_world_out}
-use Rattle.lte_world.proofs.StationIds.{station_step_id}
+use Rattle.lte_machine.proofs.StationIds.{station_step_id}
 use Rattle.lte_world.proofs.Stations.{same_some, put_at, ids_kept, stands_at, station_is, no_station}
 
 -- what was settled, with the actor as it is then

@@ -1,35 +1,32 @@
 -- In every world of every run each derivation can be added, and each key that was held was made.
-use Rattle.std.proofs.Common.{◌≡◌, refl, sym, ap, subst, ◌∙◌, ℕ, ◌==◌, List, [], ◌∷◌, ◌++◌, map, Option, Some, None, option_map, inl, inr}
-use Rattle.std.specs.List.{position_from}
+use Rattle.std.proofs.Common.{◌≡◌, refl, sym, ap, subst, ◌∙◌, ℕ, List, [], ◌∷◌, ◌++◌, map, Option, Some, None, option_map, inl, inr}
 use Rattle.std.specs.Str.{bytes_eq}
 use Rattle.std.proofs.lemmas.List.{map-append}
-use Rattle.lte_events.specs.declared.addresses.Address.{Address}
 use Rattle.lte_events.specs.declared.events.Event.{Event}
-use Rattle.alg_choice.specs.declared.caps.Caps.{Caps}
 use Rattle.key_model.specs.Derivation.{Derivation, map_derivation}
 use Rattle.key_model.specs.Reading.{Reading, term_reading_by}
 use Rattle.key_model.specs.Term.{Term, IsWellFormed}
 use Rattle.key_model.specs.Value.{value_of, same_value}
-use Rattle.lte_machine.specs.Wire.{KeyUse, Outgoing, SealedNas, PlainNas, SealedRrc, UserPacket, Between, address_of}
+use Rattle.lte_machine.specs.Wire.{KeyUse, Outgoing, SealedNas, PlainNas, SealedRrc, UserPacket, Between}
 use Rattle.lte_machine.specs.Opening.{Opening, Outcome}
 use Rattle.lte_machine.specs.Ladder.{RowOrigin, OfRoot, Of, map_row, Clash, Ladder, add_next, add_rows, no_rows, ladder_of}
 use Rattle.lte_machine.specs.Carried.{map_clash}
-use Rattle.lte_machine.specs.PhoneState.{PhoneInput, PhoneActs, PhoneNasPdu, PhoneAirPdu}
+use Rattle.lte_machine.specs.PhoneState.{PhoneInput}
 use Rattle.lte_machine.specs.PhoneChoice.{phone_row}
 use Rattle.lte_machine.specs.PhoneStep.{plain_phone, front_of, phone_root, phone_opens, phone_pdu_in, phone_step}
-use Rattle.lte_machine.specs.StationState.{Station, StationInput, StationActs, AirPdu, StationRecord, OnS1, OnX2}
+use Rattle.lte_machine.specs.StationState.{Station, StationInput, StationActs, AirPdu, StationRecord}
 use Rattle.lte_machine.specs.StationStep.{key_read, station_key, station_opens, station_pdu_in, station_row_of, station_step}
 use Rattle.lte_machine.specs.CoreState.{CoreInput, CoreActs, CoreNasPdu, CoreRecord}
 use Rattle.lte_machine.specs.CoreChoice.{core_row}
 use Rattle.lte_machine.specs.CoreStep.{plain_core, core_front_of, core_root, core_opens, core_pdu_in, core_step}
-use Rattle.lte_machine.specs.World.{Machine, World, phone_turn, core_turn, station_of_id, turn_of, station_turn, auth_unless, known_root, next_root, content_in, arrives, record_at, delivery, class_of, is_sent, injected, happens}
+use Rattle.lte_machine.specs.World.{Machine, World, phone_turn, core_turn, turn_of, next_root, content_in, happens}
 use Rattle.lte_machine.specs.Machines.{machine_by}
 use Rattle.lte_machine.specs.Distinct.{keys_of, Member}
 use Rattle.lte_machine.specs.Known.{PairKnown, StationKnown, SentKnown, IsReported}
-use Rattle.lte_machine.specs.Ranges.{AllOf, IsEvent}
+use Rattle.lte_machine.specs.Ranges.{IsEvent}
 use Rattle.lte_machine.proofs.History.{Laddered, among_distinct}
 use Rattle.lte_machine.proofs.KnownLadder.{laddered_chain, still_in, new_in, outs_in, outs_more}
-use Rattle.lte_machine.proofs.KnownLists.{OfSome, Plus, Chain, AllOut, chain_more, all_find, all_chosen}
+use Rattle.lte_machine.proofs.KnownLists.{OfSome, Plus, Chain, AllOut, chain_more, all_both}
 use Rattle.lte_machine.proofs.KnownPhone.{phone_does_keeps}
 use Rattle.lte_machine.proofs.KnownStation.{station_does_keeps}
 use Rattle.lte_machine.proofs.KnownCore.{core_does_keeps}
@@ -37,6 +34,7 @@ use Rattle.lte_machine.proofs.KnownWorld.{Grounds}
 use Rattle.lte_machine.proofs.LadderMap.{ladder_of-map}
 use Rattle.lte_machine.proofs.Rows.{From, from_more}
 use Rattle.lte_machine.proofs.RangeHolds.{StationRanged, StationInputRanged, RecordRanged, ReadRanged, Ranged}
+use Rattle.lte_machine.proofs.Routing.{Turns, no_root, happens_by}
 use Rattle.run_stores.specs.Additions.{CanAddTo, AllCanAdd}
 use Rattle.run_stores.proofs.Adding.{valued, can_add}
 use Rattle.run_stores.proofs.Cells.{CellsIn, phone_step_cells}
@@ -143,24 +141,14 @@ module _ (root : ℕ → List ℕ → Term) (octets : Outgoing Term ℕ → List
       (core_does_keeps same_value P P (λ t h. h) (core_row (plain_core r w.core) (core_front_of r w.core i) outcome) (core_root i) w.core k g.keys.core).0
       (core_step_cells r w.core i outcome) well
 
-  turn_of_can : (id : ℕ) (i : StationInput Term ℕ) (came : Option (Outgoing Term ℕ)) (o : Option (Station Term ℕ)) → PairKnown P (station_key i) → StationInputRanged i →
-      OfSome (StationKnown P) o → OfSome StationRanged o → Can (turn_of m w id i came o).0
-  turn_of_can id i came None k n h s well = can
-  turn_of_can id i came (Some x) k n h s well =
-      let outcome = opener (station_opens r x i) (station_pdu_in i) came in
-      let d = station_step r x i outcome in
+  station_turn_can : (id : ℕ) (i : StationInput Term ℕ) (came : Option (Outgoing Term ℕ)) (s : Station Term ℕ) → PairKnown P (station_key i) → StationInputRanged i →
+      StationKnown P s → StationRanged s → Can (turn_of m w id i came (Some s)).0
+  station_turn_can id i came s k n known ranged well =
+      let outcome = opener (station_opens r s i) (station_pdu_in i) came in
+      let d = station_step r s i outcome in
       chain_all w.history d.1.derived can g.ladder
-      (station_does_keeps same_value P P (λ t h. h) (station_row_of r x i outcome) (station_key i) x k h).0
-      (station_step_cells r x i outcome s n) well
-
-  station_turn_can : (id : ℕ) (i : StationInput Term ℕ) (came : Option (Outgoing Term ℕ)) → PairKnown P (station_key i) → StationInputRanged i → Can (station_turn m w id i came).0
-  station_turn_can id i came k n =
-      turn_of_can id i came (station_of_id id w.stations) k n
-      (all_find (StationKnown P) (λ s. s.id == id) w.stations g.keys.stations) (all_find StationRanged (λ s. s.id == id) w.stations f.1)
-
-  auth_can : (ksi : ℕ) (key : Term) (caps : Caps) (o : Option ℕ) → Can (auth_unless m w ksi key caps o).0
-  auth_can ksi key caps None well = root_all w.history key can
-  auth_can ksi key caps (Some row) well = can
+      (station_does_keeps same_value P P (λ t h. h) (station_row_of r s i outcome) (station_key i) s k known).0
+      (station_step_cells r s i outcome ranged n) well
 
   -- what came, if it was sent
   abbrev CameGood : Option (Outgoing Term ℕ) → Type 0
@@ -182,32 +170,20 @@ module _ (root : ℕ → List ℕ → Term) (octets : Outgoing Term ℕ → List
   read_ranged (Some (UserPacket dir station air drb e text)) c = tt
   read_ranged (Some (Between to fields key)) c = c.1.0
 
-  arrives_can : (to : Address) (pdu : List ℕ) (came : Option (Outgoing Term ℕ)) → CameGood came → Can (arrives m w to pdu came).0
-  arrives_can Address.PhoneNas pdu came c = phone_turn_can (PhoneNasPdu pdu) came tt
-  arrives_can (Address.Phone station air bearer) pdu came c = phone_turn_can (PhoneAirPdu station air bearer pdu) came tt
-  arrives_can Address.CoreNas pdu came c = core_turn_can (CoreNasPdu pdu) came tt
-  arrives_can Address.CoreS1 pdu came c = core_turn_can (CoreRecord (content_in m came)) came tt
-  arrives_can (Address.StationAir station air bearer) pdu came c = station_turn_can station (AirPdu air bearer pdu) came tt tt
-  arrives_can (Address.StationS1 station) pdu came c = station_turn_can station (StationRecord OnS1 (content_in m came)) came (read_known came c) (read_ranged came c)
-  arrives_can (Address.StationX2 station) pdu came c = station_turn_can station (StationRecord OnX2 (content_in m came)) came (read_known came c) (read_ranged came c)
-
-  delivered_can : (o : Option (Outgoing Term ℕ)) → CameGood o → Can (delivery m w o).0
-  delivered_can None c well = can
-  delivered_can (Some x) c well = arrives_can (address_of x) (octets x) (Some x) c well
-
-  injected_can : (to : Address) (pdu : List ℕ) (o : Option ℕ) → Can (injected m w to pdu o).0
-  injected_can to pdu None well = arrives_can to pdu None tt well
-  injected_can to pdu (Some number) well = can
-
-  both : (xs : List (Outgoing Term ℕ)) → AllOf (SentKnown P) xs → AllOf RecordRanged xs → AllOf (λ x. SentKnown P x × RecordRanged x) xs
-  both [] h k = tt
-  both (x ∷ xs) h k = ((h.0, k.0), both xs h.1 k.1)
+  turns : Turns m w IsEvent (λ to pdu came. CameGood came) (λ s. StationKnown P s × StationRanged s) (λ done a. Can done.0)
+  turns = record {
+    auth = λ ksi key caps is new well. root_all w.history (root (next_root w) key) can;
+    phone = λ i came turn is. phone_turn_can i came (no_root P i turn);
+    core_acts = λ act is. core_turn_can (CoreActs act) None tt;
+    core_nas = λ pdu came is. core_turn_can (CoreNasPdu pdu) came tt;
+    core_record = λ pdu came is. core_turn_can (CoreRecord (content_in m came)) came tt;
+    station_acts = λ id act is s f. station_turn_can id (StationActs act) None s tt is f.holds.0 f.holds.1;
+    station_air = λ id air bearer pdu came is s f. station_turn_can id (AirPdu air bearer pdu) came s tt tt f.holds.0 f.holds.1;
+    station_record = λ on id pdu came is s f. station_turn_can id (StationRecord on (content_in m came)) came s (read_known came is) (read_ranged came is) f.holds.0 f.holds.1;
+    none = λ answer well. can;
+  }
 
   pub happens_can : (e : Event) → IsEvent e → Can (happens m w e).0
-  happens_can (Event.Auth ksi key caps) is = let k : Term = root (next_root w) key in auth_can ksi k caps (known_root m w k)
-  happens_can (Event.Phone act) is = phone_turn_can (PhoneActs act) None tt
-  happens_can (Event.Station id act) is = station_turn_can id (StationActs act) None tt is
-  happens_can (Event.Core act) is = core_turn_can (CoreActs act) None tt
-  happens_can (Event.Deliver i) is =
-      delivered_can (record_at i w.sent) (all_chosen (λ x. SentKnown P x × RecordRanged x) i w.sent (both w.sent g.keys.sent f.2))
-  happens_can (Event.Inject to pdu) is = injected_can to pdu (position_from (is_sent m (class_of to) pdu) 0 w.sent)
+  happens_can =
+      happens_by turns (λ to pdu. tt) (all_both (SentKnown P) RecordRanged (λ x. SentKnown P x × RecordRanged x) (λ x h k. (h, k)) w.sent g.keys.sent f.2)
+      (all_both (StationKnown P) StationRanged (λ s. StationKnown P s × StationRanged s) (λ s h k. (h, k)) w.stations g.keys.stations f.1)

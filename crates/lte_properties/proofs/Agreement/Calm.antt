@@ -1,35 +1,33 @@
 -- Openings are calm: a phone that waits for the security of its connection opens no ciphered record, since it never took
 -- its KeNB before; and a connected one no unciphered record, since it took the one of its air address before.
-use Rattle.std.proofs.Common.{◌≡◌, refl, sym, ap, ◌∙◌, subst, ℕ, ◌-◌, ◌≤◌, ◌==◌, nat_lt, Bool, true, false, ℤ, pos, negsuc, List, length, Option, Some, None, Result, Ok, Err, arith}
+use Rattle.std.proofs.Common.{◌≡◌, refl, sym, ap, ◌∙◌, subst, ℕ, ◌≤◌, ◌==◌, nat_lt, Bool, true, false, List, length, Option, Some, None, Result, Ok, Err, arith}
 use Rattle.std.specs.Prelude.{⊤}
-use Rattle.std.specs.List.{position_from}
 use Rattle.alg_choice.specs.declared.caps.Caps.{Caps}
 use Rattle.rec_base.specs.declared.faults.RecFault.{RecFault}
-use Rattle.rec_base.specs.declared.bearers.Bearer.{Bearer}
 use Rattle.rec_base.specs.declared.uses.Dir.TheVariants.{Up, Down}
-use Rattle.lte_events.specs.declared.addresses.Address.{Address}
 use Rattle.lte_events.specs.declared.events.Event.{Event}
 use Rattle.lte_events.specs.Site.{Site}
 use Rattle.key_model.specs.Term.{Term}
 use Rattle.key_model.specs.Reading.{term_reading_by}
-use Rattle.lte_machine.specs.Bearers.{Srb, Signalling1, Signalling2, Drb, Which, OnSrb, which, of_srb, of_drb}
-use Rattle.lte_machine.specs.Wire.{KeyUse, Ciphering, Outgoing, SealedNas, PlainNas, SealedRrc, UserPacket, Between, srb_ciphering}
+use Rattle.lte_machine.specs.Bearers.{Srb, Signalling1, Signalling2, Drb, Which, OnSrb, which}
+use Rattle.lte_machine.specs.Wire.{KeyUse, Ciphering, Outgoing, SealedNas, PlainNas, SealedRrc, UserPacket, Between, srb_ciphering, address_of}
 use Rattle.lte_machine.specs.Opening.{Opening, Outcome, Opened}
 use Rattle.lte_machine.specs.Reply.{BySetup, Took, unseen}
-use Rattle.lte_machine.specs.PhoneState.{Phone, PhoneNasPdu, PhoneAirPdu}
+use Rattle.lte_machine.specs.PhoneState.{Phone, PhoneInput, PhoneAuth, PhoneActs, PhoneNasPdu, PhoneAirPdu}
 use Rattle.lte_machine.specs.PhoneChoice.{unciphered_text}
 use Rattle.lte_machine.specs.PhoneStep.{plain_phone}
-use Rattle.lte_machine.specs.StationState.{Station, Context, StationInput, StationActs, AirPdu, StationRecord, OnS1, OnX2}
-use Rattle.lte_machine.specs.StationKeys.{station_does}
+use Rattle.lte_machine.specs.StationState.{Station, Context, StationInput, StationActs, AirPdu, StationRecord}
 use Rattle.lte_machine.specs.CoreState.{Core, CoreInput, CoreActs, CoreNasPdu, CoreRecord}
 use Rattle.lte_machine.specs.CoreStep.{core_front_of}
-use Rattle.lte_machine.specs.World.{Machine, station_of_id, content_in, newest_if, record_at, class_of, is_sent}
-use Rattle.lte_machine.specs.Step.{Attempted, phone_attempts, core_attempts, attempts_at, station_attempts, arrival_attempts, delivery_attempts, injection_attempts}
+use Rattle.lte_machine.specs.World.{Machine, content_in}
+use Rattle.lte_machine.specs.Step.{Attempted, phone_attempts, core_attempts, attempts_at}
 use Rattle.ho_prep.specs.Prep.{at_air}
+use Rattle.lte_machine.proofs.Routing.{IsTurn, PhoneGets, Turns, happens_by}
+use Rattle.lte_properties.proofs.Agreement.Came.{CameTo, none_came, sent_came}
 use Rattle.lte_properties.specs.ChainHolds.{machine_by}
 use Rattle.lte_properties.specs.Agreement.{made_at}
 use Rattle.lte_properties.proofs.Agreement.Openings.{IsHonest, IsCalm, outcome_of, Honest, Calm}
-use Rattle.lte_properties.proofs.ChainNumbers.Lists.{OfSome, all_get}
+use Rattle.lte_properties.proofs.ChainNumbers.Lists.{all_map, all_each}
 use Rattle.lte_properties.proofs.Agreement.Ghost.{Ghost, RadioOk, SentOk}
 use Rattle.lte_properties.proofs.Agreement.PhoneWalk.{CameDown}
 use Rattle.std.specs.Prelude.{◌&&◌, if◌then◌else◌}
@@ -62,7 +60,6 @@ use Rattle.lte_properties.proofs.Agreement.Openings.{WasSealed, CipheredAs}
 use Rattle.lte_properties.proofs.Agreement.Ghost.{keys_of, LinkIs}
 use Rattle.lte_properties.proofs.Agreement.PhoneWalk.{by_test, one_key, both_named}
 use Rattle.lte_properties.proofs.Agreement.Later.{same_found}
-use Rattle.lte_properties.proofs.Agreement.Events.{which_srb}
 use Rattle.lte_properties.proofs.Agreement.World.{TheWorld, Conns, ghost, WorldOk, OctetsTell}
 use Rattle.lte_machine.specs.Distinct.{Member}
 
@@ -283,76 +280,39 @@ module _ (same : Term → Term → Bool) (root : ℕ → List ℕ → Term) (oct
   abbrev IsCalmAt : Attempted Term (Outgoing Term ℕ) → Type 0
   IsCalmAt a = IsCalm a.opening a.came (outcome_of m a)
 
-  station_calm_at : (id : ℕ) (w : TheWorld) (input : StationInput Term ℕ) (came : Option (Outgoing Term ℕ)) → IsCalmAt (station_attempts m w id input came)
-  station_calm_at id w input came = by_station (station_of_id id w.stations)
-    where
-      by_station : (o : Option (Station Term ℕ)) → IsCalmAt (attempts_at m input came o)
-      by_station None = tt
-      by_station (Some s) = station_calm (station_front_of (term_reading_by same) s input) s came (outcome_of m (attempts_at m input came (Some s)))
-
   core_calm_at : (w : TheWorld) (input : CoreInput Term ℕ) (came : Option (Outgoing Term ℕ)) → IsCalmAt (core_attempts m w input came)
   core_calm_at w input came = core_calm (core_front_of (term_reading_by same) w.core input) w.core came (outcome_of m (core_attempts m w input came))
 
-  phone_nas_at : (w : TheWorld) (pdu : List ℕ) (came : Option (Outgoing Term ℕ)) → IsCalmAt (phone_attempts m w (PhoneNasPdu pdu) came)
-  phone_nas_at w pdu came =
-      let p = plain_phone (term_reading_by same) w.phone in
-      nas_calm same (nas_by_header p.caps p.partial p.context pdu (header_for_phone pdu)) w.phone came (outcome_of m (phone_attempts m w (PhoneNasPdu pdu) came))
+  module _ (c : Conns) (w : TheWorld) (h : WorldOk cells c w) (never : NewKenb w.took w.phone.radio) where
+    phone_calm_at : (input : PhoneInput Term) (came : Option (Outgoing Term ℕ)) → IsTurn input → PhoneGets (λ e. ⊤) (CameTo (ghost c w)) input came
+        → IsHonestAt (phone_attempts m w input came) → IsCalmAt (phone_attempts m w input came)
+    phone_calm_at (PhoneAuth ksi key) came turn k honest = absurd turn
+    phone_calm_at (PhoneActs act) came turn k honest = tt
+    phone_calm_at (PhoneNasPdu pdu) came turn k honest =
+        let p = plain_phone (term_reading_by same) w.phone in
+        nas_calm same (nas_by_header p.caps p.partial p.context pdu (header_for_phone pdu)) w.phone came (outcome_of m (phone_attempts m w (PhoneNasPdu pdu) came))
+    phone_calm_at (PhoneAirPdu station air bearer pdu) came turn k honest =
+        air_calm same (ghost c w) w.phone w.phone.caps station air pdu (which bearer) came k
+        (outcome_of m (phone_attempts m w (PhoneAirPdu station air bearer pdu) came)) w.phone.radio refl h.radio never honest
 
-  phone_air_at : (c : Conns) (w : TheWorld) → WorldOk cells c w → NewKenb w.took w.phone.radio → (station air : ℕ) (bearer : Bearer) (pdu : List ℕ) (came : Option (Outgoing Term ℕ))
-      → CameDown (ghost c w) station air (which bearer) pdu came
-      → IsHonestAt (phone_attempts m w (PhoneAirPdu station air bearer pdu) came) → IsCalmAt (phone_attempts m w (PhoneAirPdu station air bearer pdu) came)
-  phone_air_at c w h never station air bearer pdu came k honest =
-      air_calm same (ghost c w) w.phone w.phone.caps station air pdu (which bearer) came k
-      (outcome_of m (phone_attempts m w (PhoneAirPdu station air bearer pdu) came)) w.phone.radio refl h.radio never honest
+    station_calm_at : (input : StationInput Term ℕ) (came : Option (Outgoing Term ℕ)) (s : Station Term ℕ) → IsCalmAt (attempts_at m input came (Some s))
+    station_calm_at input came s = station_calm (station_front_of (term_reading_by same) s input) s came (outcome_of m (attempts_at m input came (Some s)))
 
-  -- where nothing is known of what came but that no station sent it to an air address
-  arrival_calm : (c : Conns) (w : TheWorld) → WorldOk cells c w → NewKenb w.took w.phone.radio → (to : Address) (pdu : List ℕ) (came : Option (Outgoing Term ℕ))
-      → ((station air : ℕ) (bearer : Bearer) → to ≡ Address.Phone station air bearer → CameDown (ghost c w) station air (which bearer) pdu came)
-      → IsHonestAt (arrival_attempts m w to pdu came) → IsCalmAt (arrival_attempts m w to pdu came)
-  arrival_calm c w h never Address.PhoneNas pdu came k honest = phone_nas_at w pdu came
-  arrival_calm c w h never (Address.Phone station air bearer) pdu came k honest = phone_air_at c w h never station air bearer pdu came (k station air bearer refl) honest
-  arrival_calm c w h never Address.CoreNas pdu came k honest = core_calm_at w (CoreNasPdu pdu) came
-  arrival_calm c w h never Address.CoreS1 pdu came k honest = core_calm_at w (CoreRecord (content_in m came)) came
-  arrival_calm c w h never (Address.StationAir station air bearer) pdu came k honest = station_calm_at station w (AirPdu air bearer pdu) came
-  arrival_calm c w h never (Address.StationS1 station) pdu came k honest = station_calm_at station w (StationRecord OnS1 (content_in m came)) came
-  arrival_calm c w h never (Address.StationX2 station) pdu came k honest = station_calm_at station w (StationRecord OnX2 (content_in m came)) came
-
-  delivery_calm : (c : Conns) (w : TheWorld) → WorldOk cells c w → NewKenb w.took w.phone.radio → (o : Option (Outgoing Term ℕ)) → OfSome (SentOk (ghost c w)) o
-      → IsHonestAt (delivery_attempts m w o) → IsCalmAt (delivery_attempts m w o)
-  delivery_calm c w h never None k honest = tt
-  delivery_calm c w h never (Some (SealedNas Up header i e text)) k honest =
-      core_calm_at w (CoreNasPdu (octets (SealedNas Up header i e text))) (Some (SealedNas Up header i e text))
-  delivery_calm c w h never (Some (SealedNas Down header i e text)) k honest =
-      phone_nas_at w (octets (SealedNas Down header i e text)) (Some (SealedNas Down header i e text))
-  delivery_calm c w h never (Some (PlainNas pdu)) k honest = core_calm_at w (CoreNasPdu (octets (PlainNas pdu))) (Some (PlainNas pdu))
-  delivery_calm c w h never (Some (SealedRrc Up station air srb i e text)) k honest =
-      station_calm_at station w (AirPdu air (of_srb srb) (octets (SealedRrc Up station air srb i e text))) (Some (SealedRrc Up station air srb i e text))
-  delivery_calm c w h never (Some (SealedRrc Down station air srb i e text)) k honest =
-      phone_air_at c w h never station air (of_srb srb) (octets (SealedRrc Down station air srb i e text)) (Some (SealedRrc Down station air srb i e text))
-      (refl, refl, which_srb srb, k, (λ none. ap (λ f. unciphered_text (octets (SealedRrc Down station air srb i f text))) none ∙ tell.text Down station air srb i text)) honest
-  delivery_calm c w h never (Some (UserPacket Up station air drb e text)) k honest =
-      station_calm_at station w (AirPdu air (of_drb drb) (octets (UserPacket Up station air drb e text))) (Some (UserPacket Up station air drb e text))
-  delivery_calm c w h never (Some (UserPacket Down station air drb e text)) k honest = phone_air_at c w h never station air (of_drb drb) (octets (UserPacket Down station air drb e text)) (Some (UserPacket Down station air drb e text)) tt honest
-  delivery_calm c w h never (Some (Between to fields key)) k honest = arrival_calm c w h never to (octets (Between to fields key)) (Some (Between to fields key)) (λ station air bearer e. tt) honest
-
-  injection_calm : (c : Conns) (w : TheWorld) → WorldOk cells c w → NewKenb w.took w.phone.radio → (to : Address) (pdu : List ℕ) (o : Option ℕ)
-      → IsHonestAt (injection_attempts m w to pdu o) → IsCalmAt (injection_attempts m w to pdu o)
-  injection_calm c w h never to pdu None honest = arrival_calm c w h never to pdu None (λ station air bearer e. tt) honest
-  injection_calm c w h never to pdu (Some number) honest = tt
-
-  chosen_sent : (c : Conns) (w : TheWorld) → WorldOk cells c w → (i : ℤ) → OfSome (SentOk (ghost c w)) (record_at i w.sent)
-  chosen_sent c w h (pos i) = all_get (SentOk (ghost c w)) w.sent i h.sent
-  chosen_sent c w h (negsuc i) = by_test (nat_lt i (length w.sent))
-    where
-      by_test : (b : Bool) → OfSome (SentOk (ghost c w)) (newest_if b (length w.sent - 1 - i) w.sent)
-      by_test true = all_get (SentOk (ghost c w)) w.sent (length w.sent - 1 - i) h.sent
-      by_test false = tt
+    turns : Turns m w (λ e. ⊤) (CameTo (ghost c w)) (λ s. ⊤) (λ done a. IsHonestAt a → IsCalmAt a)
+    turns = record {
+      auth = λ ksi key caps is new honest. tt;
+      phone = phone_calm_at;
+      core_acts = λ act is honest. core_calm_at w (CoreActs act) None;
+      core_nas = λ pdu came k honest. core_calm_at w (CoreNasPdu pdu) came;
+      core_record = λ pdu came k honest. core_calm_at w (CoreRecord (content_in m came)) came;
+      station_acts = λ id act is s f honest. station_calm_at (StationActs act) None s;
+      station_air = λ id air bearer pdu came k s f honest. station_calm_at (AirPdu air bearer pdu) came s;
+      station_record = λ on id pdu came k s f honest. station_calm_at (StationRecord on (content_in m came)) came s;
+      none = λ answer honest. tt;
+    }
 
   -- an honest event is calm, where the phone took the KeNB that it waits with nowhere yet
   pub calm_at : (c : Conns) (w : TheWorld) (e : Event) → WorldOk cells c w → NewKenb w.took w.phone.radio → Honest m w e → Calm m w e
-  calm_at c w (Event.Auth ksi key caps) h never honest = tt
-  calm_at c w (Event.Phone act) h never honest = tt
-  calm_at c w (Event.Station id act) h never honest = station_calm_at id w (StationActs act) None
-  calm_at c w (Event.Core act) h never honest = core_calm_at w (CoreActs act) None
-  calm_at c w (Event.Deliver i) h never honest = delivery_calm c w h never (record_at i w.sent) (chosen_sent c w h i) honest
-  calm_at c w (Event.Inject to pdu) h never honest = injection_calm c w h never to pdu (position_from (is_sent m (class_of to) pdu) 0 w.sent) honest
+  calm_at c w e h never honest =
+      happens_by (turns c w h never) (none_came (ghost c w)) (all_map (SentOk (ghost c w)) (λ x. CameTo (ghost c w) (address_of x) (octets x) (Some x)) (sent_came octets tell (ghost c w)) w.sent h.sent)
+      (all_each (λ s. ⊤) (λ s. tt) w.stations) e tt honest

@@ -1,10 +1,7 @@
 -- What the phone had before each order that it obeyed is what it took last, and a connection is what it took last.
 use Rattle.std.proofs.Common.{◌≡◌, refl, ap, ◌∙◌, ℕ, zero, suc, Bool, true, false, List, [], ◌∷◌, ◌++◌, Option, Some, None}
-use Rattle.std.specs.List.{position_from}
 use Rattle.alg_choice.specs.declared.algs.Algs.{Algs}
-use Rattle.alg_choice.specs.declared.caps.Caps.{Caps}
 use Rattle.annex_a_keys.specs.Cell.{Place}
-use Rattle.lte_events.specs.declared.addresses.Address.{Address}
 use Rattle.lte_events.specs.declared.answers.Answer.{Answer}
 use Rattle.lte_events.specs.declared.events.Event.{Event}
 use Rattle.lte_events.specs.declared.setups.Setup.{Setup}
@@ -12,18 +9,17 @@ use Rattle.key_model.specs.Term.{Term}
 use Rattle.key_model.specs.Reading.{term_reading_by}
 use Rattle.nh_chain.specs.Reach.{reached_after}
 use Rattle.lte_machine.specs.Bearers.{Srb, Drb, Which}
-use Rattle.lte_machine.specs.Wire.{KeyUse, Outgoing, address_of}
+use Rattle.lte_machine.specs.Wire.{KeyUse, Outgoing}
 use Rattle.lte_machine.specs.Opening.{Opening, Outcome}
 use Rattle.lte_machine.specs.Reply.{Before, Took}
-use Rattle.lte_machine.specs.PhoneState.{Partial, NasContext, Link, Radio, Idle, Connecting, Connected, Phone, PhoneInput, PhoneActs, PhoneNasPdu, PhoneAirPdu}
+use Rattle.lte_machine.specs.PhoneState.{Partial, NasContext, Link, Radio, Idle, Connecting, Connected, Phone, PhoneInput}
 use Rattle.lte_machine.specs.PhoneRows.{AuthRow, Authenticated, NasRow, NasRefused, RejectedPlain, RejectedUnder, ContextTaken, ContextTakenConnected, NasOpened, AirRow, AirRefused, LinkSecured, HandedOver, KeyChanged, RrcOpened, PacketOpened, ActRow, ActRefused, ServiceRequested, CompleteResent, WentIdle, PacketSent, RrcSent, NasSent, NasSkipped, BearerSkipped, PhoneRow, OfAuth, OfNas, OfAir, OfAct}
 use Rattle.lte_machine.specs.PhoneChoice.{phone_row}
 use Rattle.lte_machine.specs.PhoneKeys.{PhoneDone, auth_does, rejected_under, context_taken, context_taken_connected, nas_opened, nas_does, link_secured, handed_over, before_of, changed_unless, key_changed, rrc_opened, packet_opened, air_does, service_requested, complete_resent, packet_sent, rrc_sent, nas_sent, nas_skipped, bearer_skipped, act_does, phone_does}
 use Rattle.lte_machine.specs.PhoneStep.{plain_phone, front_of, phone_root, phone_opens, phone_pdu_in}
-use Rattle.lte_machine.specs.StationState.{Station, StationInput, StationActs, AirPdu, StationRecord, OnS1, OnX2}
-use Rattle.lte_machine.specs.CoreState.{CoreInput, CoreActs, CoreNasPdu, CoreRecord}
-use Rattle.lte_machine.specs.World.{Machine, World, with_one, phone_turn, core_turn, station_of_id, turn_of, auth_unless, known_root, next_root, content_in, arrives, record_at, delivery, class_of, is_sent, injected, happens}
+use Rattle.lte_machine.specs.World.{Machine, World, with_one, phone_turn, happens}
 use Rattle.lte_machine.specs.Run.{first_world}
+use Rattle.lte_machine.proofs.Routing.{happens_each}
 use Rattle.lte_properties.specs.ChainHolds.{machine_by, run}
 use Rattle.lte_properties.specs.Agreement.{Joins, Follow, TookLast}
 
@@ -193,41 +189,10 @@ module _ (same : Term → Term → Bool) (root : ℕ → List ℕ → Term) (oct
         (phone_row (plain_phone (term_reading_by same) w.phone) (front_of (term_reading_by same) w.phone input) (opener (phone_opens (term_reading_by same) w.phone input) (phone_pdu_in input) came))
         (phone_root input) w.phone h.1
 
-    core_goes : (input : CoreInput Term ℕ) (came : Option (Outgoing Term ℕ)) → InTurn (core_turn m w input came).0
-    core_goes input came = h
-
-    turn_goes : (id : ℕ) (input : StationInput Term ℕ) (came : Option (Outgoing Term ℕ)) (o : Option (Station Term ℕ)) → InTurn (turn_of m w id input came o).0
-    turn_goes id input came None = h
-    turn_goes id input came (Some s) = h
-
-    arrives_goes : (to : Address) (pdu : List ℕ) (came : Option (Outgoing Term ℕ)) → InTurn (arrives m w to pdu came).0
-    arrives_goes Address.PhoneNas pdu came = phone_goes (PhoneNasPdu pdu) came
-    arrives_goes (Address.Phone station air bearer) pdu came = phone_goes (PhoneAirPdu station air bearer pdu) came
-    arrives_goes Address.CoreNas pdu came = core_goes (CoreNasPdu pdu) came
-    arrives_goes Address.CoreS1 pdu came = core_goes (CoreRecord (content_in m came)) came
-    arrives_goes (Address.StationAir station air bearer) pdu came = turn_goes station (AirPdu air bearer pdu) came (station_of_id station w.stations)
-    arrives_goes (Address.StationS1 station) pdu came = turn_goes station (StationRecord OnS1 (content_in m came)) came (station_of_id station w.stations)
-    arrives_goes (Address.StationX2 station) pdu came = turn_goes station (StationRecord OnX2 (content_in m came)) came (station_of_id station w.stations)
-
-    delivered_goes : (o : Option (Outgoing Term ℕ)) → InTurn (delivery m w o).0
-    delivered_goes None = h
-    delivered_goes (Some x) = arrives_goes (address_of x) (octets x) (Some x)
-
-    injected_goes : (to : Address) (pdu : List ℕ) (o : Option ℕ) → InTurn (injected m w to pdu o).0
-    injected_goes to pdu None = arrives_goes to pdu None
-    injected_goes to pdu (Some number) = h
-
-    auth_goes : (ksi : ℕ) (key : Term) (caps : Caps) (o : Option ℕ) → InTurn (auth_unless m w ksi key caps o).0
-    auth_goes ksi key caps None = h
-    auth_goes ksi key caps (Some row) = h
-
     pub happens_in_turn : (e : Event) → InTurn (happens m w e).0
-    happens_in_turn (Event.Auth ksi key caps) = let k = root (next_root w) key in auth_goes ksi k caps (known_root m w k)
-    happens_in_turn (Event.Phone act) = phone_goes (PhoneActs act) None
-    happens_in_turn (Event.Station id act) = turn_goes id (StationActs act) None (station_of_id id w.stations)
-    happens_in_turn (Event.Core act) = core_goes (CoreActs act) None
-    happens_in_turn (Event.Deliver i) = delivered_goes (record_at i w.sent)
-    happens_in_turn (Event.Inject to pdu) = injected_goes to pdu (position_from (is_sent m (class_of to) pdu) 0 w.sent)
+    happens_in_turn e =
+        happens_each m w (λ done a. InTurn done.0) (λ ksi key caps. h) (λ input came turn. phone_goes input came) (λ input came. h)
+        (λ id input came s there own. h) (λ answer. h) e
 
   run_in_turn : (w : World Term ℕ (Outgoing Term ℕ)) (es : List Event) → InTurn w → InTurn (run m w es)
   run_in_turn w [] h = h

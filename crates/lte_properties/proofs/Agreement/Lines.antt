@@ -1,12 +1,9 @@
 -- Where a station tells that a handover completed, its context is new and has the key that it tells.
 use Rattle.std.proofs.Common.{◌≡◌, ◌==◌, refl, subst, take, ℕ, suc, Bool, true, false, cond, List, [], ◌∷◌, Option, Some, None, inl, inr}
 use Rattle.std.specs.Prelude.{⊤}
-use Rattle.std.specs.List.{position_from}
-use Rattle.std.proofs.lemmas.Bool.{eqb-true, eqb-false}
-use Rattle.alg_choice.specs.declared.caps.Caps.{Caps}
+use Rattle.std.proofs.lemmas.Bool.{eqb-false}
 use Rattle.rec_base.specs.declared.ways.Way.{Way}
 use Rattle.lte_events.specs.declared.lines.Who.{Who}
-use Rattle.lte_events.specs.declared.addresses.Address.{Address}
 use Rattle.lte_events.specs.declared.events.Event.{Event}
 use Rattle.lte_events.specs.Site.{Site}
 use Rattle.key_model.specs.Term.{Term}
@@ -14,20 +11,20 @@ use Rattle.key_model.specs.HandoverTable.{NumberedKey}
 use Rattle.key_model.specs.Reading.{term_reading_by}
 use Rattle.nh_chain.specs.Station.{way_of, opened}
 use Rattle.lte_machine.proofs.StationCases.{station_case}
-use Rattle.lte_machine.specs.Wire.{KeyUse, Outgoing, address_of}
+use Rattle.lte_machine.specs.Wire.{KeyUse, Outgoing}
 use Rattle.lte_machine.specs.Opening.{Opening, Outcome}
 use Rattle.lte_machine.specs.Reply.{Note, Reply}
-use Rattle.lte_machine.specs.StationState.{Station, Context, StationInput, StationActs, AirPdu, StationRecord, OnS1, OnX2}
+use Rattle.lte_machine.specs.StationState.{Station, Context, StationInput}
 use Rattle.lte_machine.specs.StationRows.{StationRow}
 use Rattle.lte_machine.specs.StationKeys.{started_by_x2, started_within, station_does}
 use Rattle.lte_machine.specs.StationStep.{station_opens, station_pdu_in, station_row_of, station_key, station_step}
-use Rattle.lte_machine.specs.World.{Machine, put_if, put_station, station_after, station_of_id, turn_of, auth_unless, known_root, next_root, content_in, arrives, record_at, delivery, class_of, is_sent, injected, happens}
+use Rattle.lte_machine.specs.World.{Machine, Line, put_if, put_station, station_after, station_of_id, turn_of, happens}
+use Rattle.lte_machine.proofs.Routing.{happens_each}
 use Rattle.lte_properties.specs.ChainBelow.{AllOf}
 use Rattle.lte_properties.specs.ChainHolds.{machine_by, run}
 use Rattle.lte_properties.specs.Agreement.{HadTaken, OfStation, HasContext, TellsWay, TellsNote, CompletedLines}
 use Rattle.lte_properties.proofs.ChainNumbers.Lists.{all_both, all_put}
 use Rattle.lte_properties.proofs.Agreement.Ghost.{Ghost, CtxOk, StartedOk, StationOk}
-use Rattle.lte_properties.proofs.Agreement.Told.{found_holds}
 use Rattle.lte_properties.proofs.Agreement.World.{TheWorld, Conns, ghost, WorldOk}
 use Rattle.lte_machine.specs.Distinct.{Member}
 
@@ -138,43 +135,17 @@ module _ (same : Term → Term → Bool) (root : ℕ → List ℕ → Term) (oct
   note_after w id s e d (Some note) h = way_after w id s e d note.key note.way h
 
   module _ (w : TheWorld) where
-    turn_shows : (id : ℕ) (input : StationInput Term ℕ) (came : Option (Outgoing Term ℕ)) (o : Option (Station Term ℕ)) → station_of_id id w.stations ≡ o
-        → let h = turn_of m w id input came o in NoteShown h.0 h.1.who h.1.note
-    turn_shows id input came None e = tt
-    turn_shows id input came (Some s) e =
+    abbrev Shows : TheWorld × Line Term → Type 0
+    Shows h = NoteShown h.0 h.1.who h.1.note
+
+    station_shows : (id : ℕ) (input : StationInput Term ℕ) (came : Option (Outgoing Term ℕ)) (s : Station Term ℕ) → station_of_id id w.stations ≡ Some s → s.id ≡ id → Shows (turn_of m w id input came (Some s))
+    station_shows id input came s there own =
         let outcome = opener (station_opens (term_reading_by same) s input) (station_pdu_in input) came in
         let d = station_step (term_reading_by same) s input outcome in
-        let is : s.id ≡ id = eqb-true s.id id (found_holds (λ t. t.id == id) w.stations s e) in
-        note_after w id s e d d.1.note (subst (λ n. NoteIsNew n d.0 d.1.note) is (station_tells same (station_row_of (term_reading_by same) s input outcome) (station_key input) s))
+        note_after w id s there d d.1.note (subst (λ n. NoteIsNew n d.0 d.1.note) own (station_tells same (station_row_of (term_reading_by same) s input outcome) (station_key input) s))
 
-    arrives_shows : (to : Address) (pdu : List ℕ) (came : Option (Outgoing Term ℕ)) → let h = arrives m w to pdu came in NoteShown h.0 h.1.who h.1.note
-    arrives_shows Address.PhoneNas pdu came = tt
-    arrives_shows (Address.Phone station air bearer) pdu came = tt
-    arrives_shows Address.CoreNas pdu came = tt
-    arrives_shows Address.CoreS1 pdu came = tt
-    arrives_shows (Address.StationAir station air bearer) pdu came = turn_shows station (AirPdu air bearer pdu) came (station_of_id station w.stations) refl
-    arrives_shows (Address.StationS1 station) pdu came = turn_shows station (StationRecord OnS1 (content_in m came)) came (station_of_id station w.stations) refl
-    arrives_shows (Address.StationX2 station) pdu came = turn_shows station (StationRecord OnX2 (content_in m came)) came (station_of_id station w.stations) refl
-
-    delivered_shows : (o : Option (Outgoing Term ℕ)) → let h = delivery m w o in NoteShown h.0 h.1.who h.1.note
-    delivered_shows None = tt
-    delivered_shows (Some x) = arrives_shows (address_of x) (octets x) (Some x)
-
-    injected_shows : (to : Address) (pdu : List ℕ) (o : Option ℕ) → let h = injected m w to pdu o in NoteShown h.0 h.1.who h.1.note
-    injected_shows to pdu None = arrives_shows to pdu None
-    injected_shows to pdu (Some number) = tt
-
-    auth_shows : (ksi : ℕ) (key : Term) (caps : Caps) (o : Option ℕ) → let h = auth_unless m w ksi key caps o in NoteShown h.0 h.1.who h.1.note
-    auth_shows ksi key caps None = tt
-    auth_shows ksi key caps (Some row) = tt
-
-    happens_shows : (e : Event) → let h = happens m w e in NoteShown h.0 h.1.who h.1.note
-    happens_shows (Event.Auth ksi key caps) = let k = root (next_root w) key in auth_shows ksi k caps (known_root m w k)
-    happens_shows (Event.Phone act) = tt
-    happens_shows (Event.Station id act) = turn_shows id (StationActs act) None (station_of_id id w.stations) refl
-    happens_shows (Event.Core act) = tt
-    happens_shows (Event.Deliver i) = delivered_shows (record_at i w.sent)
-    happens_shows (Event.Inject to pdu) = injected_shows to pdu (position_from (is_sent m (class_of to) pdu) 0 w.sent)
+    happens_shows : (e : Event) → Shows (happens m w e)
+    happens_shows = happens_each m w (λ done a. Shows done) (λ ksi key caps. tt) (λ input came turn. tt) (λ input came. tt) station_shows (λ answer. tt)
 
 -- in a world with the invariant, the phone had taken the key of an active context
 had_active : (cells : List Site) (g : Ghost) (s : Station Term ℕ) (id : ℕ) (key : Term) → s.id ≡ id → (o : Option (Context Term ℕ)) → CtxOk g s.id o → IsNew o key

@@ -1,32 +1,27 @@
 -- What a station makes and what the phone takes is told in the line of its event: its key, and the NCC of its number.
-use Rattle.std.proofs.Common.{◌≡◌, refl, sym, ap, ◌∙◌, subst, ℕ, ◌==◌, Bool, List, [], ◌∷◌, ◌++◌, Option, Some, None, ◌≢◌}
+use Rattle.std.proofs.Common.{◌≡◌, refl, sym, ap, ◌∙◌, subst, ℕ, Bool, List, [], ◌∷◌, ◌++◌, Option, Some, None, ◌≢◌}
 use Rattle.std.specs.Prelude.{⊤}
-use Rattle.std.specs.List.{position_from}
-use Rattle.alg_choice.specs.declared.caps.Caps.{Caps}
 use Rattle.lte_events.specs.declared.lines.Who.{Who}
-use Rattle.lte_events.specs.declared.addresses.Address.{Address}
 use Rattle.lte_events.specs.declared.events.Event.{Event}
 use Rattle.key_model.specs.Term.{Term}
 use Rattle.key_model.specs.HandoverTable.{NumberedKey}
 use Rattle.key_model.specs.Reading.{term_reading_by}
 use Rattle.lte_machine.proofs.StationCases.{station_case}
-use Rattle.lte_machine.specs.Wire.{KeyUse, Outgoing, address_of}
+use Rattle.lte_machine.specs.Wire.{KeyUse, Outgoing}
 use Rattle.lte_machine.specs.Opening.{Opening, Outcome}
-use Rattle.lte_machine.specs.Reply.{Note, Reply, Took}
-use Rattle.lte_machine.specs.PhoneState.{PhoneInput, PhoneActs, PhoneNasPdu, PhoneAirPdu}
-use Rattle.lte_machine.specs.StationState.{Station, StationInput, StationActs, AirPdu, StationRecord, OnS1, OnX2}
+use Rattle.lte_machine.specs.Reply.{Note, Reply}
+use Rattle.lte_machine.specs.PhoneState.{PhoneInput}
+use Rattle.lte_machine.specs.StationState.{Station, StationInput}
 use Rattle.lte_machine.specs.StationStep.{station_opens, station_pdu_in, station_row_of, station_key}
-use Rattle.lte_machine.specs.CoreState.{CoreInput, CoreActs, CoreNasPdu, CoreRecord}
-use Rattle.lte_machine.specs.World.{Machine, phone_turn, core_turn, station_of_id, turn_of, auth_unless, known_root, next_root, content_in, arrives, record_at, delivery, class_of, is_sent, injected, happens, with_one}
+use Rattle.lte_machine.specs.World.{Machine, phone_turn, turn_of, happens, with_one}
 use Rattle.lte_machine.specs.PhoneChoice.{phone_row}
 use Rattle.lte_machine.specs.PhoneStep.{plain_phone, front_of, phone_root, phone_opens, phone_pdu_in}
 use Rattle.lte_machine.specs.StationRows.{StationRow}
 use Rattle.lte_machine.specs.StationKeys.{station_does}
 use Rattle.std.specs.Prelude.{◌⊎◌}
 use Rattle.std.proofs.Common.{inl, inr}
-use Rattle.std.proofs.lemmas.Bool.{eqb-true}
 use Rattle.lte_machine.specs.PhoneKeys.{phone_does}
-use Rattle.lte_properties.proofs.Agreement.Told.{found_holds}
+use Rattle.lte_machine.proofs.Routing.{happens_each}
 use Rattle.lte_machine.specs.Reply.{Made, Took}
 use Rattle.lte_machine.specs.World.{Line}
 use Rattle.lte_properties.specs.ChainHolds.{machine_by}
@@ -148,50 +143,22 @@ module _ (same : Term → Term → Bool) (root : ℕ → List ℕ → Term) (oct
         let row = phone_row (plain_phone (term_reading_by same) w.phone) (front_of (term_reading_by same) w.phone input) outcome in
         (inl (refl, tt), took_told w.took (phone_does (term_reading_by same) row (phone_root input) w.phone).1.took h.1 refl (phone_notes same row (phone_root input) w.phone))
 
-    core_told : (input : CoreInput Term ℕ) (came : Option (Outgoing Term ℕ)) → BothTold w (core_turn m w input came)
-    core_told input came = (inl (refl, tt), inl (refl, λ e. absurd (core_is_none e)))
-
-    turn_told : (id : ℕ) (input : StationInput Term ℕ) (came : Option (Outgoing Term ℕ)) (o : Option (Station Term ℕ)) → station_of_id id w.stations ≡ o → BothTold w (turn_of m w id input came o)
-    turn_told id input came None e = (inl (refl, tt), inl (refl, λ f. absurd (world_is_none f)))
-    turn_told id input came (Some s) e =
+    station_told : (id : ℕ) (input : StationInput Term ℕ) (came : Option (Outgoing Term ℕ)) (s : Station Term ℕ) → s.id ≡ id → BothTold w (turn_of m w id input came (Some s))
+    station_told id input came s own =
         let h = turn_of m w id input came (Some s) in
         let outcome = opener (station_opens (term_reading_by same) s input) (station_pdu_in input) came in
         let row = station_row_of (term_reading_by same) s input outcome in
-        let notes = station_notes same row (station_key input) s in
-        let is : s.id ≡ id = eqb-true s.id id (found_holds (λ t. t.id == id) w.stations s e) in (
+        let notes = station_notes same row (station_key input) s in (
           made_told w.made (station_does (term_reading_by same) row (station_key input) s).1.made id h.1 refl
-              (subst (λ n. MadeNoted n h.1.note (station_does (term_reading_by same) row (station_key input) s).1.made) is notes),
+              (subst (λ n. MadeNoted n h.1.note (station_does (term_reading_by same) row (station_key input) s).1.made) own notes),
           inl (refl, λ f. absurd (station_is_none id f)),
         )
 
-    arrives_told : (to : Address) (pdu : List ℕ) (came : Option (Outgoing Term ℕ)) → BothTold w (arrives m w to pdu came)
-    arrives_told Address.PhoneNas pdu came = phone_told (PhoneNasPdu pdu) came
-    arrives_told (Address.Phone station air bearer) pdu came = phone_told (PhoneAirPdu station air bearer pdu) came
-    arrives_told Address.CoreNas pdu came = core_told (CoreNasPdu pdu) came
-    arrives_told Address.CoreS1 pdu came = core_told (CoreRecord (content_in m came)) came
-    arrives_told (Address.StationAir station air bearer) pdu came = turn_told station (AirPdu air bearer pdu) came (station_of_id station w.stations) refl
-    arrives_told (Address.StationS1 station) pdu came = turn_told station (StationRecord OnS1 (content_in m came)) came (station_of_id station w.stations) refl
-    arrives_told (Address.StationX2 station) pdu came = turn_told station (StationRecord OnX2 (content_in m came)) came (station_of_id station w.stations) refl
-
-    delivered_told : (o : Option (Outgoing Term ℕ)) → BothTold w (delivery m w o)
-    delivered_told None = (inl (refl, tt), inl (refl, λ f. absurd (world_is_none f)))
-    delivered_told (Some x) = arrives_told (address_of x) (octets x) (Some x)
-
-    injected_told : (to : Address) (pdu : List ℕ) (o : Option ℕ) → BothTold w (injected m w to pdu o)
-    injected_told to pdu None = arrives_told to pdu None
-    injected_told to pdu (Some number) = (inl (refl, tt), inl (refl, λ f. absurd (world_is_none f)))
-
-    auth_told : (ksi : ℕ) (key : Term) (caps : Caps) (o : Option ℕ) → BothTold w (auth_unless m w ksi key caps o)
-    auth_told ksi key caps None = (inl (refl, tt), inl (refl, λ f. absurd (both_is_none f)))
-    auth_told ksi key caps (Some row) = (inl (refl, tt), inl (refl, λ f. absurd (world_is_none f)))
-
     happens_told : (e : Event) → BothTold w (happens m w e)
-    happens_told (Event.Auth ksi key caps) = let k = root (next_root w) key in auth_told ksi k caps (known_root m w k)
-    happens_told (Event.Phone act) = phone_told (PhoneActs act) None
-    happens_told (Event.Station id act) = turn_told id (StationActs act) None (station_of_id id w.stations) refl
-    happens_told (Event.Core act) = core_told (CoreActs act) None
-    happens_told (Event.Deliver i) = delivered_told (record_at i w.sent)
-    happens_told (Event.Inject to pdu) = injected_told to pdu (position_from (is_sent m (class_of to) pdu) 0 w.sent)
+    happens_told =
+        happens_each m w (λ done a. BothTold w done) (λ ksi key caps. (inl (refl, tt), inl (refl, λ f. absurd (both_is_none f)))) (λ input came turn. phone_told input came)
+        (λ input came. (inl (refl, tt), inl (refl, λ f. absurd (core_is_none f)))) (λ id input came s there own. station_told id input came s own)
+        (λ answer. (inl (refl, tt), inl (refl, λ f. absurd (world_is_none f))))
 
   -- in every run
   pub keys_told : (w : TheWorld) (es : List Event) → KeysTold m w es

@@ -1,20 +1,19 @@
 -- Agreement's invariant of a world, and what an event leaves of it.
-use Rattle.std.proofs.Common.{◌≡◌, refl, sym, ◌∙◌, subst, ℕ, ◌≤◌, ◌==◌, Bool, true, List, Option, Some, None, Ok}
+use Rattle.std.proofs.Common.{◌≡◌, refl, sym, ap, ◌∙◌, subst, ℕ, ◌≤◌, Bool, List, Option, Some, None, Ok}
 use Rattle.std.specs.Prelude.{⊤}
-use Rattle.std.proofs.lemmas.Bool.{eqb-true, eqb-false}
+use Rattle.std.proofs.lemmas.Bool.{eqb-false}
 use Rattle.rec_base.specs.declared.bearers.Bearer.{Bearer}
 use Rattle.rec_base.specs.declared.uses.Dir.{Dir}
 use Rattle.lte_events.specs.declared.acts.StationAct.{StationAct}
 use Rattle.lte_events.specs.declared.addresses.Address.{Address}
 use Rattle.lte_events.specs.declared.answers.Answer.{Answer}
-use Rattle.lte_events.specs.declared.answers.Answer.TheVariants.{NoUe}
 use Rattle.lte_events.specs.Site.{Site}
 use Rattle.key_model.specs.Term.{Term}
 use Rattle.key_model.specs.HandoverTable.{NumberedKey}
 use Rattle.key_model.specs.Reading.{term_reading_by}
 use Rattle.s1x2_rec.specs.Fields.{Fields}
 use Rattle.lte_machine.specs.Bearers.{Srb, which}
-use Rattle.lte_machine.specs.Wire.{KeyUse, Ciphering, Outgoing, SealedNas, PlainNas, SealedRrc, UserPacket, Between}
+use Rattle.lte_machine.specs.Wire.{KeyUse, Ciphering, Outgoing, SealedNas, PlainNas, SealedRrc, UserPacket, Between, address_of}
 use Rattle.lte_machine.specs.Opening.{Opening, Outcome}
 use Rattle.lte_machine.specs.Ranges.{IsStationAct}
 use Rattle.lte_machine.specs.Reply.{Made, Tried, Took, Reply}
@@ -22,15 +21,16 @@ use Rattle.lte_machine.specs.PhoneState.{PhoneInput, PhoneAirPdu}
 use Rattle.lte_machine.specs.PhoneChoice.{unciphered_text, phone_row}
 use Rattle.lte_machine.specs.PhoneKeys.{PhoneDone}
 use Rattle.lte_machine.specs.PhoneStep.{plain_phone, front_of, phone_root, phone_step}
-use Rattle.lte_machine.specs.StationState.{Station, StationInput, StationActs, AirPdu, StationRecord, OnS1, OnX2}
+use Rattle.lte_machine.specs.StationState.{Station, StationInput, StationActs, AirPdu, StationRecord, Interface, OnS1, OnX2}
 use Rattle.lte_machine.specs.StationRows.{StationRow, OfRecord, OfAir, OfAct}
 use Rattle.lte_machine.specs.StationKeys.{station_does}
 use Rattle.lte_machine.specs.StationStep.{station_step, station_row_of, station_key}
 use Rattle.lte_machine.specs.CoreState.{CoreInput}
 use Rattle.lte_machine.specs.CoreKeys.{CoreDone}
 use Rattle.lte_machine.specs.CoreStep.{core_step}
-use Rattle.lte_machine.specs.World.{Machine, World, with_one, phone_after, core_after, station_after, by_world, phone_turn, core_turn, station_of_id, turn_of, station_turn, content_in}
+use Rattle.lte_machine.specs.World.{Machine, World, with_one, phone_after, core_after, station_after, by_world, phone_turn, core_turn, turn_of, content_in}
 use Rattle.lte_machine.specs.Step.{phone_attempts, core_attempts, attempts_at}
+use Rattle.lte_machine.proofs.Routing.{address_on, Found}
 use Rattle.lte_properties.specs.ChainBelow.{AllOf}
 use Rattle.lte_properties.specs.ChainAbove.{ContextAbove, StationAbove, InFlight}
 use Rattle.lte_properties.specs.ChainHolds.{machine_by}
@@ -42,7 +42,8 @@ use Rattle.lte_properties.proofs.Agreement.Seen.{NotBoth, seen_beside, once_more
 use Rattle.lte_properties.proofs.Agreement.Follows.{InTurn}
 use Rattle.lte_properties.proofs.Agreement.Order.{new_at}
 use Rattle.lte_properties.proofs.Agreement.Openings.{IsHonest, IsCalm, outcome_of}
-use Rattle.lte_properties.proofs.ChainNumbers.Lists.{OfSome, all_one, all_find, all_map, all_both, all_put}
+use Rattle.lte_properties.proofs.ChainNumbers.Lists.{OfSome, all_one, all_map, all_put}
+use Rattle.lte_properties.proofs.ChainNumbers.World.{FitsAll}
 use Rattle.lte_properties.proofs.Agreement.Ghost.{Ghost, tried_at, SeenBy, CoreOk, RadioOk, StationOk, SentOk, MadeOk, TriedOk, TookOk, OutOk, BetweenOk}
 use Rattle.lte_properties.proofs.Agreement.Later.{Later, later_itself, ctx_later, preps_later, radio_later, sent_later, made_later, tried_later, took_later}
 use Rattle.lte_properties.proofs.Agreement.Phone.{PhoneGoes, NewTook, PhoneNeeds, took_more, phone_goes}
@@ -119,10 +120,6 @@ new_took : (o : Option (Took Term ℕ)) (g : Ghost) → NewTook g o → OfSome (
 new_took None g h = tt
 new_took (Some x) g h = h
 
-some_map : {A : Type 0} (P Q : A → Type 0) → ((x : A) → P x → Q x) → (o : Option A) → OfSome P o → OfSome Q o
-some_map P Q f None h = tt
-some_map P Q f (Some x) h = f x h
-
 -- the parts of other actors stay, where more is told
 module _ (cells : List Site) (c d : Conns) (w u : TheWorld) (l : Later (ghost c w) (ghost d u)) where
   -- of a station, where nothing of its own was told
@@ -159,6 +156,10 @@ pub record Settled (w : TheWorld) : Type 0 where
   pub order : PhoneInOrder w
   pub fits : AllOf (λ s. CellFits s.context) w.stations
 
+-- what is asked of a station that takes a turn
+abbrev pub IsAt : List Site → Conns → TheWorld → Station Term ℕ → Type 0
+IsAt cells c w s = StationOk cells (ghost c w) s × StationAbove s × CellFits s.context × AllOf (InFlight s) w.sent
+
 -- so where the present key is to change, the phone took nothing yet
 not_yet : (g : Ghost) (radio : Radio Term ℕ) → Follow None g.took → TookInOrder g.took → RadioInOrder g.took radio → AllOf (Obeys g.made) g.took → NothingYet g radio
 not_yet g Idle follow order radio obeys = tt
@@ -166,8 +167,8 @@ not_yet g (Connecting w) follow order radio obeys = tt
 not_yet g (Connected l) follow order radio obeys = λ station air m there from. new_at g.made station air m there l.kenb from g.took follow order radio obeys
 
 -- what came in a record on S1 or X2
-abbrev pub ReadOk : (Address → Fields → Option (NumberedKey Term ℕ) → Type 0) → Option (Outgoing Term ℕ) → Type 0
-ReadOk P (Some (Between to fields key)) = P to fields key
+abbrev pub ReadOk : (Fields → Option (NumberedKey Term ℕ) → Type 0) → Option (Outgoing Term ℕ) → Type 0
+ReadOk P (Some (Between to fields key)) = P fields key
 ReadOk P other = ⊤
 
 module _ (same : Term → Term → Bool) (root : ℕ → List ℕ → Term) (octets : Outgoing Term ℕ → List ℕ) (sender : Option (Outgoing Term ℕ) → Option (KeyUse Term)) (opener : Opening Term → List ℕ → Option (Outgoing Term ℕ) → Outcome) (tell : OctetsTell octets) (cells : List Site) (cells_ok : AllOf SiteOk cells) where
@@ -317,101 +318,50 @@ module _ (same : Term → Term → Bool) (root : ℕ → List ℕ → Term) (oct
   station_does_goes c w h (OfAir row) key s ok above needs = air_goes same cells (ghost c w) h.made h.tried row s ok needs
   station_does_goes c w h (OfAct row) key s ok above needs = act_goes same cells cells_ok (ghost c w) h.made h.tried row s ok above needs
 
-  -- the station of a number, if there is one
-  turn_goes : (c : Conns) (w : TheWorld) (id : ℕ) (input : StationInput Term ℕ) (came : Option (Outgoing Term ℕ)) (o : Option (Station Term ℕ)) → WorldOk cells c w
-      → OfSome (λ s. (StationOk cells (ghost c w) s × StationAbove s) × ((s.id == id) ≡ true)) o
-      → OfSome (λ s. StationOk cells (ghost c w) s → s.id ≡ id →
-      StationNeeds (ghost c w) s (station_row_of (term_reading_by same) s input (outcome_of m (attempts_at m input came (Some s)))) (station_key input)) o
-      → Goes cells c w (turn_of m w id input came o).0
-  turn_goes c w id input came None h ok needs = by_world_goes c w NoUe h
-  turn_goes c w id input came (Some s) h ok needs =
-      let is = eqb-true s.id id ok.1 in
-      station_after_goes c w id s (station_step (term_reading_by same) s input (outcome_of m (attempts_at m input came (Some s)))) is h
-      (station_does_goes c w h (station_row_of (term_reading_by same) s input (outcome_of m (attempts_at m input came (Some s)))) (station_key input) s
-      ok.0.0 ok.0.1.0 (needs ok.0.0 is))
+  -- the turn of a station
+  station_goes : (c : Conns) (w : TheWorld) (id : ℕ) (input : StationInput Term ℕ) (came : Option (Outgoing Term ℕ)) (s : Station Term ℕ) → WorldOk cells c w → s.id ≡ id
+      → StationOk cells (ghost c w) s → ContextAbove s.context
+      → StationNeeds (ghost c w) s (station_row_of (term_reading_by same) s input (outcome_of m (attempts_at m input came (Some s)))) (station_key input)
+      → Goes cells c w (turn_of m w id input came (Some s)).0
+  station_goes c w id input came s h is ok above needs =
+      let outcome = outcome_of m (attempts_at m input came (Some s)) in
+      station_after_goes c w id s (station_step (term_reading_by same) s input outcome) is h
+      (station_does_goes c w h (station_row_of (term_reading_by same) s input outcome) (station_key input) s ok above needs)
 
-  -- each station is so, and so is the one of a number
-  pub found_of : (c : Conns) (w : TheWorld) (id : ℕ) → WorldOk cells c w → AllOf StationAbove w.stations
-      → OfSome (λ s. (StationOk cells (ghost c w) s × StationAbove s) × ((s.id == id) ≡ true)) (station_of_id id w.stations)
-  found_of c w id h above =
-      all_find (λ s. StationOk cells (ghost c w) s × StationAbove s) (λ s. s.id == id) w.stations
-      (all_both (StationOk cells (ghost c w)) StationAbove (λ s. StationOk cells (ghost c w) s × StationAbove s) (λ s a b. (a, b)) w.stations h.stations above)
+  pub station_acts_goes : (c : Conns) (w : TheWorld) (id : ℕ) (act : StationAct) → IsStationAct act → WorldOk cells c w → (s : Station Term ℕ) → Found w (IsAt cells c w) id s
+      → Goes cells c w (turn_of m w id (StationActs act) None (Some s)).0
+  station_acts_goes c w id act is h s f =
+      station_goes c w id (StationActs act) None s h f.own f.holds.0 f.holds.1.0 (act_walks same cells (ghost c w) s f.holds.0 act is)
 
-  each : {A : Type 0} (P : A → Type 0) → ((x : A) → P x) → (o : Option A) → OfSome P o
-  each P f None = tt
-  each P f (Some x) = f x
-
-  pub station_acts_goes : (c : Conns) (w : TheWorld) (id : ℕ) (act : StationAct) → IsStationAct act → WorldOk cells c w → AllOf StationAbove w.stations
-      → Goes cells c w (station_turn m w id (StationActs act) None).0
-  station_acts_goes c w id act is h above =
-      turn_goes c w id (StationActs act) None (station_of_id id w.stations) h (found_of c w id h above)
-      (each _ (λ s ok e. act_walks same cells (ghost c w) s ok act is) (station_of_id id w.stations))
-
-  pub station_air_goes : (c : Conns) (w : TheWorld) (id air : ℕ) (bearer : Bearer) (pdu : List ℕ) (came : Option (Outgoing Term ℕ)) → WorldOk cells c w → AllOf StationAbove w.stations
-      → CameUp (ghost c w) id air came
-      → (o : Option (Station Term ℕ)) → OfSome (λ s. (StationOk cells (ghost c w) s × StationAbove s) × ((s.id == id) ≡ true)) o
-      → let a = attempts_at m (AirPdu air bearer pdu) came o in IsHonest a.opening a.came (outcome_of m a)
-      → Goes cells c w (turn_of m w id (AirPdu air bearer pdu) came o).0
-  station_air_goes c w id air bearer pdu came h above k None found honest = turn_goes c w id (AirPdu air bearer pdu) came None h tt tt
-  station_air_goes c w id air bearer pdu came h above k (Some s) found honest =
-      turn_goes c w id (AirPdu air bearer pdu) came (Some s) h found
-      (λ ok is. air_row_walks same cells (ghost c w) s ok air came (subst (λ n. CameUp (ghost c w) n air came) (sym is) k)
+  pub station_air_goes : (c : Conns) (w : TheWorld) (id air : ℕ) (bearer : Bearer) (pdu : List ℕ) (came : Option (Outgoing Term ℕ)) → CameUp (ghost c w) id air came → WorldOk cells c w
+      → (s : Station Term ℕ) → Found w (IsAt cells c w) id s
+      → let a = attempts_at m (AirPdu air bearer pdu) came (Some s) in IsHonest a.opening a.came (outcome_of m a)
+      → Goes cells c w (turn_of m w id (AirPdu air bearer pdu) came (Some s)).0
+  station_air_goes c w id air bearer pdu came k h s f honest =
+      station_goes c w id (AirPdu air bearer pdu) came s h f.own f.holds.0 f.holds.1.0
+      (air_row_walks same cells (ghost c w) s f.holds.0 air came (subst (λ n. CameUp (ghost c w) n air came) (sym f.own) k)
       (outcome_of m (attempts_at m (AirPdu air bearer pdu) came (Some s)))
       (which bearer) pdu honest)
 
-  -- what came to a station in a record
-  abbrev S1Came : Conns → TheWorld → ℕ → Option (Outgoing Term ℕ) → Type 0
-  S1Came c w id came =
-      ReadOk (λ to fields key. BetweenOk (ghost c w) (Address.StationS1 id) fields key × AllOf (λ s. s.id ≡ id → CellFits s.context × InFlight s (Between (Address.StationS1 id) fields key)) w.stations) came
+  -- what comes to it in a record
+  record_needs : (c : Conns) (w : TheWorld) (on : Interface) (id : ℕ) (came : Option (Outgoing Term ℕ)) → ReadOk (BetweenOk (ghost c w) (address_on on id)) came
+      → OfSome (λ x. (address_of x ≡ address_on on id) × FitsAll w x) came → (outcome : Outcome) (s : Station Term ℕ) → Found w (IsAt cells c w) id s
+      → StationNeeds (ghost c w) s (station_row_of (term_reading_by same) s (StationRecord on (content_in m came)) outcome) (station_key (StationRecord on (content_in m came)))
+  record_needs c w on id None k fits outcome s f = tt
+  record_needs c w on id (Some (SealedNas dir header i e text)) k fits outcome s f = tt
+  record_needs c w on id (Some (PlainNas pdu)) k fits outcome s f = tt
+  record_needs c w on id (Some (SealedRrc dir station air srb i e text)) k fits outcome s f = tt
+  record_needs c w on id (Some (UserPacket dir station air drb e text)) k fits outcome s f = tt
+  record_needs c w OnS1 id (Some (Between to fields key)) k fits outcome s f =
+      s1_walks same (ghost c w) s fields key f.holds.2
+      (subst (λ n. BetweenOk (ghost c w) (Address.StationS1 n) fields key) (sym f.own) k)
+      (subst (λ a. InFlight s (Between a fields key)) (fits.0 ∙ ap Address.StationS1 (sym f.own)) (fits.1 s f.holds.3))
+  record_needs c w OnX2 id (Some (Between to fields key)) k fits outcome s f =
+      x2_walks same (ghost c w) s fields key (subst (λ n. BetweenOk (ghost c w) (Address.StationX2 n) fields key) (sym f.own) k)
 
-  abbrev X2Came : Conns → TheWorld → ℕ → Option (Outgoing Term ℕ) → Type 0
-  X2Came c w id came = ReadOk (λ to fields key. BetweenOk (ghost c w) (Address.StationX2 id) fields key) came
-
-  s1_needs : (c : Conns) (w : TheWorld) (id : ℕ) (came : Option (Outgoing Term ℕ)) → S1Came c w id came → (outcome : Outcome) (s : Station Term ℕ)
-      → (ReadOk (λ to fields key. CellFits s.context × InFlight s (Between (Address.StationS1 id) fields key)) came)
-      → StationOk cells (ghost c w) s → s.id ≡ id
-      → StationNeeds (ghost c w) s (station_row_of (term_reading_by same) s (StationRecord OnS1 (content_in m came)) outcome) (station_key (StationRecord OnS1 (content_in m came)))
-  s1_needs c w id None k outcome s f ok is = tt
-  s1_needs c w id (Some (SealedNas dir header i e text)) k outcome s f ok is = tt
-  s1_needs c w id (Some (PlainNas pdu)) k outcome s f ok is = tt
-  s1_needs c w id (Some (SealedRrc dir station air srb i e text)) k outcome s f ok is = tt
-  s1_needs c w id (Some (UserPacket dir station air drb e text)) k outcome s f ok is = tt
-  s1_needs c w id (Some (Between to fields key)) k outcome s f ok is =
-      s1_walks same (ghost c w) s fields key f.0
-      (subst (λ n. BetweenOk (ghost c w) (Address.StationS1 n) fields key) (sym is) k.0)
-      (subst (λ n. InFlight s (Between (Address.StationS1 n) fields key)) (sym is) f.1)
-
-  x2_needs : (c : Conns) (w : TheWorld) (id : ℕ) (came : Option (Outgoing Term ℕ)) → X2Came c w id came → (outcome : Outcome) (s : Station Term ℕ)
-      → StationOk cells (ghost c w) s → s.id ≡ id
-      → StationNeeds (ghost c w) s (station_row_of (term_reading_by same) s (StationRecord OnX2 (content_in m came)) outcome) (station_key (StationRecord OnX2 (content_in m came)))
-  x2_needs c w id None k outcome s ok is = tt
-  x2_needs c w id (Some (SealedNas dir header i e text)) k outcome s ok is = tt
-  x2_needs c w id (Some (PlainNas pdu)) k outcome s ok is = tt
-  x2_needs c w id (Some (SealedRrc dir station air srb i e text)) k outcome s ok is = tt
-  x2_needs c w id (Some (UserPacket dir station air drb e text)) k outcome s ok is = tt
-  x2_needs c w id (Some (Between to fields key)) k outcome s ok is =
-      x2_walks same (ghost c w) s fields key (subst (λ n. BetweenOk (ghost c w) (Address.StationX2 n) fields key) (sym is) k)
-
-  -- the records in flight fit each station, and so the one of a number
-  flight_of : (c : Conns) (w : TheWorld) (id : ℕ) (came : Option (Outgoing Term ℕ)) → S1Came c w id came
-      → OfSome (λ s. (s.id ≡ id) → ReadOk (λ to fields key. CellFits s.context × InFlight s (Between (Address.StationS1 id) fields key)) came) (station_of_id id w.stations)
-  flight_of c w id None k = each _ (λ s e. tt) (station_of_id id w.stations)
-  flight_of c w id (Some (SealedNas dir header i e text)) k = each _ (λ s e. tt) (station_of_id id w.stations)
-  flight_of c w id (Some (PlainNas pdu)) k = each _ (λ s e. tt) (station_of_id id w.stations)
-  flight_of c w id (Some (SealedRrc dir station air srb i e text)) k = each _ (λ s e. tt) (station_of_id id w.stations)
-  flight_of c w id (Some (UserPacket dir station air drb e text)) k = each _ (λ s e. tt) (station_of_id id w.stations)
-  flight_of c w id (Some (Between to fields key)) k =
-      some_map _ _ (λ s h. h.0) (station_of_id id w.stations) (all_find (λ s. s.id ≡ id → CellFits s.context × InFlight s (Between (Address.StationS1 id) fields key)) (λ s. s.id == id) w.stations k.1)
-
-  pub station_s1_goes : (c : Conns) (w : TheWorld) (id : ℕ) (came : Option (Outgoing Term ℕ)) → WorldOk cells c w → AllOf StationAbove w.stations → S1Came c w id came
-      → Goes cells c w (station_turn m w id (StationRecord OnS1 (content_in m came)) came).0
-  station_s1_goes c w id came h above k =
-      turn_goes c w id (StationRecord OnS1 (content_in m came)) came (station_of_id id w.stations) h (found_of c w id h above)
-      (some_map _ _ (λ s f ok is. s1_needs c w id came k (outcome_of m (attempts_at m (StationRecord OnS1 (content_in m came)) came (Some s))) s (f is) ok is)
-      (station_of_id id w.stations) (flight_of c w id came k))
-
-  pub station_x2_goes : (c : Conns) (w : TheWorld) (id : ℕ) (came : Option (Outgoing Term ℕ)) → WorldOk cells c w → AllOf StationAbove w.stations → X2Came c w id came
-      → Goes cells c w (station_turn m w id (StationRecord OnX2 (content_in m came)) came).0
-  station_x2_goes c w id came h above k =
-      turn_goes c w id (StationRecord OnX2 (content_in m came)) came (station_of_id id w.stations) h (found_of c w id h above)
-      (each _ (λ s ok is. x2_needs c w id came k (outcome_of m (attempts_at m (StationRecord OnX2 (content_in m came)) came (Some s))) s ok is) (station_of_id id w.stations))
+  pub station_record_goes : (c : Conns) (w : TheWorld) (on : Interface) (id : ℕ) (came : Option (Outgoing Term ℕ)) → ReadOk (BetweenOk (ghost c w) (address_on on id)) came
+      → OfSome (λ x. (address_of x ≡ address_on on id) × FitsAll w x) came → WorldOk cells c w → (s : Station Term ℕ) → Found w (IsAt cells c w) id s
+      → Goes cells c w (turn_of m w id (StationRecord on (content_in m came)) came (Some s)).0
+  station_record_goes c w on id came k fits h s f =
+      station_goes c w id (StationRecord on (content_in m came)) came s h f.own f.holds.0 f.holds.1.0
+      (record_needs c w on id came k fits (outcome_of m (attempts_at m (StationRecord on (content_in m came)) came (Some s))) s f)

@@ -1,11 +1,13 @@
 -- Lists each of whose items is so.
-use Rattle.std.proofs.Common.{◌≡◌, refl, ℕ, Bool, true, false, cond, ◌==◌, List, [], ◌∷◌, Option, Some}
+use Rattle.std.proofs.Common.{◌≡◌, refl, ap, ◌∙◌, ℕ, suc, ◌+◌, Bool, true, false, cond, ◌==◌, List, [], ◌∷◌, ◌++◌, length, filter, map, Option, Some, arith}
 use Rattle.std.specs.Prelude.{find}
+use Rattle.key_model.specs.Derivation.{Derivation}
 use Rattle.key_model.specs.Term.{Term}
+use Rattle.lte_machine.specs.Ladder.{RowOrigin, OfRoot, Of}
 use Rattle.lte_machine.specs.StationState.{Station}
-use Rattle.lte_machine.specs.World.{put_if, put_station}
+use Rattle.lte_machine.specs.World.{put_if, put_station, is_root_row}
 use Rattle.lte_properties.specs.ChainBelow.{AllOf}
-pub use Rattle.lte_machine.proofs.KnownLists.{OfSome, all_append, all_one, all_filter, all_get, all_chosen, all_more as all_map}
+pub use Rattle.lte_machine.proofs.KnownLists.{OfSome, all_append, all_one, all_filter, all_get, all_chosen, all_more as all_map, all_both, all_each, each_of}
 
 module _ {A : Type 0} (P : A → Type 0) where
   found_if : (test : A → Bool) (x : A) (b : Bool) (o : Option A) → test x ≡ b → P x → OfSome (λ y. P y × (test y ≡ true)) o →
@@ -17,11 +19,6 @@ module _ {A : Type 0} (P : A → Type 0) where
   all_find test [] h = tt
   all_find test (x ∷ xs) h = found_if test x (test x) (find test xs) refl h.0 (all_find test xs h.1)
 
--- what is so of each in two ways
-pub all_both : {A : Type 0} (P Q R : A → Type 0) → ((x : A) → P x → Q x → R x) → (xs : List A) → AllOf P xs → AllOf Q xs → AllOf R xs
-all_both P Q R f [] h k = tt
-all_both P Q R f (x ∷ xs) h k = (f x h.0 k.0, all_both P Q R f xs h.1 k.1)
-
 module _ (P Q : Station Term ℕ → Type 0) (id : ℕ) (new : Station Term ℕ) where
   put_one : (b : Bool) (s : Station Term ℕ) → (s.id == id) ≡ b → Q new → ((s.id == id) ≡ false → P s → Q s) → P s → Q (put_if b new s)
   put_one true s e n f p = n
@@ -31,3 +28,21 @@ module _ (P Q : Station Term ℕ → Type 0) (id : ℕ) (new : Station Term ℕ)
   pub all_put : (ss : List (Station Term ℕ)) → Q new → ((s : Station Term ℕ) → (s.id == id) ≡ false → P s → Q s) → AllOf P ss → AllOf Q (put_station id new ss)
   all_put [] n f h = tt
   all_put (s ∷ ss) n f h = (put_one (s.id == id) s refl n (f s) h.0, all_put ss n f h.1)
+
+-- AUTHENTICATIONS
+
+derived_are_none : (ds : List (Derivation Term)) → length (filter is_root_row (map Of ds)) ≡ 0
+derived_are_none [] = refl
+derived_are_none (d ∷ ds) = derived_are_none ds
+
+-- derivations add none to a history
+pub roots_kept : (rows : List (RowOrigin Term)) (ds : List (Derivation Term)) → length (filter is_root_row (rows ++ map Of ds)) ≡ length (filter is_root_row rows)
+roots_kept [] ds = derived_are_none ds
+roots_kept (OfRoot root ∷ rows) ds = ap suc (roots_kept rows ds)
+roots_kept (Of d ∷ rows) ds = roots_kept rows ds
+
+-- and an authentication adds one
+pub one_root_more : (rows : List (RowOrigin Term)) (root : Term) → length (filter is_root_row (rows ++ OfRoot root ∷ [])) ≡ length (filter is_root_row rows) + 1
+one_root_more [] root = refl
+one_root_more (OfRoot other ∷ rows) root = ap suc (one_root_more rows root) ∙ omega arith
+one_root_more (Of d ∷ rows) root = one_root_more rows root

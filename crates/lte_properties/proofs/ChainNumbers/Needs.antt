@@ -7,7 +7,7 @@ use Rattle.rec_base.specs.declared.bearers.Bearer.{Bearer}
 use Rattle.rec_base.specs.declared.faults.RecFault.{RecFault}
 use Rattle.lte_events.specs.declared.acts.StationAct.{StationAct}
 use Rattle.lte_events.specs.declared.addresses.Address.{Address}
-use Rattle.lte_events.specs.declared.addresses.Address.TheVariants.{StationS1, StationX2}
+use Rattle.lte_events.specs.declared.addresses.Address.TheVariants.{StationS1}
 use Rattle.lte_events.specs.declared.answers.Answer.{Answer}
 use Rattle.lte_events.specs.declared.answers.Answer.TheVariants.{BadRecord}
 use Rattle.key_model.specs.Term.{Term}
@@ -21,11 +21,12 @@ use Rattle.lte_machine.specs.Wire.{Outgoing, SealedNas, PlainNas, SealedRrc, Use
 use Rattle.lte_machine.specs.PhoneState.{Phone, Partial, NasContext, Radio, Idle, Connecting, Connected}
 use Rattle.lte_machine.specs.PhoneRows.{Authenticated, NasRow, NasRefused, RejectedPlain, RejectedUnder, ContextTaken, ContextTakenConnected, NasOpened, AirRow, AirRefused, LinkSecured, HandedOver, RrcOpened, PacketOpened, ActRow, ActRefused, ServiceRequested, CompleteResent, WentIdle, PacketSent, RrcSent, NasSent, NasSkipped, BearerSkipped, PhoneRow, OfAuth, OfNas, OfAir, OfAct, KeyChanged}
 use Rattle.lte_machine.specs.PhoneKeys.{authenticated, rejected_under, context_taken, context_taken_connected, nas_opened, nas_does, link_secured, handed_over, rrc_opened, packet_opened, air_does, service_requested, complete_resent, packet_sent, rrc_sent, nas_sent, nas_skipped, bearer_skipped, act_does, phone_does, key_changed, changed_unless, before_of}
-use Rattle.lte_machine.specs.StationState.{Station, Context, StationActs, AirPdu, StationRecord, Interface, OnS1, OnX2, map_read}
+use Rattle.lte_machine.specs.StationState.{Station, Context, StationActs, AirPdu, StationRecord, Interface, map_read}
 use Rattle.lte_machine.specs.StationRows.{RecordRow, RecordRefused, ContextGiven, ContextReleased, PairTaken, PreparedByS1, PreparedByX2, AckedByS1, AckedByX2, PreparationCancelled, SourceReleased, OfRecord, KeyRenewed}
 use Rattle.lte_machine.specs.StationChoice.{record_row, air_front, air_row, act_row}
 use Rattle.lte_machine.specs.StationStep.{plain_station, station_step}
 use Rattle.lte_machine.specs.Machines.{content_of}
+use Rattle.lte_machine.proofs.Routing.{address_on}
 use Rattle.lte_properties.specs.ChainBelow.{StationBelow, conn_of, RecordBelow}
 use Rattle.lte_properties.specs.ChainAbove.{AnswerOk, AnswerTo, StationAbove, InFlight}
 use Rattle.lte_properties.proofs.ChainNumbers.RowFacts.{PairNeeds, RecordNeeds, RowNeeds}
@@ -50,19 +51,14 @@ answers_on_s1 s to fields key e h asked number f =
     let k = subst (λ a. AnswerTo a s asked number key.number) e (subst (λ g. InFlight s (Between to g (Some key))) f h) in
     (k refl).1
 
--- where a record comes to a station
-abbrev pub to_of : Interface → ℕ → Address
-to_of OnS1 id = StationS1 id
-to_of OnX2 id = StationX2 id
-
 -- a record with a key supplies what its row needs
-module _ (top : ℕ → ℕ) (same : Term → Term → Bool) (s : Station Term ℕ) (on : Interface) (to : Address) (fields : Fields) (key : NumberedKey Term ℕ) (goes : to ≡ to_of on s.id)
+module _ (top : ℕ → ℕ) (same : Term → Term → Bool) (s : Station Term ℕ) (on : Interface) (to : Address) (fields : Fields) (key : NumberedKey Term ℕ) (goes : to ≡ address_on on s.id)
     (below : key.number ≤ top (conn_of fields)) (flies : InFlight s (Between to fields (Some key))) where
   taken_needs : (conn : ℕ) (origin : Option Origin) → Takes s on fields conn origin → PairNeeds top key.number s.context
   taken_needs conn origin f =
       let k : AnswerOk (Some f.context) f.asked f.number key.number =
       subst (λ o. AnswerOk o f.asked f.number key.number) f.serving
-      (answers_on_s1 s to fields key (goes ∙ ap (λ o. to_of o s.id) f.on_is) flies f.asked f.number f.fields_is) in
+      (answers_on_s1 s to fields key (goes ∙ ap (λ o. address_on o s.id) f.on_is) flies f.asked f.number f.fields_is) in
       let h = k f.outstanding in
       subst (PairNeeds top key.number) (sym f.serving) (h.1, subst (λ n. key.number ≤ top n) (ap conn_of f.fields_is ∙ sym h.0) below)
 
@@ -108,7 +104,7 @@ module _ (top : ℕ → ℕ) (same : Term → Term → Bool) (s : Station Term �
   pub unread_step_kept : (on : Interface) (fault : RecFault) (outcome : Outcome) → StepKept top s (station_step r s (StationRecord on (Err fault)) outcome)
   unread_step_kept on fault outcome = record_kept top same s below.1 above.1 on (ContextRelease 0) (RecordRefused (BadRecord fault)) None tt tt below.0 above.0
 
-  pub record_step_kept : (on : Interface) (x : Outgoing Term ℕ) (outcome : Outcome) → address_of x ≡ to_of on s.id → RecordBelow top x → InFlight s x →
+  pub record_step_kept : (on : Interface) (x : Outgoing Term ℕ) (outcome : Outcome) → address_of x ≡ address_on on s.id → RecordBelow top x → InFlight s x →
       StepKept top s (station_step r s (StationRecord on (content_of x)) outcome)
   record_step_kept on (SealedNas dir header u e text) outcome a b h = unread_step_kept on RecFault.Short outcome
   record_step_kept on (PlainNas octets) outcome a b h = unread_step_kept on RecFault.Short outcome

@@ -1,16 +1,12 @@
 -- The chain numbers in every world of every run.
-use Rattle.std.proofs.Common.{◌≡◌, refl, sym, ap, ◌∙◌, ℕ, ◌≤◌, ◌==◌, Bool, true, false, List, [], ◌∷◌, Option, Some, None, Err, le_trans, arith}
+use Rattle.std.proofs.Common.{◌≡◌, refl, sym, ap, ◌∙◌, ℕ, ◌≤◌, ◌==◌, Bool, false, List, [], ◌∷◌, Option, Some, None, Err, le_trans, arith}
 use Rattle.std.proofs.lemmas.Bool.Decides.{nat_tests}
 use Rattle.std.specs.Prelude.{⊤}
-use Rattle.std.specs.List.{position_from}
 use Rattle.alg_choice.specs.declared.caps.Caps.{Caps}
 use Rattle.rec_base.specs.declared.faults.RecFault.{RecFault}
-use Rattle.rec_base.specs.declared.bearers.Bearer.{Bearer}
 use Rattle.lte_events.specs.declared.acts.CoreAct.{CoreAct}
-use Rattle.lte_events.specs.declared.acts.StationAct.{StationAct}
 use Rattle.lte_events.specs.declared.addresses.Address.{Address}
 use Rattle.lte_events.specs.declared.answers.Answer.{Answer}
-use Rattle.lte_events.specs.declared.answers.Answer.TheVariants.{NoUe, NoRecord, Sent, RepeatedRoot}
 use Rattle.lte_events.specs.declared.events.Event.{Event}
 use Rattle.lte_events.specs.declared.setups.Setup.{Setup}
 use Rattle.lte_events.specs.declared.setups.StationSetup.{StationSetup}
@@ -23,24 +19,25 @@ use Rattle.lte_machine.specs.Wire.{KeyUse, Outgoing, SealedNas, PlainNas, Sealed
 use Rattle.lte_machine.specs.Ciphers.{Ciphers, octets_of}
 use Rattle.lte_machine.specs.Opening.{Opening, Outcome, Opened, open_octets, open_by_uses}
 use Rattle.lte_machine.specs.Reply.{Reply}
-use Rattle.lte_machine.specs.PhoneState.{Phone, PhoneInput, PhoneActs, PhoneNasPdu, PhoneAirPdu}
+use Rattle.lte_machine.specs.PhoneState.{Phone, PhoneInput}
 use Rattle.lte_machine.specs.PhoneChoice.{phone_row}
 use Rattle.lte_machine.specs.PhoneStep.{plain_phone, front_of, phone_root, phone_opens, phone_pdu_in, phone_step}
-use Rattle.lte_machine.specs.StationState.{Station, Context, StationInput, StationActs, AirPdu, StationRecord, Interface, OnS1, OnX2}
+use Rattle.lte_machine.specs.StationState.{Station, Context, StationInput, StationActs, AirPdu, StationRecord, Interface}
 use Rattle.lte_machine.specs.StationStep.{station_opens, station_pdu_in, station_step}
 use Rattle.lte_machine.specs.CoreState.{Core, CoreInput, CoreAuth, CoreActs, CoreNasPdu, CoreRecord}
 use Rattle.lte_machine.specs.CoreStep.{core_opens, core_pdu_in, core_step}
-use Rattle.lte_machine.specs.World.{Machine, World, with_one, phone_after, core_after, station_after, by_world, phone_turn, core_turn, station_of_id, turn_of, station_turn, authenticated, auth_unless, known_root, next_root, content_in, arrives, record_at, delivery, class_of, is_sent, injected, happens}
+use Rattle.lte_machine.specs.World.{Machine, World, with_one, phone_after, core_after, station_after, by_world, phone_turn, core_turn, turn_of, authenticated, next_root, content_in, happens}
 use Rattle.lte_machine.specs.Machines.{content_of, sender_of, machine_over, opening_by_octets}
 use Rattle.lte_machine.specs.Run.{stations_of, first_world}
 use Rattle.lte_properties.specs.ChainBelow.{AllOf, AtMost, ContextBelow, PrepBelow, StationBelow, conn_of, RecordBelow}
 use Rattle.lte_properties.specs.ChainAbove.{StationAbove, InFlight}
 use Rattle.lte_properties.specs.ChainHolds.{machine_by, run, noted, core_numbers, Holds, ChainNumbersHold}
-use Rattle.lte_properties.proofs.ChainNumbers.Lists.{OfSome, all_one, all_find, all_map, all_both, all_put, all_chosen}
+use Rattle.lte_properties.proofs.ChainNumbers.Lists.{OfSome, all_one, all_map, all_both, all_put, all_each, each_of}
 use Rattle.lte_properties.proofs.ChainNumbers.Moves.{flight_moves}
 use Rattle.lte_properties.proofs.ChainNumbers.Station.{OwnRequest, SentOk}
 use Rattle.lte_properties.proofs.ChainNumbers.Core.{CoreKept, CoreStepKept, Plainly, each_weaker, core_auth_kept, core_act_kept, core_nas_kept, core_unread_kept, core_record_kept, silent_kept}
-use Rattle.lte_properties.proofs.ChainNumbers.Needs.{StepKept, to_of, act_step_kept, air_step_kept, record_step_kept, unread_step_kept, phone_does_plain}
+use Rattle.lte_properties.proofs.ChainNumbers.Needs.{StepKept, act_step_kept, air_step_kept, record_step_kept, unread_step_kept, phone_does_plain}
+use Rattle.lte_machine.proofs.Routing.{address_on, Found, Turns, happens_by}
 
 -- a station's request is no other station's
 other_flies : (u : Station Term ℕ) (id : ℕ) (x : Outgoing Term ℕ) → (u.id ≡ id → ⊥) → OwnRequest id x → InFlight u x
@@ -102,15 +99,12 @@ flight_one x w h k =
     all_both (λ s. OfSome (InFlight s) x) (λ s. AllOf (InFlight s) w.sent) (λ s. AllOf (InFlight s) (with_one x w.sent))
     (λ s f g. all_one (InFlight s) x w.sent g f) w.stations h k
 
-all_each : {A : Type 0} (P : A → Type 0) → ((x : A) → P x) → (xs : List A) → AllOf P xs
-all_each P f [] = tt
-all_each P f (x ∷ xs) = (f x, all_each P f xs)
+-- a record fits a station that fits all that was sent
+abbrev pub FitsAll : World Term ℕ (Outgoing Term ℕ) → Outgoing Term ℕ → Type 0
+FitsAll w x = (s : Station Term ℕ) → AllOf (InFlight s) w.sent → InFlight s x
 
 is_not : (a b : ℕ) → (a == b) ≡ false → a ≡ b → ⊥
 is_not a b e f = grind (arith, nat_tests)
-
-is_one : (a b : ℕ) → (a == b) ≡ true → a ≡ b
-is_one a b e = grind (arith, nat_tests)
 
 module _ (same : Term → Term → Bool) (root : ℕ → List ℕ → Term) (octets : Outgoing Term ℕ → List ℕ) (sender : Option (Outgoing Term ℕ) → Option (KeyUse Term)) (opener : Opening Term → List ℕ → Option (Outgoing Term ℕ) → Outcome) where
   abbrev TheWorld : Type 0
@@ -174,55 +168,33 @@ module _ (same : Term → Term → Bool) (root : ℕ → List ℕ → Term) (oct
   abbrev Now : (ℕ → ℕ) → TheWorld → Type 0
   Now top u = Holds (noted u.core.link top) u
 
-  -- what a station's input needs of a station of that number
-  abbrev Steps : (ℕ → ℕ) → ℕ → StationInput Term ℕ → (Station Term ℕ → Type 0) → Type 0
-  Steps top id input Q = (s : Station Term ℕ) → s.id ≡ id → StationBelow top s → StationAbove s → Q s → (outcome : Outcome) →
-      StepKept top s (station_step (term_reading_by same) s input outcome)
 
   by_world_holds : (top : ℕ → ℕ) (w : TheWorld) (answer : Answer) → Holds top w → Now top (by_world m w answer).0
   by_world_holds top w answer h =
       noted_holds top (by_world m w answer).0 (record { core = h.core; below = h.below; above = h.above; sent = h.sent; flight = h.flight })
 
-  turn_holds : (top : ℕ → ℕ) (w : TheWorld) (id : ℕ) (input : StationInput Term ℕ) (came : Option (Outgoing Term ℕ)) (Q : Station Term ℕ → Type 0) → Steps top id input Q →
-      (o : Option (Station Term ℕ)) → OfSome (λ s. StationBelow top s × ((s.id == id) ≡ true)) o → OfSome (λ s. StationAbove s × ((s.id == id) ≡ true)) o →
-      OfSome (λ s. AllOf (InFlight s) w.sent × ((s.id == id) ≡ true)) o → OfSome (λ s. Q s × ((s.id == id) ≡ true)) o →
-      Holds top w → Now top (turn_of m w id input came o).0
-  turn_holds top w id input came Q step None b a f q h = by_world_holds top w NoUe h
-  turn_holds top w id input came Q step (Some s) b a f q h =
-      let e = is_one s.id id b.1 in
+  -- what is asked of the station that takes a turn
+  abbrev IsAt : (ℕ → ℕ) → TheWorld → Station Term ℕ → Type 0
+  IsAt top w s = StationBelow top s × StationAbove s × AllOf (InFlight s) w.sent
+
+  station_turn_holds : (top : ℕ → ℕ) (w : TheWorld) (id : ℕ) (input : StationInput Term ℕ) (came : Option (Outgoing Term ℕ)) (s : Station Term ℕ) → Found w (IsAt top w) id s →
+      ((outcome : Outcome) → StepKept top s (station_step (term_reading_by same) s input outcome)) → Holds top w → Now top (turn_of m w id input came (Some s)).0
+  station_turn_holds top w id input came s f step h =
       let outcome = opener (station_opens (term_reading_by same) s input) (station_pdu_in input) came in
       let d = station_step (term_reading_by same) s input outcome in
-      noted_holds top (station_after m w id d).0 (station_after_holds top w id s d e (step s e b.0 a.0 q.0 outcome) f.0 h)
+      noted_holds top (station_after m w id d).0 (station_after_holds top w id s d f.own (step outcome) f.holds.2 h)
 
-  station_turn_holds : (top : ℕ → ℕ) (w : TheWorld) (id : ℕ) (input : StationInput Term ℕ) (came : Option (Outgoing Term ℕ)) (Q : Station Term ℕ → Type 0) → Steps top id input Q →
-      AllOf Q w.stations → Holds top w → Now top (station_turn m w id input came).0
-  station_turn_holds top w id input came Q step q h =
-      turn_holds top w id input came Q step (station_of_id id w.stations)
-      (all_find (StationBelow top) (λ s. s.id == id) w.stations h.below)
-      (all_find StationAbove (λ s. s.id == id) w.stations h.above)
-      (all_find (λ s. AllOf (InFlight s) w.sent) (λ s. s.id == id) w.stations h.flight)
-      (all_find Q (λ s. s.id == id) w.stations q) h
-
-  station_acts_holds : (top : ℕ → ℕ) (w : TheWorld) (id : ℕ) (act : StationAct) (came : Option (Outgoing Term ℕ)) → Holds top w → Now top (station_turn m w id (StationActs act) came).0
-  station_acts_holds top w id act came h =
-      station_turn_holds top w id (StationActs act) came (λ s. ⊤) (λ s e b a q outcome. act_step_kept top same s b a act outcome) (all_each (λ s. ⊤) (λ s. tt) w.stations) h
-
-  station_air_holds : (top : ℕ → ℕ) (w : TheWorld) (id air : ℕ) (bearer : Bearer) (pdu : List ℕ) (came : Option (Outgoing Term ℕ)) → Holds top w → Now top (station_turn m w id (AirPdu air bearer pdu) came).0
-  station_air_holds top w id air bearer pdu came h =
-      station_turn_holds top w id (AirPdu air bearer pdu) came (λ s. ⊤) (λ s e b a q outcome. air_step_kept top same s b a air bearer pdu outcome) (all_each (λ s. ⊤) (λ s. tt) w.stations) h
-
-  -- what comes to an address: nothing that was sent, or a record to it that holds no greater number and fits each station
+  -- what comes to an address, if it was sent: a record to it that holds no greater number, and fits a station that fits all
   abbrev CameOk : (ℕ → ℕ) → TheWorld → Address → Option (Outgoing Term ℕ) → Type 0
-  CameOk top w to None = ⊤
-  CameOk top w to (Some x) = (address_of x ≡ to) × RecordBelow top x × AllOf (λ s. InFlight s x) w.stations
+  CameOk top w to came = OfSome (λ x. (address_of x ≡ to) × RecordBelow top x × FitsAll w x) came
 
-  station_record_holds : (top : ℕ → ℕ) (w : TheWorld) (on : Interface) (id : ℕ) (came : Option (Outgoing Term ℕ)) → CameOk top w (to_of on id) came → Holds top w →
-      Now top (station_turn m w id (StationRecord on (content_in m came)) came).0
-  station_record_holds top w on id None c h =
-      station_turn_holds top w id (StationRecord on (Err RecFault.Short)) None (λ s. ⊤) (λ s e b a q outcome. unread_step_kept top same s b a on RecFault.Short outcome) (all_each (λ s. ⊤) (λ s. tt) w.stations) h
-  station_record_holds top w on id (Some x) c h =
-      station_turn_holds top w id (StationRecord on (content_of x)) (Some x) (λ s. InFlight s x)
-      (λ s e b a q outcome. record_step_kept top same s b a on x outcome (c.0 ∙ ap (to_of on) (sym e)) c.1 q) c.2 h
+  station_record_holds : (top : ℕ → ℕ) (w : TheWorld) (on : Interface) (id : ℕ) (came : Option (Outgoing Term ℕ)) → CameOk top w (address_on on id) came → (s : Station Term ℕ) → Found w (IsAt top w) id s →
+      Holds top w → Now top (turn_of m w id (StationRecord on (content_in m came)) came (Some s)).0
+  station_record_holds top w on id None c s f h =
+      station_turn_holds top w id (StationRecord on (Err RecFault.Short)) None s f (unread_step_kept top same s f.holds.0 f.holds.1 on RecFault.Short) h
+  station_record_holds top w on id (Some x) c s f h =
+      station_turn_holds top w id (StationRecord on (content_of x)) (Some x) s f
+      (λ outcome. record_step_kept top same s f.holds.0 f.holds.1 on x outcome (c.0 ∙ ap (address_on on) (sym f.own)) c.1 (c.2 s f.holds.2)) h
 
   phone_turn_holds : (top : ℕ → ℕ) (w : TheWorld) (input : PhoneInput Term) (came : Option (Outgoing Term ℕ)) → Holds top w → Now top (phone_turn m w input came).0
   phone_turn_holds top w input came h =
@@ -241,12 +213,13 @@ module _ (same : Term → Term → Bool) (root : ℕ → List ℕ → Term) (oct
   each : (w : TheWorld) → AllOf (λ s. ⊤) w.stations
   each w = all_each (λ s. ⊤) (λ s. tt) w.stations
 
-  core_record_holds : (top : ℕ → ℕ) (w : TheWorld) (to : Address) (came : Option (Outgoing Term ℕ)) → CameOk top w to came → Holds top w →
-      Now top (core_turn m w (CoreRecord (content_in m came)) came).0
-  core_record_holds top w to None c h =
+  core_record_holds : (top : ℕ → ℕ) (w : TheWorld) (came : Option (Outgoing Term ℕ)) → CameOk top w Address.CoreS1 came → Holds top w → Now top (core_turn m w (CoreRecord (content_in m came)) came).0
+  core_record_holds top w None c h =
       core_turn_holds top w (λ u. ⊤) (CoreRecord (Err RecFault.Short)) None (core_unread_kept top same w.core h.core (λ u. ⊤) RecFault.Short) (each w) h
-  core_record_holds top w to (Some x) c h =
-      core_turn_holds top w (λ u. InFlight u x) (CoreRecord (content_of x)) (Some x) (core_record_kept top same w.core h.core x) c.2 h
+  core_record_holds top w (Some x) c h =
+      core_turn_holds top w (λ u. InFlight u x) (CoreRecord (content_of x)) (Some x) (core_record_kept top same w.core h.core x)
+      (all_map (λ s. AllOf (InFlight s) w.sent) (λ s. InFlight s x) (λ s f. c.2 s f) w.stations h.flight) h
+
 
   core_acts_holds : (top : ℕ → ℕ) (w : TheWorld) (act : CoreAct) (came : Option (Outgoing Term ℕ)) → Holds top w → Now top (core_turn m w (CoreActs act) came).0
   core_acts_holds top w act came h = core_turn_holds top w (λ u. ⊤) (CoreActs act) came (core_act_kept top same w.core h.core act) (each w) h
@@ -268,41 +241,26 @@ module _ (same : Term → Term → Bool) (root : ℕ → List ℕ → Term) (oct
         flight = h.flight;
       }
 
-  auth_holds : (top : ℕ → ℕ) (w : TheWorld) (ksi : ℕ) (key : Term) (caps : Caps) (o : Option ℕ) → Holds top w → Now top (auth_unless m w ksi key caps o).0
-  auth_holds top w ksi key caps None h = authenticated_holds top w ksi key caps h
-  auth_holds top w ksi key caps (Some row) h = by_world_holds top w (RepeatedRoot row) h
-
-  arrives_holds : (top : ℕ → ℕ) (w : TheWorld) (to : Address) (pdu : List ℕ) (came : Option (Outgoing Term ℕ)) → CameOk top w to came → Holds top w → Now top (arrives m w to pdu came).0
-  arrives_holds top w Address.PhoneNas pdu came c h = phone_turn_holds top w (PhoneNasPdu pdu) came h
-  arrives_holds top w (Address.Phone station air bearer) pdu came c h = phone_turn_holds top w (PhoneAirPdu station air bearer pdu) came h
-  arrives_holds top w Address.CoreNas pdu came c h = core_nas_holds top w pdu came h
-  arrives_holds top w Address.CoreS1 pdu came c h = core_record_holds top w Address.CoreS1 came c h
-  arrives_holds top w (Address.StationAir station air bearer) pdu came c h = station_air_holds top w station air bearer pdu came h
-  arrives_holds top w (Address.StationS1 station) pdu came c h = station_record_holds top w OnS1 station came c h
-  arrives_holds top w (Address.StationX2 station) pdu came c h = station_record_holds top w OnX2 station came c h
-
-  -- a record of those that were sent
-  delivered_holds : (top : ℕ → ℕ) (w : TheWorld) (o : Option (Outgoing Term ℕ)) → OfSome (RecordBelow top) o → AllOf (λ s. OfSome (InFlight s) o) w.stations → Holds top w →
-      Now top (delivery m w o).0
-  delivered_holds top w None b f h = by_world_holds top w NoRecord h
-  delivered_holds top w (Some x) b f h = arrives_holds top w (address_of x) (octets x) (Some x) (refl, b, f) h
-
-  injected_holds : (top : ℕ → ℕ) (w : TheWorld) (to : Address) (pdu : List ℕ) (o : Option ℕ) → Holds top w → Now top (injected m w to pdu o).0
-  injected_holds top w to pdu None h = arrives_holds top w to pdu None tt h
-  injected_holds top w to pdu (Some number) h = by_world_holds top w (Sent number) h
+  turns : (top : ℕ → ℕ) (w : TheWorld) → Holds top w → Turns m w (λ e. ⊤) (λ to pdu came. CameOk top w to came) (IsAt top w) (λ done a. Now top done.0)
+  turns top w h = record {
+    auth = λ ksi key caps is new. authenticated_holds top w ksi (root (next_root w) key) caps h;
+    phone = λ input came turn is. phone_turn_holds top w input came h;
+    core_acts = λ act is. core_acts_holds top w act None h;
+    core_nas = λ pdu came is. core_nas_holds top w pdu came h;
+    core_record = λ pdu came is. core_record_holds top w came is h;
+    station_acts = λ id act is s f. station_turn_holds top w id (StationActs act) None s f (act_step_kept top same s f.holds.0 f.holds.1 act) h;
+    station_air = λ id air bearer pdu came is s f. station_turn_holds top w id (AirPdu air bearer pdu) came s f (air_step_kept top same s f.holds.0 f.holds.1 air bearer pdu) h;
+    station_record = λ on id pdu came is s f. station_record_holds top w on id came is s f h;
+    none = λ answer. by_world_holds top w answer h;
+  }
 
   -- every event keeps it
   pub happens_holds : (top : ℕ → ℕ) (w : TheWorld) (e : Event) → Holds top w → Now top (happens m w e).0
-  happens_holds top w (Event.Auth ksi key caps) h =
-      let k = root (next_root w) key in auth_holds top w ksi k caps (known_root m w k) h
-  happens_holds top w (Event.Phone act) h = phone_turn_holds top w (PhoneActs act) None h
-  happens_holds top w (Event.Station id act) h = station_acts_holds top w id act None h
-  happens_holds top w (Event.Core act) h = core_acts_holds top w act None h
-  happens_holds top w (Event.Deliver i) h =
-      delivered_holds top w (record_at i w.sent) (all_chosen (RecordBelow top) i w.sent h.sent)
-      (all_map (λ s. AllOf (InFlight s) w.sent) (λ s. OfSome (InFlight s) (record_at i w.sent)) (λ s f. all_chosen (InFlight s) i w.sent f) w.stations h.flight) h
-  happens_holds top w (Event.Inject to pdu) h =
-      injected_holds top w to pdu (position_from (is_sent m (class_of to) pdu) 0 w.sent) h
+  happens_holds top w e h =
+      happens_by (turns top w h) (λ to pdu. tt)
+      (all_both (RecordBelow top) (FitsAll w) (λ x. (address_of x ≡ address_of x) × RecordBelow top x × FitsAll w x) (λ x b f. (refl, b, f)) w.sent h.sent (each_of InFlight w.sent))
+      (all_both (StationBelow top) (λ s. StationAbove s × AllOf (InFlight s) w.sent) (IsAt top w) (λ s b a. (b, a.0, a.1)) w.stations h.below
+      (all_both StationAbove (λ s. AllOf (InFlight s) w.sent) (λ s. StationAbove s × AllOf (InFlight s) w.sent) (λ s a f. (a, f)) w.stations h.above h.flight)) e tt
 
   -- every run keeps it
   pub run_holds : (top : ℕ → ℕ) (w : TheWorld) (es : List Event) → Holds top w → Holds (core_numbers m w top es) (run m w es)

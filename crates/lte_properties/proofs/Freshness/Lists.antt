@@ -1,12 +1,9 @@
 -- Lists of uses that are apart, and what is said of their places.
-use Rattle.std.proofs.Common.{◌≡◌, refl, sym, ap, ◌∙◌, subst, ℕ, zero, suc, List, [], ◌∷◌, ◌++◌, ◌+◌, length, filter, map, slice_get, cond, Bool, true, false, Option, Some, None, arith}
+use Rattle.std.proofs.Common.{◌≡◌, refl, sym, ap, ◌∙◌, subst, ℕ, zero, suc, List, [], ◌∷◌, ◌++◌, map, slice_get, Option, Some, None}
 use Rattle.key_model.specs.Term.{Term}
-use Rattle.key_model.specs.Derivation.{Derivation}
 use Rattle.key_model.specs.Use.{map_use}
 use Rattle.key_model.specs.Value.{value_of}
 use Rattle.lte_machine.specs.Wire.{KeyUse}
-use Rattle.lte_machine.specs.Ladder.{RowOrigin, OfRoot, Of}
-use Rattle.lte_machine.specs.World.{is_root_row}
 use Rattle.lte_properties.specs.ChainBelow.{AllOf}
 use Rattle.lte_properties.specs.Freshness.{NoUseTwice}
 use Rattle.lte_properties.proofs.Freshness.Premises.{ValuesApart}
@@ -71,32 +68,3 @@ no_value_twice us h apart i j x e f = by_uses (slice_get us i) (slice_get us j) 
   by_uses (Some u) None p q k l = absurd l
   by_uses (Some u) (Some v) p q k l =
       h i j u p (q ∙ ap Some (sym (one_use u v x k l (apart i j u v p q))))
-
--- AUTHENTICATIONS
-
--- the authentications in a history
-abbrev roots_in : List (RowOrigin Term) → ℕ
-roots_in rows = length (filter is_root_row rows)
-
--- derivations are none
-derived_are_none : (ds : List (Derivation Term)) → roots_in (map Of ds) ≡ 0
-derived_are_none [] = refl
-derived_are_none (d ∷ ds) = derived_are_none ds
-
--- one more item counts in both or in neither
-counted_if : (b : Bool) (x : RowOrigin Term) (xs ys : List (RowOrigin Term)) (n : ℕ) → length xs ≡ length ys + n → length (cond b (x ∷ xs) xs) ≡ length (cond b (x ∷ ys) ys) + n
-counted_if true x xs ys n e = omega arith
-counted_if false x xs ys n e = e
-
--- one after the other
-roots_append : (xs ys : List (RowOrigin Term)) → roots_in (xs ++ ys) ≡ roots_in xs + roots_in ys
-roots_append [] ys = omega arith
-roots_append (x ∷ xs) ys = counted_if (is_root_row x) x (filter is_root_row (xs ++ ys)) (filter is_root_row xs) (roots_in ys) (roots_append xs ys)
-
--- a step that derives authenticates nobody
-pub roots_kept : (xs : List (RowOrigin Term)) (ds : List (Derivation Term)) → roots_in (xs ++ map Of ds) ≡ roots_in xs
-roots_kept xs ds = let a = roots_append xs (map Of ds) in let b = derived_are_none ds in omega arith
-
--- an authentication counts one more
-pub one_root_more : (xs : List (RowOrigin Term)) (root : Term) → roots_in (xs ++ OfRoot root ∷ []) ≡ roots_in xs + 1
-one_root_more xs root = roots_append xs (OfRoot root ∷ [])

@@ -1,25 +1,23 @@
 -- The keys that the phone takes are in order in every world of every run.
 use Rattle.std.proofs.Common.{◌≡◌, refl, ap, ◌∙◌, subst, ℕ, ◌+◌, List, [], ◌∷◌, ◌++◌, Bool, Option, Some, None}
 use Rattle.std.specs.Prelude.{IfSome}
-use Rattle.std.specs.List.{position_from}
 use Rattle.alg_choice.specs.declared.caps.Caps.{Caps}
-use Rattle.lte_events.specs.declared.addresses.Address.{Address}
-use Rattle.lte_events.specs.declared.addresses.Address.TheVariants as at
 use Rattle.lte_events.specs.declared.events.Event.{Event}
 use Rattle.lte_events.specs.declared.setups.Setup.{Setup}
 use Rattle.key_model.specs.Term.{Term, Root}
 use Rattle.key_model.specs.Reading.{term_reading_by}
-use Rattle.lte_machine.specs.Wire.{KeyUse, Outgoing, address_of}
+use Rattle.lte_machine.specs.Wire.{KeyUse, Outgoing}
 use Rattle.lte_machine.specs.Opening.{Opening, Outcome}
 use Rattle.lte_machine.specs.Reply.{Took}
-use Rattle.lte_machine.specs.PhoneState.{Radio, Idle, Connecting, Connected, PhoneInput, PhoneActs, PhoneNasPdu, PhoneAirPdu}
+use Rattle.lte_machine.specs.PhoneState.{Radio, Idle, Connecting, Connected, PhoneInput}
 use Rattle.lte_machine.specs.PhoneStep.{phone_step, phone_opens, phone_pdu_in}
-use Rattle.lte_machine.specs.StationState.{Station, StationInput, StationActs, AirPdu, StationRecord, OnS1, OnX2}
+use Rattle.lte_machine.specs.StationState.{Station, StationInput}
 use Rattle.lte_machine.specs.StationStep.{station_step, station_opens, station_pdu_in}
-use Rattle.lte_machine.specs.CoreState.{CoreInput, CoreActs, CoreNasPdu, CoreRecord}
+use Rattle.lte_machine.specs.CoreState.{CoreInput}
 use Rattle.lte_machine.specs.CoreStep.{core_step, core_opens, core_pdu_in}
-use Rattle.lte_machine.specs.World.{Machine, World, with_one, phone_turn, core_turn, turn_of, station_of_id, content_in, arrives, record_at, delivery, injected, is_sent, class_of, auth_unless, known_root, next_root, happens}
+use Rattle.lte_machine.specs.World.{Machine, World, with_one, phone_turn, core_turn, turn_of, authenticated, next_root, happens}
 use Rattle.lte_machine.specs.Run.{first_world}
+use Rattle.lte_machine.proofs.Routing.{IsTurn, happens_each}
 use Rattle.lte_properties.specs.ChainBelow.{AllOf}
 use Rattle.lte_properties.specs.ChainHolds.{machine_by, run}
 use Rattle.lte_properties.proofs.Freshness.Sequence.{IsBefore, IsNotAfter}
@@ -27,11 +25,10 @@ use Rattle.lte_properties.proofs.Freshness.Uses.{Home, home_at, Homes}
 use Rattle.lte_properties.proofs.Freshness.Stands.{partial_root, phone_mark, RadioStands}
 use Rattle.lte_properties.proofs.Freshness.PhoneUses.{TookInOrder, NeverTook, RadioInOrder, PhoneInOrder, PhoneFresh}
 use Rattle.lte_machine.proofs.Tests.{none_some}
-use Rattle.lte_properties.proofs.ChainNumbers.Lists.{all_append, all_one, all_map}
-use Rattle.lte_properties.proofs.Freshness.Lists.{roots_kept, one_root_more}
+use Rattle.lte_properties.proofs.ChainNumbers.Lists.{all_append, all_one, all_map, roots_kept, one_root_more}
 use Rattle.lte_properties.proofs.Freshness.Order.{not_before_itself}
 use Rattle.lte_properties.proofs.Freshness.World.{some_of}
-use Rattle.lte_properties.proofs.Freshness.Run.{IsTurn, turn_keeps, phone_more}
+use Rattle.lte_properties.proofs.Freshness.Run.{turn_keeps, phone_more}
 use Rattle.lte_properties.proofs.SameKeys.{IsReflexive}
 
 -- one more key, that comes after all
@@ -104,37 +101,14 @@ module _ (same : Term → Term → Bool) (itself : IsReflexive same) (octets : O
         record { roots = h.roots; taken = h.taken; counted = roots_kept w.history d.1.derived ∙ h.counted; phone = h.phone; took = h.took; order = h.order }
 
     -- nor does one of a station
-    turn_order : (id : ℕ) (input : StationInput Term ℕ) (came : Option (Outgoing Term ℕ)) (o : Option (Station Term ℕ)) → PhoneFresh (turn_of m w id input came o).0
-    turn_order id input came None =
-        record { roots = h.roots; taken = h.taken; counted = h.counted; phone = h.phone; took = h.took; order = h.order }
-    turn_order id input came (Some s) =
+    station_turn_order : (id : ℕ) (input : StationInput Term ℕ) (came : Option (Outgoing Term ℕ)) (s : Station Term ℕ) → PhoneFresh (turn_of m w id input came (Some s)).0
+    station_turn_order id input came s =
         let d = station_step (term_reading_by same) s input (opener (station_opens (term_reading_by same) s input) (station_pdu_in input) came) in
         record { roots = h.roots; taken = h.taken; counted = roots_kept w.history d.1.derived ∙ h.counted; phone = h.phone; took = h.took; order = h.order }
 
-    -- what comes to an address
-    arrives_order : (to : Address) (pdu : List ℕ) (came : Option (Outgoing Term ℕ)) → PhoneFresh (arrives m w to pdu came).0
-    arrives_order at.PhoneNas pdu came = phone_turn_order (PhoneNasPdu pdu) came tt
-    arrives_order (at.Phone station air bearer) pdu came = phone_turn_order (PhoneAirPdu station air bearer pdu) came tt
-    arrives_order at.CoreNas pdu came = core_turn_order (CoreNasPdu pdu) came
-    arrives_order at.CoreS1 pdu came = core_turn_order (CoreRecord (content_in m came)) came
-    arrives_order (at.StationAir id air bearer) pdu came = turn_order id (AirPdu air bearer pdu) came (station_of_id id w.stations)
-    arrives_order (at.StationS1 id) pdu came = turn_order id (StationRecord OnS1 (content_in m came)) came (station_of_id id w.stations)
-    arrives_order (at.StationX2 id) pdu came = turn_order id (StationRecord OnX2 (content_in m came)) came (station_of_id id w.stations)
-
-    -- a delivery
-    delivered_order : (o : Option (Outgoing Term ℕ)) → PhoneFresh (delivery m w o).0
-    delivered_order None = record { roots = h.roots; taken = h.taken; counted = h.counted; phone = h.phone; took = h.took; order = h.order }
-    delivered_order (Some x) = arrives_order (address_of x) (octets x) (Some x)
-
-    -- octets that are injected
-    injected_order : (to : Address) (pdu : List ℕ) (o : Option ℕ) → PhoneFresh (injected m w to pdu o).0
-    injected_order to pdu None = arrives_order to pdu None
-    injected_order to pdu (Some n) = record { roots = h.roots; taken = h.taken; counted = h.counted; phone = h.phone; took = h.took; order = h.order }
-
     -- an authentication
-    auth_order : (ksi : ℕ) (octets' : List ℕ) (caps : Caps) (o : Option ℕ) → PhoneFresh (auth_unless m w ksi (Root (next_root w) octets') caps o).0
-    auth_order ksi octets' caps (Some row) = record { roots = h.roots; taken = h.taken; counted = h.counted; phone = h.phone; took = h.took; order = h.order }
-    auth_order ksi octets' caps None =
+    auth_order : (ksi : ℕ) (octets' : List ℕ) (caps : Caps) → PhoneFresh (authenticated m w ksi (Root (next_root w) octets') caps).0
+    auth_order ksi octets' caps =
         let root = Root (next_root w) octets' in record {
           roots = h.roots + 1;
           taken = h.taken;
@@ -146,12 +120,9 @@ module _ (same : Term → Term → Bool) (itself : IsReflexive same) (octets : O
 
     -- an event
     pub happens_order : (e : Event) → PhoneFresh (happens m w e).0
-    happens_order (Event.Auth ksi octets' caps) = auth_order ksi octets' caps (known_root m w (Root (next_root w) octets'))
-    happens_order (Event.Phone act) = phone_turn_order (PhoneActs act) None tt
-    happens_order (Event.Station id act) = turn_order id (StationActs act) None (station_of_id id w.stations)
-    happens_order (Event.Core act) = core_turn_order (CoreActs act) None
-    happens_order (Event.Deliver i) = delivered_order (record_at i w.sent)
-    happens_order (Event.Inject to pdu) = injected_order to pdu (position_from (is_sent m (class_of to) pdu) 0 w.sent)
+    happens_order =
+        happens_each m w (λ done a. PhoneFresh done.0) auth_order phone_turn_order core_turn_order (λ id input came s there own. station_turn_order id input came s)
+        (λ answer. record { roots = h.roots; taken = h.taken; counted = h.counted; phone = h.phone; took = h.took; order = h.order })
 
   -- a run
   pub run_order : (w : World Term ℕ (Outgoing Term ℕ)) (es : List Event) → PhoneFresh w → PhoneFresh (run m w es)

@@ -1,7 +1,6 @@
 -- Each event keeps what holds of keys and uses, where a station accepts what was sealed so.
-use Rattle.std.proofs.Common.{◌≡◌, refl, sym, ap, ◌∙◌, subst, ℕ, ◌+◌, ◌-◌, ◌<◌, ◌==◌, nat_lt, Bool, true, false, ℤ, pos, negsuc, List, [], ◌∷◌, length, Option, Some, None, Result, Ok, Err, arith}
+use Rattle.std.proofs.Common.{◌≡◌, refl, sym, ap, ◌∙◌, subst, ℕ, ◌+◌, ◌<◌, Bool, List, [], ◌∷◌, Option, Some, None, Result, Ok, Err, arith}
 use Rattle.std.specs.Prelude.{IfSome, ⊤}
-use Rattle.std.specs.List.{position_from}
 use Rattle.alg_choice.specs.declared.caps.Caps.{Caps}
 use Rattle.rec_base.specs.declared.bearers.Bearer.{Bearer}
 use Rattle.rec_base.specs.declared.faults.RecFault.{RecFault}
@@ -10,7 +9,7 @@ use Rattle.lte_events.specs.declared.addresses.Address.{Address}
 use Rattle.lte_events.specs.declared.addresses.Address.TheVariants as at
 use Rattle.lte_events.specs.declared.acts.StationAct.{StationAct}
 use Rattle.lte_events.specs.declared.answers.Answer.{Answer}
-use Rattle.lte_events.specs.declared.answers.Answer.TheVariants.{NoUe, BadRecord, NoRecord, Sent, RepeatedRoot}
+use Rattle.lte_events.specs.declared.answers.Answer.TheVariants.{BadRecord}
 use Rattle.lte_events.specs.declared.events.Event.{Event}
 use Rattle.key_model.specs.Term.{Term, Root}
 use Rattle.key_model.specs.Reading.{Reading, term_reading_by}
@@ -27,25 +26,25 @@ use Rattle.lte_machine.specs.StationChoice.{AirFront, AirSettled, OnStarting, On
 use Rattle.lte_machine.specs.StationRows.{RecordRefused}
 use Rattle.lte_machine.specs.StationStep.{station_step, station_opens}
 use Rattle.lte_machine.specs.StationKeys.{air_expects, starting_expects, signalling_expects, user_expects, prepared_expects}
-use Rattle.lte_machine.specs.CoreState.{Core, CoreInput, CoreAuth, CoreActs, CoreNasPdu, CoreRecord}
+use Rattle.lte_machine.specs.CoreState.{Core, CoreActs, CoreNasPdu, CoreRecord}
 use Rattle.lte_machine.specs.CoreStep.{core_step, core_opens}
-use Rattle.lte_machine.specs.World.{Machine, World, by_world, phone_turn, core_turn, turn_of, station_of_id, content_in, arrives, newest_if, record_at, delivery, injected, is_sent, class_of, auth_unless, known_root, next_root, happens}
+use Rattle.lte_machine.specs.World.{Machine, World, by_world, phone_turn, turn_of, content_in, authenticated, next_root, happens}
 use Rattle.lte_machine.specs.Machines.{sender_of}
-use Rattle.lte_machine.specs.Step.{attempts_at, arrival_attempts, delivery_attempts, injection_attempts}
+use Rattle.lte_machine.specs.Step.{attempts_at}
 use Rattle.lte_machine.proofs.ActFacts.{act_has}
 use Rattle.lte_machine.proofs.NasFacts.{nas_has}
+use Rattle.lte_machine.proofs.Routing.{address_on, IsTurn, Found, Turns, happens_by}
 use Rattle.lte_properties.specs.ChainBelow.{AllOf}
 use Rattle.lte_properties.specs.ChainHolds.{machine_by, run}
 use Rattle.lte_properties.proofs.Freshness.Premises.{srb_accepted, SealedAsAccepted, SentUnder, AllSentUnder}
 use Rattle.lte_properties.proofs.Freshness.Sequence.{authentication_of}
 use Rattle.lte_properties.proofs.Freshness.Uses.{home_at, Homes, OnKey, IsNas, IsAs, NasUp, AsUp, UpUse, NasDown, CoreUse, StationUse}
 use Rattle.lte_properties.proofs.Freshness.Stands.{Mark, IsPast, partial_root, context_root, phone_mark, RadioStands, PhoneStands, core_partial_root, core_context_root, core_mark, CoreStands, StationStands, BetweenStands, RecordStands, Fresh}
-use Rattle.lte_machine.proofs.Tests.{by_some, none_some, same_of}
+use Rattle.lte_machine.proofs.Tests.{by_some, none_some}
 use Rattle.lte_machine.proofs.AirFacts.{air_has}
 use Rattle.lte_machine.proofs.StationActFacts.{station_act_has}
-use Rattle.lte_properties.proofs.ChainNumbers.Lists.{OfSome, all_find, all_get, all_map, all_both}
+use Rattle.lte_properties.proofs.ChainNumbers.Lists.{OfSome, all_map, all_both, one_root_more}
 use Rattle.lte_properties.proofs.Freshness.Order.{on_key}
-use Rattle.lte_properties.proofs.Freshness.Lists.{one_root_more}
 use Rattle.lte_properties.proofs.Freshness.Phone as phone
 use Rattle.lte_properties.proofs.Freshness.PhoneNas as phone_nas
 use Rattle.lte_properties.proofs.Freshness.Core.{core_nas_keeps, core_record_keeps, core_act_keeps}
@@ -187,19 +186,10 @@ abbrev ReadStands : Homes → Address → Result (Content Term ℕ) RecFault →
 ReadStands given to (Ok content) = BetweenStands given to content.fields content.key
 ReadStands given to (Err fault) = ⊤
 
--- an input of an event, but an authentication
-abbrev pub IsTurn : PhoneInput Term → Type 0
-IsTurn (PhoneAuth ksi root) = ⊥
-IsTurn (PhoneActs act) = ⊤
-IsTurn (PhoneNasPdu pdu) = ⊤
-IsTurn (PhoneAirPdu station air bearer pdu) = ⊤
-
--- and of the core
-abbrev IsCoreTurn : CoreInput Term ℕ → Type 0
-IsCoreTurn (CoreAuth ksi root caps) = ⊥
-IsCoreTurn (CoreActs act) = ⊤
-IsCoreTurn (CoreNasPdu pdu) = ⊤
-IsCoreTurn (CoreRecord read) = ⊤
+-- and goes to the station that it comes to
+goes_here : (on : Interface) (id : ℕ) → GoesHere (address_on on id) id
+goes_here OnS1 id = on_s1 id
+goes_here OnX2 id = on_x2 id
 
 -- a step of the phone needs nothing of what it opens
 pub turn_keeps : (same : Term → Term → Bool) → IsReflexive same → (roots : ℕ) (taken : Homes) (s : Phone Term ℕ) (input : PhoneInput Term) (outcome : Outcome) → IsTurn input → PhoneStands roots taken s →
@@ -226,20 +216,6 @@ module _ (same : Term → Term → Bool) (itself : IsReflexive same) (octets : O
         let outcome = opener (phone_opens r w.phone input) (phone_pdu_in input) came in
         phone_fresh m w (λ o. refl) h (phone_step r w.phone input outcome) (turn_keeps same itself h.roots h.taken w.phone input outcome t h.phone)
 
-    -- nor does one of the core
-    core_turn_fresh : (input : CoreInput Term ℕ) (came : Option (Outgoing Term ℕ)) → IsCoreTurn input → Fresh w → Fresh (core_turn m w input came).0
-    core_turn_fresh (CoreAuth ksi root caps) came t h = absurd t
-    core_turn_fresh (CoreActs act) came t h =
-        core_fresh m w (λ o. refl) h (core_step r w.core (CoreActs act) (opener (core_opens r w.core (CoreActs act)) [] came))
-        (core_act_keeps h.roots h.given same w.core act _ (act_has r w.core act) h.core)
-    core_turn_fresh (CoreNasPdu pdu) came t h =
-        let outcome = opener (core_opens r w.core (CoreNasPdu pdu)) pdu came in
-        core_fresh m w (λ o. refl) h (core_step r w.core (CoreNasPdu pdu) outcome)
-        (core_nas_keeps h.roots h.given same w.core pdu outcome _ (nas_has r w.core pdu outcome) h.core)
-    core_turn_fresh (CoreRecord read) came t h =
-        core_fresh m w (λ o. refl) h (core_step r w.core (CoreRecord read) (opener (core_opens r w.core (CoreRecord read)) [] came))
-        (core_record_keeps h.roots h.given same _ w.core h.core)
-
     -- an event that reaches no actor
     by_world_fresh : (answer : Answer) → Fresh w → Fresh (by_world m w answer).0
     by_world_fresh answer h = record {
@@ -258,53 +234,42 @@ module _ (same : Term → Term → Bool) (itself : IsReflexive same) (octets : O
       apart = h.apart;
     }
 
-    -- a station that is named, with all that holds of it
-    module _ (h : Fresh w) (id : ℕ) where
+    module _ (h : Fresh w) where
       -- what holds of one station
       abbrev Stands : Station Term ℕ → Type 0
       Stands s = StationStands h.taken h.given s × AllOf (λ u. u.dir ≡ Down → StationUse h.taken h.given s u) w.uses
 
-      -- it holds of the one that is named
-      found : OfSome (λ s. Stands s × ((s.id == id) ≡ true)) (station_of_id id w.stations)
-      found = all_find Stands (λ s. s.id == id) w.stations
-          (all_both (StationStands h.taken h.given) (λ s. AllOf (λ u. u.dir ≡ Down → StationUse h.taken h.given s u) w.uses) Stands (λ s x y. (x, y)) w.stations h.stations h.down)
-
       -- an act of a station
-      act_turn : (act : StationAct) (came : Option (Outgoing Term ℕ)) (o : Option (Station Term ℕ)) → OfSome (λ s. Stands s × ((s.id == id) ≡ true)) o → Fresh (turn_of m w id (StationActs act) came o).0
-      act_turn act came None k = by_world_fresh NoUe h
-      act_turn act came (Some s) k =
-          let outcome = opener (station_opens r s (StationActs act)) [] came in
-          station_fresh m w (λ o. refl) h id s (station_step r s (StationActs act) outcome) (same_of s.id id k.1) k.0.1
-          (station.act_keeps h.taken h.given same act _ s (station_act_has r s act) k.0.0)
+      act_turn : (id : ℕ) (act : StationAct) (s : Station Term ℕ) → Found w Stands id s → Fresh (turn_of m w id (StationActs act) None (Some s)).0
+      act_turn id act s f =
+          let outcome = opener (station_opens r s (StationActs act)) [] None in
+          station_fresh m w (λ o. refl) h id s (station_step r s (StationActs act) outcome) f.own f.holds.1
+          (station.act_keeps h.taken h.given same act _ s (station_act_has r s act) f.holds.0)
 
       -- a record that comes to a station
-      record_turn : (to : Address) (interface : Interface) → GoesHere to id → (read : Result (Content Term ℕ) RecFault) → ReadStands h.given to read → (came : Option (Outgoing Term ℕ)) →
-          (o : Option (Station Term ℕ)) → OfSome (λ s. Stands s × ((s.id == id) ≡ true)) o → Fresh (turn_of m w id (StationRecord interface read) came o).0
-      record_turn to interface here read b came None k = by_world_fresh NoUe h
-      record_turn to interface here (Err fault) b came (Some s) k =
+      record_turn : (interface : Interface) (id : ℕ) (read : Result (Content Term ℕ) RecFault) → ReadStands h.given (address_on interface id) read → (came : Option (Outgoing Term ℕ)) →
+          (s : Station Term ℕ) → Found w Stands id s → Fresh (turn_of m w id (StationRecord interface read) came (Some s)).0
+      record_turn interface id (Err fault) b came s f =
           let outcome = opener (station_opens r s (StationRecord interface (Err fault))) [] came in
-          station_fresh m w (λ o. refl) h id s (station_step r s (StationRecord interface (Err fault)) outcome) (same_of s.id id k.1) k.0.1
-          (station.record_keeps h.taken h.given same (RecordRefused (BadRecord fault)) None s tt k.0.0)
-      record_turn to interface here (Ok content) b came (Some s) k =
+          station_fresh m w (λ o. refl) h id s (station_step r s (StationRecord interface (Err fault)) outcome) f.own f.holds.1
+          (station.record_keeps h.taken h.given same (RecordRefused (BadRecord fault)) None s tt f.holds.0)
+      record_turn interface id (Ok content) b came s f =
           let outcome = opener (station_opens r s (StationRecord interface (Ok content))) [] came in
-          station_fresh m w (λ o. refl) h id s (station_step r s (StationRecord interface (Ok content)) outcome) (same_of s.id id k.1) k.0.1
+          station_fresh m w (λ o. refl) h id s (station_step r s (StationRecord interface (Ok content)) outcome) f.own f.holds.1
           (station.record_keeps h.taken h.given same _ content.key s
-          (record_needs h.given s to (subst (GoesHere to) (sym (same_of s.id id k.1)) here) r interface content.fields content.key b) k.0.0)
+          (record_needs h.given s (address_on interface id) (subst (GoesHere (address_on interface id)) (sym f.own) (goes_here interface id)) r interface content.fields content.key b) f.holds.0)
 
       -- a PDU that comes to a station: here alone it matters that what is accepted was sealed so
-      air_turn : (air : ℕ) (bearer : Bearer) (pdu : List ℕ) (came : Option (Outgoing Term ℕ)) → Came h.taken h.given (at.StationAir id air bearer) came →
-          (o : Option (Station Term ℕ)) → OfSome (λ s. Stands s × ((s.id == id) ≡ true)) o → SealedAsAccepted m (attempts_at m (AirPdu air bearer pdu) came o) →
-          Fresh (turn_of m w id (AirPdu air bearer pdu) came o).0
-      air_turn air bearer pdu came c None k honest = by_world_fresh NoUe h
-      air_turn air bearer pdu came c (Some s) k honest =
+      air_turn : (id air : ℕ) (bearer : Bearer) (pdu : List ℕ) (came : Option (Outgoing Term ℕ)) → Came h.taken h.given (at.StationAir id air bearer) came →
+          (s : Station Term ℕ) → Found w Stands id s → SealedAsAccepted m (attempts_at m (AirPdu air bearer pdu) came (Some s)) → Fresh (turn_of m w id (AirPdu air bearer pdu) came (Some s)).0
+      air_turn id air bearer pdu came c s f honest =
           let outcome = opener (station_opens r s (AirPdu air bearer pdu)) pdu came in
-          let named : s.id ≡ id = same_of s.id id k.1 in
-          station_fresh m w (λ o. refl) h id s (station_step r s (AirPdu air bearer pdu) outcome) named k.0.1
+          station_fresh m w (λ o. refl) h id s (station_step r s (AirPdu air bearer pdu) outcome) f.own f.holds.1
           (station.air_keeps h.taken h.given same air (which bearer) pdu outcome _ s (air_has r s air (which bearer) pdu outcome)
-          (air_row_needs h.taken s air r (which bearer) pdu outcome k.0.0.1
-          (λ u e. subst (λ i. OnKey (λ t type. h.taken t ≡ Some (home_at i air)) u.key) (sym named)
+          (air_row_needs h.taken s air r (which bearer) pdu outcome f.holds.0.1
+          (λ u e. subst (λ i. OnKey (λ t type. h.taken t ≡ Some (home_at i air)) u.key) (sym f.own)
           (came_there h.taken h.given id air bearer u came c (honest u (accepts_up s _ outcome u e) e))))
-          k.0.0)
+          f.holds.0)
 
     -- ARRIVALS
 
@@ -317,43 +282,9 @@ module _ (same : Term → Term → Bool) (itself : IsReflexive same) (octets : O
     content_stands h to (Some (SealedRrc dir station air srb u e text)) k = tt
     content_stands h to (Some (UserPacket dir station air drb e text)) k = tt
 
-    -- what comes to an address
-    arrives_fresh : (h : Fresh w) (to : Address) (pdu : List ℕ) (came : Option (Outgoing Term ℕ)) → Came h.taken h.given to came →
-        SealedAsAccepted m (arrival_attempts m w to pdu came) → Fresh (arrives m w to pdu came).0
-    arrives_fresh h at.PhoneNas pdu came c honest = phone_turn_fresh (PhoneNasPdu pdu) came tt h
-    arrives_fresh h (at.Phone station air bearer) pdu came c honest = phone_turn_fresh (PhoneAirPdu station air bearer pdu) came tt h
-    arrives_fresh h at.CoreNas pdu came c honest = core_turn_fresh (CoreNasPdu pdu) came tt h
-    arrives_fresh h at.CoreS1 pdu came c honest = core_turn_fresh (CoreRecord (content_in m came)) came tt h
-    arrives_fresh h (at.StationAir id air bearer) pdu came c honest = air_turn h id air bearer pdu came c (station_of_id id w.stations) (found h id) honest
-    arrives_fresh h (at.StationS1 id) pdu came c honest =
-        record_turn h id (at.StationS1 id) OnS1 (on_s1 id) (content_in m came) (content_stands h (at.StationS1 id) came c) came (station_of_id id w.stations) (found h id)
-    arrives_fresh h (at.StationX2 id) pdu came c honest =
-        record_turn h id (at.StationX2 id) OnX2 (on_x2 id) (content_in m came) (content_stands h (at.StationX2 id) came c) came (station_of_id id w.stations) (found h id)
-
-    -- a record is delivered as it was sent
-    newest_stands : (P : Outgoing Term ℕ → Type 0) (b : Bool) (i : ℕ) (sent : List (Outgoing Term ℕ)) → AllOf P sent → OfSome P (newest_if b i sent)
-    newest_stands P true i sent h = all_get P sent i h
-    newest_stands P false i sent h = tt
-
-    -- so is the one that is chosen
-    chosen_stands : (P : Outgoing Term ℕ → Type 0) (i : ℤ) (sent : List (Outgoing Term ℕ)) → AllOf P sent → OfSome P (record_at i sent)
-    chosen_stands P (pos i) sent h = all_get P sent i h
-    chosen_stands P (negsuc i) sent h = newest_stands P (nat_lt i (length sent)) (length sent - 1 - i) sent h
-
-    -- a delivery
-    delivered_fresh : (h : Fresh w) (o : Option (Outgoing Term ℕ)) → OfSome (RecordStands h.taken h.given) o → SealedAsAccepted m (delivery_attempts m w o) → Fresh (delivery m w o).0
-    delivered_fresh h None k honest = by_world_fresh NoRecord h
-    delivered_fresh h (Some x) k honest = arrives_fresh h (address_of x) (octets x) (Some x) (refl, k) honest
-
-    -- octets that are injected
-    injected_fresh : (h : Fresh w) (to : Address) (pdu : List ℕ) (o : Option ℕ) → SealedAsAccepted m (injection_attempts m w to pdu o) → Fresh (injected m w to pdu o).0
-    injected_fresh h to pdu None honest = arrives_fresh h to pdu None tt honest
-    injected_fresh h to pdu (Some n) honest = by_world_fresh (Sent n) h
-
     -- an authentication
-    auth_fresh : (ksi : ℕ) (octets' : List ℕ) (caps : Caps) (o : Option ℕ) → Fresh w → Fresh (auth_unless m w ksi (Root (next_root w) octets') caps o).0
-    auth_fresh ksi octets' caps (Some row) h = by_world_fresh (RepeatedRoot row) h
-    auth_fresh ksi octets' caps None h =
+    auth_fresh : (ksi : ℕ) (octets' : List ℕ) (caps : Caps) → Fresh w → Fresh (authenticated m w ksi (Root (next_root w) octets') caps).0
+    auth_fresh ksi octets' caps h =
         let root = Root (next_root w) octets' in record {
           roots = h.roots + 1;
           taken = h.taken;
@@ -375,14 +306,35 @@ module _ (same : Term → Term → Bool) (itself : IsReflexive same) (octets : O
 
     -- EVENTS
 
+    -- each turn; the core's need no premise either
+    turns : (h : Fresh w) → Turns m w (λ e. ⊤) (λ to pdu came. Came h.taken h.given to came) (Stands h) (λ done a. SealedAsAccepted m a → Fresh done.0)
+    turns h = record {
+      auth = λ ksi octets' caps is new honest. auth_fresh ksi octets' caps h;
+      phone = λ input came turn is honest. phone_turn_fresh input came turn h;
+      core_acts = λ act is honest.
+          core_fresh m w (λ o. refl) h (core_step r w.core (CoreActs act) (opener (core_opens r w.core (CoreActs act)) [] None))
+          (core_act_keeps h.roots h.given same w.core act _ (act_has r w.core act) h.core);
+      core_nas = λ pdu came is honest.
+          let outcome = opener (core_opens r w.core (CoreNasPdu pdu)) pdu came in
+          core_fresh m w (λ o. refl) h (core_step r w.core (CoreNasPdu pdu) outcome)
+          (core_nas_keeps h.roots h.given same w.core pdu outcome _ (nas_has r w.core pdu outcome) h.core);
+      core_record = λ pdu came is honest.
+          let read = content_in m came in
+          core_fresh m w (λ o. refl) h (core_step r w.core (CoreRecord read) (opener (core_opens r w.core (CoreRecord read)) [] came))
+          (core_record_keeps h.roots h.given same _ w.core h.core);
+      station_acts = λ id act is s f honest. act_turn h id act s f;
+      station_air = λ id air bearer pdu came is s f honest. air_turn h id air bearer pdu came is s f honest;
+      station_record = λ on id pdu came is s f honest. record_turn h on id (content_in m came) (content_stands h (address_on on id) came is) came s f;
+      none = λ answer honest. by_world_fresh answer h;
+    }
+
     -- an event
     pub happens_fresh : (e : Event) → SentUnder m w e → Fresh w → Fresh (happens m w e).0
-    happens_fresh (Event.Auth ksi octets' caps) honest h = auth_fresh ksi octets' caps (known_root m w (Root (next_root w) octets')) h
-    happens_fresh (Event.Phone act) honest h = phone_turn_fresh (PhoneActs act) None tt h
-    happens_fresh (Event.Station id act) honest h = act_turn h id act None (station_of_id id w.stations) (found h id)
-    happens_fresh (Event.Core act) honest h = core_turn_fresh (CoreActs act) None tt h
-    happens_fresh (Event.Deliver i) honest h = delivered_fresh h (record_at i w.sent) (chosen_stands (RecordStands h.taken h.given) i w.sent h.sent) honest
-    happens_fresh (Event.Inject to pdu) honest h = injected_fresh h to pdu (position_from (is_sent m (class_of to) pdu) 0 w.sent) honest
+    happens_fresh e honest h =
+        happens_by (turns h) (λ to pdu. tt)
+        (all_map (RecordStands h.taken h.given) (λ x. (address_of x ≡ address_of x) × RecordStands h.taken h.given x) (λ x k. (refl, k)) w.sent h.sent)
+        (all_both (StationStands h.taken h.given) (λ s. AllOf (λ u. u.dir ≡ Down → StationUse h.taken h.given s u) w.uses) (Stands h) (λ s x y. (x, y)) w.stations h.stations h.down)
+        e tt honest
 
   -- RUNS
 

@@ -18,9 +18,9 @@ use Rattle.lte_properties.specs.ChainBelow.{AllOf}
 use Rattle.lte_properties.proofs.Freshness.Uses.{Home, home_at, Homes, Grows, OnKey, IsNas, IsAs, is_star, home, NasUp, AsUp, UpUse, NasDown, CoreUse, ContextAhead, AsDown, StationUse}
 use Rattle.lte_properties.proofs.Freshness.Stands.{ContextStands, StationStands, BetweenStands, RecordStands, Fresh}
 use Rattle.lte_machine.proofs.Tests.{by_some}
-use Rattle.lte_properties.proofs.ChainNumbers.Lists.{OfSome, all_append, all_one, all_map, all_both, all_put}
+use Rattle.lte_properties.proofs.ChainNumbers.Lists.{OfSome, all_append, all_one, all_map, all_both, all_put, roots_kept}
 use Rattle.lte_properties.proofs.Freshness.Order.{home_grows, on_key}
-use Rattle.lte_properties.proofs.Freshness.Lists.{apart_append, apart_by, roots_kept}
+use Rattle.lte_properties.proofs.Freshness.Lists.{apart_append, apart_by}
 use Rattle.lte_properties.proofs.Freshness.PhoneNas.{PhoneKeeps, NewUp}
 use Rattle.lte_properties.proofs.Freshness.Core.{CoreKeeps, NewDown}
 use Rattle.lte_properties.proofs.Freshness.StationKeeps.{StationKeeps, NewAt, IsOwn}

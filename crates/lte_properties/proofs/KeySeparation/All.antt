@@ -1,11 +1,8 @@
 -- Every key of a run was held by somebody, and each station held the keys that it has.
-use Rattle.std.proofs.Common.{◌≡◌, refl, sym, ◌∙◌, subst, ℕ, ◌==◌, Bool, true, List, [], ◌∷◌, ◌++◌, map, Option, Some, None, inl, inr}
-use Rattle.std.specs.Prelude.{◌⊎◌, option_map, Err}
-use Rattle.std.specs.List.{position_from}
+use Rattle.std.proofs.Common.{◌≡◌, refl, sym, ◌∙◌, subst, ℕ, Bool, List, [], ◌∷◌, ◌++◌, map, Option, Some, None, inl, inr}
+use Rattle.std.specs.Prelude.{◌⊎◌, option_map}
 use Rattle.std.proofs.lemmas.List.{map-append}
 use Rattle.alg_choice.specs.declared.caps.Caps.{Caps}
-use Rattle.rec_base.specs.declared.faults.RecFault.{RecFault}
-use Rattle.lte_events.specs.declared.addresses.Address.{Address}
 use Rattle.lte_events.specs.declared.events.Event.{Event}
 use Rattle.lte_events.specs.declared.setups.Setup.{Setup}
 use Rattle.lte_events.specs.declared.setups.StationSetup.{StationSetup}
@@ -14,30 +11,30 @@ use Rattle.key_model.specs.Derivation.{Derivation}
 use Rattle.key_model.specs.HandoverTable.{NumberedKey}
 use Rattle.key_model.specs.Reading.{term_reading_by}
 use Rattle.key_model.specs.Term.{Term}
-use Rattle.lte_machine.specs.Wire.{KeyUse, Outgoing, address_of}
+use Rattle.lte_machine.specs.Wire.{KeyUse, Outgoing}
 use Rattle.lte_machine.specs.Opening.{Opening, Outcome}
 use Rattle.lte_machine.specs.Reply.{Reply}
 use Rattle.lte_machine.specs.Ladder.{RowOrigin, OfRoot, Of, row_key}
 use Rattle.lte_machine.specs.Distinct.{keys_of, Member}
 use Rattle.lte_machine.specs.Known.{PairKnown, StationKnown}
-use Rattle.lte_machine.specs.StationState.{Station, StationInput, StationActs, AirPdu, StationRecord, Interface, OnS1, OnX2}
+use Rattle.lte_machine.specs.StationState.{Station, StationInput}
 use Rattle.lte_machine.specs.StationStep.{station_key, station_opens, station_pdu_in, station_row_of, station_step}
-use Rattle.lte_machine.specs.PhoneState.{PhoneInput, PhoneActs, PhoneNasPdu, PhoneAirPdu}
+use Rattle.lte_machine.specs.PhoneState.{PhoneInput}
 use Rattle.lte_machine.specs.PhoneStep.{phone_step, phone_opens, phone_pdu_in}
-use Rattle.lte_machine.specs.CoreState.{CoreInput, CoreActs, CoreNasPdu, CoreRecord}
+use Rattle.lte_machine.specs.CoreState.{CoreInput}
 use Rattle.lte_machine.specs.CoreStep.{core_step, core_opens, core_pdu_in}
-use Rattle.lte_machine.specs.Machines.{content_of}
 use Rattle.lte_machine.specs.Run.{first_world, stations_of}
-use Rattle.lte_machine.specs.World.{Machine, World, Holder, AtPhone, AtCore, AtStation, Holding, holds, station_after, station_of_id, turn_of, station_turn, phone_turn, core_turn, auth_unless, known_root, next_root, content_in, arrives, record_at, delivery, class_of, is_sent, injected, happens}
+use Rattle.lte_machine.specs.World.{Machine, World, Holder, AtPhone, AtCore, AtStation, Holding, holds, station_after, turn_of, phone_turn, core_turn, by_world, authenticated, next_root, happens}
 use Rattle.lte_machine.proofs.Rows.{member_either}
 use Rattle.lte_machine.proofs.KnownLists.{AllOut, station_more}
 use Rattle.lte_machine.proofs.KnownLadder.{outs_more}
 use Rattle.lte_machine.proofs.KnownStation.{station_does_keeps}
+use Rattle.lte_machine.proofs.Routing.{found_in, happens_each}
 use Rattle.lte_properties.specs.ChainBelow.{AllOf}
 use Rattle.lte_properties.specs.ChainHolds.{machine_by, run}
 use Rattle.lte_properties.specs.Separation.{IsStationOf, HeldBy, WasHeld, AllHeld, OwnHeld}
-use Rattle.lte_properties.proofs.ChainNumbers.Lists.{OfSome, all_map, all_find, all_put}
-use Rattle.lte_properties.proofs.KeySeparation.Attempts.{Numbered, step_numbered, is_one}
+use Rattle.lte_properties.proofs.ChainNumbers.Lists.{all_map, all_put}
+use Rattle.lte_properties.proofs.KeySeparation.Attempts.{Numbered, step_numbered}
 use Rattle.lte_properties.proofs.KeySeparation.Keys.{any_before, any_behind}
 
 -- WHAT A STEP GIVES ITS ACTOR
@@ -142,9 +139,6 @@ module _ (same : Term → Term → Bool) (root : ℕ → List ℕ → Term) (oct
 
   -- A STATION'S STEP
 
-  abbrev Steps : StationInput Term ℕ → Type 0
-  Steps input = (s : Station Term ℕ) → (outcome : Outcome) → Numbered s (station_step (term_reading_by same) s input outcome)
-
   stepped : (w : TheWorld) (id : ℕ) (input : StationInput Term ℕ) (s : Station Term ℕ) (outcome : Outcome) → s.id ≡ id → Numbered s (station_step (term_reading_by same) s input outcome)
       → StationKnown (Own s.id w.held) s → HeldAll w → HeldAll (station_after m w id (station_step (term_reading_by same) s input outcome)).0
   stepped w id input s outcome e n k h =
@@ -164,59 +158,31 @@ module _ (same : Term → Term → Bool) (root : ℕ → List ℕ → Term) (oct
             (λ u no o. own_later w.held more u o) h.own;
       }
 
-  turn_held : (w : TheWorld) (id : ℕ) (input : StationInput Term ℕ) (came : Option (Outgoing Term ℕ)) → Steps input → (o : Option (Station Term ℕ))
-      → OfSome (λ s. StationKnown (Own s.id w.held) s × ((s.id == id) ≡ true)) o → HeldAll w → HeldAll (turn_of m w id input came o).0
-  turn_held w id input came step None k h = unchanged w (turn_of m w id input came None).0 refl refl refl h
-  turn_held w id input came step (Some s) k h =
+  station_held : (w : TheWorld) (id : ℕ) (input : StationInput Term ℕ) (came : Option (Outgoing Term ℕ)) (s : Station Term ℕ) → s.id ≡ id → StationKnown (Own s.id w.held) s → HeldAll w →
+      HeldAll (turn_of m w id input came (Some s)).0
+  station_held w id input came s own k h =
       let outcome = opener (station_opens (term_reading_by same) s input) (station_pdu_in input) came in
-      stepped w id input s outcome (is_one s.id id k.1) (step s outcome) k.0 h
-
-  station_held : (w : TheWorld) (id : ℕ) (input : StationInput Term ℕ) (came : Option (Outgoing Term ℕ)) → Steps input → HeldAll w → HeldAll (station_turn m w id input came).0
-  station_held w id input came step h =
-      turn_held w id input came step (station_of_id id w.stations) (all_find (λ s. StationKnown (Own s.id w.held) s) (λ s. s.id == id) w.stations h.own) h
-
-  read_held : (w : TheWorld) (on : Interface) (id : ℕ) (came : Option (Outgoing Term ℕ)) → HeldAll w → HeldAll (station_turn m w id (StationRecord on (content_in m came)) came).0
-  read_held w on id None h = station_held w id (StationRecord on (Err RecFault.Short)) None (λ s outcome. step_numbered same s (StationRecord on (Err RecFault.Short)) outcome) h
-  read_held w on id (Some x) h = station_held w id (StationRecord on (content_of x)) (Some x) (λ s outcome. step_numbered same s (StationRecord on (content_of x)) outcome) h
+      stepped w id input s outcome own (step_numbered same s input outcome) k h
 
   -- AN EVENT
 
-  arrives_held : (w : TheWorld) (to : Address) (pdu : List ℕ) (came : Option (Outgoing Term ℕ)) → HeldAll w → HeldAll (arrives m w to pdu came).0
-  arrives_held w Address.PhoneNas pdu came h = phone_held w (PhoneNasPdu pdu) came h
-  arrives_held w (Address.Phone station air bearer) pdu came h = phone_held w (PhoneAirPdu station air bearer pdu) came h
-  arrives_held w Address.CoreNas pdu came h = core_held w (CoreNasPdu pdu) came h
-  arrives_held w Address.CoreS1 pdu came h = core_held w (CoreRecord (content_in m came)) came h
-  arrives_held w (Address.StationAir station air bearer) pdu came h =
-      station_held w station (AirPdu air bearer pdu) came (λ s outcome. step_numbered same s (AirPdu air bearer pdu) outcome) h
-  arrives_held w (Address.StationS1 station) pdu came h = read_held w OnS1 station came h
-  arrives_held w (Address.StationX2 station) pdu came h = read_held w OnX2 station came h
-
-  auth_held : (w : TheWorld) (ksi : ℕ) (key : Term) (caps : Caps) (o : Option ℕ) → HeldAll w → HeldAll (auth_unless m w ksi key caps o).0
-  auth_held w ksi key caps None h =
+  auth_held : (w : TheWorld) (ksi : ℕ) (key : Term) (caps : Caps) → HeldAll w → HeldAll (authenticated m w ksi key caps).0
+  auth_held w ksi key caps h =
       let both : List (Holding Term) = record { holder = AtPhone; key = key } ∷ record { holder = AtCore; key = key } ∷ [] in
       record { all = λ t k. all_longer w (OfRoot key ∷ []) both h.all (root_held key both refl) t k; own = own_all w.held both w.stations h.own }
     where
       root_held : (key : Term) (both : List (Holding Term)) → both ≡ record { holder = AtPhone; key = key } ∷ record { holder = AtCore; key = key } ∷ [] → (t : Term) → Member t (key ∷ []) → WasHeld both t
       root_held key both e t (inl f) = subst (λ x. WasHeld x t) (sym e) (inl (sym f))
       root_held key both e t (inr f) = absurd f
-  auth_held w ksi key caps (Some row) h = unchanged w (auth_unless m w ksi key caps (Some row)).0 refl refl refl h
-
-  delivered_held : (w : TheWorld) (o : Option (Outgoing Term ℕ)) → HeldAll w → HeldAll (delivery m w o).0
-  delivered_held w None h = unchanged w (delivery m w None).0 refl refl refl h
-  delivered_held w (Some x) h = arrives_held w (address_of x) (octets x) (Some x) h
-
-  injected_held : (w : TheWorld) (to : Address) (pdu : List ℕ) (o : Option ℕ) → HeldAll w → HeldAll (injected m w to pdu o).0
-  injected_held w to pdu None h = arrives_held w to pdu None h
-  injected_held w to pdu (Some number) h = unchanged w (injected m w to pdu (Some number)).0 refl refl refl h
 
   happens_held : (w : TheWorld) (e : Event) → HeldAll w → HeldAll (happens m w e).0
-  happens_held w (Event.Auth ksi key caps) h = let k = root (next_root w) key in auth_held w ksi k caps (known_root m w k) h
-  happens_held w (Event.Phone act) h = phone_held w (PhoneActs act) None h
-  happens_held w (Event.Station id act) h =
-      station_held w id (StationActs act) None (λ s outcome. step_numbered same s (StationActs act) outcome) h
-  happens_held w (Event.Core act) h = core_held w (CoreActs act) None h
-  happens_held w (Event.Deliver i) h = delivered_held w (record_at i w.sent) h
-  happens_held w (Event.Inject to pdu) h = injected_held w to pdu (position_from (is_sent m (class_of to) pdu) 0 w.sent) h
+  happens_held w e h =
+      happens_each m w (λ done a. HeldAll done.0)
+      (λ ksi key caps. auth_held w ksi (root (next_root w) key) caps h)
+      (λ input came turn. phone_held w input came h)
+      (λ input came. core_held w input came h)
+      (λ id input came s there own. station_held w id input came s own (found_in (λ t. StationKnown (Own t.id w.held) t) id w.stations s h.own there) h)
+      (λ answer. unchanged w (by_world m w answer).0 refl refl refl h) e
 
   pub run_held : (w : TheWorld) (es : List Event) → HeldAll w → HeldAll (run m w es)
   run_held w [] h = h

@@ -1,11 +1,7 @@
 -- The attempts of a station are numbered apart: its next number rises, and an attempt draws it.
-use Rattle.std.proofs.Common.{◌≡◌, refl, sym, ◌∙◌, subst, ℕ, ◌+◌, ◌≤◌, ◌<◌, ◌==◌, Bool, true, false, List, [], ◌∷◌, ◌++◌, Option, Some, None, Err, arith}
+use Rattle.std.proofs.Common.{◌≡◌, refl, sym, ◌∙◌, subst, ℕ, ◌+◌, ◌≤◌, ◌<◌, ◌==◌, Bool, false, List, [], ◌∷◌, ◌++◌, Option, Some, None, arith}
 use Rattle.std.proofs.lemmas.Bool.Decides.{nat_tests}
-use Rattle.std.specs.List.{position_from}
-use Rattle.alg_choice.specs.declared.caps.Caps.{Caps}
-use Rattle.rec_base.specs.declared.faults.RecFault.{RecFault}
 use Rattle.lte_events.specs.declared.acts.StationAct.{StationAct}
-use Rattle.lte_events.specs.declared.addresses.Address.{Address}
 use Rattle.lte_events.specs.declared.events.Event.{Event}
 use Rattle.lte_events.specs.declared.setups.Setup.{Setup}
 use Rattle.lte_events.specs.declared.setups.StationSetup.{StationSetup}
@@ -14,14 +10,13 @@ use Rattle.key_model.specs.Term.{Term}
 use Rattle.key_model.specs.Reading.{term_reading_by}
 use Rattle.s1x2_rec.specs.Fields.{Fields}
 use Rattle.lte_machine.specs.Bearers.{Which}
-use Rattle.lte_machine.specs.Wire.{KeyUse, Outgoing, address_of}
+use Rattle.lte_machine.specs.Wire.{KeyUse, Outgoing}
 use Rattle.lte_machine.specs.Opening.{Opening, Outcome}
 use Rattle.lte_machine.specs.Reply.{Tried, Reply}
-use Rattle.lte_machine.specs.StationState.{Station, StationInput, StationActs, AirPdu, StationRecord, Interface, OnS1, OnX2}
+use Rattle.lte_machine.specs.StationState.{Station, StationInput, Interface}
 use Rattle.lte_machine.specs.StationKeys.{station_does}
 use Rattle.lte_machine.specs.StationStep.{station_opens, station_pdu_in, station_row_of, station_key, station_step}
-use Rattle.lte_machine.specs.World.{Machine, World, with_one, station_after, station_of_id, turn_of, station_turn, auth_unless, known_root, next_root, content_in, arrives, record_at, delivery, class_of, is_sent, injected, happens}
-use Rattle.lte_machine.specs.Machines.{content_of}
+use Rattle.lte_machine.specs.World.{Machine, World, with_one, station_after, turn_of, happens}
 use Rattle.lte_machine.specs.Run.{stations_of, first_world}
 use Rattle.lte_properties.specs.ChainBelow.{AllOf}
 use Rattle.lte_properties.specs.ChainHolds.{machine_by, run}
@@ -30,7 +25,8 @@ use Rattle.lte_machine.proofs.RecordFacts.{RecordHas}
 use Rattle.lte_machine.proofs.AirFacts.{AirHas}
 use Rattle.lte_machine.proofs.StationActFacts.{StationActHas}
 use Rattle.lte_machine.proofs.StationCases.{RecordCases, AirCases, ActCases, step_case}
-use Rattle.lte_properties.proofs.ChainNumbers.Lists.{OfSome, all_one, all_find, all_put}
+use Rattle.lte_machine.proofs.Routing.{found_in, happens_each}
+use Rattle.lte_properties.proofs.ChainNumbers.Lists.{OfSome, all_one, all_put}
 
 -- ROWS
 
@@ -154,9 +150,6 @@ module _ (s : Station Term ℕ) (d : Station Term ℕ × Reply Term ℕ) (n : Nu
   new_differs es h k None l = k
   new_differs es h k (Some one) l = differ_one one es (none_such one l.0 l.1 es h) k
 
-pub is_one : (a b : ℕ) → (a == b) ≡ true → a ≡ b
-is_one a b e = grind (arith, nat_tests)
-
 is_not : (a b : ℕ) → (a == b) ≡ false → a ≡ b → ⊥
 is_not a b e f = grind (arith, nat_tests)
 
@@ -175,54 +168,20 @@ module _ (same : Term → Term → Bool) (root : ℕ → List ℕ → Term) (oct
     differ = new_differs s d n w.tried f h.differ d.1.tried n.draws;
   }
 
-  abbrev Steps : ℕ → StationInput Term ℕ → Type 0
-  Steps id input = (s : Station Term ℕ) → (outcome : Outcome) → Numbered s (station_step (term_reading_by same) s input outcome)
-
-  turn_apart : (w : TheWorld) (id : ℕ) (input : StationInput Term ℕ) (came : Option (Outgoing Term ℕ)) → Steps id input → (o : Option (Station Term ℕ)) →
-      OfSome (λ s. AllOf (IsDrawn s) w.tried × ((s.id == id) ≡ true)) o → Apart w → Apart (turn_of m w id input came o).0
-  turn_apart w id input came step None k h = record { drawn = h.drawn; differ = h.differ }
-  turn_apart w id input came step (Some s) k h =
+  station_turn_apart : (w : TheWorld) (id : ℕ) (input : StationInput Term ℕ) (came : Option (Outgoing Term ℕ)) (s : Station Term ℕ) → s.id ≡ id → AllOf (IsDrawn s) w.tried → Apart w →
+      Apart (turn_of m w id input came (Some s)).0
+  station_turn_apart w id input came s own f h =
       let outcome = opener (station_opens (term_reading_by same) s input) (station_pdu_in input) came in
-      station_after_apart w id s (station_step (term_reading_by same) s input outcome) (is_one s.id id k.1) (step s outcome) k.0 h
-
-  station_apart : (w : TheWorld) (id : ℕ) (input : StationInput Term ℕ) (came : Option (Outgoing Term ℕ)) → Steps id input → Apart w → Apart (station_turn m w id input came).0
-  station_apart w id input came step h =
-      turn_apart w id input came step (station_of_id id w.stations) (all_find (λ s. AllOf (IsDrawn s) w.tried) (λ s. s.id == id) w.stations h.drawn) h
-
-  read_apart : (w : TheWorld) (on : Interface) (id : ℕ) (came : Option (Outgoing Term ℕ)) → Apart w → Apart (station_turn m w id (StationRecord on (content_in m came)) came).0
-  read_apart w on id None h = station_apart w id (StationRecord on (Err RecFault.Short)) None (λ s outcome. step_numbered same s (StationRecord on (Err RecFault.Short)) outcome) h
-  read_apart w on id (Some x) h = station_apart w id (StationRecord on (content_of x)) (Some x) (λ s outcome. step_numbered same s (StationRecord on (content_of x)) outcome) h
-
-  arrives_apart : (w : TheWorld) (to : Address) (pdu : List ℕ) (came : Option (Outgoing Term ℕ)) → Apart w → Apart (arrives m w to pdu came).0
-  arrives_apart w Address.PhoneNas pdu came h = record { drawn = h.drawn; differ = h.differ }
-  arrives_apart w (Address.Phone station air bearer) pdu came h = record { drawn = h.drawn; differ = h.differ }
-  arrives_apart w Address.CoreNas pdu came h = record { drawn = h.drawn; differ = h.differ }
-  arrives_apart w Address.CoreS1 pdu came h = record { drawn = h.drawn; differ = h.differ }
-  arrives_apart w (Address.StationAir station air bearer) pdu came h =
-      station_apart w station (AirPdu air bearer pdu) came (λ s outcome. step_numbered same s (AirPdu air bearer pdu) outcome) h
-  arrives_apart w (Address.StationS1 station) pdu came h = read_apart w OnS1 station came h
-  arrives_apart w (Address.StationX2 station) pdu came h = read_apart w OnX2 station came h
-
-  auth_apart : (w : TheWorld) (ksi : ℕ) (key : Term) (caps : Caps) (o : Option ℕ) → Apart w → Apart (auth_unless m w ksi key caps o).0
-  auth_apart w ksi key caps None h = record { drawn = h.drawn; differ = h.differ }
-  auth_apart w ksi key caps (Some row) h = record { drawn = h.drawn; differ = h.differ }
-
-  delivered_apart : (w : TheWorld) (o : Option (Outgoing Term ℕ)) → Apart w → Apart (delivery m w o).0
-  delivered_apart w None h = record { drawn = h.drawn; differ = h.differ }
-  delivered_apart w (Some x) h = arrives_apart w (address_of x) (octets x) (Some x) h
-
-  injected_apart : (w : TheWorld) (to : Address) (pdu : List ℕ) (o : Option ℕ) → Apart w → Apart (injected m w to pdu o).0
-  injected_apart w to pdu None h = arrives_apart w to pdu None h
-  injected_apart w to pdu (Some number) h = record { drawn = h.drawn; differ = h.differ }
+      station_after_apart w id s (station_step (term_reading_by same) s input outcome) own (step_numbered same s input outcome) f h
 
   happens_apart : (w : TheWorld) (e : Event) → Apart w → Apart (happens m w e).0
-  happens_apart w (Event.Auth ksi key caps) h = let k = root (next_root w) key in auth_apart w ksi k caps (known_root m w k) h
-  happens_apart w (Event.Phone act) h = record { drawn = h.drawn; differ = h.differ }
-  happens_apart w (Event.Station id act) h =
-      station_apart w id (StationActs act) None (λ s outcome. step_numbered same s (StationActs act) outcome) h
-  happens_apart w (Event.Core act) h = record { drawn = h.drawn; differ = h.differ }
-  happens_apart w (Event.Deliver i) h = delivered_apart w (record_at i w.sent) h
-  happens_apart w (Event.Inject to pdu) h = injected_apart w to pdu (position_from (is_sent m (class_of to) pdu) 0 w.sent) h
+  happens_apart w e h =
+      happens_each m w (λ done a. Apart done.0)
+      (λ ksi key caps. record { drawn = h.drawn; differ = h.differ })
+      (λ input came turn. record { drawn = h.drawn; differ = h.differ })
+      (λ input came. record { drawn = h.drawn; differ = h.differ })
+      (λ id input came s there own. station_turn_apart w id input came s own (found_in (λ t. AllOf (IsDrawn t) w.tried) id w.stations s h.drawn there) h)
+      (λ answer. record { drawn = h.drawn; differ = h.differ }) e
 
   pub run_apart : (w : TheWorld) (es : List Event) → Apart w → Apart (run m w es)
   run_apart w [] h = h

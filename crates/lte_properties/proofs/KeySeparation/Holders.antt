@@ -1,6 +1,5 @@
 -- The keys of each actor, of what is in flight and of what anybody held; and what a step of an actor adds to them.
-use Rattle.std.proofs.Common.{◌≡◌, refl, sym, ap, ◌∙◌, subst, ℕ, suc, ◌+◌, ◌⊎◌, inl, inr, ◌==◌, Bool, true, List, [], ◌∷◌, ◌++◌, length, map, filter, Option, Some, None, Err, arith}
-use Rattle.std.proofs.lemmas.Bool.Decides.{nat_tests}
+use Rattle.std.proofs.Common.{◌≡◌, sym, ◌∙◌, subst, ℕ, ◌⊎◌, inl, inr, Bool, List, ◌++◌, Option, Some, None, Err}
 use Rattle.rec_base.specs.declared.faults.RecFault.{RecFault}
 use Rattle.rec_base.specs.declared.bearers.Bearer.{Bearer}
 use Rattle.lte_events.specs.declared.acts.StationAct.{StationAct}
@@ -14,7 +13,6 @@ use Rattle.key_model.specs.HandoverTable.{NumberedKey}
 use Rattle.key_model.specs.Reading.{Reading, term_reading_by}
 use Rattle.s1x2_rec.specs.Fields.{Fields}
 use Rattle.lte_machine.specs.Bearers.{which}
-use Rattle.lte_machine.specs.Ladder.{RowOrigin, OfRoot, Of}
 use Rattle.lte_machine.specs.Wire.{Outgoing, SealedNas, PlainNas, SealedRrc, UserPacket, Between, address_of}
 use Rattle.lte_machine.specs.Opening.{Outcome}
 use Rattle.lte_machine.specs.Reply.{Made, Tried, Reply, unseen}
@@ -23,12 +21,13 @@ use Rattle.lte_machine.specs.StationRows.{RecordRow, RecordRefused, ContextGiven
 use Rattle.lte_machine.specs.StationChoice.{record_row, air_front, air_row, act_row}
 use Rattle.lte_machine.specs.StationStep.{plain_station, station_step}
 use Rattle.lte_machine.specs.CoreState.{Core}
-use Rattle.lte_machine.specs.World.{World, Holding, with_one, is_root_row, next_root}
+use Rattle.lte_machine.specs.World.{World, Holding, with_one, next_root}
 use Rattle.lte_machine.specs.Machines.{content_of}
 use Rattle.lte_properties.specs.ChainBelow.{AllOf}
 use Rattle.lte_properties.specs.Separation.{Gives, GivenTo}
 use Rattle.lte_machine.proofs.RecordFacts.{RecordHas, record_has}
 use Rattle.lte_machine.proofs.StationActFacts.{station_act_has}
+use Rattle.lte_machine.proofs.Routing.{address_on}
 use Rattle.lte_properties.proofs.ChainNumbers.Lists.{OfSome, all_append, all_one, all_map}
 use Rattle.lte_properties.proofs.KeySeparation.Keys.{Gifts, GivesIn, given_old, given_split, May, MayHold, may_hold, StationOk, OwnCell, TriedOk, KeyGoes, FieldsOk, FlyOk, MadeOk, HoldOk, OutsAre, holder_may_grows, station_ok_grows, tried_ok_grows, fly_grows, made_ok_grows, OwnPlace}
 use Rattle.lte_properties.proofs.KeySeparation.Station.{StationKept, RecordNeeds, record_kept, air_kept, act_kept}
@@ -105,21 +104,6 @@ keyless_gives (Some (SealedRrc dir station air srb u e text)) h t a g = g
 keyless_gives (Some (UserPacket dir station air drb e text)) h t a g = g
 keyless_gives (Some (Between to fields key)) h t a g = absurd h
 
--- how many authentications there were: derivations add none, and an authentication adds one
-derived_adds_none : (ds : List (Derivation Term)) → length (filter is_root_row (map Of ds)) ≡ 0
-derived_adds_none [] = refl
-derived_adds_none (d ∷ ds) = derived_adds_none ds
-
-pub roots_stay : (hs : List (RowOrigin Term)) (ds : List (Derivation Term)) → length (filter is_root_row (hs ++ map Of ds)) ≡ length (filter is_root_row hs)
-roots_stay [] ds = derived_adds_none ds
-roots_stay (OfRoot k ∷ hs) ds = ap suc (roots_stay hs ds)
-roots_stay (Of d ∷ hs) ds = roots_stay hs ds
-
-pub roots_rise : (hs : List (RowOrigin Term)) (k : Term) → length (filter is_root_row (hs ++ OfRoot k ∷ [])) ≡ length (filter is_root_row hs) + 1
-roots_rise [] k = refl
-roots_rise (OfRoot l ∷ hs) k = ap suc (roots_rise hs k) ∙ omega arith
-roots_rise (Of d ∷ hs) k = roots_rise hs k
-
 -- what is so of each grows
 module _ (sites : List Site) (w : World Term ℕ (Outgoing Term ℕ)) (x : Option (Outgoing Term ℕ)) (one : Option (Tried Term ℕ)) where
   abbrev Old : Gifts
@@ -161,11 +145,6 @@ outs_map P Q f ds h = all_map (λ d. P d.out) (λ d. Q d.out) (λ d k. f d.out k
 
 -- THE STEP OF ONE ACTOR
 
--- where a record comes to a station
-abbrev pub station_at : Interface → ℕ → Address
-station_at OnS1 id = StationS1 id
-station_at OnX2 id = StationX2 id
-
 -- what a step of a station keeps, with the key that it read
 abbrev pub StationStepped : Gifts → List Site → List (Tried Term ℕ) → ℕ → Station Term ℕ × Reply Term ℕ → Type 0
 StationStepped G sites tried id d =
@@ -189,7 +168,7 @@ module _ (G : Gifts) (sites : List Site) (tried : List (Tried Term ℕ)) (same :
   unread_stepped on fault outcome = (record_kept G sites tried same s h.cells (RecordRefused (BadRecord fault)) None tt h.keys, tt)
 
   -- a record with a key goes to a station that may have it, and with a KeNB* to the one of its cell
-  goes_may : (on : Interface) (to : Address) (t : Term) → to ≡ station_at on s.id → KeyGoes G sites to t → May G sites s.id t × OwnCell sites s.id t
+  goes_may : (on : Interface) (to : Address) (t : Term) → to ≡ address_on on s.id → KeyGoes G sites to t → May G sites s.id t × OwnCell sites s.id t
   goes_may OnS1 to t e k = subst (λ a. KeyGoes G sites a t) e k
   goes_may OnX2 to t e k = subst (λ a. KeyGoes G sites a t) e k
 
@@ -214,7 +193,7 @@ module _ (G : Gifts) (sites : List Site) (tried : List (Tried Term ℕ)) (same :
   abbrev row_at : Interface → Outgoing Term ℕ → RecordRow
   row_at on x = record_row (plain_station (term_reading_by same) s) on (map_read unseen (term_reading_by same).ncc (content_of x))
 
-  pub record_stepped : (on : Interface) (x : Outgoing Term ℕ) (outcome : Outcome) → address_of x ≡ station_at on s.id → FlyOk G sites tried x →
+  pub record_stepped : (on : Interface) (x : Outgoing Term ℕ) (outcome : Outcome) → address_of x ≡ address_on on s.id → FlyOk G sites tried x →
       Stepped (station_step (term_reading_by same) s (StationRecord on (content_of x)) outcome)
   record_stepped on (SealedNas dir header u e text) outcome a f = unread_stepped on RecFault.Short outcome
   record_stepped on (PlainNas octets) outcome a f = unread_stepped on RecFault.Short outcome
@@ -227,10 +206,3 @@ module _ (G : Gifts) (sites : List Site) (tried : List (Tried Term ℕ)) (same :
             (row_needs fields key m f.1 on (row_at on (Between to fields (Some key))) (record_has r s on (record { fields = fields; key = Some key }))) h.keys,
         may_hold G sites s.id key.key m.0,
       )
-
-pub is_one : (a b : ℕ) → (a == b) ≡ true → a ≡ b
-is_one a b e = grind (arith, nat_tests)
-
-all_each : {A : Type 0} (P : A → Type 0) → ((x : A) → P x) → (xs : List A) → AllOf P xs
-all_each P f [] = tt
-all_each P f (x ∷ xs) = (f x, all_each P f xs)

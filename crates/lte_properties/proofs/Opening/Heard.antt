@@ -1,9 +1,6 @@
 -- A station whose context is active took the first record of the phone there, so that its next COUNT on SRB1 is not 0.
-use Rattle.std.proofs.Common.{subst, ◌≡◌, ℕ, ◌+◌, ◌≤◌, ◌==◌, true, false, List, [], ◌∷◌, Option, Some, None, option_map, arith}
+use Rattle.std.proofs.Common.{subst, ◌≡◌, ℕ, ◌+◌, ◌≤◌, false, List, [], ◌∷◌, Option, Some, None, option_map, arith}
 use Rattle.std.specs.Prelude.{⊤}
-use Rattle.std.specs.List.{position_from}
-use Rattle.alg_choice.specs.declared.caps.Caps.{Caps}
-use Rattle.lte_events.specs.declared.addresses.Address.{Address}
 use Rattle.lte_events.specs.declared.events.Event.{Event}
 use Rattle.lte_events.specs.declared.setups.Setup.{Setup}
 use Rattle.lte_events.specs.declared.setups.StationSetup.{StationSetup}
@@ -14,15 +11,16 @@ use Rattle.key_model.specs.Term.{Term}
 use Rattle.lte_machine.proofs.StationCases.{station_case}
 use Rattle.lte_machine.specs.Bearers.{Signalling1}
 use Rattle.lte_machine.specs.Wire.{Outgoing}
-use Rattle.lte_machine.specs.StationState.{Station, Context, StationInput, StationActs, AirPdu, StationRecord, OnS1, OnX2}
+use Rattle.lte_machine.specs.StationState.{Station, Context, StationInput}
 use Rattle.lte_machine.specs.StationRows.{StationRow}
 use Rattle.lte_machine.specs.StationRecords.{with_pair, with_s1_ack, with_x2_ack}
 use Rattle.lte_machine.specs.StationKeys.{with_security, with_rrc_taken, with_packet_taken, given_up, with_skipped, station_does}
 use Rattle.lte_machine.specs.StationStep.{station_row_of, station_key, station_opens, station_pdu_in}
-use Rattle.lte_machine.specs.World.{Machine, World, station_of_id, turn_of, auth_unless, known_root, next_root, content_in, arrives, record_at, delivery, class_of, is_sent, injected, happens}
+use Rattle.lte_machine.specs.World.{Machine, World, turn_of, happens}
 use Rattle.lte_machine.specs.Run.{stations_of, first_world, run}
+use Rattle.lte_machine.proofs.Routing.{found_in, happens_each}
 use Rattle.lte_properties.specs.ChainBelow.{AllOf}
-use Rattle.lte_properties.proofs.ChainNumbers.Lists.{OfSome, all_find, all_put}
+use Rattle.lte_properties.proofs.ChainNumbers.Lists.{all_put}
 use Rattle.lte_properties.proofs.Agreement.Phone.{heard_taken, heard_packet, heard_sent, heard_packet_sent, heard_left}
 
 abbrev pub Heard : Option (Context Term ℕ) → Type 0
@@ -90,45 +88,16 @@ AllHeard w = AllOf StationHeard w.stations
 
 module _ (m : Machine Term ℕ (Outgoing Term ℕ)) where
   module _ (w : World Term ℕ (Outgoing Term ℕ)) (h : AllHeard w) where
-    turn_heard : (id : ℕ) (input : StationInput Term ℕ) (came : Option (Outgoing Term ℕ)) (o : Option (Station Term ℕ)) → OfSome (λ s. StationHeard s × ((s.id == id) ≡ true)) o → AllHeard (turn_of m w id input came o).0
-    turn_heard id input came None k = h
-    turn_heard id input came (Some s) k =
+    station_turn_heard : (id : ℕ) (input : StationInput Term ℕ) (came : Option (Outgoing Term ℕ)) (s : Station Term ℕ) → Heard s.context → AllHeard (turn_of m w id input came (Some s)).0
+    station_turn_heard id input came s k =
         let outcome = m.opener (station_opens m.reading s input) (station_pdu_in input) came in
         let row = station_row_of m.reading s input outcome in
-        all_put StationHeard StationHeard id (station_does m.reading row (station_key input) s).0 w.stations (station_heard m.reading row (station_key input) s k.0) (λ t e old. old) h
-
-    found : (id : ℕ) → OfSome (λ s. StationHeard s × ((s.id == id) ≡ true)) (station_of_id id w.stations)
-    found id = all_find StationHeard (λ s. s.id == id) w.stations h
-
-    arrives_heard : (to : Address) (pdu : List ℕ) (came : Option (Outgoing Term ℕ)) → AllHeard (arrives m w to pdu came).0
-    arrives_heard Address.PhoneNas pdu came = h
-    arrives_heard (Address.Phone station air bearer) pdu came = h
-    arrives_heard Address.CoreNas pdu came = h
-    arrives_heard Address.CoreS1 pdu came = h
-    arrives_heard (Address.StationAir station air bearer) pdu came = turn_heard station (AirPdu air bearer pdu) came (station_of_id station w.stations) (found station)
-    arrives_heard (Address.StationS1 station) pdu came = turn_heard station (StationRecord OnS1 (content_in m came)) came (station_of_id station w.stations) (found station)
-    arrives_heard (Address.StationX2 station) pdu came = turn_heard station (StationRecord OnX2 (content_in m came)) came (station_of_id station w.stations) (found station)
-
-    delivered_heard : (o : Option (Outgoing Term ℕ)) → AllHeard (delivery m w o).0
-    delivered_heard None = h
-    delivered_heard (Some x) = arrives_heard (m.address x) (m.octets x) (Some x)
-
-    injected_heard : (to : Address) (pdu : List ℕ) (o : Option ℕ) → AllHeard (injected m w to pdu o).0
-    injected_heard to pdu None = arrives_heard to pdu None
-    injected_heard to pdu (Some number) = h
-
-    auth_heard : (ksi : ℕ) (key : Term) (caps : Caps) (o : Option ℕ) → AllHeard (auth_unless m w ksi key caps o).0
-    auth_heard ksi key caps None = h
-    auth_heard ksi key caps (Some row) = h
+        all_put StationHeard StationHeard id (station_does m.reading row (station_key input) s).0 w.stations (station_heard m.reading row (station_key input) s k) (λ t e old. old) h
 
     happens_heard : (e : Event) → AllHeard (happens m w e).0
-    happens_heard (Event.Auth ksi octets caps) =
-        let k = m.root (next_root w) octets in auth_heard ksi k caps (known_root m w k)
-    happens_heard (Event.Phone act) = h
-    happens_heard (Event.Station id act) = turn_heard id (StationActs act) None (station_of_id id w.stations) (found id)
-    happens_heard (Event.Core act) = h
-    happens_heard (Event.Deliver i) = delivered_heard (record_at i w.sent)
-    happens_heard (Event.Inject to pdu) = injected_heard to pdu (position_from (is_sent m (class_of to) pdu) 0 w.sent)
+    happens_heard =
+        happens_each m w (λ done a. AllHeard done.0) (λ ksi key caps. h) (λ input came turn. h) (λ input came. h)
+        (λ id input came s there own. station_turn_heard id input came s (found_in StationHeard id w.stations s h there)) (λ answer. h)
 
   run_heard : (w : World Term ℕ (Outgoing Term ℕ)) (es : List Event) → AllHeard w → AllHeard (run m w es)
   run_heard w [] h = h

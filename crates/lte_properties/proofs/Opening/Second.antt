@@ -1,11 +1,8 @@
 -- In every world of a run the second case of opening comes at a station alone whose context's security is starting.
-use Rattle.std.proofs.Common.{◌≡◌, refl, sym, ap, ◌∙◌, subst, ℕ, ◌==◌, Bool, true, List, Option, Some, None}
+use Rattle.std.proofs.Common.{◌≡◌, refl, sym, ap, ◌∙◌, subst, ℕ, Bool, List, Option, Some, None}
 use Rattle.std.specs.Prelude.{⊤}
-use Rattle.std.specs.List.{position_from}
-use Rattle.std.proofs.lemmas.Bool.{eqb-true}
 use Rattle.rec_base.specs.declared.uses.Dir.TheVariants.{Up, Down}
 use Rattle.lte_events.specs.declared.addresses.Address.{Address}
-use Rattle.lte_events.specs.declared.events.Event.{Event}
 use Rattle.lte_events.specs.declared.lines.Who.{Who}
 use Rattle.lte_events.specs.Site.{Site}
 use Rattle.key_model.specs.HandoverTable.{NumberedKey}
@@ -17,16 +14,19 @@ use Rattle.lte_machine.specs.Bearers.{which}
 use Rattle.lte_machine.specs.Ciphers.{Ciphers, AreCiphers, octets_of}
 use Rattle.lte_machine.specs.Opening.{Opening, Outcome, CipheredElse}
 use Rattle.lte_machine.specs.PhoneChoice.{unciphered_text}
-use Rattle.lte_machine.specs.StationState.{Station, Context, StationInput, StationActs, AirPdu, StationRecord, OnS1, OnX2}
+use Rattle.lte_machine.specs.StationState.{Station, Context, AirPdu}
 use Rattle.lte_machine.specs.StationStep.{plain_station}
-use Rattle.lte_machine.specs.Step.{Attempted, attempts_at, station_attempts, arrival_attempts, delivery_attempts, injection_attempts}
+use Rattle.lte_machine.specs.Step.{Attempted, phone_attempts, attempts_at}
 use Rattle.lte_machine.specs.Wire.{KeyUse, Outgoing, SealedNas, PlainNas, SealedRrc, UserPacket, Between}
-use Rattle.lte_machine.specs.World.{Machine, Line, station_of_id, turn_of, station_turn, content_in, arrives, record_at, delivery, class_of, is_sent, injected, next_root}
+use Rattle.lte_machine.specs.World.{Machine, Line, phone_turn, station_of_id, turn_of, next_root}
+use Rattle.rec_base.specs.declared.bearers.Bearer.{Bearer}
+use Rattle.lte_machine.specs.PhoneState.{PhoneInput, PhoneAuth, PhoneActs, PhoneNasPdu, PhoneAirPdu}
+use Rattle.lte_machine.proofs.Routing.{IsTurn, PhoneGets, Found, Turns, happens_by}
 use Rattle.lte_properties.specs.ChainHolds.{machine_by}
 use Rattle.lte_properties.specs.SecondCase.{sender_at, IsStarting, SecondAtStarting}
-use Rattle.lte_properties.proofs.ChainNumbers.Lists.{OfSome, all_find, all_both, all_chosen}
+use Rattle.lte_properties.proofs.ChainNumbers.Lists.{all_both}
 use Rattle.lte_properties.proofs.Agreement.Calm.{NewKenb}
-use Rattle.lte_properties.proofs.Agreement.Events.{which_srb}
+use Rattle.lte_properties.proofs.Opening.Steps.{which_srb}
 use Rattle.lte_properties.proofs.Agreement.Ghost.{StationOk, SentOk}
 use Rattle.lte_properties.proofs.Agreement.Opener.{octets_tell}
 use Rattle.lte_properties.proofs.Agreement.PhoneWalk.{CameDown}
@@ -50,10 +50,6 @@ module _ (same : Term → Term → Bool) (sender : Option (Outgoing Term ℕ) �
   SecondOf a line = sender_at a.opening a.came ≡ CipheredElse → IsStarting w line
 
   -- what came to an address: nothing that was sent, or a record of its sender
-  abbrev CameUpTo : ℕ → StationInput Term ℕ → Option (Outgoing Term ℕ) → Type 0
-  CameUpTo id (AirPdu air bearer pdu) came = CameUp (ghost k w) id air came
-  CameUpTo id other came = ⊤
-
   abbrev CameTo : Address → List ℕ → Option (Outgoing Term ℕ) → Type 0
   CameTo Address.PhoneNas pdu came = nas_opens.CameDown same g (next_root w) c good pdu came
   CameTo (Address.Phone station air bearer) pdu came = CameDown (ghost k w) station air (which bearer) pdu came
@@ -63,43 +59,41 @@ module _ (same : Term → Term → Bool) (sender : Option (Outgoing Term ℕ) �
 
   -- A STATION
 
-  abbrev IsStation : ℕ → Station Term ℕ → Type 0
-  IsStation id s = (StationOk cells (ghost k w) s × Heard s.context) × ((s.id == id) ≡ true)
-
-  found : (id : ℕ) → OfSome (IsStation id) (station_of_id id w.stations)
-  found id =
-      all_find (λ s. StationOk cells (ghost k w) s × Heard s.context) (λ s. s.id == id) w.stations
-      (all_both (StationOk cells (ghost k w)) (λ s. Heard s.context) (λ s. StationOk cells (ghost k w) s × Heard s.context) (λ s a b. (a, b)) w.stations ok.stations heard)
+  abbrev IsAt : Station Term ℕ → Type 0
+  IsAt s = StationOk cells (ghost k w) s × Heard s.context
 
   starts : (id : ℕ) (s : Station Term ℕ) → station_of_id id w.stations ≡ Some s → (line : Line Term) → line.who ≡ Who.Station id → (o : Option (Context Term ℕ)) → s.context ≡ o → Starts o → IsStarting w line
   starts id s there line who None is h = absurd h
   starts id s there line who (Some d) is h = record { id = id; who = who; station = s; there = there; context = d; serves = is; starting = h }
 
-  turn_second : (id : ℕ) (input : StationInput Term ℕ) (came : Option (Outgoing Term ℕ)) → CameUpTo id input came → (o : Option (Station Term ℕ)) → station_of_id id w.stations ≡ o → OfSome (IsStation id) o
-      → SecondOf (attempts_at m input came o) (turn_of m w id input came o).1
-  turn_second id input came h None is f = λ e. absurd cc
-  turn_second id (StationActs act) came h (Some s) is f = λ e. absurd cc
-  turn_second id (StationRecord interface read) came h (Some s) is f = λ e. absurd cc
-  turn_second id (AirPdu air bearer pdu) came h (Some s) is f = λ e.
-      let number : s.id ≡ id = eqb-true s.id id f.1 in
-      starts id s is (turn_of m w id (AirPdu air bearer pdu) came (Some s)).1 refl s.context refl
-      (station_air_second same cells (ghost k w) s f.0.0 f.0.1 air came (subst (λ n. CameUp (ghost k w) n air came) (sym number) h) s.context refl
+  station_second : (id air : ℕ) (bearer : Bearer) (pdu : List ℕ) (came : Option (Outgoing Term ℕ)) → CameTo (Address.StationAir id air bearer) pdu came → (s : Station Term ℕ) → Found w IsAt id s
+      → SecondOf (attempts_at m (AirPdu air bearer pdu) came (Some s)) (turn_of m w id (AirPdu air bearer pdu) came (Some s)).1
+  station_second id air bearer pdu came h s f = λ e.
+      starts id s f.there (turn_of m w id (AirPdu air bearer pdu) came (Some s)).1 refl s.context refl
+      (station_air_second same cells (ghost k w) s f.holds.0 f.holds.1 air came (subst (λ n. CameUp (ghost k w) n air came) (sym f.own) h) s.context refl
       (at_air air (plain_station (term_reading_by same) s).preps) (which bearer) pdu e)
 
-  station_second : (id : ℕ) (input : StationInput Term ℕ) (came : Option (Outgoing Term ℕ)) → CameUpTo id input came → SecondOf (station_attempts m w id input came) (station_turn m w id input came).1
-  station_second id input came h = turn_second id input came h (station_of_id id w.stations) refl (found id)
-
-  -- WHAT COMES TO AN ADDRESS
-
-  arrives_second : (to : Address) (pdu : List ℕ) (came : Option (Outgoing Term ℕ)) → CameTo to pdu came → SecondOf (arrival_attempts m w to pdu came) (arrives m w to pdu came).1
-  arrives_second Address.PhoneNas pdu came h = λ e. absurd (phone_nas_never g (next_root w) same c good w.phone packets.phone pdu came h e)
-  arrives_second (Address.Phone station air bearer) pdu came h = λ e.
+  phone_second : (input : PhoneInput Term) (came : Option (Outgoing Term ℕ)) → IsTurn input → PhoneGets (λ e. ⊤) CameTo input came → SecondOf (phone_attempts m w input came) (phone_turn m w input came).1
+  phone_second (PhoneAuth ksi root) came turn h = absurd turn
+  phone_second (PhoneActs act) came turn h = λ e. absurd cc
+  phone_second (PhoneNasPdu pdu) came turn h = λ e. absurd (phone_nas_never g (next_root w) same c good w.phone packets.phone pdu came h e)
+  phone_second (PhoneAirPdu station air bearer pdu) came turn h = λ e.
       absurd (phone_air_never same (ghost k w) w.phone w.phone.caps station air pdu (which bearer) came h w.phone.radio refl ok.radio new e)
-  arrives_second Address.CoreNas pdu came h = λ e. absurd (core_nas_never g (next_root w) same c good between w.core packets.core pdu came h e)
-  arrives_second Address.CoreS1 pdu came h = λ e. absurd cc
-  arrives_second (Address.StationAir station air bearer) pdu came h = station_second station (AirPdu air bearer pdu) came h
-  arrives_second (Address.StationS1 station) pdu came h = station_second station (StationRecord OnS1 (content_in m came)) came tt
-  arrives_second (Address.StationX2 station) pdu came h = station_second station (StationRecord OnX2 (content_in m came)) came tt
+
+  turns : Turns m w (λ e. ⊤) CameTo IsAt (λ done a. SecondOf a done.1)
+  turns = record {
+    auth = λ ksi octets caps is none e. absurd cc;
+    phone = phone_second;
+    core_acts = λ act is e. absurd cc;
+    core_nas = λ pdu came h e. absurd (core_nas_never g (next_root w) same c good between w.core packets.core pdu came h e);
+    core_record = λ pdu came h e. absurd cc;
+    station_acts = λ id act is s f e. absurd cc;
+    station_air = station_second;
+    station_record = λ on id pdu came h s f e. absurd cc;
+    none = λ answer e. absurd cc;
+  }
+
+  -- WHAT WAS SENT
 
   none_came : (to : Address) (pdu : List ℕ) → CameTo to pdu None
   none_came Address.PhoneNas pdu = tt
@@ -130,24 +124,8 @@ module _ (same : Term → Term → Bool) (sender : Option (Outgoing Term ℕ) �
   sent_came (UserPacket Up station air drb e text) a n = tt
   sent_came (Between to fields key) a n = between_came to (octets_of c between (Between to fields key)) fields key
 
-  abbrev WasSent : Outgoing Term ℕ → Type 0
-  WasSent x = SentOk (ghost k w) x × nas.SentOk g (next_root w) x
-
-  delivered_second : (o : Option (Outgoing Term ℕ)) → OfSome WasSent o → SecondOf (delivery_attempts m w o) (delivery m w o).1
-  delivered_second None h = λ e. absurd cc
-  delivered_second (Some x) h = arrives_second (m.address x) (m.octets x) (Some x) (sent_came x h.0 h.1)
-
-  injected_second : (to : Address) (pdu : List ℕ) (o : Option ℕ) → SecondOf (injection_attempts m w to pdu o) (injected m w to pdu o).1
-  injected_second to pdu None = arrives_second to pdu None (none_came to pdu)
-  injected_second to pdu (Some number) = λ e. absurd cc
-
   -- every event
   pub second_at : SecondAtStarting m w
-  second_at (Event.Auth ksi octets caps) = λ e. absurd cc
-  second_at (Event.Phone act) = λ e. absurd cc
-  second_at (Event.Station id act) = station_second id (StationActs act) None tt
-  second_at (Event.Core act) = λ e. absurd cc
-  second_at (Event.Deliver i) =
-      delivered_second (record_at i w.sent)
-      (all_chosen WasSent i w.sent (all_both (SentOk (ghost k w)) (nas.SentOk g (next_root w)) WasSent (λ x a n. (a, n)) w.sent ok.sent packets.nas))
-  second_at (Event.Inject to pdu) = injected_second to pdu (position_from (is_sent m (class_of to) pdu) 0 w.sent)
+  second_at e =
+      happens_by turns none_came (all_both (SentOk (ghost k w)) (nas.SentOk g (next_root w)) (λ x. CameTo (m.address x) (m.octets x) (Some x)) sent_came w.sent ok.sent packets.nas)
+      (all_both (StationOk cells (ghost k w)) (λ s. Heard s.context) IsAt (λ s a b. (a, b)) w.stations ok.stations heard) e tt

@@ -1,8 +1,5 @@
 -- In a run that has met no coincidence a NAS message that the phone accepts was sealed under the key that it expected.
 use Rattle.std.proofs.Common.{◌≡◌, refl, sym, ap, subst, ℕ, Bool, true, false, List, [], ◌∷◌, Option, Some, None}
-use Rattle.std.specs.List.{position_from}
-use Rattle.alg_choice.specs.declared.caps.Caps.{Caps}
-use Rattle.lte_events.specs.declared.addresses.Address.{Address}
 use Rattle.lte_events.specs.declared.events.Event.{Event}
 use Rattle.key_model.specs.HandoverTable.{NumberedKey}
 use Rattle.key_model.specs.Term.{Term, Root}
@@ -12,10 +9,10 @@ use Rattle.lte_machine.specs.Wire.{KeyUse, Ciphering, Outgoing, SealedNas, Plain
 use Rattle.lte_machine.specs.Ciphers.{Ciphers, octets_of}
 use Rattle.lte_machine.specs.Opening.{Opening, OpensNothing, OpensNas, OpensSrb, OpensDrb, Outcome, Opened, Differs, same_uses, same_ciphering, judged, nas_wanted, open_case, open_foreign}
 use Rattle.nas_guard.specs.Open.{mac_in}
-use Rattle.lte_machine.specs.Ladder.{OfRoot, ladder_of}
-use Rattle.lte_machine.specs.StationState.{Station, StationInput, StationActs, AirPdu, StationRecord, OnS1, OnX2}
-use Rattle.lte_machine.specs.World.{Machine, World, Line, station_of_id, turn_of, auth_unless, known_root, next_root, content_in, arrives, record_at, delivery, class_of, is_sent, injected, happens}
-use Rattle.lte_machine.specs.Step.{attempted, attempts_at, arrival_attempts, delivery_attempts, injection_attempts}
+use Rattle.lte_machine.specs.Ladder.{ladder_of}
+use Rattle.lte_machine.specs.PhoneState.{PhoneInput, PhoneAuth, PhoneActs, PhoneNasPdu, PhoneAirPdu}
+use Rattle.lte_machine.specs.World.{Machine, World, Line, happens}
+use Rattle.lte_machine.specs.Step.{attempted}
 use Rattle.lte_machine.specs.Machines.{machine_over, sender_of}
 use Rattle.lte_machine.specs.Run.{Running, replay}
 use Rattle.lte_machine.specs.Distinct.{keys_of, Member, OneValueOneTerm}
@@ -23,11 +20,12 @@ use Rattle.lte_machine.proofs.Mixed.{by_terms, mixed}
 use Rattle.lte_machine.specs.Known.{SentKnown, IsReported}
 use Rattle.lte_machine.proofs.History.{one_value_one_term}
 use Rattle.lte_machine.proofs.KnownLadder.{still_in}
-use Rattle.lte_machine.proofs.KnownLists.{OfSome, all_chosen, sent_more}
+use Rattle.lte_machine.proofs.KnownLists.{OfSome, all_each, sent_more}
 use Rattle.lte_machine.proofs.KnownWorld.{Grounds, happens_grounds}
 use Rattle.lte_machine.proofs.LadderRun.{one_use}
 use Rattle.lte_machine.proofs.MixedRun.{happens_same}
 use Rattle.lte_machine.proofs.StillRun.{goes_on}
+use Rattle.lte_machine.proofs.Routing.{IsTurn, PhoneGets, Turns, happens_by, happens_each}
 use Rattle.lte_properties.proofs.Agreement.Openings.{Along}
 use Rattle.lte_properties.proofs.Opening.Openings.{SenderIs, SameRoot}
 
@@ -37,73 +35,38 @@ module _ (m : Machine Term ℕ (Outgoing Term ℕ)) (w : World Term ℕ (Outgoin
   abbrev Grows : World Term ℕ (Outgoing Term ℕ) × Line Term → Type 0
   Grows h = (t : Term) → IsReported w t → IsReported h.0 t
 
-  turn_grows : (id : ℕ) (input : StationInput Term ℕ) (came : Option (Outgoing Term ℕ)) (o : Option (Station Term ℕ)) → Grows (turn_of m w id input came o)
-  turn_grows id input came None t h = h
-  turn_grows id input came (Some s) t h = still_in w.history _ t h
-
-  arrives_grows : (to : Address) (pdu : List ℕ) (came : Option (Outgoing Term ℕ)) → Grows (arrives m w to pdu came)
-  arrives_grows Address.PhoneNas pdu came t h = still_in w.history _ t h
-  arrives_grows (Address.Phone station air bearer) pdu came t h = still_in w.history _ t h
-  arrives_grows Address.CoreNas pdu came t h = still_in w.history _ t h
-  arrives_grows Address.CoreS1 pdu came t h = still_in w.history _ t h
-  arrives_grows (Address.StationAir station air bearer) pdu came t h = turn_grows station (AirPdu air bearer pdu) came (station_of_id station w.stations) t h
-  arrives_grows (Address.StationS1 station) pdu came t h = turn_grows station (StationRecord OnS1 (content_in m came)) came (station_of_id station w.stations) t h
-  arrives_grows (Address.StationX2 station) pdu came t h = turn_grows station (StationRecord OnX2 (content_in m came)) came (station_of_id station w.stations) t h
-
-  auth_grows : (ksi : ℕ) (root : Term) (caps : Caps) (o : Option ℕ) → Grows (auth_unless m w ksi root caps o)
-  auth_grows ksi root caps None t h = still_in w.history (OfRoot root ∷ []) t h
-  auth_grows ksi root caps (Some row) t h = h
-
-  delivered_grows : (o : Option (Outgoing Term ℕ)) → Grows (delivery m w o)
-  delivered_grows None t h = h
-  delivered_grows (Some x) t h = arrives_grows (m.address x) (m.octets x) (Some x) t h
-
-  injected_grows : (to : Address) (pdu : List ℕ) (o : Option ℕ) → Grows (injected m w to pdu o)
-  injected_grows to pdu None t h = arrives_grows to pdu None t h
-  injected_grows to pdu (Some number) t h = h
-
   happens_grows : (e : Event) → Grows (happens m w e)
-  happens_grows (Event.Auth ksi octets caps) t h =
-      let root : Term = m.root (next_root w) octets in auth_grows ksi root caps (known_root m w root) t h
-  happens_grows (Event.Phone act) t h = still_in w.history _ t h
-  happens_grows (Event.Station id act) t h = turn_grows id (StationActs act) None (station_of_id id w.stations) t h
-  happens_grows (Event.Core act) t h = still_in w.history _ t h
-  happens_grows (Event.Deliver i) t h = delivered_grows (record_at i w.sent) t h
-  happens_grows (Event.Inject to pdu) t h = injected_grows to pdu (position_from (is_sent m (class_of to) pdu) 0 w.sent) t h
+  happens_grows =
+      happens_each m w (λ done a. Grows done) (λ ksi octets caps t h. still_in w.history _ t h) (λ input came turn t h. still_in w.history _ t h) (λ input came t h. still_in w.history _ t h)
+      (λ id input came s there own t h. still_in w.history _ t h) (λ answer t h. h)
 
   -- WHAT COMES WAS SENT UNDER REPORTED KEYS
 
   abbrev CameKnown : Option (Outgoing Term ℕ) → Type 0
   CameKnown came = OfSome (SentKnown (IsReported w)) came
 
-  station_came : (input : StationInput Term ℕ) (came : Option (Outgoing Term ℕ)) (o : Option (Station Term ℕ)) → CameKnown came → CameKnown (attempts_at m input came o).came
-  station_came input came None h = tt
-  station_came input came (Some s) h = h
+  phone_came : (input : PhoneInput Term) (came : Option (Outgoing Term ℕ)) → IsTurn input → PhoneGets (λ e. Unit {0}) (λ to pdu o. CameKnown o) input came → CameKnown came
+  phone_came (PhoneAuth ksi root) came turn is = absurd turn
+  phone_came (PhoneActs act) None turn is = tt
+  phone_came (PhoneActs act) (Some x) turn is = absurd is
+  phone_came (PhoneNasPdu pdu) came turn is = is
+  phone_came (PhoneAirPdu station air bearer pdu) came turn is = is
 
-  arrival_came : (to : Address) (pdu : List ℕ) (came : Option (Outgoing Term ℕ)) → CameKnown came → CameKnown (arrival_attempts m w to pdu came).came
-  arrival_came Address.PhoneNas pdu came h = h
-  arrival_came (Address.Phone station air bearer) pdu came h = h
-  arrival_came Address.CoreNas pdu came h = h
-  arrival_came Address.CoreS1 pdu came h = h
-  arrival_came (Address.StationAir station air bearer) pdu came h = station_came (AirPdu air bearer pdu) came (station_of_id station w.stations) h
-  arrival_came (Address.StationS1 station) pdu came h = station_came (StationRecord OnS1 (content_in m came)) came (station_of_id station w.stations) h
-  arrival_came (Address.StationX2 station) pdu came h = station_came (StationRecord OnX2 (content_in m came)) came (station_of_id station w.stations) h
-
-  delivery_came : (o : Option (Outgoing Term ℕ)) → CameKnown o → CameKnown (delivery_attempts m w o).came
-  delivery_came None h = tt
-  delivery_came (Some x) h = arrival_came (m.address x) (m.octets x) (Some x) h
-
-  injection_came : (to : Address) (pdu : List ℕ) (o : Option ℕ) → CameKnown (injection_attempts m w to pdu o).came
-  injection_came to pdu None = arrival_came to pdu None tt
-  injection_came to pdu (Some number) = tt
+  turns : Turns m w (λ e. Unit {0}) (λ to pdu came. CameKnown came) (λ s. Unit {0}) (λ done a. CameKnown a.came)
+  turns = record {
+    auth = λ ksi octets caps is new. tt;
+    phone = phone_came;
+    core_acts = λ act is. tt;
+    core_nas = λ pdu came is. is;
+    core_record = λ pdu came is. is;
+    station_acts = λ id act is s f. tt;
+    station_air = λ id air bearer pdu came is s f. is;
+    station_record = λ on id pdu came is s f. is;
+    none = λ answer. tt;
+  }
 
   event_came : Grounds w → (e : Event) → CameKnown (attempted m w e).came
-  event_came g (Event.Auth ksi octets caps) = tt
-  event_came g (Event.Phone act) = tt
-  event_came g (Event.Station id act) = station_came (StationActs act) None (station_of_id id w.stations) tt
-  event_came g (Event.Core act) = tt
-  event_came g (Event.Deliver i) = delivery_came (record_at i w.sent) (all_chosen (SentKnown (IsReported w)) i w.sent g.keys.sent)
-  event_came g (Event.Inject to pdu) = injection_came to pdu (position_from (is_sent m (class_of to) pdu) 0 w.sent)
+  event_came g e = happens_by turns (λ to pdu. tt) g.keys.sent (all_each (λ s. Unit {0}) (λ s. tt) w.stations) e tt
 
 came_more : (P Q : Term → Type 0) → ((t : Term) → P t → Q t) → (o : Option (Outgoing Term ℕ)) → OfSome (SentKnown P) o → OfSome (SentKnown Q) o
 came_more P Q f None h = tt

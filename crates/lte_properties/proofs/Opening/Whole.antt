@@ -1,11 +1,10 @@
 -- Packets open to what was sent, in every world of every run.
 use Rattle.std.proofs.Common.{◌≡◌, refl, ℕ, ◌+◌, ◌<◌, ◌≤◌, Bool, List, [], ◌∷◌, Option, Some, None, arith}
-use Rattle.std.specs.List.{position_from}
 use Rattle.alg_choice.specs.Choice.{choice_of}
 use Rattle.alg_choice.specs.declared.caps.Caps.{Caps}
 use Rattle.rec_base.specs.declared.uses.Dir.TheVariants.{Up, Down}
 use Rattle.lte_events.specs.declared.addresses.Address.{Address}
-use Rattle.lte_events.specs.declared.answers.Answer.TheVariants.{Done, NoRecord, Sent, RepeatedRoot}
+use Rattle.lte_events.specs.declared.answers.Answer.TheVariants.{Done}
 use Rattle.lte_events.specs.declared.events.Event.{Event}
 use Rattle.lte_events.specs.declared.setups.Setup.{Setup}
 use Rattle.lte_events.specs.Site.{Site}
@@ -18,24 +17,25 @@ use Rattle.lte_machine.specs.Ciphers.{Ciphers, AreCiphers, octets_of}
 use Rattle.lte_machine.specs.Opening.{Opening, Outcome}
 use Rattle.lte_machine.specs.Ranges.{IsEvent, IsSetup}
 use Rattle.lte_machine.specs.Ranges as ranges
-use Rattle.lte_machine.specs.PhoneState.{PhoneActs}
+use Rattle.lte_machine.specs.PhoneState.{PhoneInput, PhoneAuth, PhoneActs, PhoneNasPdu, PhoneAirPdu}
 use Rattle.lte_machine.specs.PhoneRows as phone
-use Rattle.lte_machine.specs.StationState.{StationActs}
-use Rattle.lte_machine.specs.CoreState.{CoreActs}
+use Rattle.lte_machine.specs.StationState.{StationActs, AirPdu, StationRecord}
+use Rattle.lte_machine.specs.CoreState.{CoreActs, CoreNasPdu, CoreRecord}
 use Rattle.lte_machine.specs.Run.{first_world}
-use Rattle.lte_machine.specs.World.{Machine, authenticated, auth_unless, known_root, next_root, record_at, delivery, class_of, is_sent, injected, happens}
-use Rattle.lte_machine.specs.Step.{delivery_attempts, injection_attempts}
+use Rattle.lte_machine.specs.World.{Machine, Line, phone_turn, content_in, authenticated, next_root, happens}
+use Rattle.lte_machine.specs.Step.{Attempted, phone_attempts}
 use Rattle.lte_machine.specs.Machines.{machine_over, sender_of}
 use Rattle.lte_machine.specs.Distinct.{keys_of}
 use Rattle.lte_machine.proofs.ActFacts.{act_has}
+use Rattle.lte_machine.proofs.Routing.{IsTurn, PhoneGets, Turns, happens_by}
 use Rattle.lte_properties.specs.ChainBelow.{AllOf}
 use Rattle.lte_properties.specs.ChainHolds.{machine_by, run, noted, Holds}
 use Rattle.lte_properties.proofs.Agreement.Openings.{Honest, Calm, Along, OpensByTerms}
 use Rattle.lte_properties.specs.Packets.{OpensToSent}
 use Rattle.lte_properties.proofs.Opening.Openings.{SenderIs, SameRoot}
-use Rattle.lte_properties.proofs.ChainNumbers.Lists.{OfSome, all_chosen}
+use Rattle.lte_properties.proofs.ChainNumbers.Lists.{all_map, one_root_more}
 use Rattle.lte_properties.proofs.ChainNumbers.World.{happens_holds, first_holds}
-use Rattle.lte_properties.proofs.Agreement.Ghost.{Ghost}
+use Rattle.lte_properties.proofs.Agreement.Ghost.{Ghost, StationOk}
 use Rattle.lte_properties.proofs.Agreement.Later.{Later}
 use Rattle.lte_properties.proofs.Agreement.Told.{SiteOk}
 use Rattle.lte_properties.proofs.Agreement.World.{TheWorld, Conns, ghost, WorldOk, Settled}
@@ -48,10 +48,10 @@ use Rattle.lte_properties.proofs.SameKeys.{IsReflexive}
 use Rattle.lte_properties.proofs.Opening.Delivered.{opens_where_fits}
 use Rattle.lte_properties.proofs.Opening.Nas.{Choices, SentOk, More, phone_more, core_more, sent_more}
 use Rattle.lte_properties.proofs.Opening.NasRows.{phone_goes, core_auth_goes}
-use Rattle.lte_properties.proofs.Opening.NasOpens.{phone_act_needs}
+use Rattle.lte_properties.proofs.Opening.NasOpens.{phone_act_needs, CameDown, nas_pdu_needs}
 use Rattle.lte_properties.proofs.Opening.Air.{AirOk, air_later}
 use Rattle.lte_properties.proofs.Opening.AirWalk.{station_act_needs, phone_act_sends}
-use Rattle.lte_properties.proofs.Opening.World.{PacketsOk, Keeps, one_root_more, chosen_at, chosen_below, chosen_there, CameTo, arrives_keeps, by_world_keeps, phone_turn_keeps, core_turn_keeps, station_turn_keeps}
+use Rattle.lte_properties.proofs.Opening.World.{PacketsOk, Keeps, chosen_at, chosen_below, chosen_there, by_world_keeps, phone_turn_keeps, core_turn_keeps, station_turn_keeps}
 use Rattle.lte_properties.proofs.Opening.Fits.{packets_fit}
 use Rattle.lte_properties.specs.SecondCase.{SecondAtStarting}
 use Rattle.lte_properties.proofs.Freshness.PhoneRun.{phone_always_in_order}
@@ -72,49 +72,19 @@ module _ (same : Term → Term → Bool) (sender : Option (Outgoing Term ℕ) �
 
   -- A RECORD THAT WAS SENT, AND OCTETS THAT NOBODY SENT
 
-  came_none : (g : Choices) (w : TheWorld) (to : Address) (pdu : List ℕ) → CameTo same sender opener c good between cells g w to pdu None
-  came_none g w Address.PhoneNas pdu = tt
-  came_none g w (Address.Phone station air bearer) pdu = tt
-  came_none g w Address.CoreNas pdu = tt
-  came_none g w Address.CoreS1 pdu = tt
-  came_none g w (Address.StationAir station air bearer) pdu = tt
-  came_none g w (Address.StationS1 station) pdu = tt
-  came_none g w (Address.StationX2 station) pdu = tt
+  -- what comes to the phone on NAS
+  abbrev CameTo : Choices → TheWorld → Address → List ℕ → Option (Outgoing Term ℕ) → Type 0
+  CameTo g w to pdu came = to ≡ Address.PhoneNas → CameDown same g (next_root w) c good pdu came
 
-  came_between : (g : Choices) (w : TheWorld) (to : Address) (pdu : List ℕ) (fields : Fields) (key : Option (NumberedKey Term ℕ))
-      → CameTo same sender opener c good between cells g w to pdu (Some (Between to fields key))
-  came_between g w Address.PhoneNas pdu fields key = tt
-  came_between g w (Address.Phone station air bearer) pdu fields key = tt
-  came_between g w Address.CoreNas pdu fields key = tt
-  came_between g w Address.CoreS1 pdu fields key = tt
-  came_between g w (Address.StationAir station air bearer) pdu fields key = tt
-  came_between g w (Address.StationS1 station) pdu fields key = tt
-  came_between g w (Address.StationX2 station) pdu fields key = tt
-
-  came_to : (g : Choices) (w : TheWorld) (x : Outgoing Term ℕ) → SentOk g (next_root w) x
-      → CameTo same sender opener c good between cells g w (address_of x) (octets_of c between x) (Some x)
-  came_to g w (SealedNas Down header u e text) h = (refl, h)
-  came_to g w (SealedNas Up header u e text) h = tt
-  came_to g w (PlainNas octets) h = tt
-  came_to g w (SealedRrc Down station air srb u e text) h = tt
-  came_to g w (SealedRrc Up station air srb u e text) h = tt
-  came_to g w (UserPacket Down station air drb e text) h = tt
-  came_to g w (UserPacket Up station air drb e text) h = tt
-  came_to g w (Between to fields key) h = came_between g w to (between fields key) fields key
-
-  delivered_keeps : (g : Choices) (k d : Conns) (w : TheWorld) (o : Option (Outgoing Term ℕ)) → WorldOk cells k w → PacketsOk g k w → OfSome (SentOk g (next_root w)) o
-      → ((delivery m w o).1.answer ≡ Done → let a = delivery_attempts m w o in SenderIs (keys_of (delivery m w o).0.history) a.opening (sender_of a.came) (opener a.opening a.octets a.came))
-      → Later (ghost k w) (ghost d (delivery m w o).0) → Keeps d (delivery m w o).0
-  delivered_keeps g k d w None ok h sent one later = by_world_keeps same sender opener c good between cells g k d w NoRecord h later
-  delivered_keeps g k d w (Some x) ok h sent one later =
-      arrives_keeps same sender opener c good between cells g k d w (address_of x) (octets_of c between x) (Some x) ok h (came_to g w x sent) one later
-
-  injected_keeps : (g : Choices) (k d : Conns) (w : TheWorld) (to : Address) (pdu : List ℕ) (o : Option ℕ) → WorldOk cells k w → PacketsOk g k w
-      → ((injected m w to pdu o).1.answer ≡ Done → let a = injection_attempts m w to pdu o in SenderIs (keys_of (injected m w to pdu o).0.history) a.opening (sender_of a.came) (opener a.opening a.octets a.came))
-      → Later (ghost k w) (ghost d (injected m w to pdu o).0) → Keeps d (injected m w to pdu o).0
-  injected_keeps g k d w to pdu None ok h one later =
-      arrives_keeps same sender opener c good between cells g k d w to pdu None ok h (came_none g w to pdu) one later
-  injected_keeps g k d w to pdu (Some number) ok h one later = by_world_keeps same sender opener c good between cells g k d w (Sent number) h later
+  sent_came : (g : Choices) (w : TheWorld) (x : Outgoing Term ℕ) → SentOk g (next_root w) x → CameTo g w (address_of x) (octets_of c between x) (Some x)
+  sent_came g w (SealedNas Down header u e text) h = λ is. (refl, h)
+  sent_came g w (SealedNas Up header u e text) h = λ is. absurd cc
+  sent_came g w (PlainNas octets) h = λ is. absurd cc
+  sent_came g w (SealedRrc Down station air srb u e text) h = λ is. absurd cc
+  sent_came g w (SealedRrc Up station air srb u e text) h = λ is. absurd cc
+  sent_came g w (UserPacket Down station air drb e text) h = λ is. absurd cc
+  sent_came g w (UserPacket Up station air drb e text) h = λ is. absurd cc
+  sent_came g w (Between to fields key) h = λ is. tt
 
   -- AN AUTHENTICATION
 
@@ -146,27 +116,48 @@ module _ (same : Term → Term → Bool) (sender : Option (Outgoing Term ℕ) �
       air_after g h l [] k = tt
       air_after g h l (x ∷ xs) k = (air_later g h l x k.0, air_after g h l xs k.1)
 
-  auth_keeps : (g : Choices) (k d : Conns) (w : TheWorld) (ksi : ℕ) (octets : List ℕ) (caps : Caps) (o : Option ℕ) → ksi ≤ 6 → PacketsOk g k w
-      → Later (ghost k w) (ghost d (auth_unless m w ksi (Root (next_root w) octets) caps o).0) → Keeps d (auth_unless m w ksi (Root (next_root w) octets) caps o).0
-  auth_keeps g k d w ksi octets caps None fits h later = authenticated_keeps g k d w ksi octets caps fits h later
-  auth_keeps g k d w ksi octets caps (Some row) fits h later = by_world_keeps same sender opener c good between cells g k d w (RepeatedRoot row) h later
-
   -- EVERY EVENT
+
+  module _ (g : Choices) (k d : Conns) (w : TheWorld) (ok : WorldOk cells k w) (h : PacketsOk g k w) where
+    -- what an event leaves, where the message accepted in it has one sender
+    abbrev Left : TheWorld × Line Term → Attempted Term (Outgoing Term ℕ) → Type 0
+    Left done a =
+        (done.1.answer ≡ Done → SenderIs (keys_of done.0.history) a.opening (sender_of a.came) (opener a.opening a.octets a.came))
+        → Later (ghost k w) (ghost d done.0) → Keeps d done.0
+
+    phone_keeps : (input : PhoneInput Term) (came : Option (Outgoing Term ℕ)) → IsTurn input → PhoneGets IsEvent (CameTo g w) input came → Left (phone_turn m w input came) (phone_attempts m w input came)
+    phone_keeps (PhoneAuth ksi key) came turn is one later = absurd turn
+    phone_keeps (PhoneActs act) (Some x) turn is one later = absurd is
+    phone_keeps (PhoneActs act) None turn is one later =
+        phone_turn_keeps same sender opener c good between cells g k d w (PhoneActs act) None ok h
+        (phone_act_needs same g (next_root w) w.phone act is) (phone_act_sends same (ghost k w) w.phone act is) later
+    phone_keeps (PhoneNasPdu pdu) came turn is one later =
+        phone_turn_keeps same sender opener c good between cells g k d w (PhoneNasPdu pdu) came ok h
+        (nas_pdu_needs same g (next_root w) c good w.phone pdu came (is refl) opener w.history one) tt later
+    phone_keeps (PhoneAirPdu station air bearer pdu) came turn is one later =
+        phone_turn_keeps same sender opener c good between cells g k d w (PhoneAirPdu station air bearer pdu) came ok h tt tt later
+
+    turns : Turns m w IsEvent (CameTo g w) (StationOk cells (ghost k w)) Left
+    turns = record {
+      auth = λ ksi octets caps is new one later. authenticated_keeps g k d w ksi octets caps is.0 h later;
+      phone = phone_keeps;
+      core_acts = λ act is one later. core_turn_keeps same sender opener c good between cells g k d w (CoreActs act) None h tt (act, act_has q w.core act, is) later;
+      core_nas = λ pdu came is one later. core_turn_keeps same sender opener c good between cells g k d w (CoreNasPdu pdu) came h tt tt later;
+      core_record = λ pdu came is one later. core_turn_keeps same sender opener c good between cells g k d w (CoreRecord (content_in m came)) came h tt tt later;
+      station_acts = λ id act is s f one later.
+          station_turn_keeps same sender opener c good between cells g k d w id (StationActs act) None s h (λ o. station_act_needs q s act is) f.holds later;
+      station_air = λ id air bearer pdu came is s f one later.
+          station_turn_keeps same sender opener c good between cells g k d w id (AirPdu air bearer pdu) came s h (λ o. tt) f.holds later;
+      station_record = λ on id pdu came is s f one later.
+          station_turn_keeps same sender opener c good between cells g k d w id (StationRecord on (content_in m came)) came s h (λ o. tt) f.holds later;
+      none = λ answer one later. by_world_keeps same sender opener c good between cells g k d w answer h later;
+    }
 
   pub happens_keeps : (g : Choices) (k d : Conns) (w : TheWorld) (e : Event) → IsEvent e → WorldOk cells k w → PacketsOk g k w → SameRoot m w e
       → Later (ghost k w) (ghost d (happens m w e).0) → Keeps d (happens m w e).0
-  happens_keeps g k d w (Event.Auth ksi octets caps) is ok h one later = auth_keeps g k d w ksi octets caps (known_root m w (Root (next_root w) octets)) is.0 h later
-  happens_keeps g k d w (Event.Phone act) is ok h one later =
-      phone_turn_keeps same sender opener c good between cells g k d w (PhoneActs act) None ok h
-      (phone_act_needs same g (next_root w) w.phone act is) (phone_act_sends same (ghost k w) w.phone act is) later
-  happens_keeps g k d w (Event.Station id act) is ok h one later =
-      station_turn_keeps same sender opener c good between cells g k d w id (StationActs act) None ok h (λ s o. station_act_needs q s act is) later
-  happens_keeps g k d w (Event.Core act) is ok h one later =
-      core_turn_keeps same sender opener c good between cells g k d w (CoreActs act) None h tt (act, act_has q w.core act, is) later
-  happens_keeps g k d w (Event.Deliver i) is ok h one later =
-      delivered_keeps g k d w (record_at i w.sent) ok h (all_chosen (SentOk g (next_root w)) i w.sent h.nas) one later
-  happens_keeps g k d w (Event.Inject to pdu) is ok h one later =
-      injected_keeps g k d w to pdu (position_from (is_sent m (class_of to) pdu) 0 w.sent) ok h one later
+  happens_keeps g k d w e is ok h one later =
+      happens_by (turns g k d w ok h) (λ to pdu e. tt)
+      (all_map (SentOk g (next_root w)) (λ x. CameTo g w (address_of x) (octets_of c between x) (Some x)) (sent_came g w) w.sent h.nas) ok.stations e is one later
 
   -- EVERY RUN
 

@@ -1,14 +1,11 @@
 -- Every event keeps what is known of the keys of packets.
-use Rattle.std.proofs.Common.{◌≡◌, refl, sym, ap, ℕ, suc, ◌+◌, ◌<◌, ◌==◌, Bool, true, false, if◌then◌else◌, List, [], ◌∷◌, ◌++◌, length, map, Option, Some, None, Result, le_of_eq, arith}
+use Rattle.std.proofs.Common.{◌≡◌, refl, sym, ap, ℕ, ◌<◌, ◌==◌, Bool, true, false, if◌then◌else◌, List, ◌++◌, length, map, Option, Some, None, Result, le_of_eq, arith}
 use Rattle.std.specs.Prelude.{⊤, filter}
 use Rattle.std.proofs.lemmas.Bool.Decides.{nat_tests}
 use Rattle.alg_choice.specs.declared.algs.Algs.{Algs}
 use Rattle.alg_choice.specs.declared.caps.Caps.{Caps}
 use Rattle.alg_choice.specs.declared.choices.NoAlgorithm.{NoAlgorithm as NoneChosen}
-use Rattle.rec_base.specs.declared.bearers.Bearer.{Bearer}
-use Rattle.lte_events.specs.declared.addresses.Address.{Address}
 use Rattle.lte_events.specs.declared.answers.Answer.{Answer}
-use Rattle.lte_events.specs.declared.answers.Answer.TheVariants.{Done, NoUe}
 use Rattle.lte_events.specs.Site.{Site}
 use Rattle.annex_a_keys.specs.Cell.{Place}
 use Rattle.nas_guard.specs.Keys.{Keys}
@@ -20,36 +17,31 @@ use Rattle.s1x2_rec.specs.Fields.{Fields}
 use Rattle.lte_machine.specs.Wire.{KeyUse, Outgoing, SealedNas, PlainNas, SealedRrc, UserPacket, Between}
 use Rattle.lte_machine.specs.Ciphers.{Ciphers, AreCiphers, octets_of}
 use Rattle.lte_machine.specs.Opening.{Opening, Outcome}
-use Rattle.lte_machine.specs.Ladder.{RowOrigin, OfRoot, Of}
+use Rattle.lte_machine.specs.Ladder.{Of}
 use Rattle.lte_machine.specs.Reply.{Reply}
-use Rattle.lte_machine.specs.PhoneState.{PhoneInput, PhoneNasPdu, PhoneAirPdu}
+use Rattle.lte_machine.specs.PhoneState.{PhoneInput}
 use Rattle.lte_machine.specs.PhoneRows.{PhoneRow}
 use Rattle.lte_machine.specs.PhoneChoice.{phone_row}
 use Rattle.lte_machine.specs.PhoneKeys.{PhoneDone}
 use Rattle.lte_machine.specs.PhoneStep.{plain_phone, front_of, phone_root, phone_opens, phone_pdu_in, phone_step}
-use Rattle.lte_machine.specs.StationState.{Station, StationInput, AirPdu, StationRecord, OnS1, OnX2}
+use Rattle.lte_machine.specs.StationState.{Station, StationInput}
 use Rattle.lte_machine.specs.StationStep.{station_opens, station_pdu_in, station_step, station_row_of, station_key}
-use Rattle.lte_machine.specs.CoreState.{Core, CorePartial, CoreContext, CoreLink, CoreInput, CoreNasPdu, CoreRecord}
+use Rattle.lte_machine.specs.CoreState.{Core, CorePartial, CoreContext, CoreLink, CoreInput}
 use Rattle.lte_machine.specs.CoreRows as core
 use Rattle.lte_machine.specs.CoreRows.{CoreRow}
 use Rattle.lte_machine.specs.CoreChoice.{core_row}
 use Rattle.lte_machine.specs.CoreKeys as core_keys
 use Rattle.lte_machine.specs.CoreKeys.{CoreDone, core_does}
 use Rattle.lte_machine.specs.CoreStep.{plain_core, core_root, core_front_of, core_opens, core_pdu_in, core_step}
-use Rattle.lte_machine.specs.World.{Machine, phone_after, core_after, station_after, by_world, phone_turn, core_turn, station_of_id, turn_of, station_turn, is_root_row, next_root, content_in, arrives}
-use Rattle.lte_machine.specs.Step.{arrival_attempts}
-use Rattle.lte_machine.specs.Machines.{sender_of}
-use Rattle.lte_machine.specs.Distinct.{keys_of}
+use Rattle.lte_machine.specs.World.{Machine, phone_after, core_after, station_after, by_world, phone_turn, core_turn, turn_of, is_root_row, next_root}
 use Rattle.lte_properties.specs.ChainBelow.{AllOf}
 use Rattle.lte_properties.specs.ChainHolds.{machine_by}
-use Rattle.lte_properties.proofs.Opening.Openings.{SenderIs}
-use Rattle.lte_properties.proofs.ChainNumbers.Lists.{OfSome, all_one, all_find, all_map}
+use Rattle.lte_properties.proofs.ChainNumbers.Lists.{OfSome, all_one, all_map, roots_kept}
 use Rattle.lte_properties.proofs.Agreement.Ghost.{Ghost, StationOk}
 use Rattle.lte_properties.proofs.Agreement.Later.{Later}
 use Rattle.lte_properties.proofs.Agreement.World.{TheWorld, Conns, ghost, WorldOk}
 use Rattle.lte_properties.proofs.Opening.Nas.{Choices, PhoneOk, CoreOk, SentOk, OutOk, More, phone_more, core_more, sent_more}
 use Rattle.lte_properties.proofs.Opening.NasRows.{RowNeeds, CoreRowNeeds, NoAuth, phone_goes, core_goes}
-use Rattle.lte_properties.proofs.Opening.NasOpens.{CameDown, nas_pdu_needs}
 use Rattle.lte_properties.proofs.Opening.Air.{AirOk, FromStation, StationNeeds, FromPhone, PhoneNeeds, air_later, radio_keys, context_keys, station_sends, phone_sends}
 
 -- what is known of packets in a world: the NAS keys of core and phone, and how each record that was sent is sealed
@@ -62,21 +54,6 @@ pub record PacketsOk (g : Choices) (k : Conns) (w : TheWorld) : Type 0 where
 -- after an event, with the choices of one authentication more
 abbrev pub Keeps : Conns → TheWorld → Type 0
 Keeps k u = (g : Choices) × PacketsOk g k u
-
--- derivations are no authentications
-none_among : (ds : List (Derivation Term)) → length (filter is_root_row (map Of ds)) ≡ 0
-none_among [] = refl
-none_among (d ∷ ds) = none_among ds
-
-roots_kept : (rows : List (RowOrigin Term)) (ds : List (Derivation Term)) → length (filter is_root_row rows) ≡ length (filter is_root_row (rows ++ map Of ds))
-roots_kept [] ds = sym (none_among ds)
-roots_kept (OfRoot key ∷ rows) ds = ap suc (roots_kept rows ds)
-roots_kept (Of d ∷ rows) ds = roots_kept rows ds
-
-pub one_root_more : (rows : List (RowOrigin Term)) (key : Term) → length (filter is_root_row (rows ++ OfRoot key ∷ [])) ≡ length (filter is_root_row rows) + 1
-one_root_more [] key = refl
-one_root_more (OfRoot other ∷ rows) key = let h = one_root_more rows key in omega arith
-one_root_more (Of d ∷ rows) key = one_root_more rows key
 
 -- the choices with that of one authentication more
 abbrev pub chosen_at : Choices → ℕ → Result Algs NoneChosen → Choices
@@ -229,7 +206,7 @@ module _ (same : Term → Term → Bool) (sender : Option (Outgoing Term ℕ) �
 
   -- the rows of a step that is no authentication
   roots_after : (w : TheWorld) (ds : List (Derivation Term)) → next_root w ≡ length (filter is_root_row (w.history ++ map Of ds))
-  roots_after w ds = roots_kept w.history ds
+  roots_after w ds = sym (roots_kept w.history ds)
 
   abbrev MoreAs : Choices → ℕ → ℕ → Type 0
   MoreAs g n l = More g n g l
@@ -328,52 +305,10 @@ module _ (same : Term → Term → Bool) (sender : Option (Outgoing Term ℕ) �
       core_after_keeps g k d w (core_step q w.core input (opener (core_opens q w.core input) (core_pdu_in input) came)) h goes.0 goes.1
       (core_air (ghost k w) _ (core_sends same row (core_root input) w.core)) later
 
-  turn_keeps : (g : Choices) (k d : Conns) (w : TheWorld) (id : ℕ) (input : StationInput Term ℕ) (came : Option (Outgoing Term ℕ)) → PacketsOk g k w
-      → ((s : Station Term ℕ) (outcome : Outcome) → StationNeeds (station_row_of q s input outcome))
-      → (o : Option (Station Term ℕ)) → OfSome (λ s. StationOk cells (ghost k w) s × ((s.id == id) ≡ true)) o
-      → Later (ghost k w) (ghost d (turn_of m w id input came o).0) → Keeps d (turn_of m w id input came o).0
-  turn_keeps g k d w id input came h needs None ok later = by_world_keeps g k d w NoUe h later
-  turn_keeps g k d w id input came h needs (Some s) ok later =
+  pub station_turn_keeps : (g : Choices) (k d : Conns) (w : TheWorld) (id : ℕ) (input : StationInput Term ℕ) (came : Option (Outgoing Term ℕ)) (s : Station Term ℕ) → PacketsOk g k w
+      → ((outcome : Outcome) → StationNeeds (station_row_of q s input outcome)) → StationOk cells (ghost k w) s
+      → Later (ghost k w) (ghost d (turn_of m w id input came (Some s)).0) → Keeps d (turn_of m w id input came (Some s)).0
+  station_turn_keeps g k d w id input came s h needs ok later =
       let outcome = opener (station_opens q s input) (station_pdu_in input) came in
       station_after_keeps g k d w id (station_step q s input outcome) h
-      (station_sends same (ghost k w) s (context_keys (ghost k w) s.id s.context ok.0.0) (station_row_of q s input outcome) (station_key input) (needs s outcome)) later
-
-  pub station_turn_keeps : (g : Choices) (k d : Conns) (w : TheWorld) (id : ℕ) (input : StationInput Term ℕ) (came : Option (Outgoing Term ℕ)) → WorldOk cells k w → PacketsOk g k w
-      → ((s : Station Term ℕ) (outcome : Outcome) → StationNeeds (station_row_of q s input outcome))
-      → Later (ghost k w) (ghost d (station_turn m w id input came).0) → Keeps d (station_turn m w id input came).0
-  station_turn_keeps g k d w id input came ok h needs later =
-      turn_keeps g k d w id input came h needs (station_of_id id w.stations) (all_find (StationOk cells (ghost k w)) (λ s. s.id == id) w.stations ok.stations) later
-
-  -- WHAT COMES TO AN ADDRESS
-
-  phone_nas_keeps : (g : Choices) (k d : Conns) (w : TheWorld) (pdu : List ℕ) (came : Option (Outgoing Term ℕ)) → WorldOk cells k w → PacketsOk g k w
-      → CameDown same g (next_root w) c good pdu came
-      → ((phone_turn m w (PhoneNasPdu pdu) came).1.answer ≡ Done → SenderIs (keys_of (phone_turn m w (PhoneNasPdu pdu) came).0.history) (phone_opens q w.phone (PhoneNasPdu pdu)) (sender_of came) (opener (phone_opens q w.phone (PhoneNasPdu pdu)) pdu came))
-      → Later (ghost k w) (ghost d (phone_turn m w (PhoneNasPdu pdu) came).0) → Keeps d (phone_turn m w (PhoneNasPdu pdu) came).0
-  phone_nas_keeps g k d w pdu came ok h is one later =
-      phone_turn_keeps g k d w (PhoneNasPdu pdu) came ok h (nas_pdu_needs same g (next_root w) c good w.phone pdu came is opener w.history one) tt later
-
-  phone_air_keeps : (g : Choices) (k d : Conns) (w : TheWorld) (station air : ℕ) (bearer : Bearer) (pdu : List ℕ) (came : Option (Outgoing Term ℕ)) → WorldOk cells k w → PacketsOk g k w
-      → Later (ghost k w) (ghost d (phone_turn m w (PhoneAirPdu station air bearer pdu) came).0) → Keeps d (phone_turn m w (PhoneAirPdu station air bearer pdu) came).0
-  phone_air_keeps g k d w station air bearer pdu came ok h later = phone_turn_keeps g k d w (PhoneAirPdu station air bearer pdu) came ok h tt tt later
-
-  abbrev pub OneSender : TheWorld → Address → List ℕ → Option (Outgoing Term ℕ) → Type 0
-  OneSender w to pdu came =
-      let a = arrival_attempts m w to pdu came in
-      (arrives m w to pdu came).1.answer ≡ Done → SenderIs (keys_of (arrives m w to pdu came).0.history) a.opening (sender_of a.came) (opener a.opening a.octets a.came)
-
-  -- what comes to the phone on NAS
-  abbrev pub CameTo : Choices → TheWorld → Address → List ℕ → Option (Outgoing Term ℕ) → Type 0
-  CameTo g w Address.PhoneNas pdu came = CameDown same g (next_root w) c good pdu came
-  CameTo g w other pdu came = ⊤
-
-  pub arrives_keeps : (g : Choices) (k d : Conns) (w : TheWorld) (to : Address) (pdu : List ℕ) (came : Option (Outgoing Term ℕ)) → WorldOk cells k w → PacketsOk g k w
-      → CameTo g w to pdu came → OneSender w to pdu came
-      → Later (ghost k w) (ghost d (arrives m w to pdu came).0) → Keeps d (arrives m w to pdu came).0
-  arrives_keeps g k d w Address.PhoneNas pdu came ok h is one later = phone_nas_keeps g k d w pdu came ok h is one later
-  arrives_keeps g k d w (Address.Phone station air bearer) pdu came ok h is one later = phone_air_keeps g k d w station air bearer pdu came ok h later
-  arrives_keeps g k d w Address.CoreNas pdu came ok h is one later = core_turn_keeps g k d w (CoreNasPdu pdu) came h tt tt later
-  arrives_keeps g k d w Address.CoreS1 pdu came ok h is one later = core_turn_keeps g k d w (CoreRecord (content_in m came)) came h tt tt later
-  arrives_keeps g k d w (Address.StationAir station air bearer) pdu came ok h is one later = station_turn_keeps g k d w station (AirPdu air bearer pdu) came ok h (λ s o. tt) later
-  arrives_keeps g k d w (Address.StationS1 station) pdu came ok h is one later = station_turn_keeps g k d w station (StationRecord OnS1 (content_in m came)) came ok h (λ s o. tt) later
-  arrives_keeps g k d w (Address.StationX2 station) pdu came ok h is one later = station_turn_keeps g k d w station (StationRecord OnX2 (content_in m came)) came ok h (λ s o. tt) later
+      (station_sends same (ghost k w) s (context_keys (ghost k w) s.id s.context ok.0) (station_row_of q s input outcome) (station_key input) (needs outcome)) later
