@@ -1,6 +1,6 @@
 -- The ladder of every run that has met no coincidence: its rows stand for the distinct terms, and every key has one.
 use Rattle.std.proofs.Common.{◌≡◌, refl, sym, subst, ℕ, ◌==◌, Bool, true, false, List, [], Option, Some, None, inl, inr, arith, map, ◌∷◌, ap, ◌∙◌}
-use Rattle.std.specs.Prelude.{◌&&◌, slice_get}
+use Rattle.std.specs.Prelude.{◌&&◌, ◌⊎◌, slice_get}
 use Rattle.std.proofs.lemmas.Bool.Decides.{nat_tests}
 use Rattle.rec_base.specs.declared.uses.Dir.{Dir}
 use Rattle.rec_base.specs.declared.uses.Dir.TheVariants.{Up, Down}
@@ -9,7 +9,7 @@ use Rattle.lte_events.specs.declared.events.Event.{Event}
 use Rattle.lte_events.specs.declared.setups.Setup.{Setup}
 use Rattle.key_model.specs.HandoverTable.{NumberedKey}
 use Rattle.key_model.specs.Reading.{term_reading_by}
-use Rattle.key_model.specs.Term.{Term, Root}
+use Rattle.key_model.specs.Term.{Term, Root, Alg}
 use Rattle.key_model.specs.Value.{value_of, same_value}
 use Rattle.key_model.proofs.TermFacts.{same_value-Decides}
 use Rattle.nas_guard.specs.Keys.{Keys}
@@ -36,13 +36,24 @@ use Rattle.lte_machine.specs.Run.{Running, replay, first_world}
 use Rattle.lte_machine.specs.Distinct.{keys_of, Member, OneValueOneTerm}
 use Rattle.lte_machine.proofs.Mixed.{run, written_with}
 use Rattle.lte_machine.specs.Standing.{RowsStandForTerms, OctetRowsStand}
-use Rattle.lte_machine.specs.Known.{IsReported, NasContextKnown, PartialKnown, RadioKnown, PhoneKnown, ContextKnown, PrepKnown, StationKnown, ProcedureKnown, CoreContextKnown, CoreKnown, CipheringKnown, OpeningKnown, OrAlgOf, AllReported}
+use Rattle.lte_machine.specs.Known.{IsReported, NasContextKnown, PartialKnown, RadioKnown, PhoneKnown, ContextKnown, PrepKnown, StationKnown, ProcedureKnown, CoreContextKnown, CoreKnown, CipheringKnown, AllReported}
 use Rattle.std.specs.Str.{bytes_eq}
 use Rattle.lte_machine.proofs.LadderMap.{row_key-map, rows-map}
 use Rattle.lte_machine.proofs.History.{Laddered, among_distinct, one_value_one_term as one_of_history}
 use Rattle.lte_machine.proofs.KnownLists.{OfSome, all_find, all_get}
 use Rattle.lte_machine.proofs.KnownWorld.{Grounds, run_grounds, first_grounds}
 use Rattle.lte_machine.proofs.StillRun.{still_is_run, still_calm}
+
+-- what a receiver expects
+abbrev pub OpeningKnown : (Term → Type 0) → Opening Term → Type 0
+OpeningKnown P OpensNothing = Unit {0}
+OpeningKnown P (OpensNas u e) = P u.key × CipheringKnown P e
+OpeningKnown P (OpensSrb u e) = P u.key × CipheringKnown P e
+OpeningKnown P (OpensDrb e) = P e.under.key
+
+-- a key, or an algorithm key of it: what a phone tries before it reports the derivation (TS 33.401 7.2.4.4, 7.2.4.5)
+abbrev pub OrAlgOf : (Term → Type 0) → Term → Type 0
+OrAlgOf P t = P t ⊎ ((key : Term) × (type : ℕ) × (id : ℕ) × P key × (t ≡ Alg key type id))
 
 -- THE LADDER OF A RUN
 

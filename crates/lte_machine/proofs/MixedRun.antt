@@ -37,13 +37,13 @@ use Rattle.lte_machine.specs.Machines.{sender_of, machine_over}
 use Rattle.lte_machine.specs.Run.{Running, replay, first_world}
 use Rattle.lte_machine.specs.Distinct.{keys_of, Member, OneValueOneTerm}
 use Rattle.lte_machine.proofs.Mixed.{run, by_terms, mixed}
-use Rattle.lte_machine.specs.Known.{RadioKnown, StationKnown, CipheringKnown, SentKnown, OpeningKnown, IsReported}
+use Rattle.lte_machine.specs.Known.{RadioKnown, StationKnown, CipheringKnown, SentKnown, IsReported}
 use Rattle.lte_machine.proofs.History.{one_value_one_term}
 use Rattle.lte_machine.proofs.KnownLists.{OfSome, all_find, all_chosen, as_chain}
 use Rattle.lte_machine.proofs.KnownLadder.{still_in, new_in, laddered_chain}
 use Rattle.lte_machine.proofs.KnownWorld.{Grounds, happens_grounds, first_grounds}
 use Rattle.lte_machine.proofs.StillRun.{goes_on, still_one}
-use Rattle.lte_machine.proofs.LadderRun.{core_opens_known, station_opens_known, link_opens_known}
+use Rattle.lte_machine.proofs.LadderRun.{OpeningKnown, core_opens_known, station_opens_known, link_opens_known}
 
 -- TWO KEYS BY VALUE AND BY TERM
 

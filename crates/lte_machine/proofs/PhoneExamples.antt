@@ -28,7 +28,7 @@ use Rattle.lte_events.specs.declared.acts.PhoneAct.TheVariants.{ServiceRequest, 
 use Rattle.lte_events.specs.declared.answers.Answer.{Answer}
 use Rattle.lte_events.specs.declared.answers.Answer.TheVariants.{Done, NoContext, WrongKsi, CapsMismatch, AlgUnsupported, MacFails, CountSpent, BadRecord, Short, BadHeader, WrongKind, NotConnected, NotAddressed, NothingToResend, AlreadyConnected}
 use Rattle.rec_base.specs.declared.faults.RecFault.TheVariants as faults
-use Rattle.lte_machine.specs.Wire.{KeyUse, Outgoing, integrity_of, text_in}
+use Rattle.lte_machine.specs.Wire.{KeyUse, Outgoing, SealedNas, PlainNas, SealedRrc, UserPacket, Between, integrity_of}
 use Rattle.lte_machine.specs.Opening.{Outcome, Opened, Differs}
 use Rattle.lte_machine.specs.Reply.{Reply, Note}
 use Rattle.lte_machine.specs.PhoneState.{Phone, first_phone, PhoneInput, PhoneAuth, PhoneActs, PhoneNasPdu, PhoneAirPdu}
@@ -87,6 +87,14 @@ outs x = map (λ (d : Derivation Term). d.out) x.derived
 
 abbrev note_of : Reply Term ℕ → Option (ℕ × Way × Term)
 note_of x = option_map (λ (n : Note Term). (n.ncc, n.way, n.key)) x.note
+
+-- the text of a record, if it has one
+abbrev text_in : Outgoing Term ℕ → List ℕ
+text_in (SealedNas dir header u e text) = text
+text_in (PlainNas octets) = octets
+text_in (SealedRrc dir station air srb u e text) = text
+text_in (UserPacket dir station air drb e text) = text
+text_in (Between to fields key) = []
 
 abbrev text_sent : Reply Term ℕ → Option (List ℕ)
 text_sent x = option_map (λ (o : Outgoing Term ℕ). text_in o) x.sent

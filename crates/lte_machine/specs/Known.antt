@@ -1,6 +1,6 @@
 -- All keys of a world: what the phone, the stations and the core hold, what was sent, and what was used.
-use Rattle.std.specs.Prelude.{ℕ, ◌⊎◌, ◌≡◌, Option, Some, None}
-use Rattle.key_model.specs.Term.{Term, Alg}
+use Rattle.std.specs.Prelude.{ℕ, Option, Some, None}
+use Rattle.key_model.specs.Term.{Term}
 use Rattle.key_model.specs.HandoverTable.{NumberedKey}
 use Rattle.nas_guard.specs.Keys.{Keys}
 use Rattle.nh_chain.specs.Chain.{ChainState}
@@ -9,7 +9,6 @@ use Rattle.pdcp_guard.specs.AsKeys.{AsKeys}
 use Rattle.ho_prep.specs.Prep.{Prep}
 use Rattle.x2_handover.specs.Attempt.{X2Start}
 use Rattle.lte_machine.specs.Wire.{Ciphering, Outgoing, SealedNas, PlainNas, SealedRrc, UserPacket, Between}
-use Rattle.lte_machine.specs.Opening.{Opening, OpensNothing, OpensNas, OpensSrb, OpensDrb}
 use Rattle.lte_machine.specs.PhoneState.{Partial, NasContext, Radio, Idle, Connecting, Connected, Phone}
 use Rattle.lte_machine.specs.StationState.{Station, Context, Attempt, OverX2, OverS1, Within, Renewing, X2State, X2Open, X2Ready, X2Commanded}
 use Rattle.lte_machine.specs.CoreState.{Core, CorePartial, CoreContext, CoreLink}
@@ -110,17 +109,6 @@ SentKnown P (PlainNas octets) = Unit {0}
 SentKnown P (SealedRrc dir station air srb u e text) = P u.key × CipheringKnown P e
 SentKnown P (UserPacket dir station air drb e text) = P e.under.key
 SentKnown P (Between to fields key) = PairKnown P key
-
--- what a receiver expects
-abbrev pub OpeningKnown : (Term → Type 0) → Opening Term → Type 0
-OpeningKnown P OpensNothing = Unit {0}
-OpeningKnown P (OpensNas u e) = P u.key × CipheringKnown P e
-OpeningKnown P (OpensSrb u e) = P u.key × CipheringKnown P e
-OpeningKnown P (OpensDrb e) = P e.under.key
-
--- a key, or an algorithm key of it: what a phone tries before it reports the derivation (TS 33.401 7.2.4.4, 7.2.4.5)
-abbrev pub OrAlgOf : (Term → Type 0) → Term → Type 0
-OrAlgOf P t = P t ⊎ ((key : Term) × (type : ℕ) × (id : ℕ) × P key × (t ≡ Alg key type id))
 
 -- a key of an authentication or of a derivation that was reported
 abbrev pub IsReported : World Term ℕ (Outgoing Term ℕ) → Term → Type 0

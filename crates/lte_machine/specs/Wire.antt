@@ -112,11 +112,3 @@ uses_of (PlainNas octets) = []
 uses_of (SealedRrc dir station air srb u e text) = ciphering_use e ++ u ∷ []
 uses_of (UserPacket dir station air drb e text) = e.under ∷ []
 uses_of (Between to fields key) = []
-
--- the text of a packet, if it is one
-abbrev pub text_in : {K C : Type 0} → Outgoing K C → List ℕ
-text_in (SealedNas dir header u e text) = text
-text_in (PlainNas octets) = octets
-text_in (SealedRrc dir station air srb u e text) = text
-text_in (UserPacket dir station air drb e text) = text
-text_in (Between to fields key) = []

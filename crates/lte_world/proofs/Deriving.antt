@@ -20,7 +20,7 @@ use Rattle.run_stores.specs.Proofs.{clash_proof}
 use Rattle.run_stores.specs.Rows.{numbered, all_noted}
 use Rattle.run_stores.proofs.Joining.{adds}
 use Rattle.run_stores.proofs.Numbered.{plain_noted, row_noted}
-use Rattle.lte_world.specs.Networks.{calm, told, Awaits, AddedBy, Added, AddsAll, Midway, AddsUpTo, CountIn}
+use Rattle.lte_world.specs.Networks.{calm, told, Awaits, AddedBy, Added, AddsAll, CountIn}
 
 pub nil_cons : {A : Type 0} {x : A} {xs : List A} → [] ≡ x ∷ xs → ⊥
 nil_cons e = cc
@@ -102,6 +102,22 @@ clash_stays rows c (m ∷ ms) = clash_stays rows c ms
 
 pub ok_is_no_err : {p : Proof} → ◌≡◌ {A = Result (Unit {0}) Proof} (Ok tt) (Err p) → ⊥
 ok_is_no_err e = cc
+
+-- some of them were added, and these are left
+pub record Midway (os : List (RowOrigin (List ℕ))) (held : List (Holding (List ℕ))) (ds : List (Derivation (List ℕ))) (rows : List LadderRow) (left : List Derived) : Type 0 where
+  pub origins : List (RowOrigin (List ℕ))
+  pub made : List (Derivation (List ℕ))
+  pub keeps : Keeps origins held rows
+  pub are : left ≡ map derived_of made
+  pub can : AllCanAdd (calm origins) (map Of made)
+  pub same : add_rows bytes_eq (calm os) (map Of ds) ≡ add_rows bytes_eq (calm origins) (map Of made)
+
+-- for every history that these rows keep
+abbrev pub AddsUpTo : List LadderRow → List LadderRow → List Derived → List Derived → Type 0
+AddsUpTo before rows derived left =
+    (os : List (RowOrigin (List ℕ))) (held : List (Holding (List ℕ))) (ds : List (Derivation (List ℕ)))
+    → Keeps os held before → derived ≡ map derived_of ds → AllCanAdd (calm os) (map Of ds)
+    → Midway os held ds rows left
 
 module _ (before : List LadderRow) (derived : List Derived) where
   -- at first all are left

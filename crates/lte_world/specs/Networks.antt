@@ -16,7 +16,7 @@ use Rattle.lte_machine.specs.Tuples.{Rows}
 use Rattle.key_terms.specs.declared.row.Holder.{Holder}
 use Rattle.lte_machine.specs.Ranges.{AllOf}
 use Rattle.lte_machine.specs.World as world
-use Rattle.lte_machine.specs.World.{World, Holding, world_with, line_of}
+use Rattle.lte_machine.specs.World.{World, Holding}
 use Rattle.run_stores.specs.Rows.{holder_of}
 use Rattle.run_stores.specs.Additions.{AllCanAdd}
 use Rattle.run_stores.specs.Joins.{HasRow, Keeps}
@@ -63,21 +63,6 @@ AddsAll before after derived result =
     (os : List (RowOrigin (List ℕ))) (held : List (Holding (List ℕ))) (ds : List (Derivation (List ℕ)))
     → Keeps os held before → derived ≡ map derived_of ds → AllCanAdd (calm os) (map Of ds)
     → Added (add_rows bytes_eq (calm os) (map Of ds)) held after result
-
--- some of them were added, and these are left
-pub record Midway (os : List (RowOrigin (List ℕ))) (held : List (Holding (List ℕ))) (ds : List (Derivation (List ℕ))) (rows : List LadderRow) (left : List Derived) : Type 0 where
-  pub origins : List (RowOrigin (List ℕ))
-  pub made : List (Derivation (List ℕ))
-  pub keeps : Keeps origins held rows
-  pub are : left ≡ map derived_of made
-  pub can : AllCanAdd (calm origins) (map Of made)
-  pub same : add_rows bytes_eq (calm os) (map Of ds) ≡ add_rows bytes_eq (calm origins) (map Of made)
-
-abbrev pub AddsUpTo : List LadderRow → List LadderRow → List Derived → List Derived → Type 0
-AddsUpTo before rows derived left =
-    (os : List (RowOrigin (List ℕ))) (held : List (Holding (List ℕ))) (ds : List (Derivation (List ℕ)))
-    → Keeps os held before → derived ≡ map derived_of ds → AllCanAdd (calm os) (map Of ds)
-    → Midway os held ds rows left
 
 -- HOLDERS
 

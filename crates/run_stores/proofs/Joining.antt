@@ -18,8 +18,8 @@ use Rattle.lte_machine.specs.Ranges.{AllOf}
 use Rattle.lte_machine.specs.World.{Holding}
 use Rattle.run_stores.specs.Rows.{origin_in, numbered, holder_of, noted, all_noted}
 use Rattle.lte_machine.proofs.KnownLists.{all_append}
-use Rattle.run_stores.specs.Joins.{HasRow, FromRow, Keeps, Adds, ComesTo, Roots, RootComesTo}
-use Rattle.run_stores.proofs.Numbered.{row_kept, number_of, hit_row, hit_at, placed_more, origin_stands, numbered_more, row_noted, origin_noted, all_noted_append, all_noted_kept}
+use Rattle.run_stores.specs.Joins.{HasRow, Keeps, Adds, ComesTo, Roots, RootComesTo}
+use Rattle.run_stores.proofs.Numbered.{FromRow, row_kept, number_of, hit_row, hit_at, placed_more, origin_stands, numbered_more, row_noted, origin_noted, all_noted_append, all_noted_kept}
 
 -- two keys with rows of one number are one
 one_row : (rows : List LadderRow) (a b : List ℕ) → HasRow rows a → HasRow rows b → unwrap_or (row_of rows a) 0 ≡ unwrap_or (row_of rows b) 0 → a ≡ b

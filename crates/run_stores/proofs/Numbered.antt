@@ -17,7 +17,7 @@ use Rattle.key_terms.proofs.Holding.{plain, plain_holding, read_same, row_of_sam
 use Rattle.lte_machine.specs.Ladder.{RowOrigin, OfRoot, Of, row_key, Hit, hit_if, hit_from, hit}
 use Rattle.lte_machine.specs.Ranges.{AllOf}
 use Rattle.lte_machine.specs.World.{Holding}
-use Rattle.run_stores.specs.Joins.{HasRow, FromRow, Placed}
+use Rattle.run_stores.specs.Joins.{HasRow, Placed}
 use Rattle.run_stores.specs.Rows.{origin_in, numbered_after, numbered, noted, all_noted, holder_of}
 
 append_assoc : {A : Type 0} (xs ys zs : List A) → (xs ++ ys) ++ zs ≡ xs ++ (ys ++ zs)
@@ -158,6 +158,11 @@ all_noted_kept rows more (h ∷ hs) stand =
 placed_tail : (rows : List LadderRow) (o : RowOrigin (List ℕ)) (os : List (RowOrigin (List ℕ))) → Placed rows (o ∷ os) → Placed (rows ++ unheld (origin_in rows o) (row_key o) ∷ []) os
 placed_tail rows (OfRoot key) os p = p
 placed_tail rows (Of d) os p = p.1
+
+-- the key that an origin comes from has a row
+abbrev pub FromRow : List LadderRow → RowOrigin (List ℕ) → Type 0
+FromRow rows (OfRoot key) = Unit {0}
+FromRow rows (Of d) = HasRow rows d.key
 
 placed_head : (rows : List LadderRow) (o : RowOrigin (List ℕ)) (os : List (RowOrigin (List ℕ))) → Placed rows (o ∷ os) → FromRow rows o
 placed_head rows (OfRoot key) os p = tt

@@ -21,11 +21,6 @@ Placed rows [] = Unit {0}
 Placed rows (OfRoot key ∷ os) = Placed (rows ++ unheld (origin_in rows (OfRoot key)) key ∷ []) os
 Placed rows (Of d ∷ os) = HasRow rows d.key × Placed (rows ++ unheld (origin_in rows (Of d)) d.out ∷ []) os
 
--- of an origin
-abbrev pub FromRow : List LadderRow → RowOrigin (List ℕ) → Type 0
-FromRow rows (OfRoot key) = Unit {0}
-FromRow rows (Of d) = HasRow rows d.key
-
 -- these rows, with these holders
 pub record Keeps (os : List (RowOrigin (List ℕ))) (held : List (Holding (List ℕ))) (rows : List LadderRow) : Type 0 where
   pub are : rows ≡ all_noted (numbered os) held

@@ -1,5 +1,5 @@
 use Rattle.std.proofs.Common.{◌≤◌, ◌+◌, length, drop}
-use Rattle.lte_world.specs.Networks.{AddsUpTo}
+use Rattle.lte_world.proofs.Deriving.{AddsUpTo}
 use Rattle.lte_world.proofs.noting.add_all.Given as goal
 
 abbrev pub invariant-loop-made : goal.invariant-loop-made
