@@ -1,21 +1,20 @@
 -- Each row of a station derives from keys that are known, and leaves keys that are.
 use Rattle.std.proofs.Common.{◌≡◌, refl, subst, ℕ, nat_le, Bool, [], ◌∷◌, ◌++◌, Option, Some, None, option_map}
 use Rattle.std.specs.Prelude.{not}
-use Rattle.alg_choice.specs.declared.algs.Algs.{Algs}
 use Rattle.key_model.specs.Term.{Term}
 use Rattle.key_model.specs.HandoverTable.{NumberedKey}
 use Rattle.key_model.specs.Reading.{term_reading_by}
 use Rattle.nh_chain.specs.Station.{StationKey, pair_after, restored_if, base_of}
 use Rattle.ho_prep.specs.Prep.{Prep, at_air, drop_below, is_of, is_at}
-use Rattle.x2_handover.specs.declared.orders.Order.{Order}
 use Rattle.lte_machine.specs.Reply.{Origin, Reply}
-use Rattle.lte_machine.specs.StationState.{Station, Context, Attempt, OverX2, OverS1, Within, X2State, X2Open, X2Ready, X2Commanded, S1Open, S1Ready, S1Commanded, Renewing}
+use Rattle.lte_machine.specs.StationState.{Station, Context, Attempt, OverX2, OverS1, Within, X2State, X2Open, X2Ready, X2Commanded, Renewing}
 use Rattle.lte_machine.specs.StationRows.{StationRow, OfRecord, OfAir, OfAct}
-use Rattle.lte_machine.specs.StationKeys.{x2_spent, spent_in, x2_commanded, commanded, given_up, with_security, with_rrc_taken, with_packet_taken, with_skipped, station_does}
-use Rattle.lte_machine.specs.StationRecords.{s1_acked, x2_acked, with_pair, with_s1_ack, with_x2_ack, source_release}
+use Rattle.lte_machine.specs.StationKeys.{x2_spent, spent_in, commanded, given_up, with_security, with_rrc_taken, with_packet_taken, with_skipped, station_does}
+use Rattle.lte_machine.specs.StationRecords.{with_pair, with_s1_ack, with_x2_ack, source_release}
 use Rattle.lte_machine.specs.Ranges.{AllOf}
 use Rattle.lte_machine.specs.Known.{PairKnown, StationKeyKnown, X2Known, AttemptKnown, ContextKnown, PrepKnown, StationKnown, SentKnown}
 use Rattle.lte_machine.proofs.StationCases.{Any, RecordCases, AirCases, ActCases, record_case, air_case, act_case}
+use Rattle.lte_machine.proofs.AttemptSteps.{s1_acked_so, x2_acked_so, commanded_so}
 use Rattle.lte_machine.proofs.KnownLists.{OfSome, all_append, all_filter, all_find, Chain, AllOut, as_chain, star_chain, pair_more, station_more}
 
 -- what a step keeps: its derivations are from known keys, and with their keys known all keys of the station and of what it
@@ -26,36 +25,6 @@ StationKeeps P Q d = Chain P d.1.derived × (AllOut Q d.1.derived → StationKno
 -- PARTS OF A CONTEXT
 
 module _ (Q : Term → Type 0) where
-  s1_acked_known : (ncc : ℕ) (algs : Algs) (air : ℕ) (o : Option (Attempt Term ℕ)) → AttemptKnown Q o → AttemptKnown Q (option_map (s1_acked ncc algs air) o)
-  s1_acked_known ncc algs air None h = tt
-  s1_acked_known ncc algs air (Some (OverX2 state)) h = h
-  s1_acked_known ncc algs air (Some (OverS1 (S1Open start))) h = tt
-  s1_acked_known ncc algs air (Some (OverS1 (S1Ready acked))) h = tt
-  s1_acked_known ncc algs air (Some (OverS1 (S1Commanded sent))) h = tt
-  s1_acked_known ncc algs air (Some (Within state)) h = h
-  s1_acked_known ncc algs air (Some (Renewing renewal)) h = tt
-
-  x2_acked_known : (algs : Algs) (air : ℕ) (o : Option (Attempt Term ℕ)) → AttemptKnown Q o → AttemptKnown Q (option_map (x2_acked algs air) o)
-  x2_acked_known algs air None h = tt
-  x2_acked_known algs air (Some (OverX2 (X2Open start))) h = h
-  x2_acked_known algs air (Some (OverX2 (X2Ready acked))) h = h
-  x2_acked_known algs air (Some (OverX2 (X2Commanded sent))) h = tt
-  x2_acked_known algs air (Some (OverS1 state)) h = tt
-  x2_acked_known algs air (Some (Within state)) h = h
-  x2_acked_known algs air (Some (Renewing renewal)) h = tt
-
-  x2_commanded_known : (order : Order) (state : X2State Term ℕ) → X2Known Q state → X2Known Q (x2_commanded order state)
-  x2_commanded_known order (X2Open start) h = h
-  x2_commanded_known order (X2Ready acked) h = tt
-  x2_commanded_known order (X2Commanded sent) h = tt
-
-  commanded_known : (order : Order) (o : Option (Attempt Term ℕ)) → AttemptKnown Q o → AttemptKnown Q (option_map (commanded order) o)
-  commanded_known order None h = tt
-  commanded_known order (Some (OverX2 state)) h = x2_commanded_known order state h
-  commanded_known order (Some (OverS1 state)) h = tt
-  commanded_known order (Some (Within state)) h = x2_commanded_known order state h
-  commanded_known order (Some (Renewing renewal)) h = tt
-
   x2_spent_known : (state : X2State Term ℕ) → X2Known Q state → PairKnown Q (x2_spent state)
   x2_spent_known (X2Open start) h = h.1
   x2_spent_known (X2Ready acked) h = h.1
@@ -121,8 +90,8 @@ module _ (same : Term → Term → Bool) (P Q : Term → Type 0) (s : Station Te
         taken = λ conn origin pair k. (tt, λ o. ((mapped_known Q (with_pair pair) (λ c h. ((h.0.0, k.1), h.1, h.2)) s.context q.0, q.1), release_known Q conn origin));
         by_s1 = λ w pair k. (star_chain same P pair.key w.cell.pci w.cell.earfcn w.algs k.0, λ o. ((q.0, admitted_known w.conn _ ((o.0, tt), (o.1.0, o.1.1.0, o.1.1.1.0))), tt));
         by_x2 = λ w star k. (as_chain same P star.key w.algs k.0, λ o. ((q.0, admitted_known w.conn _ ((k.1, tt), (o.0, o.1.0, o.1.1.0))), tt));
-        acked_s1 = λ ncc algs air key k. (tt, λ o. ((mapped_known Q (with_s1_ack ncc algs air) (λ c h. (h.0, h.1, s1_acked_known Q ncc algs air c.attempt h.2)) s.context q.0, q.1), tt));
-        acked_x2 = λ algs air key k. (tt, λ o. ((mapped_known Q (with_x2_ack algs air) (λ c h. (h.0, h.1, x2_acked_known Q algs air c.attempt h.2)) s.context q.0, q.1), tt));
+        acked_s1 = λ ncc algs air key k. (tt, λ o. ((mapped_known Q (with_s1_ack ncc algs air) (λ c h. (h.0, h.1, s1_acked_so (AttemptKnown Q) ncc algs air (λ start m. tt) c.attempt h.2)) s.context q.0, q.1), tt));
+        acked_x2 = λ algs air key k. (tt, λ o. ((mapped_known Q (with_x2_ack algs air) (λ c h. (h.0, h.1, x2_acked_so (AttemptKnown Q) algs air (λ start m. m) c.attempt h.2)) s.context q.0, q.1), tt));
         cancelled = λ from key k. (tt, λ o. ((q.0, all_filter (PrepKnown Q) (λ x. not (is_of from.source from.attempt x)) s.preps q.1), tt));
         left = λ key k. (tt, λ o. ((tt, q.1), tt));
         renewed = λ conn number air count c e kenb k. let h = here c e in (star_chain same P kenb.key c.cell.pci c.cell.earfcn c.algs k.0, λ o. (((h.0, h.1, tt), (((o.0, tt), (o.1.0, o.1.1.0, o.1.1.1.0)), tt)), (h.1.1, h.1.0)));
@@ -147,7 +116,7 @@ module _ (same : Term → Term → Bool) (P Q : Term → Type 0) (s : Station Te
         by_x2 = λ number target cell k c e. let h = here c e in let b = before c e in (((base_known P c.key.pair c.key.kenb c.key.number b.0.0 b.0.1, tt, refl), tt), λ o. ((((h.0.0, tt), h.1, (o.0, h.0.1)), q.1), o.0));
         by_s1 = λ number target cell k c e. let h = here c e in (tt, λ o. (((h.0, h.1, tt), q.1), tt));
         within = λ number air cell k c e. let h = here c e in let b = before c e in (star_chain same P _ cell.pci cell.earfcn c.algs (base_known P c.key.pair c.key.kenb c.key.number b.0.0 b.0.1), λ o. ((((h.0.0, tt), h.1, (o.0, h.0.1)), all_append (PrepKnown Q) s.preps _ q.1 (((o.0, tt), (o.1.0, o.1.1.0, o.1.1.1.0)), tt)), tt));
-        commanded = λ order count k c e. let h = here c e in (tt, λ o. (((h.0, h.1, commanded_known Q order c.attempt h.2), q.1), (h.1.1, h.1.0)));
+        commanded = λ order count k c e. let h = here c e in (tt, λ o. (((h.0, h.1, commanded_so (AttemptKnown Q) order (λ a m. tt) (λ a m. tt) (λ a m. tt) c.attempt h.2), q.1), (h.1.1, h.1.0)));
         changed = λ renewal count k c e. let h = here c e in (tt, λ o. ((h, q.1), (h.1.1, h.1.0)));
         cancelled_x2 = λ conn number target k. (tt, λ o. ((mapped_known Q given_up (given_up_known Q) s.context q.0, q.1), tt));
         cancelled_s1 = λ conn number cell k. (tt, λ o. ((mapped_known Q given_up (given_up_known Q) s.context q.0, q.1), tt));

@@ -82,10 +82,6 @@ ContextRanged (Some c) = IsNumber c.conn × IsCell c.cell × IsCaps c.caps × At
 abbrev pub PrepRanged : {K C : Type 0} → Prep K C → Type 0
 PrepRanged p = IsNumber p.conn × (p.source ≤ 7) × IsNumber p.attempt × IsCell p.cell × IsCaps p.caps × ByRanged p.by
 
-abbrev pub PrepIs : {K C : Type 0} → Option (Prep K C) → Type 0
-PrepIs None = Unit {0}
-PrepIs (Some p) = PrepRanged p
-
 -- the next number that it draws is at least 1
 abbrev pub StationRanged : {K C : Type 0} → Station K C → Type 0
 StationRanged s = (s.id ≤ 7) × (1 ≤ s.next) × ContextRanged s.context × AllOf PrepRanged s.preps

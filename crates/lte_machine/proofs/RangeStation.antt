@@ -1,7 +1,6 @@
 -- A station's step keeps its state in range, and what it sends on S1 and X2 is in range.
-use Rattle.std.proofs.Common.{◌≡◌, sym, subst, ℕ, ◌+◌, ◌≤◌, ◌<◌, Bool, true, false, cond, List, [], ◌∷◌, ◌++◌, Option, Some, None, option_map, Ok, Err, arith}
+use Rattle.std.proofs.Common.{◌≡◌, sym, subst, ℕ, ◌+◌, ◌≤◌, ◌<◌, Bool, List, [], ◌∷◌, ◌++◌, Option, Some, None, option_map, Ok, Err, arith}
 use Rattle.std.specs.Prelude.{filter, not, nat_le}
-use Rattle.alg_choice.specs.declared.algs.Algs.{Algs}
 use Rattle.annex_a_keys.specs.Cell.{Place, IsCell}
 use Rattle.lte_events.specs.declared.acts.HoKind.{HoKind}
 use Rattle.lte_events.specs.declared.acts.StationAct.{StationAct}
@@ -13,20 +12,21 @@ use Rattle.s1x2_rec.specs.Fields.{Fields, InitialContext, ContextModification}
 use Rattle.s1x2_rec.specs.Spelling.{IsNumber, IsCaps, FieldsInRange}
 use Rattle.ho_prep.specs.declared.origins.By.{By}
 use Rattle.ho_prep.specs.Prep.{Prep, at_air, is_of, is_at}
-use Rattle.x2_handover.specs.declared.orders.Order.{Order}
 use Rattle.x2_handover.specs.Attempt.{X2Start}
 use Rattle.s1_handover.specs.Attempt.{S1Start}
 use Rattle.lte_machine.specs.Bearers.{Which, which}
 use Rattle.lte_machine.specs.Opening.{Outcome}
 use Rattle.lte_machine.specs.Ranges.{AllOf, IsStationAct}
 use Rattle.lte_machine.specs.Reply.{Origin, Reply, unseen}
-use Rattle.lte_machine.specs.StationState.{Station, Context, Attempt, OverX2, OverS1, Within, X2State, X2Open, X2Ready, X2Commanded, S1State, S1Open, S1Ready, S1Commanded, Interface, StationInput, StationActs, AirPdu, StationRecord, Renewing}
+use Rattle.lte_machine.specs.StationState.{Station, Context, X2State, X2Open, X2Ready, X2Commanded, S1State, S1Open, S1Ready, S1Commanded, Interface, StationInput, StationActs, AirPdu, StationRecord}
 use Rattle.lte_machine.specs.StationRows.{Admitted}
 use Rattle.lte_machine.specs.StationKeys.{commanded, given_up, with_security, with_rrc_taken, with_packet_taken, with_skipped}
-use Rattle.lte_machine.specs.StationRecords.{s1_acked, x2_acked, with_pair, with_s1_ack, with_x2_ack, source_release}
+use Rattle.lte_machine.specs.StationRecords.{with_pair, with_s1_ack, with_x2_ack, source_release}
 use Rattle.lte_machine.specs.StationStep.{plain_station, station_step}
 use Rattle.lte_machine.specs.StationChoice.{record_row, air_front, air_row, act_row}
-use Rattle.lte_machine.proofs.RangeHolds.{SentRanged, OriginRanged, ByRanged, X2Ranged, S1Ranged, AttemptRanged, ContextRanged, PrepRanged, PrepIs, StationRanged, StationInputRanged}
+use Rattle.lte_machine.proofs.RangeHolds.{SentRanged, OriginRanged, ByRanged, X2Ranged, S1Ranged, AttemptRanged, ContextRanged, PrepRanged, StationRanged, StationInputRanged}
+use Rattle.lte_machine.proofs.AttemptSteps.{s1_acked_so, x2_acked_so, commanded_so}
+use Rattle.lte_machine.proofs.KnownLists.{OfSome, all_filter, all_find}
 use Rattle.lte_machine.proofs.StationCases.{RecordCases, AirCases, ActCases, record_case, air_case, act_case}
 use Rattle.lte_machine.proofs.RecordFacts.{Admits, RecordHas, record_has}
 use Rattle.lte_machine.proofs.AirFacts.{AtPrepared, AirHas, air_has}
@@ -37,14 +37,6 @@ use Rattle.lte_machine.proofs.StationActFacts.{Starts, X2Began, S1Began, Cancels
 pub all_append : {A : Type 0} (P : A → Type 0) (xs ys : List A) → AllOf P xs → AllOf P ys → AllOf P (xs ++ ys)
 all_append P [] ys h k = k
 all_append P (x ∷ xs) ys h k = (h.0, all_append P xs ys h.1 k)
-
-kept_if : {A : Type 0} (P : A → Type 0) (b : Bool) (x : A) (xs : List A) → P x → AllOf P xs → AllOf P (cond b (x ∷ xs) xs)
-kept_if P true x xs p h = (p, h)
-kept_if P false x xs p h = h
-
-all_filter : {A : Type 0} (P : A → Type 0) (test : A → Bool) (xs : List A) → AllOf P xs → AllOf P (filter test xs)
-all_filter P test [] h = tt
-all_filter P test (x ∷ xs) h = kept_if P (test x) x (filter test xs) h.0 (all_filter P test xs h.1)
 
 -- NUMBERS
 
@@ -60,15 +52,6 @@ drawn : (number next : ℕ) → number ≡ next → next < 4294967296 → 1 ≤ 
 drawn number next e lt low = subst IsNumber (sym e) (low, lt)
 
 -- PARTS OF A STATION
-
-found_by : {K C : Type 0} (b : Bool) (p : Prep K C) (o : Option (Prep K C)) → PrepRanged p → PrepIs o → PrepIs (cond b (Some p) o)
-found_by true p o h k = h
-found_by false p o h k = k
-
--- the preparation at an air address
-found_ranged : {K C : Type 0} (air : ℕ) (ps : List (Prep K C)) → AllOf PrepRanged ps → PrepIs (at_air air ps)
-found_ranged air [] h = tt
-found_ranged air (p ∷ ps) h = found_by (is_at air p) p (at_air air ps) h.0 (found_ranged air ps h.1)
 
 -- an attempt that may be given up
 x2_began_ranged : {K C : Type 0} (state : X2State K C) (start : X2Start K C) → X2Began state start → X2Ranged state → IsNumber start.number
@@ -88,37 +71,6 @@ with_ranged : (f : Context Term ℕ → Context Term ℕ) → ((c : Context Term
     ContextRanged o → ContextRanged (option_map f o)
 with_ranged f k None h = tt
 with_ranged f k (Some c) h = k c h
-
-s1_acked_ranged : (ncc : ℕ) (algs : Algs) (air : ℕ) (o : Option (Attempt Term ℕ)) → AttemptRanged o → AttemptRanged (option_map (s1_acked ncc algs air) o)
-s1_acked_ranged ncc algs air None h = h
-s1_acked_ranged ncc algs air (Some (OverX2 state)) h = h
-s1_acked_ranged ncc algs air (Some (Within state)) h = h
-s1_acked_ranged ncc algs air (Some (Renewing renewal)) h = h
-s1_acked_ranged ncc algs air (Some (OverS1 (S1Open start))) h = h
-s1_acked_ranged ncc algs air (Some (OverS1 (S1Ready acked))) h = h
-s1_acked_ranged ncc algs air (Some (OverS1 (S1Commanded sent))) h = h
-
-x2_acked_ranged : (algs : Algs) (air : ℕ) (o : Option (Attempt Term ℕ)) → AttemptRanged o → AttemptRanged (option_map (x2_acked algs air) o)
-x2_acked_ranged algs air None h = h
-x2_acked_ranged algs air (Some (OverS1 state)) h = h
-x2_acked_ranged algs air (Some (Within state)) h = h
-x2_acked_ranged algs air (Some (Renewing renewal)) h = h
-x2_acked_ranged algs air (Some (OverX2 (X2Open start))) h = h
-x2_acked_ranged algs air (Some (OverX2 (X2Ready acked))) h = h
-x2_acked_ranged algs air (Some (OverX2 (X2Commanded sent))) h = h
-
-commanded_ranged : (order : Order) (o : Option (Attempt Term ℕ)) → AttemptRanged o → AttemptRanged (option_map (commanded order) o)
-commanded_ranged order None h = h
-commanded_ranged order (Some (OverX2 (X2Open start))) h = h
-commanded_ranged order (Some (OverX2 (X2Ready acked))) h = tt
-commanded_ranged order (Some (OverX2 (X2Commanded sent))) h = tt
-commanded_ranged order (Some (OverS1 (S1Open start))) h = h
-commanded_ranged order (Some (OverS1 (S1Ready acked))) h = tt
-commanded_ranged order (Some (OverS1 (S1Commanded sent))) h = tt
-commanded_ranged order (Some (Within (X2Open start))) h = h
-commanded_ranged order (Some (Within (X2Ready acked))) h = tt
-commanded_ranged order (Some (Within (X2Commanded sent))) h = tt
-commanded_ranged order (Some (Renewing renewal)) h = tt
 
 origin_within : (o : Option Origin) → OriginRanged o →
     OriginRanged (option_map (λ (p : ℕ × ℕ). record { source = p.0; attempt = p.1 }) (option_map (λ a. (a.source, a.attempt)) o))
@@ -150,7 +102,7 @@ module _ (same : Term → Term → Bool) where
     here c e = subst ContextRanged e h.2
 
     found : (at : ℕ) (p : Prep Term ℕ) → at_air at s.preps ≡ Some p → PrepRanged p
-    found at p e = subst PrepIs e (found_ranged at s.preps h.3)
+    found at p e = subst (OfSome PrepRanged) e (all_find PrepRanged (is_at at) s.preps h.3)
 
     -- a request that is admitted, with the air address drawn for it, and the preparations with one more
     admitted_ranged : (w : Admitted) → Admits r s w → IsNumber w.conn × (w.from.source ≤ 7) × IsNumber w.from.attempt × IsCell w.cell × IsCaps w.caps →
@@ -166,19 +118,19 @@ module _ (same : Term → Term → Bool) where
 
     record_ranged : (on : Interface) (fields : Fields) → FieldsInRange fields → RecordCases r s (λ row key. RecordHas r s on fields row) StationDone
     record_ranged on fields i =
-      record {
-        nothing = λ answer. (h, tt);
-        given = λ conn cell caps algs air kenb k. let f : FieldsInRange (InitialContext conn cell caps) = subst FieldsInRange k.fields_is i in ((h.0, next_up air, (f.0, f.1, f.2, tt, tt), tt), tt);
-        released = λ key k. ((h.0, h.1, tt, tt), tt);
-        taken = λ conn origin pair k. let c = here k.context k.serving in ((h.0, h.1, with_ranged (with_pair pair) (λ c k. k) s.context h.2, h.3), release_ranged conn origin (subst IsNumber (sym k.conn_is) c.0) (subst OriginRanged (sym k.origin_is) c.4));
-        by_s1 = λ w pair k. let f = admitted_ranged w k.admits (subst FieldsInRange k.fields_is i) in ((h.0, next_up w.air, h.2, admitted_preps w _ (f.0, f.1, f.2, f.3, f.4, tt)), ((f.0, f.1, f.2, f.3, three_bits pair.number, f.5), tt));
-        by_x2 = λ w star k. let f = admitted_ranged w k.admits (subst FieldsInRange k.fields_is i) in ((h.0, next_up w.air, h.2, admitted_preps w _ (f.0, f.1, f.2, f.3, f.4, tt)), ((f.0, f.2, f.3, f.5), tt));
-        acked_s1 = λ ncc algs air key k. ((h.0, h.1, with_ranged (with_s1_ack ncc algs air) (λ c k. (k.0, k.1, k.2, s1_acked_ranged ncc algs air c.attempt k.3, k.4)) s.context h.2, h.3), tt);
-        acked_x2 = λ algs air key k. ((h.0, h.1, with_ranged (with_x2_ack algs air) (λ c k. (k.0, k.1, k.2, x2_acked_ranged algs air c.attempt k.3, k.4)) s.context h.2, h.3), tt);
-        cancelled = λ from key k. ((h.0, h.1, h.2, all_filter PrepRanged (λ p. not (is_of from.source from.attempt p)) s.preps h.3), tt);
-        left = λ key k. ((h.0, h.1, tt, h.3), tt);
-        renewed = λ conn number air count c e kenb k. let d = here c e in let f = renewed_ranged fields i conn number k.context.conn k.fields_is k.number_is k.left in ((h.0, next_up air, (d.0, d.1, d.2, tt, d.4), ((f.0, h.0, f.1, d.1, d.2, origin_within c.origin d.4), tt)), tt);
-      }
+        record {
+          nothing = λ answer. (h, tt);
+          given = λ conn cell caps algs air kenb k. let f : FieldsInRange (InitialContext conn cell caps) = subst FieldsInRange k.fields_is i in ((h.0, next_up air, (f.0, f.1, f.2, tt, tt), tt), tt);
+          released = λ key k. ((h.0, h.1, tt, tt), tt);
+          taken = λ conn origin pair k. let c = here k.context k.serving in ((h.0, h.1, with_ranged (with_pair pair) (λ c k. k) s.context h.2, h.3), release_ranged conn origin (subst IsNumber (sym k.conn_is) c.0) (subst OriginRanged (sym k.origin_is) c.4));
+          by_s1 = λ w pair k. let f = admitted_ranged w k.admits (subst FieldsInRange k.fields_is i) in ((h.0, next_up w.air, h.2, admitted_preps w _ (f.0, f.1, f.2, f.3, f.4, tt)), ((f.0, f.1, f.2, f.3, three_bits pair.number, f.5), tt));
+          by_x2 = λ w star k. let f = admitted_ranged w k.admits (subst FieldsInRange k.fields_is i) in ((h.0, next_up w.air, h.2, admitted_preps w _ (f.0, f.1, f.2, f.3, f.4, tt)), ((f.0, f.2, f.3, f.5), tt));
+          acked_s1 = λ ncc algs air key k. ((h.0, h.1, with_ranged (with_s1_ack ncc algs air) (λ c k. (k.0, k.1, k.2, s1_acked_so (λ o. AttemptRanged o) ncc algs air (λ start m. m) c.attempt k.3, k.4)) s.context h.2, h.3), tt);
+          acked_x2 = λ algs air key k. ((h.0, h.1, with_ranged (with_x2_ack algs air) (λ c k. (k.0, k.1, k.2, x2_acked_so (λ o. AttemptRanged o) algs air (λ start m. m) c.attempt k.3, k.4)) s.context h.2, h.3), tt);
+          cancelled = λ from key k. ((h.0, h.1, h.2, all_filter PrepRanged (λ p. not (is_of from.source from.attempt p)) s.preps h.3), tt);
+          left = λ key k. ((h.0, h.1, tt, h.3), tt);
+          renewed = λ conn number air count c e kenb k. let d = here c e in let f = renewed_ranged fields i conn number k.context.conn k.fields_is k.number_is k.left in ((h.0, next_up air, (d.0, d.1, d.2, tt, d.4), ((f.0, h.0, f.1, d.1, d.2, origin_within c.origin d.4), tt)), tt);
+        }
 
     -- how the preparation came that completes
     by_ranged : (air : ℕ) (on : Which) (pdu : List ℕ) (at : ℕ) (by : By) (count : ℕ) → AtPrepared s air on pdu at by count → ByRanged by
@@ -186,15 +138,15 @@ module _ (same : Term → Term → Bool) where
 
     air_ranged : (air : ℕ) (on : Which) (pdu : List ℕ) (outcome : Outcome) → AirCases r s (AirHas r s air on pdu outcome) StationDone
     air_ranged air on pdu outcome =
-      record {
-        nothing = λ answer. (h, tt);
-        secured = λ count k. ((h.0, h.1, with_ranged (with_security count) (λ c k. k) s.context h.2, h.3), tt);
-        opened = λ srb count text k. ((h.0, h.1, with_ranged (with_rrc_taken srb count) (λ c k. k) s.context h.2, h.3), tt);
-        packet = λ drb count text k. ((h.0, h.1, with_ranged (with_packet_taken drb count) (λ c k. k) s.context h.2, h.3), tt);
-        by_s1 = λ at count k p e. let f = found at p e in ((h.0, h.1, (f.0, f.3, f.4, tt, tt), tt), ((f.0, h.0, f.3), tt));
-        within = λ at count origin k p e. let f = found at p e in ((h.0, h.1, (f.0, f.3, f.4, tt, subst OriginRanged (sym k.1) (by_ranged air on pdu at (By.Intra k.0) count k.2.0)), tt), tt);
-        by_x2 = λ at count number k p e. let f = found at p e in ((h.0, next_up number, (f.0, f.3, f.4, tt, (f.1, f.2)), tt), ((f.0, h.0, drawn number s.next k.0 k.1 h.1, f.3, f.4), tt));
-      }
+        record {
+          nothing = λ answer. (h, tt);
+          secured = λ count k. ((h.0, h.1, with_ranged (with_security count) (λ c k. k) s.context h.2, h.3), tt);
+          opened = λ srb count text k. ((h.0, h.1, with_ranged (with_rrc_taken srb count) (λ c k. k) s.context h.2, h.3), tt);
+          packet = λ drb count text k. ((h.0, h.1, with_ranged (with_packet_taken drb count) (λ c k. k) s.context h.2, h.3), tt);
+          by_s1 = λ at count k p e. let f = found at p e in ((h.0, h.1, (f.0, f.3, f.4, tt, tt), tt), ((f.0, h.0, f.3), tt));
+          within = λ at count origin k p e. let f = found at p e in ((h.0, h.1, (f.0, f.3, f.4, tt, subst OriginRanged (sym k.1) (by_ranged air on pdu at (By.Intra k.0) count k.2.0)), tt), tt);
+          by_x2 = λ at count number k p e. let f = found at p e in ((h.0, next_up number, (f.0, f.3, f.4, tt, (f.1, f.2)), tt), ((f.0, h.0, drawn number s.next k.0 k.1 h.1, f.3, f.4), tt));
+        }
 
     -- a handover that begins draws its number, and its cell is in range
     starts_ranged : (act : StationAct) (kind : HoKind) (number target : ℕ) (cell : Place) → Starts s act kind number target cell → IsStationAct act → IsNumber number × IsCell cell
@@ -213,21 +165,21 @@ module _ (same : Term → Term → Bool) where
 
     act_ranged : (act : StationAct) → IsStationAct act → ActCases r s (StationActHas r s act) StationDone
     act_ranged act i =
-      record {
-        nothing = λ answer. (h, tt);
-        by_x2 = λ number target cell k c e. let d = here c e in let f = starts_ranged act HoKind.X2 number target cell k i in ((h.0, next_up number, (d.0, d.1, d.2, f.0, d.4), h.3), ((d.0, h.0, f.0, f.1, d.2), (tt, three_bits _)));
-        by_s1 = λ number target cell k c e. let d = here c e in let f = starts_ranged act HoKind.S1 number target cell k i in ((h.0, next_up number, (d.0, d.1, d.2, f, d.4), h.3), ((d.0, h.0, f.0, f.1), tt));
-        within = λ number air cell k c e. let d = here c e in let f = starts_ranged act HoKind.Intra number s.id cell k.starts i in ((h.0, next_up air, (d.0, d.1, d.2, f.0, d.4), all_append PrepRanged s.preps _ h.3 ((d.0, h.0, f.0, f.1, d.2, origin_within c.origin d.4), tt)), tt);
-        commanded = λ order count k c e. let d = here c e in ((h.0, h.1, (d.0, d.1, d.2, commanded_ranged order c.attempt d.3, d.4), h.3), tt);
-        changed = λ renewal count k c e. ((h.0, h.1, here c e, h.3), tt);
-        cancelled_x2 = λ conn number target k. let f = cancels_x2_ranged act conn number target k in ((h.0, h.1, given_up_ranged s.context h.2, h.3), ((f.0, h.0, f.1), tt));
-        cancelled_s1 = λ conn number cell k. let f = cancels_s1_ranged act conn number cell k in ((h.0, h.1, given_up_ranged s.context h.2, h.3), ((f.0, h.0, f.1, f.2), tt));
-        cancelled_within = λ number k. ((h.0, h.1, given_up_ranged s.context h.2, all_filter PrepRanged (λ p. not (is_of s.id number p)) s.preps h.3), tt);
-        asked = λ number k c e. let d = here c e in ((h.0, next_up number, d, h.3), ((d.0, h.0, drawn number s.next k.number_is k.left h.1, d.1, d.2), tt));
-        packet = λ drb count text k c e. ((h.0, h.1, here c e, h.3), tt);
-        text = λ srb count text k c e. ((h.0, h.1, here c e, h.3), tt);
-        skipped = λ on n k. ((h.0, h.1, with_ranged (with_skipped on n) (λ c k. k) s.context h.2, h.3), tt);
-      }
+        record {
+          nothing = λ answer. (h, tt);
+          by_x2 = λ number target cell k c e. let d = here c e in let f = starts_ranged act HoKind.X2 number target cell k i in ((h.0, next_up number, (d.0, d.1, d.2, f.0, d.4), h.3), ((d.0, h.0, f.0, f.1, d.2), (tt, three_bits _)));
+          by_s1 = λ number target cell k c e. let d = here c e in let f = starts_ranged act HoKind.S1 number target cell k i in ((h.0, next_up number, (d.0, d.1, d.2, f, d.4), h.3), ((d.0, h.0, f.0, f.1), tt));
+          within = λ number air cell k c e. let d = here c e in let f = starts_ranged act HoKind.Intra number s.id cell k.starts i in ((h.0, next_up air, (d.0, d.1, d.2, f.0, d.4), all_append PrepRanged s.preps _ h.3 ((d.0, h.0, f.0, f.1, d.2, origin_within c.origin d.4), tt)), tt);
+          commanded = λ order count k c e. let d = here c e in ((h.0, h.1, (d.0, d.1, d.2, commanded_so (λ o. AttemptRanged o) order (λ a m. tt) (λ a m. tt) (λ a m. tt) c.attempt d.3, d.4), h.3), tt);
+          changed = λ renewal count k c e. ((h.0, h.1, here c e, h.3), tt);
+          cancelled_x2 = λ conn number target k. let f = cancels_x2_ranged act conn number target k in ((h.0, h.1, given_up_ranged s.context h.2, h.3), ((f.0, h.0, f.1), tt));
+          cancelled_s1 = λ conn number cell k. let f = cancels_s1_ranged act conn number cell k in ((h.0, h.1, given_up_ranged s.context h.2, h.3), ((f.0, h.0, f.1, f.2), tt));
+          cancelled_within = λ number k. ((h.0, h.1, given_up_ranged s.context h.2, all_filter PrepRanged (λ p. not (is_of s.id number p)) s.preps h.3), tt);
+          asked = λ number k c e. let d = here c e in ((h.0, next_up number, d, h.3), ((d.0, h.0, drawn number s.next k.number_is k.left h.1, d.1, d.2), tt));
+          packet = λ drb count text k c e. ((h.0, h.1, here c e, h.3), tt);
+          text = λ srb count text k c e. ((h.0, h.1, here c e, h.3), tt);
+          skipped = λ on n k. ((h.0, h.1, with_ranged (with_skipped on n) (λ c k. k) s.context h.2, h.3), tt);
+        }
 
   -- one step
   pub station_step_ranged : (s : Station Term ℕ) (i : StationInput Term ℕ) (outcome : Outcome) → StationRanged s → StationInputRanged i → StationDone (station_step r s i outcome)

@@ -39,40 +39,40 @@ Holds d = MadeIs d.1.made d.0
 pub station_holds : (same : Term → Term → Bool) (row : StationRow) (key : Option (NumberedKey Term ℕ)) (s : Station Term ℕ) → Holds (station_does (term_reading_by same) row key s)
 station_holds same row key s =
     station_case (term_reading_by same) s Holds
-      (record {
-        nothing = λ answer. tt;
-        given = λ conn cell caps algs air kenb k. inl refl;
-        released = λ key k. tt;
-        taken = λ conn origin pair k. tt;
-        by_s1 = λ w pair k. inr (last_prep (drop_below w.conn s.preps) _);
-        by_x2 = λ w star k. inr (last_prep (drop_below w.conn s.preps) _);
-        acked_s1 = λ ncc algs air key k. tt;
-        acked_x2 = λ algs air key k. tt;
-        cancelled = λ from key k. tt;
-        left = λ key k. tt;
-        renewed = λ conn number air count c e kenb k. inr (inl refl);
-      })
-      (record {
-        nothing = λ answer. tt;
-        secured = λ count k. tt;
-        opened = λ srb count text k. tt;
-        packet = λ drb count text k. tt;
-        by_s1 = λ at count k p e. tt;
-        within = λ at count origin k p e. tt;
-        by_x2 = λ at count number k p e. tt;
-      })
-      (record {
-        nothing = λ answer. tt;
-        by_x2 = λ number target cell k c e. tt;
-        by_s1 = λ number target cell k c e. tt;
-        within = λ number air cell k c e. inr (last_prep s.preps _);
-        commanded = λ order count k c e. tt;
-        changed = λ renewal count k c e. tt;
-        cancelled_x2 = λ conn number target k. tt;
-        cancelled_s1 = λ conn number cell k. tt;
-        cancelled_within = λ number k. tt;
-        asked = λ number k c e. tt;
-        packet = λ drb count text k c e. tt;
-        text = λ srb count text k c e. tt;
-        skipped = λ on n k. tt;
-      }) row key
+    (record {
+      nothing = λ answer. tt;
+      given = λ conn cell caps algs air kenb k. inl refl;
+      released = λ key k. tt;
+      taken = λ conn origin pair k. tt;
+      by_s1 = λ w pair k. inr (last_prep (drop_below w.conn s.preps) _);
+      by_x2 = λ w star k. inr (last_prep (drop_below w.conn s.preps) _);
+      acked_s1 = λ ncc algs air key k. tt;
+      acked_x2 = λ algs air key k. tt;
+      cancelled = λ from key k. tt;
+      left = λ key k. tt;
+      renewed = λ conn number air count c e kenb k. inr (inl refl);
+    })
+    (record {
+      nothing = λ answer. tt;
+      secured = λ count k. tt;
+      opened = λ srb count text k. tt;
+      packet = λ drb count text k. tt;
+      by_s1 = λ at count k p e. tt;
+      within = λ at count origin k p e. tt;
+      by_x2 = λ at count number k p e. tt;
+    })
+    (record {
+      nothing = λ answer. tt;
+      by_x2 = λ number target cell k c e. tt;
+      by_s1 = λ number target cell k c e. tt;
+      within = λ number air cell k c e. inr (last_prep s.preps _);
+      commanded = λ order count k c e. tt;
+      changed = λ renewal count k c e. tt;
+      cancelled_x2 = λ conn number target k. tt;
+      cancelled_s1 = λ conn number cell k. tt;
+      cancelled_within = λ number k. tt;
+      asked = λ number k c e. tt;
+      packet = λ drb count text k c e. tt;
+      text = λ srb count text k c e. tt;
+      skipped = λ on n k. tt;
+    }) row key

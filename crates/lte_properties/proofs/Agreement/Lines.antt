@@ -51,43 +51,43 @@ started_way id t key (Some pair) = tt
 station_tells : (same : Term → Term → Bool) (row : StationRow) (key : Option (NumberedKey Term ℕ)) (s : Station Term ℕ) → RowTells s.id (station_does (term_reading_by same) row key s)
 station_tells same row key s =
     station_case (term_reading_by same) s (RowTells s.id)
-      (record {
-        nothing = λ answer. tt;
-        given = λ conn cell caps algs air kenb k. tt;
-        released = λ key k. tt;
-        taken = λ conn origin pair k. tt;
-        by_s1 = λ w pair k. tt;
-        by_x2 = λ w star k. tt;
-        acked_s1 = λ ncc algs air key k. tt;
-        acked_x2 = λ algs air key k. tt;
-        cancelled = λ from key k. tt;
-        left = λ key k. tt;
-        renewed = λ conn number air count c e kenb k. tt;
-      })
-      (record {
-        nothing = λ answer. tt;
-        secured = λ count k. tt;
-        opened = λ srb count text k. tt;
-        packet = λ drb count text k. tt;
-        by_s1 = λ at count k p e. (refl, (refl, refl));
-        within = λ at count origin k p e. (refl, (refl, refl));
-        by_x2 = λ at count number k p e. (refl, (refl, refl));
-      })
-      (record {
-        nothing = λ answer. tt;
-        by_x2 = λ number target cell k c e. started_way s.id (started_by_x2 (term_reading_by same) number target cell (Some c) s).0 (opened (term_reading_by same) c.key cell).star.key c.key.pair;
-        by_s1 = λ number target cell k c e. tt;
-        within = λ number air cell k c e. started_way s.id (started_within (term_reading_by same) number air cell (Some c) s).0 (opened (term_reading_by same) c.key cell).star.key c.key.pair;
-        commanded = λ order count k c e. tt;
-        changed = λ renewal count k c e. tt;
-        cancelled_x2 = λ conn number target k. tt;
-        cancelled_s1 = λ conn number cell k. tt;
-        cancelled_within = λ number k. tt;
-        asked = λ number k c e. tt;
-        packet = λ drb count text k c e. tt;
-        text = λ srb count text k c e. tt;
-        skipped = λ on n k. tt;
-      }) row key
+    (record {
+      nothing = λ answer. tt;
+      given = λ conn cell caps algs air kenb k. tt;
+      released = λ key k. tt;
+      taken = λ conn origin pair k. tt;
+      by_s1 = λ w pair k. tt;
+      by_x2 = λ w star k. tt;
+      acked_s1 = λ ncc algs air key k. tt;
+      acked_x2 = λ algs air key k. tt;
+      cancelled = λ from key k. tt;
+      left = λ key k. tt;
+      renewed = λ conn number air count c e kenb k. tt;
+    })
+    (record {
+      nothing = λ answer. tt;
+      secured = λ count k. tt;
+      opened = λ srb count text k. tt;
+      packet = λ drb count text k. tt;
+      by_s1 = λ at count k p e. (refl, (refl, refl));
+      within = λ at count origin k p e. (refl, (refl, refl));
+      by_x2 = λ at count number k p e. (refl, (refl, refl));
+    })
+    (record {
+      nothing = λ answer. tt;
+      by_x2 = λ number target cell k c e. started_way s.id (started_by_x2 (term_reading_by same) number target cell (Some c) s).0 (opened (term_reading_by same) c.key cell).star.key c.key.pair;
+      by_s1 = λ number target cell k c e. tt;
+      within = λ number air cell k c e. started_way s.id (started_within (term_reading_by same) number air cell (Some c) s).0 (opened (term_reading_by same) c.key cell).star.key c.key.pair;
+      commanded = λ order count k c e. tt;
+      changed = λ renewal count k c e. tt;
+      cancelled_x2 = λ conn number target k. tt;
+      cancelled_s1 = λ conn number cell k. tt;
+      cancelled_within = λ number k. tt;
+      asked = λ number k c e. tt;
+      packet = λ drb count text k c e. tt;
+      text = λ srb count text k c e. tt;
+      skipped = λ on n k. tt;
+    }) row key
 
 -- THE WORLD
 

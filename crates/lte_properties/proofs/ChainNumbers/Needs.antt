@@ -30,9 +30,10 @@ use Rattle.lte_machine.proofs.Routing.{address_on}
 use Rattle.lte_properties.specs.ChainBelow.{StationBelow, conn_of, RecordBelow}
 use Rattle.lte_properties.specs.ChainAbove.{AnswerOk, AnswerTo, StationAbove, InFlight}
 use Rattle.lte_properties.proofs.ChainNumbers.RowFacts.{PairNeeds, RecordNeeds, RowNeeds}
+use Rattle.lte_machine.proofs.StationCases.{record_case, air_case, act_case}
 use Rattle.lte_machine.proofs.RecordFacts.{Takes, RecordHas, record_has}
-use Rattle.lte_machine.proofs.AirFacts.{air_has}
-use Rattle.lte_machine.proofs.StationActFacts.{station_act_has}
+use Rattle.lte_machine.proofs.AirFacts.{AirHas, air_has}
+use Rattle.lte_machine.proofs.StationActFacts.{StationActHas, station_act_has}
 use Rattle.lte_properties.proofs.ChainNumbers.Station.{Kept, record_kept, air_kept, act_kept}
 use Rattle.lte_properties.proofs.ChainNumbers.Core.{Plainly}
 
@@ -87,22 +88,26 @@ module _ (top : ℕ → ℕ) (same : Term → Term → Bool) (s : Station Term �
   abbrev r : Reading Term ℕ
   r = term_reading_by same
 
+  abbrev Keeps : Station Term ℕ × Reply Term ℕ → Type 0
+  Keeps d = StepKept top s d
+
   pub act_step_kept : (act : StationAct) (outcome : Outcome) → StepKept top s (station_step r s (StationActs act) outcome)
-  act_step_kept act outcome = act_kept top same s below.1 above.1 act (act_row (plain_station r s) act) (station_act_has r s act) below.0 above.0
+  act_step_kept act outcome = act_case r s Keeps (StationActHas r s act) (act_kept top same s below above act) (act_row (plain_station r s) act) (station_act_has r s act)
 
   pub air_step_kept : (air : ℕ) (bearer : Bearer) (pdu : List ℕ) (outcome : Outcome) → StepKept top s (station_step r s (AirPdu air bearer pdu) outcome)
   air_step_kept air bearer pdu outcome =
-      air_kept top same s below.1 above.1 air (which bearer) pdu outcome (air_row (plain_station r s) (air_front (plain_station r s) air (which bearer) pdu) outcome)
-      (air_has r s air (which bearer) pdu outcome) below.0 above.0
+      air_case r s Keeps (AirHas r s air (which bearer) pdu outcome) (air_kept top same s below above air (which bearer) pdu outcome)
+      (air_row (plain_station r s) (air_front (plain_station r s) air (which bearer) pdu) outcome) (air_has r s air (which bearer) pdu outcome)
 
-  between_kept : (on : Interface) (to : Address) (fields : Fields) (key : Option (NumberedKey Term ℕ)) (outcome : Outcome) → RowNeeds top s (OfRecord (RecordOf same s on fields key)) key →
+  between_kept : (on : Interface) (fields : Fields) (key : Option (NumberedKey Term ℕ)) (outcome : Outcome) → RowNeeds top s (OfRecord (RecordOf same s on fields key)) key →
       StepKept top s (station_step r s (StationRecord on (Ok (record { fields = fields; key = key }))) outcome)
-  between_kept on to fields key outcome n =
-      record_kept top same s below.1 above.1 on fields (RecordOf same s on fields key) key (record_has r s on (record { fields = fields; key = key })) n below.0 above.0
+  between_kept on fields key outcome n =
+      record_case r s Keeps (λ row key. RecordHas r s on fields row × RowNeeds top s (OfRecord row) key) (record_kept top same s below above on fields) (RecordOf same s on fields key) key
+      (record_has r s on (record { fields = fields; key = key }), n)
 
   -- a record that was not sent, and one that was
   pub unread_step_kept : (on : Interface) (fault : RecFault) (outcome : Outcome) → StepKept top s (station_step r s (StationRecord on (Err fault)) outcome)
-  unread_step_kept on fault outcome = record_kept top same s below.1 above.1 on (ContextRelease 0) (RecordRefused (BadRecord fault)) None tt tt below.0 above.0
+  unread_step_kept on fault outcome = (record_kept top same s below above on (ContextRelease 0)).nothing (BadRecord fault)
 
   pub record_step_kept : (on : Interface) (x : Outgoing Term ℕ) (outcome : Outcome) → address_of x ≡ address_on on s.id → RecordBelow top x → InFlight s x →
       StepKept top s (station_step r s (StationRecord on (content_of x)) outcome)
@@ -110,9 +115,9 @@ module _ (top : ℕ → ℕ) (same : Term → Term → Bool) (s : Station Term �
   record_step_kept on (PlainNas octets) outcome a b h = unread_step_kept on RecFault.Short outcome
   record_step_kept on (SealedRrc dir station air srb u e text) outcome a b h = unread_step_kept on RecFault.Short outcome
   record_step_kept on (UserPacket dir station air drb e text) outcome a b h = unread_step_kept on RecFault.Short outcome
-  record_step_kept on (Between to fields None) outcome a b h = between_kept on to fields None outcome tt
+  record_step_kept on (Between to fields None) outcome a b h = between_kept on fields None outcome tt
   record_step_kept on (Between to fields (Some key)) outcome a b h =
-      between_kept on to fields (Some key) outcome
+      between_kept on fields (Some key) outcome
       (row_needs top same s on to fields key a b h (RecordOf same s on fields (Some key)) (record_has r s on (record { fields = fields; key = Some key })))
 
 -- THE PHONE SENDS NOTHING ON S1 AND X2

@@ -244,7 +244,7 @@ module _ (same : Term → Term → Bool) (itself : IsReflexive same) (octets : O
       act_turn id act s f =
           let outcome = opener (station_opens r s (StationActs act)) [] None in
           station_fresh m w (λ o. refl) h id s (station_step r s (StationActs act) outcome) f.own f.holds.1
-          (station.act_keeps h.taken h.given same act _ s (station_act_has r s act) f.holds.0)
+          (station.act_keeps h.taken h.given same s f.holds.0 act _ (station_act_has r s act))
 
       -- a record that comes to a station
       record_turn : (interface : Interface) (id : ℕ) (read : Result (Content Term ℕ) RecFault) → ReadStands h.given (address_on interface id) read → (came : Option (Outgoing Term ℕ)) →
@@ -265,11 +265,10 @@ module _ (same : Term → Term → Bool) (itself : IsReflexive same) (octets : O
       air_turn id air bearer pdu came c s f honest =
           let outcome = opener (station_opens r s (AirPdu air bearer pdu)) pdu came in
           station_fresh m w (λ o. refl) h id s (station_step r s (AirPdu air bearer pdu) outcome) f.own f.holds.1
-          (station.air_keeps h.taken h.given same air (which bearer) pdu outcome _ s (air_has r s air (which bearer) pdu outcome)
+          (station.air_keeps h.taken h.given same s f.holds.0 air (which bearer) pdu outcome _ (air_has r s air (which bearer) pdu outcome)
           (air_row_needs h.taken s air r (which bearer) pdu outcome f.holds.0.1
           (λ u e. subst (λ i. OnKey (λ t type. h.taken t ≡ Some (home_at i air)) u.key) (sym f.own)
-          (came_there h.taken h.given id air bearer u came c (honest u (accepts_up s _ outcome u e) e))))
-          f.holds.0)
+          (came_there h.taken h.given id air bearer u came c (honest u (accepts_up s _ outcome u e) e)))))
 
     -- ARRIVALS
 

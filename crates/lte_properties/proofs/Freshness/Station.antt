@@ -19,18 +19,18 @@ use Rattle.rrc_rec.specs.declared.records.RrcRecord.TheVariants.{RrcData}
 use Rattle.rrc_rec.specs.Spelling.{spelling_of}
 use Rattle.ho_prep.specs.declared.origins.By.{By}
 use Rattle.ho_prep.specs.Prep.{Prep, is_at, at_air, without, drop_below, is_of}
-use Rattle.x2_handover.specs.declared.orders.Order.{Order}
 use Rattle.lte_machine.specs.Opening.{Outcome}
 use Rattle.lte_machine.specs.Bearers.{Which, Srb, Signalling1, Drb, Bearers, of_srb, of_drb, srb_counts, drb_counts, srb_sent, drb_sent}
 use Rattle.lte_machine.specs.Wire.{KeyUse, Outgoing, uses_of, drb_use}
-use Rattle.lte_machine.specs.Reply.{Origin}
-use Rattle.lte_machine.specs.StationState.{Station, Context, Attempt, Renewal}
-use Rattle.lte_machine.specs.StationRows.{Admitted, RecordRow, RecordRefused, ContextGiven, ContextReleased, PairTaken, PreparedByS1, PreparedByX2, AckedByS1, AckedByX2, PreparationCancelled, SourceReleased, AirRow, AirRefused, SecurityStarted, RrcOpened, PacketOpened, CompletedByS1, CompletedWithin, CompletedByX2, ActRow, ActRefused, StartedByX2, StartedByS1, StartedWithin, HandoverCommanded, CancelledByX2, CancelledByS1, CancelledWithin, PathSwitchAsked, PacketSent, RrcSent, BearerSkipped, KeyRenewed, ChangeCommanded}
-use Rattle.lte_machine.specs.StationKeys.{with_security, with_rrc_taken, with_packet_taken, arrived, completed_by_s1, completed_within, completed_by_x2, air_does, started_by_x2, started_by_s1, started_within, commands, commanded, given_up, spent_in, asks_again, sends_packet, sends_rrc, with_skipped, act_does, commands_change}
+use Rattle.lte_machine.specs.Reply.{Origin, Reply}
+use Rattle.lte_machine.specs.StationState.{Station, Context, Attempt}
+use Rattle.lte_machine.specs.StationRows.{Admitted, RecordRow, RecordRefused, ContextGiven, ContextReleased, PairTaken, PreparedByS1, PreparedByX2, AckedByS1, AckedByX2, PreparationCancelled, SourceReleased, AirRow, ActRow, KeyRenewed}
+use Rattle.lte_machine.specs.StationKeys.{with_security, with_rrc_taken, with_packet_taken, arrived, air_does, started_by_x2, started_by_s1, started_within, commands, commanded, given_up, spent_in, asks_again, sends_packet, sends_rrc, with_skipped, act_does, commands_change}
 use Rattle.lte_machine.specs.StationRecords.{signalling_sent, packet_sent, initial_context, context_given, with_pair, pair_taken, admitted_prep, prepared_by_s1, prepared_by_x2, with_admitted, with_s1_ack, with_x2_ack, record_does, own_prep, order_text, key_renewed, change_text}
 use Rattle.lte_machine.specs.World.{uses_in}
 use Rattle.lte_properties.specs.ChainBelow.{AllOf}
 use Rattle.lte_machine.proofs.AirFacts.{AirHas}
+use Rattle.lte_machine.proofs.StationCases.{AirCases, ActCases, air_case, act_case}
 use Rattle.lte_machine.proofs.StationActFacts.{StationActHas}
 use Rattle.lte_properties.proofs.Freshness.Uses.{Home, home_at, Homes, IsAs, is_star, home_of, home, NoneWaits, IsSpent, next_on, send_on, ContextAhead, AsDown, StationUse, AllApart}
 use Rattle.lte_properties.proofs.Freshness.Stands.{AsKeysOf, ContextStands, PrepStands, StationStands, RecordStands}
@@ -354,131 +354,80 @@ module _ (taken given : Homes) where
       (subst (λ b. IsSpent b air next s.last []) (sym w.0.0) (let x = w.0.2 in let y = w.1 in omega arith, tt))
       w.0.1 tt uses apart sends
 
-  module _ (same : Term → Term → Bool) (s : Station Term ℕ) (air : ℕ) where
-    -- a handover on S1 completes
-    s1_keeps : (count : ℕ) (o : Option (Prep Term ℕ)) → OfSome (WaitsAt s air) o → TakenHere taken s.id air o → StationStands taken given s →
-        let d = completed_by_s1 (term_reading_by same) count o s in StationKeeps taken given s d.0 d.1.sent
-    s1_keeps count None w n h = still s h
-    s1_keeps count (Some p) w n h = arrives s air s.next count None None p _ (omega arith) w n tt tt tt
+  -- an attempt that is given up leaves the KeNB
+  gives_up : (c : Context Term ℕ) → Stays c (given_up c)
+  gives_up c = (restored_kenb c.key (spent_in c.attempt), refl, rise_same c.bearers)
 
-    -- one within the station completes
-    within_keeps : (count : ℕ) (origin : Option Origin) (o : Option (Prep Term ℕ)) → OfSome (WaitsAt s air) o → TakenHere taken s.id air o → StationStands taken given s →
-        let d = completed_within (term_reading_by same) count origin o s in StationKeeps taken given s d.0 d.1.sent
-    within_keeps count origin None w n h = still s h
-    within_keeps count origin (Some p) w n h = arrives s air s.next count None origin p None (omega arith) w n tt tt tt
+  module _ (same : Term → Term → Bool) (s : Station Term ℕ) (h : StationStands taken given s) where
+    abbrev Keeps : Station Term ℕ × Reply Term ℕ → Type 0
+    Keeps d = StationKeeps taken given s d.0 d.1.sent
 
-    -- one on X2 completes
-    x2_keeps : (count number : ℕ) (o : Option (Prep Term ℕ)) → number ≡ s.next → OfSome (WaitsAt s air) o → TakenHere taken s.id air o → StationStands taken given s →
-        let d = completed_by_x2 (term_reading_by same) count number o s in StationKeeps taken given s d.0 d.1.sent
-    x2_keeps count number None e w n h = still s h
-    x2_keeps count number (Some p) e w n h = arrives s air (number + 1) count (Some number) _ p _ (omega arith) w n tt tt tt
+    -- the preparation at an air address, whose key the phone took here
+    waits : (at : ℕ) (p : Prep Term ℕ) → at_air at s.preps ≡ Some p → WaitsAt s at p
+    waits at p e = subst (OfSome (WaitsAt s at)) e (waits_at s at h)
 
-  -- a row of a PDU
-  pub air_keeps : (same : Term → Term → Bool) (air : ℕ) (on : Which) (pdu : List ℕ) (outcome : Outcome) (row : AirRow) (s : Station Term ℕ) →
-      AirHas (term_reading_by same) s air on pdu outcome row → AirNeeds taken s row → StationStands taken given s →
-      let d = air_does (term_reading_by same) row s in StationKeeps taken given s d.0 d.1.sent
-  air_keeps same air on pdu outcome (AirRefused answer) s f n h = still s h
-  air_keeps same air on pdu outcome (SecurityStarted count) s f n h = mapped s (with_security count) (λ c. (refl, refl, srb_taken_rises Signalling1 count c.bearers)) h
-  air_keeps same air on pdu outcome (RrcOpened srb count text) s f n h = mapped s (with_rrc_taken srb count) (λ c. (refl, refl, srb_taken_rises srb count c.bearers)) h
-  air_keeps same air on pdu outcome (PacketOpened drb count text) s f n h = mapped s (with_packet_taken drb count) (λ c. (refl, refl, drb_taken_rises drb count c.bearers)) h
-  air_keeps same air on pdu outcome (CompletedByS1 at count) s f n h = s1_keeps same s at count (at_air at s.preps) (waits_at s at h) n h
-  air_keeps same air on pdu outcome (CompletedWithin at count origin) s f n h = within_keeps same s at count origin (at_air at s.preps) (waits_at s at h) n h
-  air_keeps same air on pdu outcome (CompletedByX2 at count number) s f n h = x2_keeps same s at count number (at_air at s.preps) f.0 (waits_at s at h) n h
+    taken_is : (at : ℕ) (p : Prep Term ℕ) → at_air at s.preps ≡ Some p → TakenHere taken s.id at (at_air at s.preps) → taken p.key.kenb ≡ Some (home_at s.id at)
+    taken_is at p e k = subst (TakenHere taken s.id at) e k
 
-  -- rows by an act
+    air_cases : (air : ℕ) (on : Which) (pdu : List ℕ) (outcome : Outcome) → AirCases (term_reading_by same) s (λ row. AirHas (term_reading_by same) s air on pdu outcome row × AirNeeds taken s row) Keeps
+    air_cases air on pdu outcome =
+        record {
+          nothing = λ answer. still s h;
+          secured = λ count k. mapped s (with_security count) (λ c. (refl, refl, srb_taken_rises Signalling1 count c.bearers)) h;
+          opened = λ srb count text k. mapped s (with_rrc_taken srb count) (λ c. (refl, refl, srb_taken_rises srb count c.bearers)) h;
+          packet = λ drb count text k. mapped s (with_packet_taken drb count) (λ c. (refl, refl, drb_taken_rises drb count c.bearers)) h;
+          by_s1 = λ at count k p e. arrives s at s.next count None None p _ (omega arith) (waits at p e) (taken_is at p e k.1) tt tt tt;
+          within = λ at count origin k p e. arrives s at s.next count None origin p None (omega arith) (waits at p e) (taken_is at p e k.1) tt tt tt;
+          by_x2 = λ at count number k p e. let d : number ≡ s.next = k.0.0 in arrives s at (number + 1) count (Some number) _ p _ (omega arith) (waits at p e) (taken_is at p e k.1) tt tt tt;
+        }
 
-  module _ (same : Term → Term → Bool) (s : Station Term ℕ) where
-    -- a handover on X2 begins, with a KeNB* in its request
-    by_x2_start_keeps : (number target : ℕ) (cell : Place) (o : Option (Context Term ℕ)) → number ≡ s.next → StationStands taken given (record s { context = o }) →
-        let d = started_by_x2 (term_reading_by same) number target cell o (record s { context = o }) in StationKeeps taken given (record s { context = o }) d.0 d.1.sent
-    by_x2_start_keeps number target cell None e h = still (record s { context = None }) h
-    by_x2_start_keeps number target cell (Some c) e h =
-        changes (record s { context = Some c }) (number + 1) _ _ (omega arith) (refl, refl, rise_same c.bearers) h tt tt refl
+    -- a row of a PDU
+    pub air_keeps : (air : ℕ) (on : Which) (pdu : List ℕ) (outcome : Outcome) (row : AirRow) → AirHas (term_reading_by same) s air on pdu outcome row → AirNeeds taken s row →
+        Keeps (air_does (term_reading_by same) row s)
+    air_keeps air on pdu outcome row f n =
+        air_case (term_reading_by same) s Keeps (λ row. AirHas (term_reading_by same) s air on pdu outcome row × AirNeeds taken s row) (air_cases air on pdu outcome) row (f, n)
 
-    -- one on S1 begins
-    by_s1_start_keeps : (number target : ℕ) (cell : Place) (o : Option (Context Term ℕ)) → number ≡ s.next → StationStands taken given (record s { context = o }) →
-        let d = started_by_s1 number target cell o (record s { context = o }) in StationKeeps taken given (record s { context = o }) d.0 d.1.sent
-    by_s1_start_keeps number target cell None e h = still (record s { context = None }) h
-    by_s1_start_keeps number target cell (Some c) e h =
-        changes (record s { context = Some c }) (number + 1) _ _ (omega arith) (refl, refl, rise_same c.bearers) h tt tt tt
+    -- rows by an act
+
+    -- with the context that the station has
+    of_context : (c : Context Term ℕ) → s.context ≡ Some c → (f : Station Term ℕ → Station Term ℕ × Reply Term ℕ) →
+        (StationStands taken given (record s { context = Some c }) → let t = record s { context = Some c } in StationKeeps taken given t (f t).0 (f t).1.sent) → Keeps (f s)
+    of_context c e f k =
+        subst (λ o. let t = record s { context = o } in StationKeeps taken given t (f t).0 (f t).1.sent) (sym e) (k (subst (λ o. StationStands taken given (record s { context = o })) e h))
+
+    one_context : (b c : Context Term ℕ) → s.context ≡ Some b → s.context ≡ Some c → b ≡ c
+    one_context b c e f = by_some (sym e ∙ f)
 
     -- within the station: one more preparation, at the air address drawn
-    within_start_keeps : (number air : ℕ) (cell : Place) (o : Option (Context Term ℕ)) → (number ≡ s.next) × (air ≡ s.next + 1) → StationStands taken given (record s { context = o }) →
-        let d = started_within (term_reading_by same) number air cell o (record s { context = o }) in StationKeeps taken given (record s { context = o }) d.0 d.1.sent
-    within_start_keeps number air cell None e h = still (record s { context = None }) h
-    within_start_keeps number air cell (Some c) e h =
+    within_start_keeps : (number air : ℕ) (cell : Place) (c : Context Term ℕ) → number ≡ s.next → air ≡ s.next + 1 → StationStands taken given (record s { context = Some c }) →
+        let d = started_within (term_reading_by same) number air cell (Some c) (record s { context = Some c }) in StationKeeps taken given (record s { context = Some c }) d.0 d.1.sent
+    within_start_keeps number air cell c d e h =
         let p = own_prep (term_reading_by same) c.conn s.id number air cell c (opened (term_reading_by same) c.key cell).star in
-        let le : s.next ≤ air = let x = e.1 in omega arith in
+        let le : s.next ≤ air = omega arith in
         keeps (record s { context = Some c }) _ None
         (record { same = refl; next = omega arith; last = omega arith; free = λ a lt f. waits_apart s p s.preps le a lt f })
         (refl, refl, rise_same c.bearers)
         (all_append (PrepStands (air + 1)) s.preps (p ∷ []) (preps_rise s.next (air + 1) s.preps (omega arith) h.1) ((refl, refl, omega arith), tt))
         h tt tt tt
 
-    -- the handover command is sent
-    commands_keeps : (order : Order) (count : ℕ) (o : Option (Context Term ℕ)) → IfSome o (λ c. count ≡ c.bearers.srb1.send) → StationStands taken given (record s { context = o }) →
-        let d = commands order count o (record s { context = o }) in StationKeeps taken given (record s { context = o }) d.0 d.1.sent
-    commands_keeps order count None e h = still (record s { context = None }) h
-    commands_keeps order count (Some c) e h =
-        subst (λ n. let d = commands order n (Some c) (record s { context = Some c }) in StationKeeps taken given (record s { context = Some c }) d.0 d.1.sent) (sym e)
-        (rrc_keeps s c (srb_sent Signalling1 c.bearers) (option_map (commanded order) c.attempt) Signalling1 (order_text order) refl h)
+    act_cases : (act : StationAct) → ActCases (term_reading_by same) s (StationActHas (term_reading_by same) s act) Keeps
+    act_cases act =
+        record {
+          nothing = λ answer. still s h;
+          by_x2 = λ number target cell k c e. let d : number ≡ s.next = k.number_is in of_context c e (started_by_x2 (term_reading_by same) number target cell (Some c)) (λ h. changes (record s { context = Some c }) (number + 1) _ _ (omega arith) (refl, refl, rise_same c.bearers) h tt tt refl);
+          by_s1 = λ number target cell k c e. let d : number ≡ s.next = k.number_is in of_context c e (started_by_s1 number target cell (Some c)) (λ h. changes (record s { context = Some c }) (number + 1) _ _ (omega arith) (refl, refl, rise_same c.bearers) h tt tt tt);
+          within = λ number air cell k c e. of_context c e (started_within (term_reading_by same) number air cell (Some c)) (λ h. within_start_keeps number air cell c k.starts.number_is k.air_is h);
+          commanded = λ order count k c e. of_context c e (commands order count (Some c)) (λ h. subst (λ n. let d = commands order n (Some c) (record s { context = Some c }) in StationKeeps taken given (record s { context = Some c }) d.0 d.1.sent) (sym (k.count_is ∙ ap (λ x. x.bearers.srb1.send) (one_context k.context c k.serving e))) (rrc_keeps s c (srb_sent Signalling1 c.bearers) (option_map (commanded order) c.attempt) Signalling1 (order_text order) refl h));
+          changed = λ renewal count k c e. of_context c e (commands_change renewal count (Some c)) (λ h. subst (λ n. let d = commands_change renewal n (Some c) (record s { context = Some c }) in StationKeeps taken given (record s { context = Some c }) d.0 d.1.sent) (sym (k.count_is ∙ ap (λ x. x.bearers.srb1.send) (one_context k.context c k.serving e))) (rrc_keeps s c (srb_sent Signalling1 c.bearers) c.attempt Signalling1 (change_text s.id renewal) refl h));
+          cancelled_x2 = λ conn number target k. changes s s.next (option_map given_up s.context) _ (omega arith) (stays_map given_up gives_up s.context) h tt tt tt;
+          cancelled_s1 = λ conn number cell k. changes s s.next (option_map given_up s.context) _ (omega arith) (stays_map given_up gives_up s.context) h tt tt tt;
+          cancelled_within = λ number k. filtered s (option_map given_up s.context) s.id number (stays_map given_up gives_up s.context) h;
+          asked = λ number k c e. let d : number ≡ s.next = k.number_is in of_context c e (asks_again number (Some c)) (λ h. changes (record s { context = Some c }) (number + 1) _ _ (omega arith) (refl, refl, rise_same c.bearers) h tt tt tt);
+          packet = λ drb count text k c e. of_context c e (sends_packet drb count text (Some c)) (λ h. subst (λ n. let d = sends_packet drb n text (Some c) (record s { context = Some c }) in StationKeeps taken given (record s { context = Some c }) d.0 d.1.sent) (sym (k.count_is ∙ ap (λ x. (drb_counts drb x.bearers).send) (one_context k.context c k.serving e))) (packet_keeps s c (drb_sent drb c.bearers) c.attempt drb text refl h));
+          text = λ srb count text k c e. of_context c e (sends_rrc srb count text (Some c)) (λ h. subst (λ n. let d = sends_rrc srb n text (Some c) (record s { context = Some c }) in StationKeeps taken given (record s { context = Some c }) d.0 d.1.sent) (sym (k.count_is ∙ ap (λ x. (srb_counts srb x.bearers).send) (one_context k.context c k.serving e))) (rrc_keeps s c (srb_sent srb c.bearers) c.attempt srb (spelling_of (RrcData text)) refl h));
+          skipped = λ on n k. mapped s (with_skipped on n) (λ c. (refl, refl, left_out_rises on n c.bearers)) h;
+        }
 
-    -- a Path Switch Request again
-    asks_keeps : (number : ℕ) (o : Option (Context Term ℕ)) → number ≡ s.next → StationStands taken given (record s { context = o }) →
-        let d = asks_again number o (record s { context = o }) in StationKeeps taken given (record s { context = o }) d.0 d.1.sent
-    asks_keeps number None e h = still (record s { context = None }) h
-    asks_keeps number (Some c) e h =
-        changes (record s { context = Some c }) (number + 1) _ _ (omega arith) (refl, refl, rise_same c.bearers) h tt tt tt
-
-    -- the order of a key change is sent again
-    change_keeps : (renewal : Renewal) (count : ℕ) (o : Option (Context Term ℕ)) → IfSome o (λ c. count ≡ c.bearers.srb1.send) → StationStands taken given (record s { context = o }) →
-        let d = commands_change renewal count o (record s { context = o }) in StationKeeps taken given (record s { context = o }) d.0 d.1.sent
-    change_keeps renewal count None e h = still (record s { context = None }) h
-    change_keeps renewal count (Some c) e h =
-        subst (λ n. let d = commands_change renewal n (Some c) (record s { context = Some c }) in StationKeeps taken given (record s { context = Some c }) d.0 d.1.sent) (sym e)
-        (rrc_keeps s c (srb_sent Signalling1 c.bearers) c.attempt Signalling1 (change_text s.id renewal) refl h)
-
-    -- a user packet is sent
-    packets_keeps : (drb : Drb) (count : ℕ) (text : List ℕ) (o : Option (Context Term ℕ)) → IfSome o (λ c. count ≡ (drb_counts drb c.bearers).send) →
-        StationStands taken given (record s { context = o }) →
-        let d = sends_packet drb count text o (record s { context = o }) in StationKeeps taken given (record s { context = o }) d.0 d.1.sent
-    packets_keeps drb count text None e h = still (record s { context = None }) h
-    packets_keeps drb count text (Some c) e h =
-        subst (λ n. let d = sends_packet drb n text (Some c) (record s { context = Some c }) in StationKeeps taken given (record s { context = Some c }) d.0 d.1.sent) (sym e)
-        (packet_keeps s c (drb_sent drb c.bearers) c.attempt drb text refl h)
-
-    -- an RRC text is sent
-    texts_keeps : (srb : Srb) (count : ℕ) (text : List ℕ) (o : Option (Context Term ℕ)) → IfSome o (λ c. count ≡ (srb_counts srb c.bearers).send) →
-        StationStands taken given (record s { context = o }) →
-        let d = sends_rrc srb count text o (record s { context = o }) in StationKeeps taken given (record s { context = o }) d.0 d.1.sent
-    texts_keeps srb count text None e h = still (record s { context = None }) h
-    texts_keeps srb count text (Some c) e h =
-        subst (λ n. let d = sends_rrc srb n text (Some c) (record s { context = Some c }) in StationKeeps taken given (record s { context = Some c }) d.0 d.1.sent) (sym e)
-        (rrc_keeps s c (srb_sent srb c.bearers) c.attempt srb (spelling_of (RrcData text)) refl h)
-
-  -- an attempt that is given up leaves the KeNB
-  gives_up : (c : Context Term ℕ) → Stays c (given_up c)
-  gives_up c = (restored_kenb c.key (spent_in c.attempt), refl, rise_same c.bearers)
-
-  -- what is so of the context that a station has
-  if_serving : (s : Station Term ℕ) (c : Context Term ℕ) → s.context ≡ Some c → (P : Context Term ℕ → Type 0) → P c → IfSome s.context P
-  if_serving s c e P h = subst (λ o. IfSome o P) (sym e) h
-
-  -- a row of an act
-  pub act_keeps : (same : Term → Term → Bool) (act : StationAct) (row : ActRow) (s : Station Term ℕ) → StationActHas (term_reading_by same) s act row → StationStands taken given s →
-      let d = act_does (term_reading_by same) row s in StationKeeps taken given s d.0 d.1.sent
-  act_keeps same act (ActRefused answer) s f h = still s h
-  act_keeps same act (StartedByX2 number target cell) s f h = by_x2_start_keeps same s number target cell s.context f.number_is h
-  act_keeps same act (StartedByS1 number target cell) s f h = by_s1_start_keeps same s number target cell s.context f.number_is h
-  act_keeps same act (StartedWithin number air cell) s f h = within_start_keeps same s number air cell s.context (f.starts.number_is, f.air_is) h
-  act_keeps same act (HandoverCommanded order count) s f h = commands_keeps same s order count s.context (if_serving s f.context f.serving (λ c. count ≡ c.bearers.srb1.send) f.count_is) h
-  act_keeps same act (ChangeCommanded renewal count) s f h = change_keeps same s renewal count s.context (if_serving s f.context f.serving (λ c. count ≡ c.bearers.srb1.send) f.count_is) h
-  act_keeps same act (CancelledByX2 conn number target) s f h =
-      changes s s.next (option_map given_up s.context) _ (omega arith) (stays_map given_up gives_up s.context) h tt tt tt
-  act_keeps same act (CancelledByS1 conn number cell) s f h =
-      changes s s.next (option_map given_up s.context) _ (omega arith) (stays_map given_up gives_up s.context) h tt tt tt
-  act_keeps same act (CancelledWithin number) s f h = filtered s (option_map given_up s.context) s.id number (stays_map given_up gives_up s.context) h
-  act_keeps same act (PathSwitchAsked number) s f h = asks_keeps same s number s.context f.number_is h
-  act_keeps same act (PacketSent drb count text) s f h = packets_keeps same s drb count text s.context (if_serving s f.context f.serving (λ c. count ≡ (drb_counts drb c.bearers).send) f.count_is) h
-  act_keeps same act (RrcSent srb count text) s f h = texts_keeps same s srb count text s.context (if_serving s f.context f.serving (λ c. count ≡ (srb_counts srb c.bearers).send) f.count_is) h
-  act_keeps same act (BearerSkipped on m) s f h = mapped s (with_skipped on m) (λ c. (refl, refl, left_out_rises on m c.bearers)) h
+    -- a row of an act
+    pub act_keeps : (act : StationAct) (row : ActRow) → StationActHas (term_reading_by same) s act row → Keeps (act_does (term_reading_by same) row s)
+    act_keeps act row f = act_case (term_reading_by same) s Keeps (StationActHas (term_reading_by same) s act) (act_cases act) row f

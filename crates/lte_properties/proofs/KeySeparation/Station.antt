@@ -1,8 +1,6 @@
 -- What each row of a station keeps of the keys that it may have.
 use Rattle.std.proofs.Common.{◌≡◌, refl, sym, subst, ℕ, List, [], Option, Some, None, option_map}
 use Rattle.std.specs.Prelude.{not, nat_le, Bool, ⊤}
-use Rattle.alg_choice.specs.declared.algs.Algs.{Algs}
-use Rattle.alg_choice.specs.declared.caps.Caps.{Caps}
 use Rattle.annex_a_keys.specs.Cell.{Place}
 use Rattle.lte_events.specs.Site.{Site, station_of}
 use Rattle.lte_events.specs.declared.acts.StationAct.{StationAct}
@@ -12,50 +10,20 @@ use Rattle.key_model.specs.Reading.{term_reading_by}
 use Rattle.key_model.specs.HandoverTable.{NumberedKey}
 use Rattle.nh_chain.specs.Station.{StationKey, pair_after, restored_if, base_of, opened}
 use Rattle.ho_prep.specs.Prep.{Prep, at_air, drop_below, without, is_of, is_at}
-use Rattle.x2_handover.specs.declared.orders.Order.{Order}
-use Rattle.lte_machine.specs.Bearers.{Srb, Drb}
 use Rattle.lte_machine.specs.Wire.{Outgoing}
 use Rattle.lte_machine.specs.Reply.{Origin, Made, Tried, Reply, ByAttempt, Handover, BySource, ByTarget}
-use Rattle.lte_machine.specs.StationState.{Station, Context, Attempt, OverX2, OverS1, Within, X2Open, X2Ready, X2Commanded, S1Open, S1Ready, S1Commanded, Renewal, Renewing}
-use Rattle.lte_machine.specs.StationRows.{Admitted, RecordRow, RecordRefused, ContextGiven, ContextReleased, PairTaken, PreparedByS1, PreparedByX2, AckedByS1, AckedByX2, PreparationCancelled, SourceReleased, AirRow, AirRefused, SecurityStarted, RrcOpened, PacketOpened, CompletedByS1, CompletedWithin, CompletedByX2, ActRow, ActRefused, StartedByX2, StartedByS1, StartedWithin, HandoverCommanded, CancelledByX2, CancelledByS1, CancelledWithin, PathSwitchAsked, PacketSent, RrcSent, BearerSkipped, KeyRenewed, ChangeCommanded}
-use Rattle.lte_machine.specs.StationKeys.{spent_in, commanded, given_up, with_security, with_rrc_taken, with_packet_taken, with_skipped, completed_by_s1, completed_within, completed_by_x2, started_by_x2, started_by_s1, started_within, commands, asks_again, sends_packet, sends_rrc, air_does, act_does, commands_change}
-use Rattle.lte_machine.specs.StationRecords.{s1_acked, x2_acked, with_pair, with_s1_ack, with_x2_ack, source_release, admitted_made, context_given, pair_taken, prepared_by_s1, prepared_by_x2, record_does, key_renewed}
+use Rattle.lte_machine.specs.StationState.{Station, Context}
+use Rattle.lte_machine.specs.StationRows.{Admitted, RecordRow, ContextGiven, PairTaken, PreparedByS1, PreparedByX2, AirRow, ActRow, KeyRenewed}
+use Rattle.lte_machine.specs.StationKeys.{spent_in, commanded, given_up, with_security, with_rrc_taken, with_packet_taken, with_skipped, started_by_x2, started_within, air_does, act_does}
+use Rattle.lte_machine.specs.StationRecords.{with_pair, with_s1_ack, with_x2_ack, source_release, admitted_made, prepared_by_s1, prepared_by_x2, record_does, key_renewed}
 use Rattle.lte_machine.specs.World.{with_one}
+use Rattle.lte_machine.proofs.StationCases.{Any, RecordCases, AirCases, ActCases, record_case, air_case, act_case}
 use Rattle.lte_machine.proofs.StationActFacts.{StationActHas}
+use Rattle.lte_machine.proofs.AttemptSteps.{s1_acked_so, x2_acked_so, commanded_so}
 use Rattle.lte_properties.proofs.ChainNumbers.Lists.{OfSome, all_append, all_filter, all_find}
 use Rattle.lte_properties.proofs.KeySeparation.Keys.{any_map, any_new, GivesIn, Gifts, May, MayHold, may_star, may_go, OfPairKey, ContextHas, PrepHas, StationHas, BaseGiven, TriedOk, HasTried, IsKenb, OwnCell, FlyOk, MadeBy, MadeOk, OutsAre, OwnPlace}
 
 -- CONTEXTS
-
--- the pair of an attempt after a step of it
-s1_acked_spent : (P : Term → Type 0) (ncc : ℕ) (algs : Algs) (air : ℕ) (o : Option (Attempt Term ℕ)) → OfPairKey P (spent_in o) → OfPairKey P (spent_in (option_map (s1_acked ncc algs air) o))
-s1_acked_spent P ncc algs air None h = h
-s1_acked_spent P ncc algs air (Some (Renewing renewal)) h = h
-s1_acked_spent P ncc algs air (Some (OverX2 state)) h = h
-s1_acked_spent P ncc algs air (Some (Within state)) h = h
-s1_acked_spent P ncc algs air (Some (OverS1 (S1Open start))) h = tt
-s1_acked_spent P ncc algs air (Some (OverS1 (S1Ready acked))) h = tt
-s1_acked_spent P ncc algs air (Some (OverS1 (S1Commanded sent))) h = tt
-
-x2_acked_spent : (P : Term → Type 0) (algs : Algs) (air : ℕ) (o : Option (Attempt Term ℕ)) → OfPairKey P (spent_in o) → OfPairKey P (spent_in (option_map (x2_acked algs air) o))
-x2_acked_spent P algs air None h = h
-x2_acked_spent P algs air (Some (Renewing renewal)) h = h
-x2_acked_spent P algs air (Some (OverS1 state)) h = h
-x2_acked_spent P algs air (Some (Within state)) h = h
-x2_acked_spent P algs air (Some (OverX2 (X2Open start))) h = h
-x2_acked_spent P algs air (Some (OverX2 (X2Ready acked))) h = h
-x2_acked_spent P algs air (Some (OverX2 (X2Commanded sent))) h = h
-
-commanded_spent : (P : Term → Type 0) (order : Order) (o : Option (Attempt Term ℕ)) → OfPairKey P (spent_in o) → OfPairKey P (spent_in (option_map (commanded order) o))
-commanded_spent P order None h = h
-commanded_spent P order (Some (Renewing renewal)) h = h
-commanded_spent P order (Some (OverS1 state)) h = h
-commanded_spent P order (Some (OverX2 (X2Open start))) h = h
-commanded_spent P order (Some (OverX2 (X2Ready acked))) h = tt
-commanded_spent P order (Some (OverX2 (X2Commanded sent))) h = tt
-commanded_spent P order (Some (Within (X2Open start))) h = h
-commanded_spent P order (Some (Within (X2Ready acked))) h = tt
-commanded_spent P order (Some (Within (X2Commanded sent))) h = tt
 
 -- the key of which a KeNB* is derived: of the stored pair, or the active KeNB
 base_has : (P : Term → Type 0) (o : Option (NumberedKey Term ℕ)) (kenb : Term) (number : ℕ) → P kenb → OfPairKey P o → P (base_of o kenb number).key
@@ -158,20 +126,6 @@ module _ (G : Gifts) (sites : List Site) (tried : List (Tried Term ℕ)) (same :
   kenb_own (Star t pci earfcn) k = absurd k
   kenb_own (Alg t type i) k = tt
 
-  given_kept : (conn : ℕ) (cell : Place) (caps : Caps) (algs : Algs) (air : ℕ) (key : Option (NumberedKey Term ℕ)) →
-      KeyNeeds G sites tried s.id (ContextGiven conn cell caps algs air) key → StationHas P C s → After (context_given (term_reading_by same) conn cell caps algs air key s)
-  given_kept conn cell caps algs air None n h = quiet s refl refl h
-  given_kept conn cell caps algs air (Some key) n h = record {
-    same = refl;
-    cells = cells;
-    keys = record { context = (n.0, tt, tt, n.2); preps = tt };
-    outs = (n.0, (n.0, (n.0, tt)));
-    sends = tt;
-    gives = λ u a g. g;
-    tries = tt;
-    makes = (n.1, kenb_own key.key n.1);
-  }
-
   released_gives : (conn : ℕ) (o : Option Origin) (u : Term) (a : ℕ) → GivesIn (source_release conn o) u a → ⊥
   released_gives conn None u a g = g
   released_gives conn (Some o) u a g = g
@@ -180,21 +134,13 @@ module _ (G : Gifts) (sites : List Site) (tried : List (Tried Term ℕ)) (same :
   released_flies conn None = tt
   released_flies conn (Some o) = (tt, tt)
 
-  taken_kept : (conn : ℕ) (origin : Option Origin) (key : Option (NumberedKey Term ℕ)) →
-      KeyNeeds G sites tried s.id (PairTaken conn origin) key → StationHas P C s → After (pair_taken conn origin key s)
-  taken_kept conn origin None n h = quiet s refl refl h
-  taken_kept conn origin (Some pair) n h =
-      calm (record s { context = option_map (with_pair pair) s.context }) (source_release conn origin) refl refl (released_flies conn origin) (released_gives conn origin)
-      (record { context = context_map_has P C (with_pair pair) (λ c k. (k.0, n, k.2, k.3)) s.context h.context; preps = h.preps })
-
   -- what a preparation was made of
   abbrev AdmittedBy : Admitted → NumberedKey Term ℕ → Handover Term ℕ → Type 0
   AdmittedBy w key o = MadeBy G (admitted_made s.id w key) o
 
-  prepared_s1_kept : (w : Admitted) (key : Option (NumberedKey Term ℕ)) →
-      KeyNeeds G sites tried s.id (PreparedByS1 w) key → StationHas P C s → After (prepared_by_s1 (term_reading_by same) w key s)
-  prepared_s1_kept w None n h = quiet s refl refl h
-  prepared_s1_kept w (Some key) n h =
+  prepared_s1_kept : (w : Admitted) (key : NumberedKey Term ℕ) →
+      RecordNeeds G sites tried s.id (PreparedByS1 w) key → StationHas P C s → After (prepared_by_s1 (term_reading_by same) w (Some key) s)
+  prepared_s1_kept w key n h =
       let k = may_star G sites s.id key.key w.cell.pci w.cell.earfcn n.0 in record {
         same = refl;
         cells = cells;
@@ -213,10 +159,9 @@ module _ (G : Gifts) (sites : List Site) (tried : List (Tried Term ℕ)) (same :
         );
       }
 
-  prepared_x2_kept : (w : Admitted) (key : Option (NumberedKey Term ℕ)) →
-      KeyNeeds G sites tried s.id (PreparedByX2 w) key → StationHas P C s → After (prepared_by_x2 (term_reading_by same) w key s)
-  prepared_x2_kept w None n h = quiet s refl refl h
-  prepared_x2_kept w (Some key) n h = record {
+  prepared_x2_kept : (w : Admitted) (key : NumberedKey Term ℕ) →
+      RecordNeeds G sites tried s.id (PreparedByX2 w) key → StationHas P C s → After (prepared_by_x2 (term_reading_by same) w (Some key) s)
+  prepared_x2_kept w key n h = record {
     same = refl;
     cells = cells;
     keys = record {
@@ -234,12 +179,9 @@ module _ (G : Gifts) (sites : List Site) (tried : List (Tried Term ℕ)) (same :
     );
   }
 
-  renewed_kept : (conn number air count : ℕ) (o : Option (Context Term ℕ)) (key : Option (NumberedKey Term ℕ)) →
-      KeyNeeds G sites tried s.id (KeyRenewed conn number air count) key → OfSome (ContextHas P C) o → StationHas P C s →
-      After (key_renewed (term_reading_by same) conn number air count o key s)
-  renewed_kept conn number air count None key n c h = quiet s refl refl h
-  renewed_kept conn number air count (Some context) None n c h = quiet s refl refl h
-  renewed_kept conn number air count (Some context) (Some kenb) n c h =
+  renewed_kept : (conn number air count : ℕ) (context : Context Term ℕ) (kenb : NumberedKey Term ℕ) → May G sites s.id kenb.key → ContextHas P C context →
+      After (key_renewed (term_reading_by same) conn number air count (Some context) (Some kenb) s)
+  renewed_kept conn number air count context kenb n c =
       let k = may_star G sites s.id kenb.key context.cell.pci context.cell.earfcn n in record {
         same = refl;
         cells = cells;
@@ -251,60 +193,64 @@ module _ (G : Gifts) (sites : List Site) (tried : List (Tried Term ℕ)) (same :
         makes = (base_given G sites s.id kenb.key context.cell.pci context.cell.earfcn n, c.3);
       }
 
+  -- the context, and a preparation
+  here : StationHas P C s → (c : Context Term ℕ) → s.context ≡ Some c → ContextHas P C c
+  here h c e = subst (OfSome (ContextHas P C)) e h.context
+
+  found : StationHas P C s → (at : ℕ) (p : Prep Term ℕ) → at_air at s.preps ≡ Some p → PrepHas P C p
+  found h at p e = (subst (OfSome (λ q. PrepHas P C q × (is_at at q ≡ Bool.true))) e (all_find (PrepHas P C) (is_at at) s.preps h.preps)).0
+
+  records : StationHas P C s → RecordCases (term_reading_by same) s (KeyNeeds G sites tried s.id) After
+  records h =
+      record {
+        nothing = λ answer. quiet s refl refl h;
+        given = λ conn cell caps algs air kenb k. record {
+          same = refl;
+          cells = cells;
+          keys = record { context = (k.0, tt, tt, k.2); preps = tt };
+          outs = (k.0, (k.0, (k.0, tt)));
+          sends = tt;
+          gives = λ u a g. g;
+          tries = tt;
+          makes = (k.1, kenb_own kenb.key k.1);
+        };
+        released = λ key k. quiet (record s { context = None; preps = [] }) refl refl (record { context = tt; preps = tt });
+        taken = λ conn origin pair k. calm (record s { context = option_map (with_pair pair) s.context }) (source_release conn origin) refl refl (released_flies conn origin) (released_gives conn origin) (record { context = context_map_has P C (with_pair pair) (λ c m. (m.0, k, m.2, m.3)) s.context h.context; preps = h.preps });
+        by_s1 = λ w pair k. prepared_s1_kept w pair k h;
+        by_x2 = λ w star k. prepared_x2_kept w star k h;
+        acked_s1 = λ ncc algs air key k. mapped (with_s1_ack ncc algs air) (λ c k. (k.0, k.1, s1_acked_so (λ o. OfPairKey P (spent_in o)) ncc algs air (λ start m. m) c.attempt k.2, k.3)) h;
+        acked_x2 = λ algs air key k. mapped (with_x2_ack algs air) (λ c k. (k.0, k.1, x2_acked_so (λ o. OfPairKey P (spent_in o)) algs air (λ start m. m) c.attempt k.2, k.3)) h;
+        cancelled = λ from key k. quiet (record s { preps = without from.source from.attempt s.preps }) refl refl (record { context = h.context; preps = all_filter (PrepHas P C) (λ p. not (is_of from.source from.attempt p)) s.preps h.preps });
+        left = λ key k. quiet (record s { context = None }) refl refl (record { context = tt; preps = h.preps });
+        renewed = λ conn number air count c e kenb k. renewed_kept conn number air count c kenb k (here h c e);
+      }
+
   pub record_kept : (row : RecordRow) (key : Option (NumberedKey Term ℕ)) → KeyNeeds G sites tried s.id row key → StationHas P C s →
       After (record_does (term_reading_by same) row key s)
-  record_kept (RecordRefused answer) key n h = quiet s refl refl h
-  record_kept (ContextGiven conn cell caps algs air) key n h = given_kept conn cell caps algs air key n h
-  record_kept ContextReleased key n h = quiet (record s { context = None; preps = [] }) refl refl (record { context = tt; preps = tt })
-  record_kept (PairTaken conn origin) key n h = taken_kept conn origin key n h
-  record_kept (PreparedByS1 w) key n h = prepared_s1_kept w key n h
-  record_kept (PreparedByX2 w) key n h = prepared_x2_kept w key n h
-  record_kept (AckedByS1 ncc algs air) key n h = mapped (with_s1_ack ncc algs air) (λ c k. (k.0, k.1, s1_acked_spent P ncc algs air c.attempt k.2, k.3)) h
-  record_kept (AckedByX2 algs air) key n h = mapped (with_x2_ack algs air) (λ c k. (k.0, k.1, x2_acked_spent P algs air c.attempt k.2, k.3)) h
-  record_kept (PreparationCancelled from) key n h =
-      quiet (record s { preps = without from.source from.attempt s.preps }) refl refl
-      (record { context = h.context; preps = all_filter (PrepHas P C) (λ p. not (is_of from.source from.attempt p)) s.preps h.preps })
-  record_kept SourceReleased key n h = quiet (record s { context = None }) refl refl (record { context = tt; preps = h.preps })
-  record_kept (KeyRenewed conn number air count) key n h = renewed_kept conn number air count s.context key n h.context h
+  record_kept row key n h = record_case (term_reading_by same) s After (KeyNeeds G sites tried s.id) (records h) row key n
 
   -- BY A PDU
 
-  completed_s1_kept : (count : ℕ) (o : Option (Prep Term ℕ)) → OfSome (PrepHas P C) o → StationHas P C s → After (completed_by_s1 (term_reading_by same) count o s)
-  completed_s1_kept count None n h = quiet s refl refl h
-  completed_s1_kept count (Some p) n h = calm _ _ refl refl (tt, tt) (λ u a g. g) (record { context = (n.0, n.1, tt, n.2); preps = tt })
-
-  completed_within_kept : (count : ℕ) (origin : Option Origin) (o : Option (Prep Term ℕ)) → OfSome (PrepHas P C) o → StationHas P C s → After (completed_within (term_reading_by same) count origin o s)
-  completed_within_kept count origin None n h = quiet s refl refl h
-  completed_within_kept count origin (Some p) n h = quiet _ refl refl (record { context = (n.0, n.1, tt, n.2); preps = tt })
-
-  completed_x2_kept : (count number : ℕ) (o : Option (Prep Term ℕ)) → OfSome (PrepHas P C) o → StationHas P C s → After (completed_by_x2 (term_reading_by same) count number o s)
-  completed_x2_kept count number None n h = quiet s refl refl h
-  completed_x2_kept count number (Some p) n h = calm _ _ refl refl (tt, tt) (λ u a g. g) (record { context = (n.0, n.1, tt, n.2); preps = tt })
-
-  found : (air : ℕ) → StationHas P C s → OfSome (PrepHas P C) (at_air air s.preps)
-  found air h = take (at_air air s.preps) (all_find (PrepHas P C) (is_at air) s.preps h.preps) where
-    take : (o : Option (Prep Term ℕ)) → OfSome (λ p. PrepHas P C p × (is_at air p ≡ Bool.true)) o → OfSome (PrepHas P C) o
-    take None k = tt
-    take (Some p) k = k.0
+  pdus : StationHas P C s → AirCases (term_reading_by same) s Any After
+  pdus h =
+      record {
+        nothing = λ answer. quiet s refl refl h;
+        secured = λ count k. mapped (with_security count) (λ c k. k) h;
+        opened = λ srb count text k. mapped (with_rrc_taken srb count) (λ c k. k) h;
+        packet = λ drb count text k. mapped (with_packet_taken drb count) (λ c k. k) h;
+        by_s1 = λ at count k p e. let n = found h at p e in calm _ _ refl refl (tt, tt) (λ u a g. g) (record { context = (n.0, n.1, tt, n.2); preps = tt });
+        within = λ at count origin k p e. let n = found h at p e in quiet _ refl refl (record { context = (n.0, n.1, tt, n.2); preps = tt });
+        by_x2 = λ at count number k p e. let n = found h at p e in calm _ _ refl refl (tt, tt) (λ u a g. g) (record { context = (n.0, n.1, tt, n.2); preps = tt });
+      }
 
   pub air_kept : (row : AirRow) → StationHas P C s → After (air_does (term_reading_by same) row s)
-  air_kept (AirRefused answer) h = quiet s refl refl h
-  air_kept (SecurityStarted count) h = mapped (with_security count) (λ c k. k) h
-  air_kept (RrcOpened srb count text) h = mapped (with_rrc_taken srb count) (λ c k. k) h
-  air_kept (PacketOpened drb count text) h = mapped (with_packet_taken drb count) (λ c k. k) h
-  air_kept (CompletedByS1 air count) h = completed_s1_kept count (at_air air s.preps) (found air h) h
-  air_kept (CompletedWithin air count origin) h = completed_within_kept count origin (at_air air s.preps) (found air h) h
-  air_kept (CompletedByX2 air count number) h = completed_x2_kept count number (at_air air s.preps) (found air h) h
+  air_kept row h = air_case (term_reading_by same) s After Any (pdus h) row tt
 
   -- BY AN ACT
 
-  abbrev Has : Option (Context Term ℕ) → Type 0
-  Has o = OfSome (ContextHas P C) o
-
-  started_x2_kept : (number target : ℕ) (cell : Place) (o : Option (Context Term ℕ)) → station_of cell sites ≡ Some target → Has o → StationHas P C s →
-      After (started_by_x2 (term_reading_by same) number target cell o s)
-  started_x2_kept number target cell None e c h = quiet s refl refl h
-  started_x2_kept number target cell (Some context) e c h =
+  started_x2_kept : (number target : ℕ) (cell : Place) (context : Context Term ℕ) → station_of cell sites ≡ Some target → ContextHas P C context → StationHas P C s →
+      After (started_by_x2 (term_reading_by same) number target cell (Some context) s)
+  started_x2_kept number target cell context e c h =
       let base = base_of context.key.pair context.key.kenb context.key.number in
       let b = base_has P context.key.pair context.key.kenb context.key.number c.0 c.1 in record {
         same = refl;
@@ -320,22 +266,9 @@ module _ (G : Gifts) (sites : List Site) (tried : List (Tried Term ℕ)) (same :
         makes = tt;
       }
 
-  started_s1_kept : (number target : ℕ) (cell : Place) (o : Option (Context Term ℕ)) → Has o → StationHas P C s → After (started_by_s1 number target cell o s)
-  started_s1_kept number target cell None c h = quiet s refl refl h
-  started_s1_kept number target cell (Some context) c h = record {
-    same = refl;
-    cells = cells;
-    keys = record { context = (c.0, c.1, tt, c.3); preps = h.preps };
-    outs = tt;
-    sends = (tt, any_new (λ t. (t.station ≡ s.id) × (t.attempt ≡ number) × (t.kind ≡ ByTarget)) _ tried (refl, refl, refl));
-    gives = λ u a g. g;
-    tries = tt;
-    makes = tt;
-  }
-
-  started_within_kept : (number air : ℕ) (cell : Place) (o : Option (Context Term ℕ)) → station_of cell sites ≡ Some s.id → Has o → StationHas P C s → After (started_within (term_reading_by same) number air cell o s)
-  started_within_kept number air cell None e c h = quiet s refl refl h
-  started_within_kept number air cell (Some context) e c h =
+  started_within_kept : (number air : ℕ) (cell : Place) (context : Context Term ℕ) → station_of cell sites ≡ Some s.id → ContextHas P C context → StationHas P C s →
+      After (started_within (term_reading_by same) number air cell (Some context) s)
+  started_within_kept number air cell context e c h =
       let base = base_of context.key.pair context.key.kenb context.key.number in
       let b = base_has P context.key.pair context.key.kenb context.key.number c.0 c.1 in
       let k = may_star G sites s.id base.key cell.pci cell.earfcn b in
@@ -350,47 +283,37 @@ module _ (G : Gifts) (sites : List Site) (tried : List (Tried Term ℕ)) (same :
         makes = (any_new (λ e. (e.station ≡ s.id) × (e.attempt ≡ number) × MadeBy G made e.kind) _ tried (refl, refl, refl), e);
       }
 
-  commands_kept : (order : Order) (count : ℕ) (o : Option (Context Term ℕ)) → Has o → StationHas P C s → After (commands order count o s)
-  commands_kept order count None c h = quiet s refl refl h
-  commands_kept order count (Some context) c h = calm _ _ refl refl tt (λ u a g. g) (record { context = (c.0, c.1, commanded_spent P order context.attempt c.2, c.3); preps = h.preps })
-
-  commands_change_kept : (renewal : Renewal) (count : ℕ) (o : Option (Context Term ℕ)) → Has o → StationHas P C s → After (commands_change renewal count o s)
-  commands_change_kept renewal count None c h = quiet s refl refl h
-  commands_change_kept renewal count (Some context) c h = calm _ _ refl refl tt (λ u a g. g) (record { context = c; preps = h.preps })
-
-  asks_kept : (number : ℕ) (o : Option (Context Term ℕ)) → Has o → StationHas P C s → After (asks_again number o s)
-  asks_kept number None c h = quiet s refl refl h
-  asks_kept number (Some context) c h = calm _ _ refl refl (tt, tt) (λ u a g. g) (record { context = c; preps = h.preps })
-
-  packet_kept : (drb : Drb) (count : ℕ) (text : List ℕ) (o : Option (Context Term ℕ)) → Has o → StationHas P C s → After (sends_packet drb count text o s)
-  packet_kept drb count text None c h = quiet s refl refl h
-  packet_kept drb count text (Some context) c h = calm _ _ refl refl tt (λ u a g. g) (record { context = c; preps = h.preps })
-
-  rrc_kept : (srb : Srb) (count : ℕ) (text : List ℕ) (o : Option (Context Term ℕ)) → Has o → StationHas P C s → After (sends_rrc srb count text o s)
-  rrc_kept srb count text None c h = quiet s refl refl h
-  rrc_kept srb count text (Some context) c h = calm _ _ refl refl tt (λ u a g. g) (record { context = c; preps = h.preps })
-
   -- KeNB* goes to the station of its cell
   goes : (cell : Place) (target : ℕ) → station_of cell s.cells ≡ Some target → station_of cell sites ≡ Some target
   goes cell target e = subst (λ l. station_of cell l ≡ Some target) cells e
 
-  pub act_kept : (act : StationAct) (row : ActRow) → StationActHas (term_reading_by same) s act row → StationHas P C s → After (act_does (term_reading_by same) row s)
-  act_kept act (ActRefused answer) n h = quiet s refl refl h
-  act_kept act (StartedByX2 number target cell) n h = started_x2_kept number target cell s.context (goes cell target n.site) h.context h
-  act_kept act (StartedByS1 number target cell) n h = started_s1_kept number target cell s.context h.context h
-  act_kept act (StartedWithin number air cell) n h = started_within_kept number air cell s.context (goes cell s.id n.starts.site) h.context h
-  act_kept act (HandoverCommanded order count) n h = commands_kept order count s.context h.context h
-  act_kept act (ChangeCommanded renewal count) n h = commands_change_kept renewal count s.context h.context h
-  act_kept act (CancelledByX2 conn number target) n h =
-      calm _ _ refl refl (tt, tt) (λ u a g. g) (record { context = context_map_has P C given_up (given_up_has P C) s.context h.context; preps = h.preps })
-  act_kept act (CancelledByS1 conn number cell) n h =
-      calm _ _ refl refl (tt, tt) (λ u a g. g) (record { context = context_map_has P C given_up (given_up_has P C) s.context h.context; preps = h.preps })
-  act_kept act (CancelledWithin number) n h =
-      quiet _ refl refl (record {
-        context = context_map_has P C given_up (given_up_has P C) s.context h.context;
-        preps = all_filter (PrepHas P C) (λ p. not (is_of s.id number p)) s.preps h.preps;
-      })
-  act_kept act (PathSwitchAsked number) n h = asks_kept number s.context h.context h
-  act_kept act (PacketSent drb count text) n h = packet_kept drb count text s.context h.context h
-  act_kept act (RrcSent srb count text) n h = rrc_kept srb count text s.context h.context h
-  act_kept act (BearerSkipped on n) m h = mapped (with_skipped on n) (λ c k. k) h
+  acts : StationHas P C s → (act : StationAct) → ActCases (term_reading_by same) s (StationActHas (term_reading_by same) s act) After
+  acts h act =
+      record {
+        nothing = λ answer. quiet s refl refl h;
+        by_x2 = λ number target cell k c e. started_x2_kept number target cell c (goes cell target k.site) (here h c e) h;
+        by_s1 = λ number target cell k c e. let m = here h c e in record {
+          same = refl;
+          cells = cells;
+          keys = record { context = (m.0, m.1, tt, m.3); preps = h.preps };
+          outs = tt;
+          sends = (tt, any_new (λ t. (t.station ≡ s.id) × (t.attempt ≡ number) × (t.kind ≡ ByTarget)) _ tried (refl, refl, refl));
+          gives = λ u a g. g;
+          tries = tt;
+          makes = tt;
+        };
+        within = λ number air cell k c e. started_within_kept number air cell c (goes cell s.id k.starts.site) (here h c e) h;
+        commanded = λ order count k c e. let m = here h c e in calm _ _ refl refl tt (λ u a g. g) (record { context = (m.0, m.1, commanded_so (λ o. OfPairKey P (spent_in o)) order (λ a m. tt) (λ a m. m) (λ a m. tt) c.attempt m.2, m.3); preps = h.preps });
+        changed = λ renewal count k c e. calm _ _ refl refl tt (λ u a g. g) (record { context = here h c e; preps = h.preps });
+        cancelled_x2 = λ conn number target k. calm _ _ refl refl (tt, tt) (λ u a g. g) (record { context = context_map_has P C given_up (given_up_has P C) s.context h.context; preps = h.preps });
+        cancelled_s1 = λ conn number cell k. calm _ _ refl refl (tt, tt) (λ u a g. g) (record { context = context_map_has P C given_up (given_up_has P C) s.context h.context; preps = h.preps });
+        cancelled_within = λ number k. quiet _ refl refl (record { context = context_map_has P C given_up (given_up_has P C) s.context h.context; preps = all_filter (PrepHas P C) (λ p. not (is_of s.id number p)) s.preps h.preps });
+        asked = λ number k c e. calm _ _ refl refl (tt, tt) (λ u a g. g) (record { context = here h c e; preps = h.preps });
+        packet = λ drb count text k c e. calm _ _ refl refl tt (λ u a g. g) (record { context = here h c e; preps = h.preps });
+        text = λ srb count text k c e. calm _ _ refl refl tt (λ u a g. g) (record { context = here h c e; preps = h.preps });
+        skipped = λ on n k. mapped (with_skipped on n) (λ c k. k) h;
+      }
+
+  pub act_kept : (act : StationAct) (row : ActRow) → StationActHas (term_reading_by same) s act row → StationHas P C s →
+      After (act_does (term_reading_by same) row s)
+  act_kept act row k h = act_case (term_reading_by same) s After (StationActHas (term_reading_by same) s act) (acts h act) row k

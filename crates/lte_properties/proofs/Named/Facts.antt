@@ -27,10 +27,6 @@ module _ (P : ℕ → Type 0) where
   abbrev pub PrepNamed : {K C : Type 0} → Prep K C → Type 0
   PrepNamed p = P p.source × ByNamed p.by
 
-  abbrev pub PrepIs : {K C : Type 0} → Option (Prep K C) → Type 0
-  PrepIs None = ⊤
-  PrepIs (Some p) = PrepNamed p
-
   -- the target of an attempt over X2 that may be given up
   abbrev pub X2Named : {K C : Type 0} → X2State K C → Type 0
   X2Named (X2Open start) = P start.station

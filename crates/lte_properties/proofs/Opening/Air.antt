@@ -147,51 +147,51 @@ module _ (same : Term → Term → Bool) (g : Ghost) where
     -- any row of a station
     pub station_sends : (row : StationRow) (key : Option (NumberedKey Term ℕ)) → StationNeeds row → Sends (station_does r row key s)
     station_sends (station.OfRecord row) key needs =
-      record_case r s Sends AnyKey
-      (record {
-        nothing = λ answer. tt;
-        given = λ conn cell caps algs air kenb k. λ sent x. absurd (no_data (SecurityModeCommand algs s.id air) tt sent x);
-        released = λ key k. tt;
-        taken = λ conn origin pair k. source_sends conn origin;
-        by_s1 = λ w pair k. tt;
-        by_x2 = λ w star k. tt;
-        acked_s1 = λ ncc algs air key k. tt;
-        acked_x2 = λ algs air key k. tt;
-        cancelled = λ from key k. tt;
-        left = λ key k. tt;
-        renewed = λ conn number air count c e kenb k. λ sent x. absurd (no_data (KeyChange c.cell c.algs s.id air) tt sent x);
-      })
-      row key tt
+        record_case r s Sends AnyKey
+        (record {
+          nothing = λ answer. tt;
+          given = λ conn cell caps algs air kenb k. λ sent x. absurd (no_data (SecurityModeCommand algs s.id air) tt sent x);
+          released = λ key k. tt;
+          taken = λ conn origin pair k. source_sends conn origin;
+          by_s1 = λ w pair k. tt;
+          by_x2 = λ w star k. tt;
+          acked_s1 = λ ncc algs air key k. tt;
+          acked_x2 = λ algs air key k. tt;
+          cancelled = λ from key k. tt;
+          left = λ key k. tt;
+          renewed = λ conn number air count c e kenb k. λ sent x. absurd (no_data (KeyChange c.cell c.algs s.id air) tt sent x);
+        })
+        row key tt
     station_sends (station.OfAir row) key needs =
-      air_case r s Sends Any
-      (record {
-        nothing = λ answer. tt;
-        secured = λ count k. tt;
-        opened = λ srb count text k. tt;
-        packet = λ drb count text k. tt;
-        by_s1 = λ at count k p e. tt;
-        within = λ at count origin k p e. tt;
-        by_x2 = λ at count number k p e. tt;
-      })
-      row tt
+        air_case r s Sends Any
+        (record {
+          nothing = λ answer. tt;
+          secured = λ count k. tt;
+          opened = λ srb count text k. tt;
+          packet = λ drb count text k. tt;
+          by_s1 = λ at count k p e. tt;
+          within = λ at count origin k p e. tt;
+          by_x2 = λ at count number k p e. tt;
+        })
+        row tt
     station_sends (station.OfAct row) key needs =
-      act_case r s Sends SendNeeds
-      (record {
-        nothing = λ answer. tt;
-        by_x2 = λ number target cell k c e. tt;
-        by_s1 = λ number target cell k c e. tt;
-        within = λ number air cell k c e. tt;
-        commanded = λ order count k c e. λ sent x. absurd (no_data (Reconfiguration order.cell order.ncc order.algs order.station order.air) tt sent x);
-        changed = λ renewal count k c e. λ sent x. absurd (no_data (KeyChange renewal.cell renewal.algs s.id renewal.air) tt sent x);
-        cancelled_x2 = λ conn number target k. tt;
-        cancelled_s1 = λ conn number cell k. tt;
-        cancelled_within = λ number k. tt;
-        asked = λ number k c e. tt;
-        packet = λ drb count text k c e. (k.1, k.0, refl, c.keys, subst (ContextKeys g s.id) e keys, refl);
-        text = λ srb count text k c e. λ sent x. (subst (λ t. length t ≤ 200) (data_in text sent x) k.1, k.0, refl, c.keys, subst (ContextKeys g s.id) e keys, (refl, refl));
-        skipped = λ on n k. tt;
-      })
-      row needs
+        act_case r s Sends SendNeeds
+        (record {
+          nothing = λ answer. tt;
+          by_x2 = λ number target cell k c e. tt;
+          by_s1 = λ number target cell k c e. tt;
+          within = λ number air cell k c e. tt;
+          commanded = λ order count k c e. λ sent x. absurd (no_data (Reconfiguration order.cell order.ncc order.algs order.station order.air) tt sent x);
+          changed = λ renewal count k c e. λ sent x. absurd (no_data (KeyChange renewal.cell renewal.algs s.id renewal.air) tt sent x);
+          cancelled_x2 = λ conn number target k. tt;
+          cancelled_s1 = λ conn number cell k. tt;
+          cancelled_within = λ number k. tt;
+          asked = λ number k c e. tt;
+          packet = λ drb count text k c e. (k.1, k.0, refl, c.keys, subst (ContextKeys g s.id) e keys, refl);
+          text = λ srb count text k c e. λ sent x. (subst (λ t. length t ≤ 200) (data_in text sent x) k.1, k.0, refl, c.keys, subst (ContextKeys g s.id) e keys, (refl, refl));
+          skipped = λ on n k. tt;
+        })
+        row needs
 
   -- WHAT THE PHONE SENDS
 

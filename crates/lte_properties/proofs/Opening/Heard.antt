@@ -40,43 +40,43 @@ above count = omega arith
 station_heard : (r : Reading Term ℕ) (row : StationRow) (key : Option (NumberedKey Term ℕ)) (s : Station Term ℕ) → Heard s.context → Heard (station_does r row key s).0.context
 station_heard r row key s h =
     station_case r s (λ d. Heard d.0.context)
-      (record {
-        nothing = λ answer. h;
-        given = λ conn cell caps algs air kenb k. λ x. absurd cc;
-        released = λ key k. tt;
-        taken = λ conn origin pair k. heard_with (with_pair pair) (λ c k. k) s.context h;
-        by_s1 = λ w pair k. h;
-        by_x2 = λ w star k. h;
-        acked_s1 = λ ncc algs air key k. heard_with (with_s1_ack ncc algs air) (λ c k. k) s.context h;
-        acked_x2 = λ algs air key k. heard_with (with_x2_ack algs air) (λ c k. k) s.context h;
-        cancelled = λ from key k. h;
-        left = λ key k. tt;
-        renewed = λ conn number air count c e kenb k. λ x. heard_sent Signalling1 c.bearers (subst Heard e h x);
-      })
-      (record {
-        nothing = λ answer. h;
-        secured = λ count k. heard_with (with_security count) (λ c k x. above count) s.context h;
-        opened = λ srb count text k. heard_with (with_rrc_taken srb count) (λ c k x. heard_taken srb count c.bearers (k x)) s.context h;
-        packet = λ drb count text k. heard_with (with_packet_taken drb count) (λ c k x. heard_packet drb count c.bearers (k x)) s.context h;
-        by_s1 = λ at count k p e. λ x. above count;
-        within = λ at count origin k p e. λ x. above count;
-        by_x2 = λ at count number k p e. λ x. above count;
-      })
-      (record {
-        nothing = λ answer. h;
-        by_x2 = λ number target cell k c e. subst Heard e h;
-        by_s1 = λ number target cell k c e. subst Heard e h;
-        within = λ number air cell k c e. subst Heard e h;
-        commanded = λ order count k c e. λ x. heard_sent Signalling1 c.bearers (subst Heard e h x);
-        changed = λ renewal count k c e. λ x. heard_sent Signalling1 c.bearers (subst Heard e h x);
-        cancelled_x2 = λ conn number target k. heard_with given_up (λ c k. k) s.context h;
-        cancelled_s1 = λ conn number cell k. heard_with given_up (λ c k. k) s.context h;
-        cancelled_within = λ number k. heard_with given_up (λ c k. k) s.context h;
-        asked = λ number k c e. subst Heard e h;
-        packet = λ drb count text k c e. λ x. heard_packet_sent drb c.bearers (subst Heard e h x);
-        text = λ srb count text k c e. λ x. heard_sent srb c.bearers (subst Heard e h x);
-        skipped = λ on n k. heard_with (with_skipped on n) (λ c k x. heard_left on n c.bearers (k x)) s.context h;
-      }) row key
+    (record {
+      nothing = λ answer. h;
+      given = λ conn cell caps algs air kenb k. λ x. absurd cc;
+      released = λ key k. tt;
+      taken = λ conn origin pair k. heard_with (with_pair pair) (λ c k. k) s.context h;
+      by_s1 = λ w pair k. h;
+      by_x2 = λ w star k. h;
+      acked_s1 = λ ncc algs air key k. heard_with (with_s1_ack ncc algs air) (λ c k. k) s.context h;
+      acked_x2 = λ algs air key k. heard_with (with_x2_ack algs air) (λ c k. k) s.context h;
+      cancelled = λ from key k. h;
+      left = λ key k. tt;
+      renewed = λ conn number air count c e kenb k. λ x. heard_sent Signalling1 c.bearers (subst Heard e h x);
+    })
+    (record {
+      nothing = λ answer. h;
+      secured = λ count k. heard_with (with_security count) (λ c k x. above count) s.context h;
+      opened = λ srb count text k. heard_with (with_rrc_taken srb count) (λ c k x. heard_taken srb count c.bearers (k x)) s.context h;
+      packet = λ drb count text k. heard_with (with_packet_taken drb count) (λ c k x. heard_packet drb count c.bearers (k x)) s.context h;
+      by_s1 = λ at count k p e. λ x. above count;
+      within = λ at count origin k p e. λ x. above count;
+      by_x2 = λ at count number k p e. λ x. above count;
+    })
+    (record {
+      nothing = λ answer. h;
+      by_x2 = λ number target cell k c e. subst Heard e h;
+      by_s1 = λ number target cell k c e. subst Heard e h;
+      within = λ number air cell k c e. subst Heard e h;
+      commanded = λ order count k c e. λ x. heard_sent Signalling1 c.bearers (subst Heard e h x);
+      changed = λ renewal count k c e. λ x. heard_sent Signalling1 c.bearers (subst Heard e h x);
+      cancelled_x2 = λ conn number target k. heard_with given_up (λ c k. k) s.context h;
+      cancelled_s1 = λ conn number cell k. heard_with given_up (λ c k. k) s.context h;
+      cancelled_within = λ number k. heard_with given_up (λ c k. k) s.context h;
+      asked = λ number k c e. subst Heard e h;
+      packet = λ drb count text k c e. λ x. heard_packet_sent drb c.bearers (subst Heard e h x);
+      text = λ srb count text k c e. λ x. heard_sent srb c.bearers (subst Heard e h x);
+      skipped = λ on n k. heard_with (with_skipped on n) (λ c k x. heard_left on n c.bearers (k x)) s.context h;
+    }) row key
 
 -- EVERY EVENT OF ANY MACHINE
 
