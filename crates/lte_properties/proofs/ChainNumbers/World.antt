@@ -168,7 +168,6 @@ module _ (same : Term → Term → Bool) (root : ℕ → List ℕ → Term) (oct
   abbrev Now : (ℕ → ℕ) → TheWorld → Type 0
   Now top u = Holds (noted u.core.link top) u
 
-
   by_world_holds : (top : ℕ → ℕ) (w : TheWorld) (answer : Answer) → Holds top w → Now top (by_world m w answer).0
   by_world_holds top w answer h =
       noted_holds top (by_world m w answer).0 (record { core = h.core; below = h.below; above = h.above; sent = h.sent; flight = h.flight })
@@ -219,7 +218,6 @@ module _ (same : Term → Term → Bool) (root : ℕ → List ℕ → Term) (oct
   core_record_holds top w (Some x) c h =
       core_turn_holds top w (λ u. InFlight u x) (CoreRecord (content_of x)) (Some x) (core_record_kept top same w.core h.core x)
       (all_map (λ s. AllOf (InFlight s) w.sent) (λ s. InFlight s x) (λ s f. c.2 s f) w.stations h.flight) h
-
 
   core_acts_holds : (top : ℕ → ℕ) (w : TheWorld) (act : CoreAct) (came : Option (Outgoing Term ℕ)) → Holds top w → Now top (core_turn m w (CoreActs act) came).0
   core_acts_holds top w act came h = core_turn_holds top w (λ u. ⊤) (CoreActs act) came (core_act_kept top same w.core h.core act) (each w) h
