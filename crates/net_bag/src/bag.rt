@@ -10,16 +10,19 @@ use crate::search::first_sent;
 use lte_events::{Class, Record};
 use rec_base::Use;
 use std::alloc::Global;
+use std::cell::Cell;
 use std::marker::Model;
 
 /// Every record that was ever sent, in the order of sending. A contract sees it as the list of the
-/// records, with the number of records for which there is room. A record is found by its octets in
-/// constant time, once `reserve` was called after it came.
+/// records, with the number of records for which there is room. From the second look-up on, a record is
+/// found by its octets in constant time, once `reserve` was called after it came.
 #[derive(Drop)]
 pub struct Bag {
     records: Records,
-    // the records that stood when room was last made
+    // the records that stood when room was last made, once a record was looked up
     index: Chains,
+    // whether a record was ever looked up
+    sought: Cell<bool>,
 }
 
 impl Model for Bag {
@@ -45,6 +48,7 @@ impl Bag {
         Bag {
             records: Records::new(alloc),
             index: Chains::new(alloc),
+            sought: Cell::new(false),
         }
     }
 
@@ -58,7 +62,9 @@ impl Bag {
         ensures spare { self.old.spare ≤ self.new.spare }
         ensures err { OnErr result (self.new ≡ self.old) }
     {
-        index_all(&mut self.index, &self.records);
+        if self.sought.get() {
+            index_all(&mut self.index, &self.records);
+        }
         match self.records.reserve() {
             Ok(()) => Ok(()),
             Err(_) => Err(BagMemory),
@@ -95,6 +101,7 @@ impl Bag {
     pub fn find(&self, class: Class, octets: &[u8]) -> Option<u32>
         ensures { result ≡ spec.first_sent self.now.records class octets.now }
     {
+        self.sought.set(true);
         first_sent(&self.index, &self.records, &class, octets)
     }
 
