@@ -7,6 +7,10 @@ pub mod AttemptSteps
 pub mod NasFacts
 pub mod ActFacts
 pub mod S1Facts
+pub mod PhoneActFacts
+pub mod PhoneNasFacts
+pub mod PhoneAirFacts
+pub mod PhoneGives
 pub mod Opens
 pub mod AnnexB
 pub mod PhoneMap

@@ -11,7 +11,6 @@ pub mod Holds
 pub mod Later
 pub mod Lines
 pub mod Noted
-pub mod NotedPhone
 pub mod Opener
 pub mod Order
 pub mod Phone

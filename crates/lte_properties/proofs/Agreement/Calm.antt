@@ -1,20 +1,17 @@
 -- Openings are calm: a phone that waits for the security of its connection opens no ciphered record, since it never took
 -- its KeNB before; and a connected one no unciphered record, since it took the one of its air address before.
-use Rattle.std.proofs.Common.{◌≡◌, refl, sym, ap, ◌∙◌, subst, ℕ, ◌≤◌, ◌==◌, nat_lt, Bool, true, false, List, length, Option, Some, None, Result, Ok, Err, arith}
+use Rattle.std.proofs.Common.{◌≡◌, refl, sym, ap, ◌∙◌, subst, ℕ, ◌≤◌, nat_lt, Bool, true, false, List, length, Option, Some, None, Result, Ok, Err, arith}
 use Rattle.std.specs.Prelude.{⊤}
-use Rattle.alg_choice.specs.declared.caps.Caps.{Caps}
-use Rattle.rec_base.specs.declared.faults.RecFault.{RecFault}
 use Rattle.rec_base.specs.declared.uses.Dir.TheVariants.{Up, Down}
 use Rattle.lte_events.specs.declared.events.Event.{Event}
 use Rattle.lte_events.specs.Site.{Site}
 use Rattle.key_model.specs.Term.{Term}
-use Rattle.key_model.specs.Reading.{term_reading_by}
-use Rattle.lte_machine.specs.Bearers.{Srb, Signalling1, Signalling2, Drb, Which, OnSrb, which}
+use Rattle.key_model.specs.Reading.{term_reading_by, Reading}
+use Rattle.lte_machine.specs.Bearers.{Srb, Signalling1, Which, OnSrb, which}
 use Rattle.lte_machine.specs.Wire.{KeyUse, Ciphering, Outgoing, SealedNas, PlainNas, SealedRrc, UserPacket, Between, srb_ciphering, address_of}
 use Rattle.lte_machine.specs.Opening.{Opening, Outcome, Opened}
-use Rattle.lte_machine.specs.Reply.{BySetup, Took, unseen}
+use Rattle.lte_machine.specs.Reply.{BySetup, Took}
 use Rattle.lte_machine.specs.PhoneState.{Phone, PhoneInput, PhoneAuth, PhoneActs, PhoneNasPdu, PhoneAirPdu}
-use Rattle.lte_machine.specs.PhoneChoice.{unciphered_text}
 use Rattle.lte_machine.specs.PhoneStep.{plain_phone}
 use Rattle.lte_machine.specs.StationState.{Station, Context, StationInput, StationActs, AirPdu, StationRecord}
 use Rattle.lte_machine.specs.CoreState.{Core, CoreInput, CoreActs, CoreNasPdu, CoreRecord}
@@ -30,23 +27,17 @@ use Rattle.lte_properties.proofs.Agreement.Openings.{IsHonest, IsCalm, outcome_o
 use Rattle.lte_properties.proofs.ChainNumbers.Lists.{all_map, all_each}
 use Rattle.lte_properties.proofs.Agreement.Ghost.{Ghost, RadioOk, SentOk}
 use Rattle.lte_properties.proofs.Agreement.PhoneWalk.{CameDown}
-use Rattle.std.specs.Prelude.{◌&&◌, if◌then◌else◌}
-use Rattle.key_model.specs.Chain.{ncc_of}
+use Rattle.std.specs.Prelude.{if◌then◌else◌}
 use Rattle.key_model.specs.Least.{least}
 use Rattle.alg_choice.specs.declared.algs.Algs.{Algs}
-use Rattle.alg_choice.specs.Choice.{are_supported}
-use Rattle.rrc_rec.specs.declared.records.RrcRecord.{RrcRecord}
-use Rattle.rrc_rec.specs.declared.records.RrcRecord.TheVariants.{SecurityModeCommand, SecurityModeComplete, Reconfiguration, ReconfigurationComplete, RrcData, KeyChange}
-use Rattle.rrc_rec.specs.Reading.{read_rrc}
 use Rattle.pdcp_guard.specs.declared.pdus.PdcpFault.{PdcpFault}
 use Rattle.pdcp_guard.specs.Counts.{in_32_bits, count_limit}
 use Rattle.pdcp_guard.specs.Srb.{srb_first, srb_sn, srb_count}
-use Rattle.pdcp_guard.specs.Drb.{drb_count}
-use Rattle.lte_machine.specs.Bearers.{srb_counts, drb_counts, OnDrb}
+use Rattle.lte_machine.specs.Bearers.{srb_counts}
 use Rattle.lte_machine.specs.Wire.{srb_use}
 use Rattle.lte_machine.specs.Opening.{Differs, OpensSrb}
-use Rattle.lte_machine.specs.PhoneState.{Waiting, Link, Radio, Idle, Connecting, Connected, map_radio, map_link, NasContext, Partial}
-use Rattle.lte_machine.specs.PhoneChoice.{NasFront, NasSettled, AtCommand, AtMessage, AirFront, AtStart, start_read, start_at, waiting_front, signalling_at, packet_at, linked_front, air_front, nas_by_header, header_for_phone}
+use Rattle.lte_machine.specs.PhoneState.{Waiting, Link, Radio, Connecting, NasContext, Partial}
+use Rattle.lte_machine.specs.PhoneChoice.{NasFront, NasSettled, AtCommand, AtMessage, AirFront, AirSettled, AtStart, AtSignalling, AtPacket, nas_by_header, header_for_phone}
 use Rattle.lte_machine.specs.PhoneKeys.{nas_expects, air_expects, start_expects, signalling_expects, packet_expects, command_expects, message_expects}
 use Rattle.lte_machine.specs.StationChoice as st
 use Rattle.lte_machine.specs.StationKeys as stk
@@ -56,9 +47,10 @@ use Rattle.lte_machine.specs.CoreKeys.{core_expects, core_nas_expects, opens_by_
 use Rattle.lte_machine.specs.CoreState.{CoreContext}
 use Rattle.nas_guard.specs.Keys.{Keys}
 use Rattle.ho_prep.specs.Prep.{Prep}
+use Rattle.lte_machine.proofs.PhoneAirFacts.{FrontHas, phone_air, front_has}
 use Rattle.lte_properties.proofs.Agreement.Openings.{WasSealed, CipheredAs}
 use Rattle.lte_properties.proofs.Agreement.Ghost.{keys_of, LinkIs}
-use Rattle.lte_properties.proofs.Agreement.PhoneWalk.{by_test, one_key, both_named}
+use Rattle.lte_properties.proofs.Agreement.PhoneWalk.{by_test, one_key}
 use Rattle.lte_properties.proofs.Agreement.Later.{same_found}
 use Rattle.lte_properties.proofs.Agreement.World.{TheWorld, Conns, ghost, WorldOk, OctetsTell}
 use Rattle.lte_machine.specs.Distinct.{Member}
@@ -92,11 +84,7 @@ count_low next pdu count e =
 
 -- THE PHONE
 
-module _ (same : Term → Term → Bool) (g : Ghost) (s : Phone Term ℕ) (caps : Caps) (station air : ℕ) (pdu : List ℕ) (on : Which) (came : Option (Outgoing Term ℕ)) (came_ok : CameDown g station air on pdu came) where
-  abbrev Calmly : Outcome → AirFront → Type 0
-  Calmly outcome front =
-      IsHonest (air_expects (term_reading_by same) front s) came outcome → IsCalm (air_expects (term_reading_by same) front s) came outcome
-
+module _ (same : Term → Term → Bool) (g : Ghost) (s : Phone Term ℕ) (station air : ℕ) (pdu : List ℕ) (on : Which) (came : Option (Outgoing Term ℕ)) (came_ok : CameDown g station air on pdu came) where
   -- a ciphered record of this address is under a key that the phone had taken
   pub plain_here : (w : Waiting Term) → NewKenb g.took (Connecting w) → (u : KeyUse Term) → (algs : Algs) → u.key ≡ (keys_of w.kenb algs).rrc_int
       → (text : List ℕ) (o : Option (Outgoing Term ℕ)) → CameDown g station air on pdu o → WasSealed u None text o → CipheredAs Down None o
@@ -112,37 +100,6 @@ module _ (same : Term → Term → Bool) (g : Ghost) (s : Phone Term ℕ) (caps 
   plain_here w never u algs key text (Some (PlainNas octets)) h sealed = tt
   plain_here w never u algs key text (Some (UserPacket dir st a drb e sent)) h sealed = tt
   plain_here w never u algs key text (Some (Between to fields k)) h sealed = tt
-
-  start_calm : (w : Waiting Term) → s.radio ≡ Connecting w → NewKenb g.took (Connecting w) → (count : ℕ) (algs : Algs) (named : Bool) (outcome : Outcome)
-      → Calmly outcome (AtStart count algs named station air)
-  start_calm w is never count algs named (Differs wanted got) honest =
-      subst (λ radio. IsCalm (start_expects (term_reading_by same) count algs radio) came (Differs wanted got)) (sym is) tt
-  start_calm w is never count algs named (Opened text) honest =
-      subst (λ radio. IsCalm (start_expects (term_reading_by same) count algs radio) came (Opened text)) (sym is)
-      (plain_here w never (srb_use Down (keys_of w.kenb algs).rrc_int Signalling1 count) algs refl text came came_ok
-      (subst (λ radio. IsHonest (start_expects (term_reading_by same) count algs radio) came (Opened text)) is honest))
-
-  read_calm : (w : Waiting Term) → s.radio ≡ Connecting w → NewKenb g.took (Connecting w) → (count : ℕ) (outcome : Outcome) (read : Result RrcRecord RecFault)
-      → Calmly outcome (start_read caps station air count read)
-  read_calm w is never count outcome (Err fault) honest = tt
-  read_calm w is never count outcome (Ok (SecurityModeCommand algs ns na)) honest =
-      by_test (Calmly outcome) (are_supported caps algs) _ _ (λ b. start_calm w is never count algs ((ns == station) && (na == air)) outcome) (λ b honest. tt) honest
-  read_calm w is never count outcome (Ok SecurityModeComplete) honest = tt
-  read_calm w is never count outcome (Ok (Reconfiguration cell ncc algs st a)) honest = tt
-  read_calm w is never count outcome (Ok ReconfigurationComplete) honest = tt
-  read_calm w is never count outcome (Ok (RrcData text)) honest = tt
-  read_calm w is never count outcome (Ok (KeyChange cell algs st a)) honest = tt
-
-  count_calm : (w : Waiting Term) → s.radio ≡ Connecting w → NewKenb g.took (Connecting w) → (outcome : Outcome) (count : Result ℕ PdcpFault)
-      → Calmly outcome (start_at caps station air pdu count)
-  count_calm w is never outcome (Err fault) honest = tt
-  count_calm w is never outcome (Ok count) honest = read_calm w is never count outcome (read_rrc (unciphered_text pdu)) honest
-
-  waiting_calm : (w : Waiting Term) → s.radio ≡ Connecting w → NewKenb g.took (Connecting w) → (outcome : Outcome) (which : Which)
-      → Calmly outcome (waiting_front caps station air pdu which)
-  waiting_calm w is never outcome (OnSrb Signalling1) honest = count_calm w is never outcome (srb_count 0 pdu) honest
-  waiting_calm w is never outcome (OnSrb Signalling2) honest = tt
-  waiting_calm w is never outcome (OnDrb drb) honest = tt
 
   -- an unciphered record of this address is the first, which the phone took before
   pub ciphered_here : (l : Link Term ℕ) → LinkIs g l → l.station ≡ station → l.air ≡ air → (srb : Srb) (count : ℕ) → on ≡ OnSrb srb
@@ -173,36 +130,36 @@ module _ (same : Term → Term → Bool) (g : Ghost) (s : Phone Term ℕ) (caps 
   ciphered_here l h is_s is_a srb count is_on low text (Some (UserPacket dir st a drb e sent)) k sealed = tt
   ciphered_here l h is_s is_a srb count is_on low text (Some (Between to fields key)) k sealed = tt
 
-  signalling_calm : (l : Link Term ℕ) → s.radio ≡ Connected l → LinkIs g l → l.station ≡ station → l.air ≡ air → (srb : Srb) → on ≡ OnSrb srb
-      → (outcome : Outcome) (own : ℕ) (count : Result ℕ PdcpFault) → srb_count (srb_counts srb l.bearers).receive pdu ≡ count
-      → Calmly outcome (signalling_at srb own count)
-  signalling_calm l is h is_s is_a srb is_on outcome own (Err fault) e honest = tt
-  signalling_calm l is h is_s is_a srb is_on (Differs wanted got) own (Ok count) e honest =
-      subst (λ radio. IsCalm (signalling_expects {C = ℕ} srb count radio) came (Differs wanted got)) (sym is) tt
-  signalling_calm l is h is_s is_a srb is_on (Opened text) own (Ok count) e honest =
-      subst (λ radio. IsCalm (signalling_expects {C = ℕ} srb count radio) came (Opened text)) (sym is)
-      (ciphered_here l h is_s is_a srb count is_on (count_low (srb_counts srb l.bearers).receive pdu count e) text came came_ok
-      (subst (λ radio. IsHonest (signalling_expects {C = ℕ} srb count radio) came (Opened text)) is honest))
+  abbrev q : Reading Term ℕ
+  q = term_reading_by same
 
-  packet_calm : (l : Link Term ℕ) → s.radio ≡ Connected l → (drb : Drb) (outcome : Outcome) (count : Result ℕ PdcpFault) → Calmly outcome (packet_at drb count)
-  packet_calm l is drb outcome (Err fault) honest = tt
-  packet_calm l is drb outcome (Ok count) honest = subst (λ radio. IsCalm (packet_expects {C = ℕ} drb count radio) came outcome) (sym is) tt
+  abbrev Calmly : Outcome → AirFront → Type 0
+  Calmly outcome front = IsHonest (air_expects q front s) came outcome → IsCalm (air_expects q front s) came outcome
 
-  linked_calm : (l : Link Term ℕ) → s.radio ≡ Connected l → LinkIs g l → l.station ≡ station → l.air ≡ air → (outcome : Outcome) (which : Which) → on ≡ which
-      → Calmly outcome (linked_front (map_link unseen ncc_of l) pdu which)
-  linked_calm l is h is_s is_a outcome (OnSrb srb) is_on honest =
-      signalling_calm l is h is_s is_a srb is_on outcome (ncc_of l.chain.number) (srb_count (srb_counts srb l.bearers).receive pdu) refl honest
-  linked_calm l is h is_s is_a outcome (OnDrb drb) is_on honest = packet_calm l is drb outcome (drb_count (drb_counts drb l.bearers).receive pdu) honest
+  front_calm : RadioOk g s.radio → NewKenb g.took s.radio → (front : AirFront) → FrontHas q s station air on pdu front → (outcome : Outcome) → Calmly outcome front
+  front_calm ok never (AirSettled row) f outcome honest = tt
+  front_calm ok never (AtStart count algs named st a) f (Differs wanted got) honest =
+      subst (λ radio. IsCalm (start_expects q count algs radio) came (Differs wanted got)) (sym f.waits) tt
+  front_calm ok never (AtStart count algs named st a) f (Opened text) honest =
+      let w = f.waiting in
+      subst (λ radio. IsCalm (start_expects q count algs radio) came (Opened text)) (sym f.waits)
+      (plain_here w (subst (NewKenb g.took) f.waits never) (srb_use Down (keys_of w.kenb algs).rrc_int Signalling1 count) algs refl text came came_ok
+      (subst (λ radio. IsHonest (start_expects q count algs radio) came (Opened text)) f.waits honest))
+  front_calm ok never (AtSignalling srb count own) f (Differs wanted got) honest =
+      subst (λ radio. IsCalm (signalling_expects {C = ℕ} srb count radio) came (Differs wanted got)) (sym f.here.connected) tt
+  front_calm ok never (AtSignalling srb count own) f (Opened text) honest =
+      let here = f.here in
+      let l = here.link in
+      subst (λ radio. IsCalm (signalling_expects {C = ℕ} srb count radio) came (Opened text)) (sym here.connected)
+      (ciphered_here l (subst (RadioOk g) here.connected ok) here.station_is here.air_is srb count f.bearer
+      (count_low (srb_counts srb l.bearers).receive pdu count f.counted) text came came_ok
+      (subst (λ radio. IsHonest (signalling_expects {C = ℕ} srb count radio) came (Opened text)) here.connected honest))
+  front_calm ok never (AtPacket drb count) f outcome honest =
+      subst (λ radio. IsCalm (packet_expects {C = ℕ} drb count radio) came outcome) (sym f.here.connected) tt
 
   -- a PDU at an air address
-  pub air_calm : (outcome : Outcome) (radio : Radio Term ℕ) → s.radio ≡ radio → RadioOk g radio → NewKenb g.took radio
-      → Calmly outcome (air_front caps station air pdu on (map_radio unseen ncc_of radio))
-  air_calm outcome Idle is h never honest = tt
-  air_calm outcome (Connecting w) is h never honest = waiting_calm w is never outcome on honest
-  air_calm outcome (Connected l) is h never honest =
-      by_test (Calmly outcome) ((l.station == station) && (l.air == air)) _ _
-      (λ b. let here = both_named l.station station l.air air b in linked_calm l is h here.0 here.1 outcome on refl)
-      (λ b honest. tt) honest
+  pub air_calm : RadioOk g s.radio → NewKenb g.took s.radio → (outcome : Outcome) → Calmly outcome (phone_air q s station air on pdu)
+  air_calm ok never outcome = front_calm ok never (phone_air q s station air on pdu) (front_has q s station air on pdu) outcome
 
 -- OTHER OPENINGS: nothing is asked of NAS messages, nor of what goes up
 
@@ -292,8 +249,8 @@ module _ (same : Term → Term → Bool) (root : ℕ → List ℕ → Term) (oct
         let p = plain_phone (term_reading_by same) w.phone in
         nas_calm same (nas_by_header p.caps p.partial p.context pdu (header_for_phone pdu)) w.phone came (outcome_of m (phone_attempts m w (PhoneNasPdu pdu) came))
     phone_calm_at (PhoneAirPdu station air bearer pdu) came turn k honest =
-        air_calm same (ghost c w) w.phone w.phone.caps station air pdu (which bearer) came k
-        (outcome_of m (phone_attempts m w (PhoneAirPdu station air bearer pdu) came)) w.phone.radio refl h.radio never honest
+        air_calm same (ghost c w) w.phone station air pdu (which bearer) came k h.radio never
+        (outcome_of m (phone_attempts m w (PhoneAirPdu station air bearer pdu) came)) honest
 
     station_calm_at : (input : StationInput Term ℕ) (came : Option (Outgoing Term ℕ)) (s : Station Term ℕ) → IsCalmAt (attempts_at m input came (Some s))
     station_calm_at input came s = station_calm (station_front_of (term_reading_by same) s input) s came (outcome_of m (attempts_at m input came (Some s)))

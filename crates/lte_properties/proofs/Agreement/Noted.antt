@@ -26,7 +26,7 @@ use Rattle.lte_machine.specs.Reply.{Made, Took}
 use Rattle.lte_machine.specs.World.{Line}
 use Rattle.lte_properties.specs.ChainHolds.{machine_by}
 use Rattle.lte_properties.specs.Agreement.{Reported, MadeIsTold, TookIsTold, KeysTold, TellsNoneGiven}
-use Rattle.lte_properties.proofs.Agreement.NotedPhone.{NotedAs, TookNoted, phone_notes}
+use Rattle.lte_machine.proofs.PhoneGives.{NotedAs, TookNoted, phone_gives}
 use Rattle.lte_properties.proofs.Agreement.World.{TheWorld}
 use Rattle.rec_base.specs.declared.ways.Way.{Way}
 use Rattle.nh_chain.specs.Station.{way_of}
@@ -141,7 +141,7 @@ module _ (same : Term → Term → Bool) (root : ℕ → List ℕ → Term) (oct
         let h = phone_turn m w input came in
         let outcome = opener (phone_opens (term_reading_by same) w.phone input) (phone_pdu_in input) came in
         let row = phone_row (plain_phone (term_reading_by same) w.phone) (front_of (term_reading_by same) w.phone input) outcome in
-        (inl (refl, tt), took_told w.took (phone_does (term_reading_by same) row (phone_root input) w.phone).1.took h.1 refl (phone_notes same row (phone_root input) w.phone))
+        (inl (refl, tt), took_told w.took (phone_does (term_reading_by same) row (phone_root input) w.phone).1.took h.1 refl (phone_gives same row (phone_root input) w.phone).1)
 
     station_told : (id : ℕ) (input : StationInput Term ℕ) (came : Option (Outgoing Term ℕ)) (s : Station Term ℕ) → s.id ≡ id → BothTold w (turn_of m w id input came (Some s))
     station_told id input came s own =

@@ -229,9 +229,9 @@ module _ (same : Term → Term → Bool) (root : ℕ → List ℕ → Term) (oct
       → Goes cells c w (phone_turn m w (PhoneAirPdu station air bearer pdu) came).0
   phone_air_goes c w station air bearer pdu came h settled k honest calm =
       phone_turn_goes c w (PhoneAirPdu station air bearer pdu) came h
-      (air_walks same (ghost c w) w.phone w.phone.caps station air pdu (which bearer) came k
+      (air_walks same (ghost c w) w.phone station air pdu (which bearer) came k
       (not_yet (ghost c w) w.phone.radio settled.turn.0 settled.order.0 settled.order.1 (all_map (TookOk (ghost c w)) (Obeys w.made) (λ x t. t.1) w.took h.took))
-      (outcome_of m (phone_attempts m w (PhoneAirPdu station air bearer pdu) came)) w.phone.radio refl h.radio honest calm)
+      h.radio (outcome_of m (phone_attempts m w (PhoneAirPdu station air bearer pdu) came)) honest calm)
 
   -- THE CORE
 

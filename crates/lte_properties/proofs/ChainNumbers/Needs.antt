@@ -1,32 +1,30 @@
 -- A record that comes supplies what its row needs, and the phone sends no pair.
-use Rattle.std.proofs.Common.{◌≡◌, refl, sym, ap, ◌∙◌, subst, ℕ, ◌≤◌, Bool, List, Option, Some, None, Ok, Err, true, false}
+use Rattle.std.proofs.Common.{◌≡◌, refl, sym, ap, ◌∙◌, subst, ℕ, ◌≤◌, Bool, List, Option, Some, None, Ok, Err}
 use Rattle.std.specs.Prelude.{⊤}
-use Rattle.alg_choice.specs.declared.algs.Algs.{Algs}
-use Rattle.annex_a_keys.specs.Cell.{Place}
 use Rattle.rec_base.specs.declared.bearers.Bearer.{Bearer}
 use Rattle.rec_base.specs.declared.faults.RecFault.{RecFault}
 use Rattle.lte_events.specs.declared.acts.StationAct.{StationAct}
 use Rattle.lte_events.specs.declared.addresses.Address.{Address}
 use Rattle.lte_events.specs.declared.addresses.Address.TheVariants.{StationS1}
-use Rattle.lte_events.specs.declared.answers.Answer.{Answer}
 use Rattle.lte_events.specs.declared.answers.Answer.TheVariants.{BadRecord}
 use Rattle.key_model.specs.Term.{Term}
 use Rattle.key_model.specs.HandoverTable.{NumberedKey}
 use Rattle.key_model.specs.Reading.{Reading, term_reading_by}
 use Rattle.s1x2_rec.specs.Fields.{Fields, ContextRelease, PathSwitchAnswer}
-use Rattle.lte_machine.specs.Bearers.{Srb, Drb, Which, which}
+use Rattle.lte_machine.specs.Bearers.{which}
 use Rattle.lte_machine.specs.Opening.{Outcome}
 use Rattle.lte_machine.specs.Reply.{Origin, Reply, unseen}
 use Rattle.lte_machine.specs.Wire.{Outgoing, SealedNas, PlainNas, SealedRrc, UserPacket, Between, address_of}
-use Rattle.lte_machine.specs.PhoneState.{Phone, Partial, NasContext, Radio, Idle, Connecting, Connected}
-use Rattle.lte_machine.specs.PhoneRows.{Authenticated, NasRow, NasRefused, RejectedPlain, RejectedUnder, ContextTaken, ContextTakenConnected, NasOpened, AirRow, AirRefused, LinkSecured, HandedOver, RrcOpened, PacketOpened, ActRow, ActRefused, ServiceRequested, CompleteResent, WentIdle, PacketSent, RrcSent, NasSent, NasSkipped, BearerSkipped, PhoneRow, OfAuth, OfNas, OfAir, OfAct, KeyChanged}
-use Rattle.lte_machine.specs.PhoneKeys.{authenticated, rejected_under, context_taken, context_taken_connected, nas_opened, nas_does, link_secured, handed_over, rrc_opened, packet_opened, air_does, service_requested, complete_resent, packet_sent, rrc_sent, nas_sent, nas_skipped, bearer_skipped, act_does, phone_does, key_changed, changed_unless, before_of}
+use Rattle.lte_machine.specs.PhoneState.{Phone}
+use Rattle.lte_machine.specs.PhoneRows.{PhoneRow}
+use Rattle.lte_machine.specs.PhoneKeys.{phone_does}
 use Rattle.lte_machine.specs.StationState.{Station, Context, StationActs, AirPdu, StationRecord, Interface, map_read}
 use Rattle.lte_machine.specs.StationRows.{RecordRow, RecordRefused, ContextGiven, ContextReleased, PairTaken, PreparedByS1, PreparedByX2, AckedByS1, AckedByX2, PreparationCancelled, SourceReleased, OfRecord, KeyRenewed}
 use Rattle.lte_machine.specs.StationChoice.{record_row, air_front, air_row, act_row}
 use Rattle.lte_machine.specs.StationStep.{plain_station, station_step}
 use Rattle.lte_machine.specs.Machines.{content_of}
 use Rattle.lte_machine.proofs.Routing.{address_on}
+use Rattle.lte_machine.proofs.PhoneGives.{NotBetween, phone_gives}
 use Rattle.lte_properties.specs.ChainBelow.{StationBelow, conn_of, RecordBelow}
 use Rattle.lte_properties.specs.ChainAbove.{AnswerOk, AnswerTo, StationAbove, InFlight}
 use Rattle.lte_properties.proofs.ChainNumbers.RowFacts.{PairNeeds, RecordNeeds, RowNeeds}
@@ -122,125 +120,6 @@ module _ (top : ℕ → ℕ) (same : Term → Term → Bool) (s : Station Term �
 
 -- THE PHONE SENDS NOTHING ON S1 AND X2
 
-abbrev pub NotBetween : Option (Outgoing Term ℕ) → Type 0
-NotBetween (Some (Between to fields key)) = ⊥
-NotBetween other = ⊤
-
-authenticated_plain : (ksi : ℕ) (s : Phone Term ℕ) (o : Option Term) → NotBetween (authenticated ksi s o).1.sent
-authenticated_plain ksi s None = tt
-authenticated_plain ksi s (Some x) = tt
-
-rejected_under_plain : (answer : Answer) (cause : ℕ) (s : Phone Term ℕ) (o : Option (NasContext Term)) → NotBetween (rejected_under answer cause s o).1.sent
-rejected_under_plain answer cause s None = tt
-rejected_under_plain answer cause s (Some x) = tt
-
-context_taken_plain : (same : Term → Term → Bool) (algs : Algs) (count : ℕ) (s : Phone Term ℕ) (o : Option (Partial Term)) → NotBetween (context_taken (term_reading_by same) algs count s o).1.sent
-context_taken_plain same algs count s None = tt
-context_taken_plain same algs count s (Some x) = tt
-
-context_taken_connected_plain : (same : Term → Term → Bool) (algs : Algs) (count : ℕ) (s : Phone Term ℕ) (o : Option (Partial Term)) → NotBetween (context_taken_connected (term_reading_by same) algs count s o).1.sent
-context_taken_connected_plain same algs count s None = tt
-context_taken_connected_plain same algs count s (Some x) = tt
-
-nas_opened_plain : (count : ℕ) (text : List ℕ) (s : Phone Term ℕ) (o : Option (NasContext Term)) → NotBetween (nas_opened count text s o).1.sent
-nas_opened_plain count text s None = tt
-nas_opened_plain count text s (Some x) = tt
-
-link_secured_plain : (same : Term → Term → Bool) (station air : ℕ) (algs : Algs) (count : ℕ) (s : Phone Term ℕ) (radio : Radio Term ℕ) → NotBetween (link_secured (term_reading_by same) station air algs count s radio).1.sent
-link_secured_plain same station air algs count s Idle = tt
-link_secured_plain same station air algs count s (Connecting x) = tt
-link_secured_plain same station air algs count s (Connected l) = tt
-
-handed_over_plain : (same : Term → Term → Bool) (cell : Place) (steps : ℕ) (algs : Algs) (station air : ℕ) (s : Phone Term ℕ) (radio : Radio Term ℕ) → NotBetween (handed_over (term_reading_by same) cell steps algs station air s radio).1.sent
-handed_over_plain same cell steps algs station air s Idle = tt
-handed_over_plain same cell steps algs station air s (Connecting x) = tt
-handed_over_plain same cell steps algs station air s (Connected l) = tt
-
-key_changed_plain : (same : Term → Term → Bool) (cell : Place) (algs : Algs) (station air : ℕ) (s : Phone Term ℕ) (radio : Radio Term ℕ) (o : Option (NasContext Term)) → NotBetween (key_changed (term_reading_by same) cell algs station air s radio o).1.sent
-key_changed_plain same cell algs station air s Idle o = tt
-key_changed_plain same cell algs station air s (Connecting x) o = tt
-key_changed_plain same cell algs station air s (Connected l) None = tt
-key_changed_plain same cell algs station air s (Connected l) (Some c) = by_same (same c.root l.chain.root)
-  where
-    by_same : (b : Bool) → NotBetween (changed_unless (term_reading_by same) cell algs station air s (before_of l) c.root b).1.sent
-    by_same true = tt
-    by_same false = tt
-
-rrc_opened_plain : (srb : Srb) (count : ℕ) (text : List ℕ) (s : Phone Term ℕ) (radio : Radio Term ℕ) → NotBetween (rrc_opened srb count text s radio).1.sent
-rrc_opened_plain srb count text s Idle = tt
-rrc_opened_plain srb count text s (Connecting x) = tt
-rrc_opened_plain srb count text s (Connected l) = tt
-
-packet_opened_plain : (drb : Drb) (count : ℕ) (text : List ℕ) (s : Phone Term ℕ) (radio : Radio Term ℕ) → NotBetween (packet_opened drb count text s radio).1.sent
-packet_opened_plain drb count text s Idle = tt
-packet_opened_plain drb count text s (Connecting x) = tt
-packet_opened_plain drb count text s (Connected l) = tt
-
-service_requested_plain : (same : Term → Term → Bool) (s : Phone Term ℕ) (o : Option (NasContext Term)) → NotBetween (service_requested (term_reading_by same) s o).1.sent
-service_requested_plain same s None = tt
-service_requested_plain same s (Some x) = tt
-
-complete_resent_plain : (s : Phone Term ℕ) (radio : Radio Term ℕ) → NotBetween (complete_resent s radio).1.sent
-complete_resent_plain s Idle = tt
-complete_resent_plain s (Connecting x) = tt
-complete_resent_plain s (Connected l) = tt
-
-packet_sent_plain : (drb : Drb) (text : List ℕ) (s : Phone Term ℕ) (radio : Radio Term ℕ) → NotBetween (packet_sent drb text s radio).1.sent
-packet_sent_plain drb text s Idle = tt
-packet_sent_plain drb text s (Connecting x) = tt
-packet_sent_plain drb text s (Connected l) = tt
-
-rrc_sent_plain : (srb : Srb) (text : List ℕ) (s : Phone Term ℕ) (radio : Radio Term ℕ) → NotBetween (rrc_sent srb text s radio).1.sent
-rrc_sent_plain srb text s Idle = tt
-rrc_sent_plain srb text s (Connecting x) = tt
-rrc_sent_plain srb text s (Connected l) = tt
-
-nas_sent_plain : (text : List ℕ) (s : Phone Term ℕ) (o : Option (NasContext Term)) → NotBetween (nas_sent text s o).1.sent
-nas_sent_plain text s None = tt
-nas_sent_plain text s (Some x) = tt
-
-nas_skipped_plain : (n : ℕ) (s : Phone Term ℕ) (o : Option (NasContext Term)) → NotBetween (nas_skipped n s o).1.sent
-nas_skipped_plain n s None = tt
-nas_skipped_plain n s (Some x) = tt
-
-bearer_skipped_plain : (bearer : Which) (n : ℕ) (s : Phone Term ℕ) (radio : Radio Term ℕ) → NotBetween (bearer_skipped bearer n s radio).1.sent
-bearer_skipped_plain bearer n s Idle = tt
-bearer_skipped_plain bearer n s (Connecting x) = tt
-bearer_skipped_plain bearer n s (Connected l) = tt
-
-nas_does_plain : (same : Term → Term → Bool) (row : NasRow) (s : Phone Term ℕ) → NotBetween (nas_does (term_reading_by same) row s).1.sent
-nas_does_plain same (NasRefused answer) s = tt
-nas_does_plain same (RejectedPlain answer cause) s = tt
-nas_does_plain same (RejectedUnder answer cause) s = rejected_under_plain answer cause s s.context
-nas_does_plain same (ContextTaken algs count) s = context_taken_plain same algs count s s.partial
-nas_does_plain same (ContextTakenConnected algs count) s = context_taken_connected_plain same algs count s s.partial
-nas_does_plain same (NasOpened count text) s = nas_opened_plain count text s s.context
-
-air_does_plain : (same : Term → Term → Bool) (row : AirRow) (s : Phone Term ℕ) → NotBetween (air_does (term_reading_by same) row s).1.sent
-air_does_plain same (AirRefused answer) s = tt
-air_does_plain same (LinkSecured station air algs count) s = link_secured_plain same station air algs count s s.radio
-air_does_plain same (HandedOver cell steps algs station air) s = handed_over_plain same cell steps algs station air s s.radio
-air_does_plain same (KeyChanged cell algs station air) s = key_changed_plain same cell algs station air s s.radio s.context
-air_does_plain same (RrcOpened srb count text) s = rrc_opened_plain srb count text s s.radio
-air_does_plain same (PacketOpened drb count text) s = packet_opened_plain drb count text s s.radio
-
-act_does_plain : (same : Term → Term → Bool) (row : ActRow) (s : Phone Term ℕ) → NotBetween (act_does (term_reading_by same) row s).1.sent
-act_does_plain same (ActRefused answer) s = tt
-act_does_plain same ServiceRequested s = service_requested_plain same s s.context
-act_does_plain same CompleteResent s = complete_resent_plain s s.radio
-act_does_plain same WentIdle s = tt
-act_does_plain same (PacketSent drb text) s = packet_sent_plain drb text s s.radio
-act_does_plain same (RrcSent srb text) s = rrc_sent_plain srb text s s.radio
-act_does_plain same (NasSent text) s = nas_sent_plain text s s.context
-act_does_plain same (NasSkipped n) s = nas_skipped_plain n s s.context
-act_does_plain same (BearerSkipped bearer n) s = bearer_skipped_plain bearer n s s.radio
-
-pub phone_sends_none : (same : Term → Term → Bool) (row : PhoneRow) (root : Option Term) (s : Phone Term ℕ) → NotBetween (phone_does (term_reading_by same) row root s).1.sent
-phone_sends_none same (OfAuth (Authenticated ksi)) root s = authenticated_plain ksi s root
-phone_sends_none same (OfNas row) root s = nas_does_plain same row s
-phone_sends_none same (OfAir row) root s = air_does_plain same row s
-phone_sends_none same (OfAct row) root s = act_does_plain same row s
-
 -- and so no pair
 none_between : (o : Option (Outgoing Term ℕ)) → NotBetween o → Plainly o
 none_between None h = ((λ top. tt), (λ u. tt))
@@ -251,4 +130,4 @@ none_between (Some (UserPacket dir station air drb e text)) h = ((λ top. tt), (
 none_between (Some (Between to fields key)) h = absurd h
 
 pub phone_does_plain : (same : Term → Term → Bool) (row : PhoneRow) (root : Option Term) (s : Phone Term ℕ) → Plainly (phone_does (term_reading_by same) row root s).1.sent
-phone_does_plain same row root s = none_between (phone_does (term_reading_by same) row root s).1.sent (phone_sends_none same row root s)
+phone_does_plain same row root s = none_between (phone_does (term_reading_by same) row root s).1.sent (phone_gives same row root s).0

@@ -32,7 +32,7 @@ use Rattle.lte_properties.proofs.Opening.Air.{AirOk}
 use Rattle.lte_properties.proofs.Named.Facts.{StationNamed, CoreNamed, RecordNamed, SentNamed, ReadNamed, InputNamed, CoreInputNamed}
 use Rattle.lte_properties.proofs.Named.Station.{MadeNamed, station_step_named}
 use Rattle.lte_properties.proofs.Named.Core.{core_step_named}
-use Rattle.lte_properties.proofs.ChainNumbers.Needs.{NotBetween, phone_sends_none}
+use Rattle.lte_machine.proofs.PhoneGives.{NotBetween, phone_gives}
 
 module _ (P : ℕ → Type 0) (cells : List Site) (sites : (cell : Place) (id : ℕ) → station_of cell cells ≡ Some id → P id) where
   pub record AllNamed (w : World Term ℕ (Outgoing Term ℕ)) : Type 0 where
@@ -81,7 +81,7 @@ module _ (P : ℕ → Type 0) (cells : List Site) (sites : (cell : Place) (id : 
           let outcome = m.opener (phone_opens m.reading w.phone i) (phone_pdu_in i) came in
           let row = phone_row (plain_phone m.reading w.phone) (front_of m.reading w.phone i) outcome in
           let d = phone_step m.reading w.phone i outcome in
-          record { core = h.core; stations = h.stations; sent = all_one (λ x. RecordNamed P x) d.1.sent w.sent h.sent (phone_sends d.1.sent (phone_sends_none same row (phone_root i) w.phone)); made = h.made }
+          record { core = h.core; stations = h.stations; sent = all_one (λ x. RecordNamed P x) d.1.sent w.sent h.sent (phone_sends d.1.sent (phone_gives same row (phone_root i) w.phone).0); made = h.made }
 
       core_turn_named : (i : CoreInput Term ℕ) (came : Option (Outgoing Term ℕ)) → CoreInputNamed P i → AllNamed (core_turn m w i came).0
       core_turn_named i came f =

@@ -4,6 +4,7 @@ use Rattle.std.specs.Prelude.{⊤, slice_index}
 use Rattle.rec_base.specs.declared.uses.Dir.{Dir}
 use Rattle.alg_choice.specs.declared.algs.Algs.{Algs}
 use Rattle.annex_a_keys.specs.Cell.{Place}
+use Rattle.lte_events.specs.declared.acts.PhoneAct.{PhoneAct}
 use Rattle.lte_events.specs.declared.answers.Answer.{Answer}
 use Rattle.key_model.specs.HandoverTable.{NumberedKey}
 use Rattle.key_model.specs.Term.{Term}
@@ -16,6 +17,7 @@ use Rattle.rrc_rec.specs.Spelling.{spelling_of}
 use Rattle.lte_machine.proofs.StationCases.{Any, AnyKey, record_case, air_case, act_case}
 use Rattle.lte_machine.specs.Bearers.{Srb, Drb, Which, srb_counts, drb_counts}
 use Rattle.lte_machine.specs.Wire.{KeyUse, Ciphering, Outgoing, SealedNas, PlainNas, SealedRrc, UserPacket, Between}
+use Rattle.lte_machine.specs.Ranges.{IsPhoneAct}
 use Rattle.lte_machine.specs.Reply.{Origin, Made, Before, Reply}
 use Rattle.lte_machine.specs.PhoneState.{Partial, NasContext, Radio, Idle, Connecting, Connected, Phone}
 use Rattle.lte_machine.specs.PhoneRows as phone
@@ -25,9 +27,10 @@ use Rattle.lte_machine.specs.PhoneKeys.{phone_does}
 use Rattle.lte_machine.specs.StationState.{Station, Context}
 use Rattle.lte_machine.specs.StationRows as station
 use Rattle.lte_machine.specs.StationRows.{StationRow}
-use Rattle.lte_machine.specs.StationKeys as station_keys
 use Rattle.lte_machine.specs.StationRecords as station_records
 use Rattle.lte_machine.specs.StationKeys.{station_does}
+use Rattle.lte_machine.proofs.PhoneActFacts.{SendsPacket, SendsRrc, ByAct}
+use Rattle.lte_machine.proofs.Tests.{above_of}
 use Rattle.lte_properties.specs.Agreement.{made_at}
 use Rattle.lte_properties.proofs.Agreement.Ghost.{Ghost, keys_of, FromIs, RadioOk, CtxOk}
 use Rattle.lte_properties.proofs.Agreement.Later.{Later, same_found, from_later}
@@ -209,14 +212,17 @@ module _ (same : Term → Term → Bool) (g : Ghost) where
   RrcNeeds srb text (Connecting w) = ⊤
   RrcNeeds srb text (Connected l) = ((srb_counts srb l.bearers).send < count_limit) × (length text ≤ 200)
 
-  abbrev pub ActNeeds : Radio Term ℕ → phone.ActRow → Type 0
-  ActNeeds radio (phone.PacketSent drb text) = PacketNeeds drb text radio
-  ActNeeds radio (phone.RrcSent srb text) = RrcNeeds srb text radio
-  ActNeeds radio other = ⊤
+  packet_needs : (s : Phone Term ℕ) (act : PhoneAct) (drb : Drb) (text : List ℕ) → SendsPacket s act drb text → IsPhoneAct act → PacketNeeds drb text s.radio
+  packet_needs s act drb text f is =
+      subst (PacketNeeds drb text) (sym f.connected) (above_of count_limit (drb_counts drb f.link.bearers).send f.left, (subst IsPhoneAct f.act_is is).1)
 
-  abbrev pub PhoneNeeds : Radio Term ℕ → PhoneRow → Type 0
-  PhoneNeeds radio (phone.OfAct row) = ActNeeds radio row
-  PhoneNeeds radio other = ⊤
+  rrc_needs : (s : Phone Term ℕ) (act : PhoneAct) (srb : Srb) (text : List ℕ) → SendsRrc s act srb text → IsPhoneAct act → RrcNeeds srb text s.radio
+  rrc_needs s act srb text f is =
+      subst (RrcNeeds srb text) (sym f.connected) (above_of count_limit (srb_counts srb f.link.bearers).send f.left, (subst IsPhoneAct f.act_is is).1)
+
+  abbrev pub PhoneNeeds : Phone Term ℕ → PhoneRow → Type 0
+  PhoneNeeds s (phone.OfAct row) = ByAct s row
+  PhoneNeeds s other = ⊤
 
   auth_from : (row : phone.AuthRow) (root : Option Term) (s : Phone Term ℕ) → FromPhone (phone_keys.auth_does row root s).1.sent
   auth_from (phone.Authenticated ksi) None s = tt
@@ -320,19 +326,19 @@ module _ (same : Term → Term → Bool) (g : Ghost) where
   bearer_from on n s (Connecting w) = tt
   bearer_from on n s (Connected l) = tt
 
-  act_from : (row : phone.ActRow) (s : Phone Term ℕ) → RadioKeys g s.radio → ActNeeds s.radio row → FromPhone (phone_keys.act_does r row s).1.sent
+  act_from : (row : phone.ActRow) (s : Phone Term ℕ) → RadioKeys g s.radio → ByAct s row → FromPhone (phone_keys.act_does r row s).1.sent
   act_from (phone.ActRefused answer) s keys needs = tt
   act_from phone.ServiceRequested s keys needs = requested_from s s.context
   act_from phone.CompleteResent s keys needs = resent_from s s.radio
   act_from phone.WentIdle s keys needs = tt
-  act_from (phone.PacketSent drb text) s keys needs = packet_from drb text s s.radio keys needs
-  act_from (phone.RrcSent srb text) s keys needs = rrc_from srb text s s.radio keys needs
+  act_from (phone.PacketSent drb text) s keys needs = packet_from drb text s s.radio keys (packet_needs s needs.0 drb text needs.1 needs.2)
+  act_from (phone.RrcSent srb text) s keys needs = rrc_from srb text s s.radio keys (rrc_needs s needs.0 srb text needs.1 needs.2)
   act_from (phone.NasSent text) s keys needs = sent_from text s s.context
   act_from (phone.NasSkipped n) s keys needs = left_from n s s.context
   act_from (phone.BearerSkipped on n) s keys needs = bearer_from on n s s.radio
 
   -- any row of the phone
-  pub phone_sends : (row : PhoneRow) (root : Option Term) (s : Phone Term ℕ) → RadioKeys g s.radio → PhoneNeeds s.radio row → FromPhone (phone_does r row root s).1.sent
+  pub phone_sends : (row : PhoneRow) (root : Option Term) (s : Phone Term ℕ) → RadioKeys g s.radio → PhoneNeeds s row → FromPhone (phone_does r row root s).1.sent
   phone_sends (phone.OfAuth row) root s keys needs = auth_from row root s
   phone_sends (phone.OfNas row) root s keys needs = nas_from row s
   phone_sends (phone.OfAir row) root s keys needs = air_from row s

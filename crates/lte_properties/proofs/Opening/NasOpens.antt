@@ -1,120 +1,40 @@
--- What the choice of a row established: algorithms that are chosen for a KASME, and COUNTs that are left.
-use Rattle.std.proofs.Common.{◌≡◌, ℕ, ◌+◌, ◌*◌, ◌≤◌, Bool, true, false, List, [], ◌∷◌, ◌++◌, length, map, inl, inr, Option, Some, None, option_map, Result, Ok, Err, refl, ap, sym, subst, ◌∙◌, arith}
-use Rattle.lte_machine.specs.Kinds.{same_caps}
-use Rattle.std.specs.Prelude.{⊤, nat_le, ◌==◌}
-use Rattle.std.proofs.lemmas.Bool.Decides.{nat_tests}
+-- What the phone's choice of a row on a NAS message established: the algorithms of a command are those chosen for its KASME.
+use Rattle.std.proofs.Common.{◌≡◌, ℕ, ◌+◌, ◌*◌, ◌≤◌, Bool, List, [], ◌∷◌, ◌++◌, length, map, inl, inr, Option, Some, None, Result, Ok, refl, ap, sym, subst, ◌∙◌, arith}
+use Rattle.std.specs.Prelude.{⊤}
 use Rattle.rec_base.specs.declared.faults.RecFault.{RecFault}
 use Rattle.rec_base.specs.declared.uses.Dir.TheVariants.{Up, Down}
 use Rattle.alg_choice.specs.Algs.{eia2_identity}
-use Rattle.alg_choice.specs.Choice.{are_supported}
 use Rattle.alg_choice.specs.declared.algs.Algs.{Algs}
 use Rattle.alg_choice.specs.declared.caps.Caps.{Caps}
-use Rattle.lte_events.specs.declared.acts.CoreAct.TheVariants.{SendNas, Skip}
-use Rattle.lte_events.specs.declared.acts.PhoneAct as acts
-use Rattle.lte_events.specs.declared.acts.PhoneAct.{PhoneAct}
 use Rattle.lte_events.specs.declared.answers.Answer.{Answer}
 use Rattle.lte_events.specs.declared.answers.Answer.TheVariants.{Done}
 use Rattle.key_model.specs.Term.{Term, Alg}
 use Rattle.key_model.specs.Reading.{Reading, term_reading_by}
-use Rattle.nas_count.specs.Estimate.{count_limit, estimate_of}
-use Rattle.nas_count.specs.declared.sending.CountSpent.{CountSpent}
 use Rattle.nas_guard.specs.Seal.{first_octet}
-use Rattle.nas_guard.specs.Open.{sn_in, sent_in, first_in}
+use Rattle.nas_guard.specs.Open.{sent_in, first_in}
 use Rattle.nas_rec.specs.declared.records.NasRecord.{NasRecord}
 use Rattle.nas_rec.specs.declared.records.NasRecord.TheVariants.{SecurityModeCommand, SecurityModeComplete, SecurityModeReject, ServiceRequest, NasData}
 use Rattle.nas_rec.specs.Spelling.{spelling_of}
 use Rattle.nas_rec.specs.Reading.{read_nas}
 use Rattle.nas_rec.proofs.Laws.{spelled_is_read}
-use Rattle.lte_machine.specs.Bearers.{Which, OnSrb, OnDrb, which, is_spent, drb_counts, srb_counts}
 use Rattle.lte_machine.specs.Wire.{KeyUse, Ciphering, Outgoing, SealedNas, PlainNas, SealedRrc, UserPacket, Between}
 use Rattle.lte_machine.specs.Ciphers.{Ciphers, AreCiphers, ciphered_by, nas_octets}
-use Rattle.lte_machine.specs.Opening.{Opening, Outcome, Opened, Differs}
-use Rattle.lte_machine.specs.Reply.{unseen}
-use Rattle.lte_machine.specs.Ranges.{IsPhoneAct}
-use Rattle.lte_machine.specs.PhoneState.{Partial, NasContext, Radio, Idle, Connecting, Connected, Phone, map_context}
+use Rattle.lte_machine.specs.Opening.{Outcome, Opened}
+use Rattle.lte_machine.specs.PhoneState.{Partial, Phone}
 use Rattle.lte_machine.specs.PhoneRows as phone
 use Rattle.lte_machine.specs.PhoneChoice as choice
-use Rattle.lte_machine.specs.PhoneChoice.{PlainPhone, header_for_phone}
+use Rattle.lte_machine.specs.PhoneChoice.{header_for_phone}
 use Rattle.lte_machine.specs.PhoneKeys as keys
 use Rattle.lte_machine.specs.PhoneStep.{plain_phone}
 use Rattle.lte_machine.specs.Machines.{sender_of}
 use Rattle.lte_machine.specs.Ladder.{RowOrigin, Of}
 use Rattle.lte_machine.specs.Distinct.{Member, keys_of}
 use Rattle.key_model.specs.Derivation.{Derivation}
+use Rattle.lte_machine.proofs.PhoneNasFacts.{NasHas, TakesContext, phone_nas, nas_has}
 use Rattle.lte_properties.proofs.Opening.Openings.{SealedUnder, SenderIs}
-use Rattle.lte_machine.proofs.Tests.{by_test, above_of}
 use Rattle.lte_properties.proofs.Opening.Counts.{nas_parts, header_down, header_other}
 use Rattle.lte_properties.proofs.Opening.Nas.{Choices, RootHas, SealedSo, SealedOk}
-use Rattle.lte_properties.proofs.Opening.NasRows.{TakenNeeds, NasNeeds, SendNeeds, ActNeeds}
-
--- ACTS OF THE PHONE
-
-module _ (same : Term → Term → Bool) (g : Choices) (next : ℕ) where
-  abbrev r : Reading Term ℕ
-  r = term_reading_by same
-
-  abbrev Acts : Option (NasContext Term) → phone.ActRow → Type 0
-  Acts context row = ActNeeds same g next context row
-
-  unless_needs : (context : Option (NasContext Term)) (b : Bool) (row : phone.ActRow) → (b ≡ false → Acts context row) → Acts context (choice.unless_spent b row)
-  unless_needs context true row f = tt
-  unless_needs context false row f = f refl
-
-  -- an act under the context in use has a COUNT left
-  under_needs : (context : Option (NasContext Term)) (row : phone.ActRow) → (SendNeeds same g next context → Acts context row)
-      → Acts context (choice.under_context (option_map (map_context unseen) context) row)
-  under_needs None row f = tt
-  under_needs (Some c) row f = unless_needs (Some c) (nat_le count_limit c.send) row (λ e. f (above_of count_limit c.send e))
-
-  service_needs : (context : Option (NasContext Term)) (radio : Radio (Unit {0}) ℕ) → Acts context (choice.service_row (option_map (map_context unseen) context) radio)
-  service_needs context Idle = under_needs context phone.ServiceRequested (λ e. tt)
-  service_needs context (Connecting w) = under_needs context phone.ServiceRequested (λ e. tt)
-  service_needs context (Connected l) = tt
-
-  resend_needs : (context : Option (NasContext Term)) (radio : Radio (Unit {0}) ℕ) → Acts context (choice.resend_row radio)
-  resend_needs context Idle = tt
-  resend_needs context (Connecting w) = tt
-  resend_needs context (Connected l) =
-      by_test (Acts context) l.by_handover _ _ (λ e. unless_needs context (is_spent l.bearers.srb1) phone.CompleteResent (λ f. tt)) (λ e. tt)
-
-  idle_needs : (context : Option (NasContext Term)) (radio : Radio (Unit {0}) ℕ) → Acts context (choice.idle_row radio)
-  idle_needs context Idle = tt
-  idle_needs context (Connecting w) = tt
-  idle_needs context (Connected l) = tt
-
-  packet_needs : (context : Option (NasContext Term)) (text : List ℕ) (on : Which) (radio : Radio (Unit {0}) ℕ) → Acts context (choice.packet_sent_row text on radio)
-  packet_needs context text (OnSrb srb) radio = tt
-  packet_needs context text (OnDrb drb) Idle = tt
-  packet_needs context text (OnDrb drb) (Connecting w) = tt
-  packet_needs context text (OnDrb drb) (Connected l) = unless_needs context (is_spent (drb_counts drb l.bearers)) (phone.PacketSent drb text) (λ e. tt)
-
-  rrc_needs : (context : Option (NasContext Term)) (text : List ℕ) (on : Which) (radio : Radio (Unit {0}) ℕ) → Acts context (choice.rrc_sent_row text on radio)
-  rrc_needs context text (OnDrb drb) radio = tt
-  rrc_needs context text (OnSrb srb) Idle = tt
-  rrc_needs context text (OnSrb srb) (Connecting w) = tt
-  rrc_needs context text (OnSrb srb) (Connected l) = unless_needs context (is_spent (srb_counts srb l.bearers)) (phone.RrcSent srb text) (λ e. tt)
-
-  left_needs : (n : ℕ) (context : Option (NasContext Term)) (o : Option (NasContext (Unit {0}))) → Acts context (choice.nas_skipped_row n o)
-  left_needs n context None = tt
-  left_needs n context (Some c) = tt
-
-  bearer_needs : (context : Option (NasContext Term)) (on : Which) (n : ℕ) (radio : Radio (Unit {0}) ℕ) → Acts context (choice.bearer_skipped_row on n radio)
-  bearer_needs context on n Idle = tt
-  bearer_needs context on n (Connecting w) = tt
-  bearer_needs context on n (Connected l) = tt
-
-  -- the row of an act
-  pub phone_act_needs : (s : Phone Term ℕ) (act : PhoneAct) → IsPhoneAct act → Acts s.context (choice.act_row (plain_phone r s) act)
-  phone_act_needs s acts.TheVariants.ServiceRequest h = service_needs s.context (plain_phone r s).radio
-  phone_act_needs s acts.TheVariants.ResendComplete h = resend_needs s.context (plain_phone r s).radio
-  phone_act_needs s acts.TheVariants.GoIdle h = idle_needs s.context (plain_phone r s).radio
-  phone_act_needs s (acts.TheVariants.SendUser bearer text) h = packet_needs s.context text (which bearer) (plain_phone r s).radio
-  phone_act_needs s (acts.TheVariants.SendRrc bearer text) h = rrc_needs s.context text (which bearer) (plain_phone r s).radio
-  phone_act_needs s (acts.TheVariants.SendNas text) h = under_needs s.context (phone.NasSent text) (λ e. (e, h.1))
-  phone_act_needs s (acts.TheVariants.Skip None n) h = left_needs n s.context (plain_phone r s).context
-  phone_act_needs s (acts.TheVariants.Skip (Some bearer) n) h = bearer_needs s.context (which bearer) n (plain_phone r s).radio
-
--- A NAS MESSAGE AT THE PHONE
+use Rattle.lte_properties.proofs.Opening.NasRows.{TakenNeeds, NasNeeds}
 
 -- a key that a step derives is known after it
 known_last : (t : Term) (rows : List (RowOrigin Term)) (ds : List (Derivation Term)) → Member t (map (λ d. d.out) ds) → Member t (keys_of (rows ++ map Of ds))
@@ -172,31 +92,10 @@ module _ (same : Term → Term → Bool) (g : Choices) (next : ℕ) (c : Ciphers
       by_record ServiceRequest spelled so = not_three 1 (header_down pdu 23 long (first_is 1 so) refl) (λ e. absurd (omega arith))
       by_record (NasData data') spelled so = not_three 2 (header_down pdu 39 long (first_is 2 so.0) refl) (λ e. absurd (omega arith))
 
-  module _ (s : Phone Term ℕ) (pdu : List ℕ) (came : Option (Outgoing Term ℕ)) (is : CameDown pdu came) (opener : Opening Term → List ℕ → Option (Outgoing Term ℕ) → Outcome) (history : List (RowOrigin Term)) where
-    abbrev plain : PlainPhone
-    plain = plain_phone q s
-
-    abbrev Needs : phone.NasRow → Type 0
-    Needs row = NasNeeds same g next s.partial row
-
+  module _ (s : Phone Term ℕ) (pdu : List ℕ) (came : Option (Outgoing Term ℕ)) (is : CameDown pdu came) (history : List (RowOrigin Term)) where
     -- the keys that are known after a step
     abbrev known : List (Derivation Term) → List Term
     known derived = keys_of (history ++ map Of derived)
-
-    -- a row is granted where its step, if it is done, took a message of the key's sender
-    abbrev Granted : Opening Term → Outcome → phone.NasRow → Type 0
-    Granted opening outcome row =
-        ((keys.nas_does q row s).1.answer ≡ Done → SenderIs (known (keys.nas_does q row s).1.derived) opening (sender_of came) outcome) → Needs row
-
-    abbrev out : choice.NasFront → Outcome
-    out front = opener (keys.nas_expects q front s) pdu came
-
-    abbrev Walk : choice.NasFront → Type 0
-    Walk front = Granted (keys.nas_expects q front s) (out front) (choice.nas_row plain.caps plain.context plain.radio front (out front))
-
-    rejected_needs : (answer : Answer) (cause : ℕ) (o : Option (NasContext (Unit {0}))) → Needs (choice.rejected answer cause o)
-    rejected_needs answer cause None = tt
-    rejected_needs answer cause (Some k) = by_test Needs (nat_le count_limit k.send) _ _ (λ e. tt) (λ e. tt)
 
     -- the sender's KASME is the partial context's, and so are its algorithms
     taken_of : (p : Partial Term) (ksi : ℕ) (algs : Algs) (caps : Caps) (o : Option (Outgoing Term ℕ)) → CameDown pdu o → SealedUnder (Alg p.root 2 eia2_identity) (sender_of o)
@@ -236,66 +135,30 @@ module _ (same : Term → Term → Bool) (g : Choices) (next : ℕ) (c : Ciphers
     connected_done algs count None = refl
     connected_done algs count (Some p) = refl
 
-    context_walk : (count : ℕ) (algs : Algs) (text : List ℕ) (ksi : ℕ) (caps : Caps) → header_for_phone pdu ≡ Ok 3 → read_nas (sent_in pdu) ≡ Ok (SecurityModeCommand ksi algs caps)
-        → (radio : Radio (Unit {0}) ℕ) → Granted (keys.command_expects q count algs s.partial) (Opened text) (choice.context_row algs count radio)
-    context_walk count algs text ksi caps type reads Idle = λ h. taken_needs count algs text ksi caps type reads s.partial (h (taken_done algs count s.partial))
-    context_walk count algs text ksi caps type reads (Connecting w) = λ h. taken_needs count algs text ksi caps type reads s.partial (h (taken_done algs count s.partial))
-    context_walk count algs text ksi caps type reads (Connected l) = λ h. connected_needs count algs text ksi caps type reads s.partial (h (connected_done algs count s.partial))
+    module _ (outcome : Outcome) where
+      -- a row is granted where its step, if it is done, took a message of the key's sender
+      abbrev Granted : phone.NasRow → Type 0
+      Granted row =
+          ((keys.nas_does q row s).1.answer ≡ Done → SenderIs (known (keys.nas_does q row s).1.derived) (keys.nas_expects q (phone_nas q s pdu) s) (sender_of came) outcome)
+          → NasNeeds same g next s.partial row
 
-    command_walk : (count : ℕ) (algs : Algs) (ksi : ℕ) (caps : Caps) → header_for_phone pdu ≡ Ok 3 → read_nas (sent_in pdu) ≡ Ok (SecurityModeCommand ksi algs caps)
-        → (o : Outcome) → Granted (keys.command_expects q count algs s.partial) o (choice.command_row plain.caps plain.context plain.radio count algs caps o)
-    command_walk count algs ksi caps type reads (Differs wanted got) = λ h. rejected_needs _ _ plain.context
-    command_walk count algs ksi caps type reads (Opened text) =
-        by_test (Granted (keys.command_expects q count algs s.partial) (Opened text)) (same_caps plain.caps caps) _ _
-        (λ e. context_walk count algs text ksi caps type reads plain.radio) (λ e. λ h. rejected_needs _ _ plain.context)
+      at_command : (derived : List (Derivation Term)) (algs : Algs) (count : ℕ) → (f : TakesContext q s pdu outcome algs count)
+          → SenderIs (known derived) (keys.nas_expects q (phone_nas q s pdu) s) (sender_of came) outcome → SenderIs (known derived) (keys.command_expects q count algs s.partial) (sender_of came) (Opened f.text)
+      at_command derived algs count f h =
+          subst (λ x. SenderIs (known derived) (keys.nas_expects q x s) (sender_of came) (Opened f.text)) f.front
+          (subst (λ o. SenderIs (known derived) (keys.nas_expects q (phone_nas q s pdu) s) (sender_of came) o) f.opened h)
 
-    command_at_walk : (algs : Algs) (ksi : ℕ) (caps : Caps) → header_for_phone pdu ≡ Ok 3 → read_nas (sent_in pdu) ≡ Ok (SecurityModeCommand ksi algs caps)
-        → (counted : Result ℕ CountSpent) → Walk (choice.command_at algs caps counted)
-    command_at_walk algs ksi caps type reads (Err none) = λ h. tt
-    command_at_walk algs ksi caps type reads (Ok count) = command_walk count algs ksi caps type reads (out (choice.AtCommand count algs caps))
+      row_needs : (row : phone.NasRow) → NasHas q s pdu outcome row → Granted row
+      row_needs (phone.NasRefused answer) f h = tt
+      row_needs (phone.RejectedPlain answer cause) f h = tt
+      row_needs (phone.RejectedUnder answer cause) f h = tt
+      row_needs (phone.ContextTaken algs count) f h =
+          taken_needs count algs f.text f.by.partial.ksi f.caps f.by.header_is f.by.reads s.partial (at_command _ algs count f (h (taken_done algs count s.partial)))
+      row_needs (phone.ContextTakenConnected algs count) f h =
+          let x = f.0 in
+          connected_needs count algs x.text x.by.partial.ksi x.caps x.by.header_is x.by.reads s.partial (at_command _ algs count x (h (connected_done algs count s.partial)))
+      row_needs (phone.NasOpened count text) f h = tt
 
-    command_read_walk : (held : ℕ) → header_for_phone pdu ≡ Ok 3 → (read : Result NasRecord RecFault) → read_nas (sent_in pdu) ≡ read → Walk (choice.command_read plain.caps plain.context held pdu read)
-    command_read_walk held type (Err fault) e = λ h. tt
-    command_read_walk held type (Ok (SecurityModeCommand ksi algs caps)) e =
-        by_test Walk (ksi == held) _ _
-        (λ f. by_test Walk (are_supported plain.caps algs) _ _ (λ k. command_at_walk algs ksi caps type e (estimate_of 0 (sn_in pdu))) (λ k. λ h. rejected_needs _ _ plain.context))
-        (λ f. λ h. rejected_needs _ _ plain.context)
-    command_read_walk held type (Ok SecurityModeComplete) e = λ h. tt
-    command_read_walk held type (Ok (SecurityModeReject cause)) e = λ h. tt
-    command_read_walk held type (Ok ServiceRequest) e = λ h. tt
-    command_read_walk held type (Ok (NasData text)) e = λ h. tt
-
-    command_front_walk : header_for_phone pdu ≡ Ok 3 → (o : Option (Partial (Unit {0}))) → Walk (choice.command_front plain.caps plain.context pdu o)
-    command_front_walk type None = λ h. tt
-    command_front_walk type (Some p) = command_read_walk p.ksi type (read_nas (sent_in pdu)) refl
-
-    message_read_needs : (count : ℕ) (read : Result NasRecord RecFault) → Needs (choice.message_read count read)
-    message_read_needs count (Err fault) = tt
-    message_read_needs count (Ok (SecurityModeCommand ksi algs caps)) = tt
-    message_read_needs count (Ok SecurityModeComplete) = tt
-    message_read_needs count (Ok (SecurityModeReject cause)) = tt
-    message_read_needs count (Ok ServiceRequest) = tt
-    message_read_needs count (Ok (NasData text)) = tt
-
-    message_needs : (count : ℕ) (o : Outcome) → Needs (choice.message_row count o)
-    message_needs count (Differs wanted got) = tt
-    message_needs count (Opened text) = message_read_needs count (read_nas text)
-
-    message_at_walk : (header : ℕ) (counted : Result ℕ CountSpent) → Walk (choice.message_at header counted)
-    message_at_walk header (Err none) = λ h. tt
-    message_at_walk header (Ok count) = λ h. message_needs count (out (choice.AtMessage count header))
-
-    message_front_walk : (header : ℕ) (o : Option (NasContext (Unit {0}))) → Walk (choice.message_front header pdu o)
-    message_front_walk header None = λ h. tt
-    message_front_walk header (Some k) = message_at_walk header (estimate_of k.receive (sn_in pdu))
-
-    header_walk : (o : Result ℕ Answer) → header_for_phone pdu ≡ o → Walk (choice.nas_by_header plain.caps plain.partial plain.context pdu o)
-    header_walk (Err answer) e = λ h. tt
-    header_walk (Ok header) e =
-        by_test Walk (header == 3) _ _
-        (λ f. let three : header ≡ 3 = grind (arith, nat_tests) in command_front_walk (e ∙ ap Ok three) plain.partial)
-        (λ f. message_front_walk header plain.context)
-
-    -- the row of a message: where a command is taken, its algorithms are those chosen for its KASME
-    pub nas_pdu_needs : Walk (choice.nas_by_header plain.caps plain.partial plain.context pdu (header_for_phone pdu))
-    nas_pdu_needs = header_walk (header_for_phone pdu) refl
+      -- the row of a message: where a command is taken, its algorithms are those chosen for its KASME
+      pub nas_pdu_needs : Granted (choice.nas_row s.caps (plain_phone q s).context (plain_phone q s).radio (phone_nas q s pdu) outcome)
+      nas_pdu_needs = row_needs (choice.nas_row s.caps (plain_phone q s).context (plain_phone q s).radio (phone_nas q s pdu) outcome) (nas_has q s pdu outcome)

@@ -29,8 +29,9 @@ use Rattle.lte_machine.specs.CoreRows as core
 use Rattle.lte_machine.specs.CoreRows.{CoreNasRow, CoreRecordRow, CoreActRow, CoreRow}
 use Rattle.lte_machine.specs.CoreKeys as core_keys
 use Rattle.lte_machine.specs.CoreKeys.{CoreDone, core_does}
-use Rattle.lte_machine.specs.Ranges.{IsCoreAct}
+use Rattle.lte_machine.specs.Ranges.{IsCoreAct, IsPhoneAct}
 use Rattle.lte_machine.proofs.ActFacts.{ActHas, Starts, Sends}
+use Rattle.lte_machine.proofs.PhoneActFacts.{HasCount, ByAct}
 use Rattle.lte_machine.proofs.Tests.{above_of}
 use Rattle.lte_properties.proofs.Opening.Nas.{Choices, nas_keys, IsRootOf, AnyNumber, ChosenIs, RootHas, ContextOk, PhoneContextOk, CoreContextOk, CorePartialOk, ProcedureOk, PhoneOk, CoreOk, SealedSo, ciphered_for, SealedOk, OutOk}
 use Rattle.lte_machine.specs.Reply.{Before}
@@ -208,9 +209,8 @@ module _ (same : Term → Term → Bool) (g : Choices) (next : ℕ) where
   SendNeeds None = ⊤
   SendNeeds (Some c) = c.send < count_limit
 
-  abbrev pub ActNeeds : Option (NasContext Term) → phone.ActRow → Type 0
-  ActNeeds context (phone.NasSent text) = SendNeeds context × (length text ≤ 200)
-  ActNeeds context other = ⊤
+  count_left : (s : Phone Term ℕ) → HasCount s → SendNeeds s.context
+  count_left s f = subst SendNeeds (sym f.in_use) (above_of count_limit f.context.send f.left)
 
   abbrev pub AuthNeeds : Option Term → Type 0
   AuthNeeds None = ⊤
@@ -220,7 +220,7 @@ module _ (same : Term → Term → Bool) (g : Choices) (next : ℕ) where
   RowNeeds s root (phone.OfAuth row) = AuthNeeds root
   RowNeeds s root (phone.OfNas row) = NasNeeds s.partial row
   RowNeeds s root (phone.OfAir row) = ⊤
-  RowNeeds s root (phone.OfAct row) = ActNeeds s.context row
+  RowNeeds s root (phone.OfAct row) = ByAct s row
 
   auth_goes : (row : phone.AuthRow) (root : Option Term) (s : Phone Term ℕ) → PhoneOk g next s → AuthNeeds root → PhoneGoes (phone_keys.auth_does row root s)
   auth_goes (phone.Authenticated ksi) None s h needs = (h, tt)
@@ -334,14 +334,15 @@ module _ (same : Term → Term → Bool) (g : Choices) (next : ℕ) where
   bearer_goes on n s (Connecting w) h = (h, tt)
   bearer_goes on n s (Connected l) h = (h, tt)
 
-  act_goes : (row : phone.ActRow) (s : Phone Term ℕ) → PhoneOk g next s → ActNeeds s.context row → PhoneGoes (phone_keys.act_does r row s)
+  act_goes : (row : phone.ActRow) (s : Phone Term ℕ) → PhoneOk g next s → ByAct s row → PhoneGoes (phone_keys.act_does r row s)
   act_goes (phone.ActRefused answer) s h needs = (h, tt)
   act_goes phone.ServiceRequested s h needs = requested_goes s s.context h h.1
   act_goes phone.CompleteResent s h needs = resent_goes s s.radio h
   act_goes phone.WentIdle s h needs = (h, tt)
   act_goes (phone.PacketSent drb text) s h needs = packet_sent_goes drb text s s.radio h
   act_goes (phone.RrcSent srb text) s h needs = rrc_sent_goes srb text s s.radio h
-  act_goes (phone.NasSent text) s h needs = sent_goes text s s.context h h.1 needs
+  act_goes (phone.NasSent text) s h needs =
+      sent_goes text s s.context h h.1 (count_left s needs.1.0, (subst IsPhoneAct needs.1.1 needs.2).1)
   act_goes (phone.NasSkipped n) s h needs = left_goes n s s.context h h.1
   act_goes (phone.BearerSkipped on n) s h needs = bearer_goes on n s s.radio h
 

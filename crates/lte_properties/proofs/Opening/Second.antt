@@ -78,7 +78,7 @@ module _ (same : Term → Term → Bool) (sender : Option (Outgoing Term ℕ) �
   phone_second (PhoneActs act) came turn h = λ e. absurd cc
   phone_second (PhoneNasPdu pdu) came turn h = λ e. absurd (phone_nas_never g (next_root w) same c good w.phone packets.phone pdu came h e)
   phone_second (PhoneAirPdu station air bearer pdu) came turn h = λ e.
-      absurd (phone_air_never same (ghost k w) w.phone w.phone.caps station air pdu (which bearer) came h w.phone.radio refl ok.radio new e)
+      absurd (phone_air_never same (ghost k w) w.phone station air pdu (which bearer) came h ok.radio new e)
 
   turns : Turns m w (λ e. ⊤) CameTo IsAt (λ done a. SecondOf a done.1)
   turns = record {

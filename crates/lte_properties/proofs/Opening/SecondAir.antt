@@ -1,16 +1,13 @@
 -- On the air the second case of opening comes at a station alone whose context's security is starting: it waits for an unciphered
 -- record, and the phone there ciphers already. A connected phone and an active context take the first record once.
-use Rattle.std.proofs.Common.{◌≡◌, refl, sym, ap, ◌∙◌, subst, ℕ, ◌≤◌, ◌==◌, ◌&&◌, Bool, true, false, List, Option, Some, None, option_map, Result, Ok, Err, arith}
+use Rattle.std.proofs.Common.{◌≡◌, refl, sym, ap, ◌∙◌, subst, ℕ, ◌≤◌, ◌==◌, Bool, true, false, List, Option, Some, None, option_map, Result, Ok, Err, arith}
 use Rattle.std.proofs.lemmas.Bool.{eqb-true}
-use Rattle.alg_choice.specs.Choice.{are_supported}
 use Rattle.alg_choice.specs.declared.algs.Algs.{Algs}
-use Rattle.alg_choice.specs.declared.caps.Caps.{Caps}
 use Rattle.rec_base.specs.Bearer.{bearer5_of}
-use Rattle.rec_base.specs.declared.faults.RecFault.{RecFault}
 use Rattle.rec_base.specs.declared.uses.Dir.TheVariants.{Up, Down}
 use Rattle.lte_events.specs.Site.{Site}
 use Rattle.key_model.specs.Chain.{ncc_of}
-use Rattle.key_model.specs.Reading.{term_reading_by}
+use Rattle.key_model.specs.Reading.{Reading, term_reading_by}
 use Rattle.key_model.specs.Term.{Term}
 use Rattle.ho_prep.specs.Prep.{Prep, is_at, at_air}
 use Rattle.ho_prep.specs.declared.origins.By.{By}
@@ -18,26 +15,24 @@ use Rattle.pdcp_guard.specs.AsKeys.{AsKeys}
 use Rattle.pdcp_guard.specs.Drb.{drb_count}
 use Rattle.pdcp_guard.specs.Srb.{srb_count}
 use Rattle.pdcp_guard.specs.declared.pdus.PdcpFault.{PdcpFault}
-use Rattle.rrc_rec.specs.Reading.{read_rrc}
-use Rattle.rrc_rec.specs.declared.records.RrcRecord.{RrcRecord}
-use Rattle.rrc_rec.specs.declared.records.RrcRecord.TheVariants.{SecurityModeCommand, SecurityModeComplete, Reconfiguration, ReconfigurationComplete, RrcData, KeyChange}
 use Rattle.lte_machine.specs.Bearers.{Srb, Signalling1, Signalling2, Drb, Which, OnSrb, OnDrb, of_srb, srb_counts, drb_counts}
 use Rattle.lte_machine.specs.Opening.{CipheredElse}
-use Rattle.lte_machine.specs.PhoneChoice.{AirFront, AtStart, start_read, start_at, waiting_front, signalling_at, packet_at, linked_front, air_front, unciphered_text}
+use Rattle.lte_machine.specs.PhoneChoice.{AirFront, AirSettled, AtStart, AtSignalling, AtPacket}
 use Rattle.lte_machine.specs.PhoneKeys.{air_expects, start_expects, signalling_expects, packet_expects}
-use Rattle.lte_machine.specs.PhoneState.{Waiting, Link, Radio, Idle, Connecting, Connected, Phone, map_radio, map_link}
+use Rattle.lte_machine.specs.PhoneState.{Waiting, Link, Connecting, Connected, Phone}
 use Rattle.lte_machine.specs.Reply.{Made, unseen}
 use Rattle.lte_machine.specs.StationChoice as st
 use Rattle.lte_machine.specs.StationKeys as stk
 use Rattle.lte_machine.specs.StationState.{Station, Context, map_context}
 use Rattle.lte_machine.specs.Wire.{KeyUse, Ciphering, Outgoing, SealedNas, PlainNas, SealedRrc, UserPacket, Between, srb_use, srb_ciphering}
+use Rattle.lte_machine.proofs.PhoneAirFacts.{FrontHas, phone_air, front_has}
 use Rattle.lte_properties.specs.Agreement.{made_at}
 use Rattle.lte_properties.specs.SecondCase.{sender_at}
 use Rattle.lte_properties.proofs.Agreement.Calm.{NewKenb, count_low, plain_here, ciphered_here}
 use Rattle.lte_properties.proofs.Agreement.Ghost.{Ghost, keys_of, CtxOk, PrepOk, StationOk, LinkIs, RadioOk, UpOk}
 use Rattle.lte_properties.proofs.Agreement.Later.{same_found}
 use Rattle.lte_properties.proofs.Agreement.Phone.{all_found}
-use Rattle.lte_properties.proofs.Agreement.PhoneWalk.{CameDown, by_test, one_key, no_cipher, both_named}
+use Rattle.lte_properties.proofs.Agreement.PhoneWalk.{CameDown, by_test, one_key, no_cipher}
 use Rattle.lte_properties.proofs.Agreement.StationOpens.{CameUp}
 use Rattle.lte_properties.proofs.Agreement.Told.{found_holds}
 use Rattle.lte_properties.proofs.Opening.Heard.{Heard}
@@ -45,7 +40,10 @@ use Rattle.lte_properties.proofs.Opening.SecondNas.{Never, never_srb}
 
 -- THE PHONE
 
-module _ (same : Term → Term → Bool) (g : Ghost) (s : Phone Term ℕ) (caps : Caps) (station air : ℕ) (pdu : List ℕ) (on : Which) (came : Option (Outgoing Term ℕ)) (came_ok : CameDown g station air on pdu came) where
+module _ (same : Term → Term → Bool) (g : Ghost) (s : Phone Term ℕ) (station air : ℕ) (pdu : List ℕ) (on : Which) (came : Option (Outgoing Term ℕ)) (came_ok : CameDown g station air on pdu came) where
+  abbrev q : Reading Term ℕ
+  q = term_reading_by same
+
   abbrev NeverAt : AirFront → Type 0
   NeverAt front = Never (air_expects (term_reading_by same) front s) came
 
@@ -58,33 +56,10 @@ module _ (same : Term → Term → Bool) (g : Ghost) (s : Phone Term ℕ) (caps 
   waits w never count algs (Some (SealedRrc Down st a srb i f text)) h =
       let u = srb_use Down (keys_of w.kenb algs).rrc_int Signalling1 count in
       never_srb u i None f Down st a srb text
-      (λ e. sym (no_cipher f (plain_here same g s caps station air pdu on (Some (SealedRrc Down st a srb i f text)) h w never u algs refl text (Some (SealedRrc Down st a srb i f text)) h (e, λ x. refl))))
+      (λ e. sym (no_cipher f (plain_here same g s station air pdu on (Some (SealedRrc Down st a srb i f text)) h w never u algs refl text (Some (SealedRrc Down st a srb i f text)) h (e, λ x. refl))))
   waits w never count algs (Some (PlainNas octets)) h = λ e. absurd cc
   waits w never count algs (Some (UserPacket dir st a drb e text)) h = λ e. absurd cc
   waits w never count algs (Some (Between to fields key)) h = λ e. absurd cc
-
-  start_never : (w : Waiting Term) → s.radio ≡ Connecting w → NewKenb g.took (Connecting w) → (count : ℕ) (algs : Algs) (named : Bool) → NeverAt (AtStart count algs named station air)
-  start_never w is never count algs named =
-      subst (λ radio. Never (start_expects (term_reading_by same) count algs radio) came) (sym is) (waits w never count algs came came_ok)
-
-  read_never : (w : Waiting Term) → s.radio ≡ Connecting w → NewKenb g.took (Connecting w) → (count : ℕ) (read : Result RrcRecord RecFault) → NeverAt (start_read caps station air count read)
-  read_never w is never count (Err fault) = λ e. absurd cc
-  read_never w is never count (Ok (SecurityModeCommand algs ns na)) =
-      by_test NeverAt (are_supported caps algs) _ _ (λ b. start_never w is never count algs ((ns == station) && (na == air))) (λ b e. absurd cc)
-  read_never w is never count (Ok SecurityModeComplete) = λ e. absurd cc
-  read_never w is never count (Ok (Reconfiguration cell ncc algs st a)) = λ e. absurd cc
-  read_never w is never count (Ok ReconfigurationComplete) = λ e. absurd cc
-  read_never w is never count (Ok (RrcData text)) = λ e. absurd cc
-  read_never w is never count (Ok (KeyChange cell algs st a)) = λ e. absurd cc
-
-  count_never : (w : Waiting Term) → s.radio ≡ Connecting w → NewKenb g.took (Connecting w) → (count : Result ℕ PdcpFault) → NeverAt (start_at caps station air pdu count)
-  count_never w is never (Err fault) = λ e. absurd cc
-  count_never w is never (Ok count) = read_never w is never count (read_rrc (unciphered_text pdu))
-
-  waiting_never : (w : Waiting Term) → s.radio ≡ Connecting w → NewKenb g.took (Connecting w) → (which : Which) → NeverAt (waiting_front caps station air pdu which)
-  waiting_never w is never (OnSrb Signalling1) = count_never w is never (srb_count 0 pdu)
-  waiting_never w is never (OnSrb Signalling2) = λ e. absurd cc
-  waiting_never w is never (OnDrb drb) = λ e. absurd cc
 
   -- a record under the keys of its connection is ciphered under them
   ciphers : (l : Link Term ℕ) → LinkIs g l → l.station ≡ station → l.air ≡ air → (srb : Srb) (count : ℕ) → on ≡ OnSrb srb → (srb_counts srb l.bearers).receive ≤ count
@@ -97,7 +72,7 @@ module _ (same : Term → Term → Bool) (g : Ghost) (s : Phone Term ℕ) (caps 
       let cipher = Some (srb_ciphering Down l.keys srb count) in
       never_srb u i cipher None Down st a sr text
       (λ e. absurd (no_first
-      (ciphered_here same g s caps station air pdu on (Some (SealedRrc Down st a sr i None text)) k l h is_s is_a srb count is_on low text (Some (SealedRrc Down st a sr i None text)) k (e, λ x. refl))))
+      (ciphered_here same g s station air pdu on (Some (SealedRrc Down st a sr i None text)) k l h is_s is_a srb count is_on low text (Some (SealedRrc Down st a sr i None text)) k (e, λ x. refl))))
     where
       no_first : false ≡ true → ⊥
       no_first e = cc
@@ -118,30 +93,19 @@ module _ (same : Term → Term → Bool) (g : Ghost) (s : Phone Term ℕ) (caps 
   ciphers l h is_s is_a srb count is_on low (Some (UserPacket dir st a drb e text)) k = λ e. absurd cc
   ciphers l h is_s is_a srb count is_on low (Some (Between to fields key)) k = λ e. absurd cc
 
-  signalling_never : (l : Link Term ℕ) → s.radio ≡ Connected l → LinkIs g l → l.station ≡ station → l.air ≡ air → (srb : Srb) → on ≡ OnSrb srb
-      → (own : ℕ) (count : Result ℕ PdcpFault) → srb_count (srb_counts srb l.bearers).receive pdu ≡ count → NeverAt (signalling_at srb own count)
-  signalling_never l is h is_s is_a srb is_on own (Err fault) e = λ x. absurd cc
-  signalling_never l is h is_s is_a srb is_on own (Ok count) e =
-      subst (λ radio. Never (signalling_expects {C = ℕ} srb count radio) came) (sym is)
-      (ciphers l h is_s is_a srb count is_on (count_low (srb_counts srb l.bearers).receive pdu count e) came came_ok)
+  front_never : RadioOk g s.radio → NewKenb g.took s.radio → (front : AirFront) → FrontHas q s station air on pdu front → NeverAt front
+  front_never ok never (AirSettled row) f = λ e. absurd cc
+  front_never ok never (AtStart count algs named st a) f =
+      subst (λ radio. Never (start_expects q count algs radio) came) (sym f.waits) (waits f.waiting (subst (NewKenb g.took) f.waits never) count algs came came_ok)
+  front_never ok never (AtSignalling srb count own) f =
+      let here = f.here in
+      subst (λ radio. Never (signalling_expects {C = ℕ} srb count radio) came) (sym here.connected)
+      (ciphers here.link (subst (RadioOk g) here.connected ok) here.station_is here.air_is srb count f.bearer
+      (count_low (srb_counts srb here.link.bearers).receive pdu count f.counted) came came_ok)
+  front_never ok never (AtPacket drb count) f = subst (λ radio. Never (packet_expects {C = ℕ} drb count radio) came) (sym f.here.connected) (λ x. absurd cc)
 
-  packet_never : (l : Link Term ℕ) → s.radio ≡ Connected l → (drb : Drb) (count : Result ℕ PdcpFault) → NeverAt (packet_at drb count)
-  packet_never l is drb (Err fault) = λ x. absurd cc
-  packet_never l is drb (Ok count) = subst (λ radio. Never (packet_expects {C = ℕ} drb count radio) came) (sym is) (λ x. absurd cc)
-
-  linked_never : (l : Link Term ℕ) → s.radio ≡ Connected l → LinkIs g l → l.station ≡ station → l.air ≡ air → (which : Which) → on ≡ which
-      → NeverAt (linked_front (map_link unseen ncc_of l) pdu which)
-  linked_never l is h is_s is_a (OnSrb srb) is_on =
-      signalling_never l is h is_s is_a srb is_on (ncc_of l.chain.number) (srb_count (srb_counts srb l.bearers).receive pdu) refl
-  linked_never l is h is_s is_a (OnDrb drb) is_on = packet_never l is drb (drb_count (drb_counts drb l.bearers).receive pdu)
-
-  pub phone_air_never : (radio : Radio Term ℕ) → s.radio ≡ radio → RadioOk g radio → NewKenb g.took radio → NeverAt (air_front caps station air pdu on (map_radio unseen ncc_of radio))
-  phone_air_never Idle is h never = λ e. absurd cc
-  phone_air_never (Connecting w) is h never = waiting_never w is never on
-  phone_air_never (Connected l) is h never =
-      by_test NeverAt ((l.station == station) && (l.air == air)) _ _
-      (λ b. let here = both_named l.station station l.air air b in linked_never l is h here.0 here.1 on refl)
-      (λ b e. absurd cc)
+  pub phone_air_never : RadioOk g s.radio → NewKenb g.took s.radio → NeverAt (phone_air q s station air on pdu)
+  phone_air_never ok never = front_never ok never (phone_air q s station air on pdu) (front_has q s station air on pdu)
 
 -- A STATION
 

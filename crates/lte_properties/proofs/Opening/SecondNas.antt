@@ -1,12 +1,8 @@
 -- On NAS the second case of opening never comes: a message whose integrity use is the expected one is ciphered as its header type
 -- says, by the one choice of algorithms of its KASME.
 use Rattle.std.proofs.Common.{◌≡◌, refl, sym, ap, ◌∙◌, subst, ℕ, ◌==◌, ◌+◌, ◌*◌, ◌/◌, nat_lt, Bool, true, false, List, length, Option, Some, None, Result, Ok, Err, arith}
-use Rattle.std.proofs.lemmas.Bool.Decides.{nat_tests}
 use Rattle.alg_choice.specs.Algs.{eia2_identity}
-use Rattle.alg_choice.specs.Choice.{are_supported}
 use Rattle.alg_choice.specs.declared.algs.Algs.{Algs}
-use Rattle.alg_choice.specs.declared.caps.Caps.{Caps}
-use Rattle.rec_base.specs.declared.faults.RecFault.{RecFault}
 use Rattle.rec_base.specs.declared.uses.Dir.{Dir}
 use Rattle.rec_base.specs.declared.uses.Dir.TheVariants.{Up, Down}
 use Rattle.lte_events.specs.declared.answers.Answer.{Answer}
@@ -14,14 +10,8 @@ use Rattle.lte_events.specs.declared.answers.Answer.TheVariants.{Short, BadHeade
 use Rattle.key_model.specs.HandoverTable.{NumberedKey}
 use Rattle.key_model.specs.Reading.{Reading, term_reading_by}
 use Rattle.key_model.specs.Term.{Term, Alg, same_term}
-use Rattle.nas_count.specs.Estimate.{estimate_of}
-use Rattle.nas_count.specs.declared.sending.CountSpent.{CountSpent}
 use Rattle.nas_guard.specs.Keys.{Keys}
-use Rattle.nas_guard.specs.Open.{sn_in, sent_in}
 use Rattle.nas_guard.specs.Seal.{is_ciphered}
-use Rattle.nas_rec.specs.Reading.{read_nas}
-use Rattle.nas_rec.specs.declared.records.NasRecord.{NasRecord}
-use Rattle.nas_rec.specs.declared.records.NasRecord.TheVariants.{SecurityModeCommand, SecurityModeComplete, SecurityModeReject, ServiceRequest, NasData}
 use Rattle.s1x2_rec.specs.Fields.{Fields}
 use Rattle.lte_machine.specs.Ciphers.{Ciphers, AreCiphers, nas_octets}
 use Rattle.lte_machine.specs.CoreChoice as core_choice
@@ -30,13 +20,13 @@ use Rattle.lte_machine.specs.CoreKeys as core_keys
 use Rattle.lte_machine.specs.CoreState.{Core, CorePartial, CoreContext}
 use Rattle.lte_machine.specs.Opening.{Opening, OpensNas, OpensSrb, CipheredElse, judged, same_uses, same_ciphering}
 use Rattle.lte_machine.specs.PhoneChoice as choice
-use Rattle.lte_machine.specs.PhoneChoice.{PlainPhone, is_for_phone, header_for_phone}
+use Rattle.lte_machine.specs.PhoneChoice.{is_for_phone, header_for_phone}
 use Rattle.lte_machine.specs.PhoneKeys as keys
 use Rattle.lte_machine.specs.PhoneState.{Partial, NasContext, Phone}
-use Rattle.lte_machine.specs.PhoneStep.{plain_phone}
 use Rattle.lte_machine.specs.Bearers.{Srb}
 use Rattle.lte_machine.specs.Wire.{KeyUse, Ciphering, ciphering_if, ciphering_by, nas_use, nas_ciphering, Outgoing, SealedNas, PlainNas, SealedRrc, UserPacket, Between}
-use Rattle.lte_machine.proofs.NasFacts.{FrontHas, nas_front, front_has}
+use Rattle.lte_machine.proofs.NasFacts.{FrontHas as CoreFrontHas, nas_front, front_has as core_front_has}
+use Rattle.lte_machine.proofs.PhoneNasFacts.{FrontHas, phone_nas, front_has}
 use Rattle.lte_properties.specs.SecondCase.{sender_at}
 use Rattle.lte_properties.proofs.Agreement.Opener.{one_use, one_ciphering, plain_header}
 use Rattle.lte_properties.proofs.Agreement.PhoneWalk.{by_test}
@@ -103,9 +93,6 @@ module _ (g : Choices) (next : ℕ) where
     -- AT THE PHONE
 
     module _ (s : Phone Term ℕ) (own : PhoneOk g next s) (pdu : List ℕ) (came : Option (Outgoing Term ℕ)) (is : CameDown same g next c good pdu came) where
-      abbrev plain : PlainPhone
-      plain = plain_phone q s
-
       abbrev NeverAt : choice.NasFront → Type 0
       NeverAt front = Never (keys.nas_expects q front s) came
 
@@ -142,42 +129,13 @@ module _ (g : Choices) (next : ℕ) where
       command_never count algs type (Some p) (Some (UserPacket dir station air drb e text)) h = absurd h
       command_never count algs type (Some p) (Some (Between to fields key)) h = λ e. absurd cc
 
-      command_at_never : (algs : Algs) (caps : Caps) → header_for_phone pdu ≡ Ok 3 → (counted : Result ℕ CountSpent) → NeverAt (choice.command_at algs caps counted)
-      command_at_never algs caps type (Err none) = λ e. absurd cc
-      command_at_never algs caps type (Ok count) = command_never count algs type s.partial came is
+      phone_front_never : (front : choice.NasFront) → FrontHas q s pdu front → NeverAt front
+      phone_front_never (choice.NasSettled row) f = λ e. absurd cc
+      phone_front_never (choice.AtCommand count algs caps) f = command_never count algs f.header_is s.partial came is
+      phone_front_never (choice.AtMessage count header) f = message_never count header f.header_is s.context own.1 came is
 
-      command_read_never : (held : ℕ) → header_for_phone pdu ≡ Ok 3 → (read : Result NasRecord RecFault) → NeverAt (choice.command_read plain.caps plain.context held pdu read)
-      command_read_never held type (Err fault) = λ e. absurd cc
-      command_read_never held type (Ok (SecurityModeCommand ksi algs caps)) =
-          by_test NeverAt (ksi == held) _ _
-          (λ f. by_test NeverAt (are_supported plain.caps algs) _ _ (λ k. command_at_never algs caps type (estimate_of 0 (sn_in pdu))) (λ k e. absurd cc))
-          (λ f e. absurd cc)
-      command_read_never held type (Ok SecurityModeComplete) = λ e. absurd cc
-      command_read_never held type (Ok (SecurityModeReject cause)) = λ e. absurd cc
-      command_read_never held type (Ok ServiceRequest) = λ e. absurd cc
-      command_read_never held type (Ok (NasData text)) = λ e. absurd cc
-
-      command_front_never : header_for_phone pdu ≡ Ok 3 → (o : Option (Partial (Unit {0}))) → NeverAt (choice.command_front plain.caps plain.context pdu o)
-      command_front_never type None = λ e. absurd cc
-      command_front_never type (Some p) = command_read_never p.ksi type (read_nas (sent_in pdu))
-
-      message_at_never : (header : ℕ) → header_for_phone pdu ≡ Ok header → (counted : Result ℕ CountSpent) → NeverAt (choice.message_at header counted)
-      message_at_never header type (Err none) = λ e. absurd cc
-      message_at_never header type (Ok count) = message_never count header type s.context own.1 came is
-
-      message_front_never : (header : ℕ) → header_for_phone pdu ≡ Ok header → (o : Option (NasContext (Unit {0}))) → NeverAt (choice.message_front header pdu o)
-      message_front_never header type None = λ e. absurd cc
-      message_front_never header type (Some k) = message_at_never header type (estimate_of k.receive (sn_in pdu))
-
-      header_never : (o : Result ℕ Answer) → header_for_phone pdu ≡ o → NeverAt (choice.nas_by_header plain.caps plain.partial plain.context pdu o)
-      header_never (Err answer) type = λ e. absurd cc
-      header_never (Ok header) type =
-          by_test NeverAt (header == 3) _ _
-          (λ f. let three : header ≡ 3 = grind (arith, nat_tests) in command_front_never (type ∙ ap Ok three) plain.partial)
-          (λ f. message_front_never header type plain.context)
-
-      pub phone_nas_never : NeverAt (choice.nas_by_header plain.caps plain.partial plain.context pdu (header_for_phone pdu))
-      phone_nas_never = header_never (header_for_phone pdu) refl
+      pub phone_nas_never : NeverAt (phone_nas q s pdu)
+      phone_nas_never = phone_front_never (phone_nas q s pdu) (front_has q s pdu)
 
     -- AT THE CORE
 
@@ -228,10 +186,10 @@ module _ (g : Choices) (next : ℕ) where
       protected_never header count type (Some d) k (Some (UserPacket dir station air drb f text)) h = λ e. absurd cc
       protected_never header count type (Some d) k (Some (Between to fields key)) h = λ e. absurd cc
 
-      front_never : (front : core_choice.CoreNasFront) → FrontHas q s pdu front → NeverCore front
-      front_never (core_choice.NasSettled row) f = λ e. absurd cc
-      front_never (core_choice.OpensComplete count) f = complete_never count f.header s.partial s.procedure own.1 came is
-      front_never (core_choice.OpensProtected header count) f = protected_never header count f.header_is s.context own.2 came is
+      core_front_never : (front : core_choice.CoreNasFront) → CoreFrontHas q s pdu front → NeverCore front
+      core_front_never (core_choice.NasSettled row) f = λ e. absurd cc
+      core_front_never (core_choice.OpensComplete count) f = complete_never count f.header s.partial s.procedure own.1 came is
+      core_front_never (core_choice.OpensProtected header count) f = protected_never header count f.header_is s.context own.2 came is
 
       pub core_nas_never : NeverCore (nas_front q s pdu)
-      core_nas_never = front_never (nas_front q s pdu) (front_has q s pdu)
+      core_nas_never = core_front_never (nas_front q s pdu) (core_front_has q s pdu)

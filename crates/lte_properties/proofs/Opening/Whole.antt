@@ -18,6 +18,7 @@ use Rattle.lte_machine.specs.Opening.{Opening, Outcome}
 use Rattle.lte_machine.specs.Ranges.{IsEvent, IsSetup}
 use Rattle.lte_machine.specs.Ranges as ranges
 use Rattle.lte_machine.specs.PhoneState.{PhoneInput, PhoneAuth, PhoneActs, PhoneNasPdu, PhoneAirPdu}
+use Rattle.lte_machine.specs.PhoneStep.{phone_opens}
 use Rattle.lte_machine.specs.PhoneRows as phone
 use Rattle.lte_machine.specs.StationState.{StationActs, AirPdu, StationRecord}
 use Rattle.lte_machine.specs.CoreState.{CoreActs, CoreNasPdu, CoreRecord}
@@ -28,6 +29,7 @@ use Rattle.lte_machine.specs.Machines.{machine_over, sender_of}
 use Rattle.lte_machine.specs.Distinct.{keys_of}
 use Rattle.lte_machine.proofs.ActFacts.{act_has}
 use Rattle.lte_machine.proofs.Routing.{IsTurn, PhoneGets, Turns, happens_by}
+use Rattle.lte_machine.proofs.PhoneActFacts.{act_has as phone_act_has}
 use Rattle.lte_properties.specs.ChainBelow.{AllOf}
 use Rattle.lte_properties.specs.ChainHolds.{machine_by, run, noted, Holds}
 use Rattle.lte_properties.proofs.Agreement.Openings.{Honest, Calm, Along, OpensByTerms}
@@ -48,9 +50,9 @@ use Rattle.lte_properties.proofs.SameKeys.{IsReflexive}
 use Rattle.lte_properties.proofs.Opening.Delivered.{opens_where_fits}
 use Rattle.lte_properties.proofs.Opening.Nas.{Choices, SentOk, More, phone_more, core_more, sent_more}
 use Rattle.lte_properties.proofs.Opening.NasRows.{phone_goes, core_auth_goes}
-use Rattle.lte_properties.proofs.Opening.NasOpens.{phone_act_needs, CameDown, nas_pdu_needs}
+use Rattle.lte_properties.proofs.Opening.NasOpens.{CameDown, nas_pdu_needs}
 use Rattle.lte_properties.proofs.Opening.Air.{AirOk, air_later}
-use Rattle.lte_properties.proofs.Opening.AirWalk.{station_act_needs, phone_act_sends}
+use Rattle.lte_properties.proofs.Opening.AirWalk.{station_act_needs}
 use Rattle.lte_properties.proofs.Opening.World.{PacketsOk, Keeps, chosen_at, chosen_below, chosen_there, by_world_keeps, phone_turn_keeps, core_turn_keeps, station_turn_keeps}
 use Rattle.lte_properties.proofs.Opening.Fits.{packets_fit}
 use Rattle.lte_properties.specs.SecondCase.{SecondAtStarting}
@@ -130,10 +132,10 @@ module _ (same : Term → Term → Bool) (sender : Option (Outgoing Term ℕ) �
     phone_keeps (PhoneActs act) (Some x) turn is one later = absurd is
     phone_keeps (PhoneActs act) None turn is one later =
         phone_turn_keeps same sender opener c good between cells g k d w (PhoneActs act) None ok h
-        (phone_act_needs same g (next_root w) w.phone act is) (phone_act_sends same (ghost k w) w.phone act is) later
+        (act, phone_act_has q w.phone act, is) (act, phone_act_has q w.phone act, is) later
     phone_keeps (PhoneNasPdu pdu) came turn is one later =
         phone_turn_keeps same sender opener c good between cells g k d w (PhoneNasPdu pdu) came ok h
-        (nas_pdu_needs same g (next_root w) c good w.phone pdu came (is refl) opener w.history one) tt later
+        (nas_pdu_needs same g (next_root w) c good w.phone pdu came (is refl) w.history (opener (phone_opens q w.phone (PhoneNasPdu pdu)) pdu came) one) tt later
     phone_keeps (PhoneAirPdu station air bearer pdu) came turn is one later =
         phone_turn_keeps same sender opener c good between cells g k d w (PhoneAirPdu station air bearer pdu) came ok h tt tt later
 

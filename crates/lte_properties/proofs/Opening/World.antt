@@ -284,7 +284,7 @@ module _ (same : Term → Term → Bool) (sender : Option (Outgoing Term ℕ) �
       phone_row (plain_phone q w.phone) (front_of q w.phone input) (opener (phone_opens q w.phone input) (phone_pdu_in input) came)
 
   pub phone_turn_keeps : (g : Choices) (k d : Conns) (w : TheWorld) (input : PhoneInput Term) (came : Option (Outgoing Term ℕ)) → WorldOk cells k w → PacketsOk g k w
-      → RowNeeds same g (next_root w) w.phone (phone_root input) (row_at_phone w input came) → PhoneNeeds same (ghost k w) w.phone.radio (row_at_phone w input came)
+      → RowNeeds same g (next_root w) w.phone (phone_root input) (row_at_phone w input came) → PhoneNeeds same (ghost k w) w.phone (row_at_phone w input came)
       → Later (ghost k w) (ghost d (phone_turn m w input came).0) → Keeps d (phone_turn m w input came).0
   phone_turn_keeps g k d w input came ok h needs sends later =
       let row = row_at_phone w input came in
