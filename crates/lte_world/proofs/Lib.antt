@@ -15,7 +15,6 @@ pub mod Replying
 pub mod LastReplies
 pub mod Reading
 pub mod StationsStand
-pub mod TakenKeys
 pub mod MadeKeys
 pub mod OneTerm
 pub mod Answered

@@ -34,7 +34,7 @@ use Rattle.lte_machine.proofs.Routing.{happens_each}
 use Rattle.lte_properties.specs.BySteps.{MakesAt, TakesAt}
 use Rattle.lte_properties.proofs.AccountsHold.{happens_gains}
 use Rattle.lte_world.proofs.MadeKeys.{InContext, InPreps, HasKey, MadeIs, station_holds}
-use Rattle.lte_world.proofs.TakenKeys.{IsUnder, TakenIs, phone_takes}
+use Rattle.lte_machine.proofs.PhoneGives.{IsUnder, TookIs, phone_gives}
 
 abbrev TheWorld : Type 0
 TheWorld = World Term ℕ (Outgoing Term ℕ)
@@ -66,7 +66,7 @@ MadeStands w u = (u.made ≡ w.made) ⊎ ((n : Made Term ℕ) × (u.made ≡ w.m
 abbrev Both : TheWorld → TheWorld × Line Term → Type 0
 Both w h = MadeStands w h.0 × TookStands w h.0
 
-took_by : (took : List (Took Term ℕ)) (o : Option (Took Term ℕ)) (radio : Radio Term ℕ) → TakenIs o radio
+took_by : (took : List (Took Term ℕ)) (o : Option (Took Term ℕ)) (radio : Radio Term ℕ) → TookIs o radio
     → (with_one o took ≡ took) ⊎ ((x : Took Term ℕ) × (with_one o took ≡ took ++ x ∷ []) × IsUnder radio x.key)
 took_by took None radio h = inl refl
 took_by took (Some x) radio h = inr (x, refl, h)
@@ -87,7 +87,7 @@ module _ (same : Term → Term → Bool) (root : ℕ → List ℕ → Term) (oct
         let outcome = opener (phone_opens (term_reading_by same) w.phone input) (phone_pdu_in input) came in
         let row = phone_row (plain_phone (term_reading_by same) w.phone) (front_of (term_reading_by same) w.phone input) outcome in
         let done = phone_does (term_reading_by same) row (phone_root input) w.phone in
-        (inl refl, took_by w.took done.1.took done.0.radio (phone_takes same row (phone_root input) w.phone))
+        (inl refl, took_by w.took done.1.took done.0.radio (phone_gives same row (phone_root input) w.phone).2)
 
     station_stands : (id : ℕ) (input : StationInput Term ℕ) (came : Option (Outgoing Term ℕ)) (s : Station Term ℕ) → station_of_id id w.stations ≡ Some s → Both w (turn_of m w id input came (Some s))
     station_stands id input came s there =
