@@ -14,7 +14,7 @@ use Rattle.lte_machine.specs.Wire.{Outgoing, Between}
 use Rattle.lte_machine.specs.Reply.{Origin, Reply}
 use Rattle.lte_machine.specs.StationState.{Interface, Station, Context}
 use Rattle.lte_machine.specs.StationRows.{Admitted, OfRecord}
-use Rattle.lte_machine.specs.StationKeys.{spent_in, commanded, given_up, with_security, with_rrc_taken, with_packet_taken, with_skipped, arrived, started_by_x2, started_by_s1, started_within, commands, asks_again, sends_packet, sends_rrc, commands_change}
+use Rattle.lte_machine.specs.StationKeys.{spent_in, given_up, with_security, with_rrc_taken, with_packet_taken, with_skipped, arrived, started_by_x2, started_by_s1, started_within, commands, asks_again, sends_packet, sends_rrc, commands_change}
 use Rattle.lte_machine.specs.StationRecords.{with_pair, with_s1_ack, with_x2_ack, with_admitted, source_release, key_renewed}
 use Rattle.lte_properties.specs.ChainBelow.{star_in, AllOf, OfPair, EachNumber, AtMost, IsUnder, IsAbove, ContextBelow, PrepBelow, StationBelow, RecordBelow}
 use Rattle.lte_properties.specs.ChainAbove.{ContextAbove, HasNoPair, StationAbove, InFlight}

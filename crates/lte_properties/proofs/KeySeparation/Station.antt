@@ -14,7 +14,7 @@ use Rattle.lte_machine.specs.Wire.{Outgoing}
 use Rattle.lte_machine.specs.Reply.{Origin, Made, Tried, Reply, ByAttempt, Handover, BySource, ByTarget}
 use Rattle.lte_machine.specs.StationState.{Station, Context}
 use Rattle.lte_machine.specs.StationRows.{Admitted, RecordRow, ContextGiven, PairTaken, PreparedByS1, PreparedByX2, AirRow, ActRow, KeyRenewed}
-use Rattle.lte_machine.specs.StationKeys.{spent_in, commanded, given_up, with_security, with_rrc_taken, with_packet_taken, with_skipped, started_by_x2, started_within, air_does, act_does}
+use Rattle.lte_machine.specs.StationKeys.{spent_in, given_up, with_security, with_rrc_taken, with_packet_taken, with_skipped, started_by_x2, started_within, air_does, act_does}
 use Rattle.lte_machine.specs.StationRecords.{with_pair, with_s1_ack, with_x2_ack, source_release, admitted_made, prepared_by_s1, prepared_by_x2, record_does, key_renewed}
 use Rattle.lte_machine.specs.World.{with_one}
 use Rattle.lte_machine.proofs.StationCases.{Any, RecordCases, AirCases, ActCases, record_case, air_case, act_case}
