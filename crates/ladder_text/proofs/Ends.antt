@@ -1,12 +1,12 @@
 -- Each text that is written for a ladder text is a line.
-use Rattle.std.proofs.Common.{ℕ, List}
+use Rattle.std.proofs.Common.{◌≡◌, ℕ, true, List}
 use Rattle.std.specs.Prelude.{codes}
 use Rattle.std.specs.Fmt.{decimal}
 use Rattle.hex.specs.Hex.{encode_lower}
 use Rattle.hmac_kdf.specs.declared.input.KdfInput.{KdfInput}
 use Rattle.hmac_kdf.specs.Kdf.{kdf_string}
-use Rattle.edge_io.specs.Lines.{EndsLine}
-use Rattle.edge_io.proofs.Ending.{feed, on}
+use Rattle.edge_io.specs.Lines.{EndsLine, are_lines}
+use Rattle.edge_io.proofs.Ending.{feed, is_lines, on}
 use Rattle.ladder_text.specs.Report.{row_text, root_coincidence_text, rows_coincidence_text, refusal_text}
 
 pub row_ends : (k : ℕ) (kind octets : List ℕ) → EndsLine (row_text k kind octets)
@@ -22,6 +22,9 @@ unfolding rows_coincidence_text
 rows_end n k key input =
     on (decimal n) _ (on (codes " coincidence rows ") _ (on (decimal k) _ (on (codes " ") _ (on (encode_lower key) _ (on (codes " ") _ (on (encode_lower (kdf_string input)) _ feed))))))
 
-pub refusal_ends : (k : ℕ) → EndsLine (refusal_text k)
+refusal_ends : (k : ℕ) → EndsLine (refusal_text k)
 unfolding refusal_text
 refusal_ends k = on (codes "refused line ") _ (on (decimal k) _ feed)
+
+pub refusal_is : (k : ℕ) → are_lines (refusal_text k) ≡ true
+refusal_is k = is_lines _ (refusal_ends k)

@@ -1,10 +1,10 @@
 -- The output, line after line.
-use Rattle.std.proofs.Common.{length-append, ◌≡◌, ◌≢◌, ℕ, suc, ◌+◌, ◌<◌, ◌≤◌, ◌⊎◌, ◌||◌, Bool, true, false, not, cond, Some, None, Ok, Err, List, [], ◌∷◌, ◌++◌, map, length, get_or, drop, sym, refl, ap, subst, ◌∙◌, arith, inl, inr, append_assoc, append-nil, drop_of_length-le}
+use Rattle.std.proofs.Common.{length-append, ◌≡◌, ◌≢◌, ℕ, suc, ◌+◌, ◌<◌, ◌≤◌, ◌⊎◌, ◌||◌, Bool, true, false, cond, Some, None, Ok, Err, List, [], ◌∷◌, ◌++◌, map, length, get_or, drop, sym, refl, ap, subst, ◌∙◌, arith, inl, inr, append_assoc, append-nil, drop_of_length-le}
 use Rattle.std.proofs.lemmas.List.{length-map, get_or-map, map-append}
 use Rattle.std.proofs.lemmas.List.Folds.{list_any_at}
 use Rattle.std.proofs.lemmas.List.Quantifiers.{position-Some}
 use Rattle.std.proofs.lemmas.Option.{none-some}
-use Rattle.std.specs.List.{position, position_or_len, list_any}
+use Rattle.std.specs.List.{position, list_any}
 use Rattle.std.specs.Option.{option_map_or}
 use Rattle.std.specs.Str.{bytes_eq}
 use Rattle.std.proofs.Math.Seq.{drop-cons}
@@ -20,9 +20,9 @@ use Rattle.key_terms.specs.Ladder.{row}
 use Rattle.key_terms.proofs.Places.{slice_get_at_end, position-None}
 use Rattle.ladder_text.specs.declared.line.LadderLine.{LadderLine}
 use Rattle.ladder_text.specs.declared.ending.Ending.{Ending}
-use Rattle.ladder_text.specs.declared.ending.Ending.TheVariants.{Done, Memory, Refused, WriteFault, Coincidence}
+use Rattle.ladder_text.specs.declared.ending.Ending.TheVariants.{Done, Memory, WriteFault, Coincidence}
 use Rattle.ladder_text.specs.Text.{same, meets, with_row, AreGood}
-use Rattle.ladder_text.specs.Report.{KeyRow, key_at, derived_in, octets_in, kind_of, row_text, coincidence_text, Place, Again, Anew, Taken, place_by_octets, place_in, rows_after, ends_at, text_at, Output, then_rest, output_from, IsReported, TextAt, Writes}
+use Rattle.ladder_text.specs.Report.{KeyRow, key_at, derived_in, octets_in, kind_of, row_text, coincidence_text, Place, Again, Anew, Taken, place_by_octets, place_in, rows_after, ends_at, text_at, Output, then_rest, output_from, TextAt, Writes}
 use Rattle.ladder_text.specs.Rows.{StandsFor, answer_at}
 use Rattle.text_lines.proofs.Ended.{none_passes}
 use Rattle.ladder_text.proofs.Rows.{row_in}
@@ -262,11 +262,3 @@ ended lines i first mid now ladder line ending p within is counts written other 
     let rest = output_from (rows_after place p.rows line) (i + 1 + 1) (drop (i + 1) lines) in
     let whole = p.whole ∙ ap (λ ls. prefixed p.text (output_from p.rows (i + 1) ls)) (left_at lines i line within is) in
     ended_at ending (output_from [] 1 lines) rest place p.text text first mid now whole p.grown counts written other
-
--- a text that is the whole output
-pub one_text : (ending ends : Ending) (text : List ℕ) (out out' : Told) → IsReported ends → TextAt ending ends text out out' → Writes (record { text = text; ends = ends }) ending out out'
-one_text Done ends text out out' reported written = (sym written.0, written.1)
-one_text Refused ends text out out' reported written = (sym written.0, written.1)
-one_text Coincidence ends text out out' reported written = (sym written.0, written.1)
-one_text Memory ends text out out' reported written = record { count = 0; grows = written }
-one_text WriteFault ends text out out' reported written = written

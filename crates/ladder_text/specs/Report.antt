@@ -1,5 +1,5 @@
 -- What is written for a ladder text.
-use Rattle.std.specs.Prelude.{◌≡◌, ℕ, ◌+◌, Option, Some, None, Result, Ok, Err, List, [], ◌∷◌, ◌++◌, length, codes, slice_get, position}
+use Rattle.std.specs.Prelude.{◌≡◌, ◌≢◌, ℕ, ◌+◌, Option, Some, None, Result, Ok, Err, List, [], ◌∷◌, ◌++◌, length, codes, slice_get, position}
 use Rattle.std.specs.Fmt.{decimal}
 use Rattle.std.specs.Option.{option_map_or}
 use Rattle.std.specs.Str.{bytes_eq}
@@ -18,6 +18,8 @@ use Rattle.ladder_text.specs.declared.line.LadderLine.{LadderLine}
 use Rattle.ladder_text.specs.declared.line.LadderLine.TheVariants.{Root, Kenb, Nh, Star, Alg}
 use Rattle.ladder_text.specs.declared.ending.Ending.{Ending}
 use Rattle.ladder_text.specs.declared.ending.Ending.TheVariants.{Done, Memory, Refused, WriteFault, Coincidence}
+use Rattle.ladder_text.specs.declared.text.TextFault.{TextFault}
+use Rattle.ladder_text.specs.declared.text.TextFault.TheVariants as fault
 use Rattle.ladder_text.specs.Text.{same}
 
 -- a row of the ladder: the line that made it, and its octets
@@ -141,3 +143,10 @@ Writes output Refused out out' = (output.ends ≡ Refused) × Grows out.written 
 Writes output Coincidence out out' = (output.ends ≡ Coincidence) × Grows out.written out'.written output.text
 Writes output Memory out out' = GrowsByPrefix out.written out'.written output.text
 Writes output WriteFault out out' = Rose out.write_faults out'.write_faults × GrowsByProperPrefix out.written out'.written output.text
+
+-- Why no lines were read, and what is then answered: want of memory with nothing written, or the refusal of a bad line, which wants none.
+abbrev pub Refuses : {A : Type 0} → Result A TextFault → Ending → Told → Told → Type 0
+Refuses (Ok lines) ending out out' = ⊥
+Refuses (Err fault.Memory) ending out out' = (ending ≡ Memory) × (out' ≡ out)
+Refuses (Err (fault.BadLine k)) ending out out' =
+    (ending ≢ Memory) × Writes (record { text = refusal_text k; ends = Refused }) ending out out'

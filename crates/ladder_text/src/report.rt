@@ -15,7 +15,9 @@ use crate::ending::Ending;
 use crate::line::LadderLine;
 use annex_a_keys::Derived;
 use edge_io::{Sink, write_all};
+use itoa::Buffer;
 use key_terms::{Ladder, LadderFault, Row};
+use rec_base::Bounded;
 use std::alloc::{AllocError, Global};
 
 /// Writes the output for the lines of a ladder text, each line by one `write_all`.
@@ -43,14 +45,19 @@ pub fn write_report<W: Sink>(alloc: Global, lines: &[LadderLine], out: &mut W) -
     Ending::Done
 }
 
-/// Writes the refusal of a text by the number of its first bad line, counted from 1.
-pub fn write_refusal<W: Sink>(alloc: Global, line: u32, out: &mut W) -> Ending
+/// Writes the refusal of a text by the number of its first bad line, counted from 1. It takes no memory.
+#[tactic(auto, using(crate::proofs::Ends::refusal_is))]
+pub fn write_refusal<W: Sink>(line: u32, out: &mut W) -> Ending
     requires { IsTrue (W.told out.old).ready }
     ensures output { Writes (record { text = refusal_text line; ends = Ending.Refused }) result (W.told out.old) (W.told out.new) }
+    ensures memory { result ≢ Ending.Memory }
     ensures no_fault { result ≢ Ending.WriteFault → NoFault (W.told out.old) (W.told out.new) }
     ensures out { UsedAsSink (W.told out.old) (W.told out.new) }
 {
-    write_text(refusal_line(alloc, line), Ending::Refused, out)
+    match write_all(out, refusal_line(line).as_slice()) {
+        Ok(()) => Ending::Refused,
+        Err(_) => Ending::WriteFault,
+    }
 }
 
 // Writes the line for a line of the text: its row, or the coincidence, which ends the output.
@@ -197,8 +204,12 @@ fn rows_coincidence(
 
 // The output line of a refusal.
 #[tactic(auto, unfolding(crate::specs::Report::refusal_text))]
-fn refusal_line(alloc: Global, line: u32) -> Result<String, AllocError>
-    ensures { IfOk result (λ text. string_bytes text ≡ refusal_text line) }
+fn refusal_line(line: u32) -> Bounded<24>
+    ensures { result ≡ refusal_text line }
 {
-    format!(in alloc; "refused line {line}\n")
+    let mut text = Bounded::new();
+    text.append(b"refused line ");
+    text.append(Buffer::new().format(line).as_bytes());
+    text.append(b"\n");
+    text
 }

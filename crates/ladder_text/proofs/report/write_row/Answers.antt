@@ -1,6 +1,5 @@
 use Rattle.std.specs.String.{string_bytes}
 use Rattle.edge_io.proofs.Ending.{is_lines, text_is}
-use Rattle.ladder_text.specs.Report.{row_text, kind_of}
 use Rattle.ladder_text.proofs.Ends.{row_ends}
 use Rattle.ladder_text.proofs.report.write_row.Goals as goal
 
