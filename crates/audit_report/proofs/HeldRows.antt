@@ -1,8 +1,8 @@
 -- Who holds the key of a row: the stations that are noted in it.
-use Rattle.std.proofs.Common.{◌≡◌, ℕ, ◌<◌, zero, suc, Bool, true, false, ◌⊎◌, inl, inr, Option, Some, None, List, [], ◌∷◌, ◌++◌, length, replicate, set, sym, refl, ap, subst, ◌∙◌, arith}
+use Rattle.std.proofs.Common.{◌≡◌, ℕ, ◌<◌, zero, suc, Bool, true, false, ◌⊎◌, inl, inr, Some, List, [], ◌∷◌, ◌++◌, length, replicate, set, sym, refl, ap, subst, ◌∙◌, arith}
 use Rattle.std.proofs.lemmas.Bool.{false≢true}
 use Rattle.std.proofs.lemmas.List.{length-set}
-use Rattle.std.specs.Prelude.{◌↔◌, IsTrue, IsSome, slice_get, slice_index_or, unwrap_or}
+use Rattle.std.specs.Prelude.{◌↔◌, IsTrue, IsSome, slice_index_or, unwrap_or}
 use Rattle.key_audit.specs.Derives.{held_by, holds}
 use Rattle.key_terms.specs.declared.row.LadderRow.{LadderRow}
 use Rattle.key_terms.specs.Ladder.{unheld, holding, row_of}

@@ -1,4 +1,4 @@
-pub mod Coursing
+pub mod Reported
 pub mod Growing
 pub mod Together
 mod Ends

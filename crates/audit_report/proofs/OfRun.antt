@@ -1,11 +1,10 @@
 -- The ladder of a run, and the marks of its audit, are those of the written run.
-use Rattle.std.proofs.Common.{◌≡◌, refl, sym, ap, subst, ◌∙◌, ℕ, Bool, true, false, All, Option, Some, None, List, [], ◌∷◌, ◌++◌, map}
+use Rattle.std.proofs.Common.{◌≡◌, refl, sym, ap, subst, ◌∙◌, ℕ, Bool, true, false, Option, Some, None, List, [], ◌∷◌, ◌++◌, map}
 use Rattle.std.specs.Str.{bytes_eq}
-use Rattle.key_model.specs.Term.{Term, Root}
+use Rattle.key_model.specs.Term.{Term}
 use Rattle.key_model.specs.Value.{value_of, same_value}
 use Rattle.key_terms.specs.declared.row.LadderRow.{LadderRow}
 use Rattle.key_terms.specs.Ladder.{IsLadder}
-use Rattle.lte_events.specs.Conditions.{CanHappen, EventFits}
 use Rattle.lte_events.specs.declared.events.Event.{Event}
 use Rattle.lte_events.specs.declared.setups.Setup.{Setup}
 use Rattle.lte_machine.specs.BothRuns.{annex_b_terms, octet_run, written_run}
@@ -13,16 +12,14 @@ use Rattle.lte_machine.specs.ByEvent.{in_octets}
 use Rattle.lte_machine.specs.Carried.{map_holding, run_value}
 use Rattle.lte_machine.specs.Ciphers.{annex_b, under_keys}
 use Rattle.lte_machine.specs.Distinct.{keys_of, Member, distinct_terms}
-use Rattle.lte_machine.specs.Known.{AllReported}
 use Rattle.lte_machine.specs.Ladder.{RowOrigin, OfRoot, Of, row_key, Clash, Ladder, Hit, hit, same_origin, stands_or_not, added_at, added_unless, add_next, add_rows, no_rows, ladder_of}
 use Rattle.lte_machine.specs.Machines.{Kept, written_machine, written_in_values}
 use Rattle.lte_machine.specs.Opening.{open_octets, open_by_uses}
-use Rattle.lte_machine.specs.Ranges.{AllOf, IsEvent, IsSetup}
+use Rattle.lte_machine.specs.Ranges.{AllOf}
 use Rattle.lte_machine.specs.Run.{RunState, Running, run, first_world}
 use Rattle.lte_machine.specs.Wire.{Outgoing}
 use Rattle.lte_machine.specs.World.{World, Holding}
 use Rattle.lte_machine.proofs.AnnexB.{annex_b_ciphers}
-use Rattle.lte_machine.proofs.Fitting.{setup_fits, events_fit}
 use Rattle.lte_machine.proofs.History.{Stand, among_distinct}
 use Rattle.lte_machine.proofs.KnownWorld.{Grounds}
 use Rattle.lte_machine.proofs.LadderMap.{rows-map}
@@ -31,7 +28,9 @@ use Rattle.lte_machine.proofs.StillRun.{still_calm, still_is_run}
 use Rattle.lte_machine.proofs.WholeRun.{run_is_value}
 use Rattle.lte_properties.specs.Accounts.{IsRowOf}
 use Rattle.lte_properties.proofs.AccountsHold.{rows_are}
-use Rattle.lte_world.specs.Whole.{CanBegin, InRun}
+use Rattle.lte_world.specs.Whole.{InRun}
+use Rattle.run_report.specs.Ready.{Ready}
+use Rattle.run_report.proofs.Telling.{is_setup, are_events}
 use Rattle.run_stores.specs.Additions.{CanKeep}
 use Rattle.run_stores.specs.Rows.{numbered, all_noted, world_rows}
 use Rattle.run_stores.proofs.Adding.{valued}
@@ -115,19 +114,12 @@ module _ (setup : Setup) (events : List Event) (w : TheWorld) (runs : written_ru
 
 -- THE AUDIT OF A RUN
 
-pub audit_of_run : (setup : Setup) (events : List Event) (run : RunState (List ℕ) ℕ Kept) (rows : List LadderRow) → CanBegin setup → All (CanHappen setup) events → All EventFits events
-    → run ≡ octet_run setup events → InRun (λ w. rows ≡ world_rows w) run → IsLadder rows → AuditIsOfRun setup events
-audit_of_run setup events run rows begins can fit state are ladder w runs =
-    subst (AreOf (distinct_terms w.history) w.held) rows_is (run_is_of setup events w runs rows (world_keeps setup events (in_octets w) is all octets) rows_is ladder)
+pub audit_of_run : (setup : Setup) (events : List Event) (run : RunState (List ℕ) ℕ Kept) (rows : List LadderRow) → Ready setup events → run ≡ octet_run setup events → InRun (λ w. rows ≡ world_rows w) run → IsLadder rows → AuditIsOfRun setup events
+audit_of_run setup events run rows ready state are ladder w runs =
+    subst (AreOf (distinct_terms w.history) w.held) rows_is (run_is_of setup events w runs rows (world_keeps setup events (in_octets w) (is_setup ready) (are_events ready) octets) rows_is ladder)
   where
-    is : IsSetup setup
-    is = setup_fits setup begins.fits begins.can
-
-    all : AllOf IsEvent events
-    all = events_fit setup events (λ k d low. (fit k d low, can k d low))
-
     octets : octet_run setup events ≡ Running (in_octets w)
-    octets = run_is_value annex_b annex_b_ciphers setup is events all ∙ ap (run_value annex_b) runs
+    octets = run_is_value annex_b annex_b_ciphers setup (is_setup ready) events (are_events ready) ∙ ap (run_value annex_b) runs
 
     rows_is : rows ≡ world_rows (in_octets w)
     rows_is = subst (InRun (λ v. rows ≡ world_rows v)) (state ∙ octets) are

@@ -1,11 +1,10 @@
 -- The rows of the ladder of a run: which key each stands for, from which rows it comes, and who can derive it.
-use Rattle.std.proofs.Common.{◌≡◌, ℕ, zero, suc, ◌+◌, ◌<◌, ◌⊎◌, inl, inr, Option, Some, None, List, [], ◌∷◌, length, map, sym, refl, ap, subst, ◌∙◌, arith}
+use Rattle.std.proofs.Common.{◌≡◌, ℕ, zero, suc, ◌+◌, ◌<◌, ◌⊎◌, inl, inr, Some, List, [], ◌∷◌, length, map, sym, refl, ap, subst, ◌∙◌, arith}
 use Rattle.std.proofs.lemmas.Bool.{lt-ltb}
 use Rattle.std.proofs.lemmas.List.{length-map}
 use Rattle.std.proofs.lemmas.Option.{none-some, slice_get-map, slice_get_within}
 use Rattle.std.specs.Prelude.{◌↔◌, IsTrue, IsSome, slice_get, unwrap_or}
 use Rattle.std.specs.Option.{option_map}
-use Rattle.hmac_kdf.specs.declared.input.KdfInput.{KdfInput}
 use Rattle.key_audit.specs.Derives.{held_by, held_in, holds}
 use Rattle.key_audit.specs.Local.{exact_mark}
 use Rattle.key_audit.specs.Terms.{if_before, sync_row, sync_term, origin_term, term_at}

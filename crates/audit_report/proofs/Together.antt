@@ -1,5 +1,5 @@
 -- From a set of keys with no KASME each key comes from one of them, which one station held.
-use Rattle.std.proofs.Common.{◌≡◌, ℕ, ◌⊎◌, inl, inr, Bool, List, [], ◌∷◌, refl, sym, subst, take}
+use Rattle.std.proofs.Common.{◌≡◌, ℕ, inl, inr, Bool, List, [], ◌∷◌, refl, sym, subst, take}
 use Rattle.std.specs.Prelude.{IsTrue}
 use Rattle.key_model.specs.Derivable.{Derivable, in_set, by_kenb, by_nh, by_star, by_alg, ComesByStars, ComesFrom}
 use Rattle.key_model.specs.Term.{Term, Root, Kenb, Nh, Star, Alg}
@@ -7,7 +7,7 @@ use Rattle.key_model.specs.Value.{same_value}
 use Rattle.key_model.proofs.DerivableFacts.{from_set_derivable}
 use Rattle.lte_events.specs.declared.events.Event.{Event}
 use Rattle.lte_events.specs.declared.setups.Setup.{Setup}
-use Rattle.lte_machine.specs.BothRuns.{annex_b_terms, written_run}
+use Rattle.lte_machine.specs.BothRuns.{annex_b_terms}
 use Rattle.lte_machine.specs.Ciphers.{annex_b}
 use Rattle.lte_machine.specs.Machines.{Kept, written_machine, written_in_values}
 use Rattle.lte_machine.specs.Opening.{open_octets}

@@ -1,24 +1,22 @@
-ghost use Rattle.std.specs.Prelude.{◌≡◌, ◌≢◌, ◌≤◌, false, Ok, Err, length, All, IfOk, IsTrue};
-ghost use Rattle.edge_io.specs.Cause.{NoFault};
-ghost use Rattle.edge_io.specs.Used.{UsedAsSink};
+ghost use Rattle.std.specs.Prelude.{◌≡◌, false, Ok, IsTrue};
 ghost use Rattle.key_audit.specs.Text.{audit_text};
-ghost use Rattle.lte_events.specs.Conditions.{CanHappen, EventFits};
-ghost use Rattle.lte_world.specs.Whole.{CanBegin, begun, most_events};
-ghost use Rattle.run_report.specs.Written.{Written};
+ghost use Rattle.lte_world.specs.Whole.{begun};
+ghost use Rattle.run_report.specs.Ready.{Ready};
+ghost use Rattle.run_report.specs.Written.{WritesReport, WritesText};
 ghost use Rattle.audit_report.specs.Alone.{EachAlone};
 ghost use Rattle.audit_report.specs.Audited.{IsExact, AuditIsExact};
 ghost use Rattle.audit_report.specs.AuditReport.{audit_report_of};
 ghost use Rattle.audit_report.specs.OfRun.{AuditIsOfRun};
 ghost use Rattle.key_terms.specs.Ladder.{IsLadder};
 
-use crate::courses::{Course, run_through};
 use crate::lines::write_checked;
 use edge_io::Sink;
 use key_audit::{audit_of, check};
 use key_terms::Ladder;
 use lte_events::{Event, Setup};
 use lte_world::World;
-use run_report::{Unwritten, write_chance};
+use report_text::Tally;
+use run_report::{Course, Unwritten, run_through, write_chance};
 use std::alloc::Global;
 
 /// Lets these events happen to a system, and writes the exact audit of its keys, each line by one `write_all`: which
@@ -33,12 +31,8 @@ pub fn write_audit<W: Sink>(
     out: &mut W,
 ) -> Result<bool, Unwritten>
     requires out_ready { IsTrue (W.told out.old).ready }
-    requires begins { CanBegin setup.now }
-    requires can { All (CanHappen setup.now) events.now }
-    requires fit { All EventFits events.now }
-    requires few { length events.now ≤ most_events }
-    ensures report { Written (audit_report_of setup.now events.now).text result (W.told out.old) (W.told out.new) }
-    ensures coincidence { IfOk result (λ coincides. coincides ≡ (audit_report_of setup.now events.now).coincides) }
+    requires ready { Ready setup.now events.now }
+    ensures report { WritesReport (audit_report_of setup.now events.now) result (W.told out.old) (W.told out.new) }
     // What the stations of a set held lets them derive a key of the run exactly where one of them can by itself.
     ensures alone { EachAlone setup.now events.now }
     // And the audit that was written is exact.
@@ -46,8 +40,6 @@ pub fn write_audit<W: Sink>(
     // It is that of the written run: a mark stands at a row and a station exactly where the key of the row in that run is derivable
     // from what the station held in it.
     ensures of_run { result ≡ Ok false → AuditIsOfRun setup.now events.now }
-    ensures no_fault { result ≢ Err Unwritten.WriteFault → NoFault (W.told out.old) (W.told out.new) }
-    ensures out { UsedAsSink (W.told out.old) (W.told out.new) }
 {
     let mut world = match World::new(alloc, setup) {
         Ok(world) => world,
@@ -64,19 +56,14 @@ fn audit_run<W: Sink>(
     out: &mut W,
 ) -> Result<bool, Unwritten>
     requires out_ready { IsTrue (W.told out.old).ready }
-    requires begins { CanBegin world.old.setup }
     requires begun { world.old ≡ begun world.old.setup }
-    requires can { All (CanHappen world.old.setup) events.now }
-    requires fit { All EventFits events.now }
-    requires few { length events.now ≤ most_events }
-    ensures report { Written (audit_report_of world.old.setup events.now).text result (W.told out.old) (W.told out.new) }
-    ensures coincidence { IfOk result (λ coincides. coincides ≡ (audit_report_of world.old.setup events.now).coincides) }
+    requires ready { Ready world.old.setup events.now }
+    ensures report { WritesReport (audit_report_of world.old.setup events.now) result (W.told out.old) (W.told out.new) }
     ensures exact { result ≡ Ok false → AuditIsExact world.old.setup events.now }
     ensures of_run { result ≡ Ok false → AuditIsOfRun world.old.setup events.now }
-    ensures no_fault { result ≢ Err Unwritten.WriteFault → NoFault (W.told out.old) (W.told out.new) }
-    ensures out { UsedAsSink (W.told out.old) (W.told out.new) }
 {
-    match run_through(world, events) {
+    let mut tally = Tally::new();
+    match run_through(world, events, &mut tally) {
         Ok(Course::Ended) => match write_ladder(alloc, world.ladder(), out) {
             Ok(()) => Ok(false),
             Err(fault) => Err(fault),
@@ -93,11 +80,9 @@ fn audit_run<W: Sink>(
 #[tactic(auto, using(crate::proofs::Together::is_exact))]
 fn write_ladder<W: Sink>(alloc: Global, ladder: &Ladder, out: &mut W) -> Result<(), Unwritten>
     requires out_ready { IsTrue (W.told out.old).ready }
-    ensures text { Written (audit_text ladder.now.rows) result (W.told out.old) (W.told out.new) }
+    ensures text { WritesText (audit_text ladder.now.rows) result (W.told out.old) (W.told out.new) }
     ensures exact { IsExact ladder.now.rows }
     ensures ladder { IsLadder ladder.now.rows }
-    ensures no_fault { result ≢ Err Unwritten.WriteFault → NoFault (W.told out.old) (W.told out.new) }
-    ensures out { UsedAsSink (W.told out.old) (W.told out.new) }
 {
     match audit_of(alloc, ladder) {
         Ok(audit) => {

@@ -2,7 +2,6 @@
 #![tactic(auto)]
 
 mod audits;
-mod courses;
 mod lines;
 
 pub use audits::write_audit;

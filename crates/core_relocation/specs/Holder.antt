@@ -14,7 +14,7 @@ use Rattle.lte_events.specs.declared.inputs.CoreIn.{CoreIn}
 use Rattle.lte_events.specs.declared.replies.ActorOut.{ActorOut}
 use Rattle.lte_events.specs.declared.lines.Line.{Line}
 use Rattle.lte_events.specs.declared.lines.Who.{Who}
-use Rattle.lte_events.specs.Site.{Site, station_of}
+use Rattle.lte_events.specs.Site.{station_of}
 use Rattle.s1x2_rec.specs.Content.{Content, content_of}
 use Rattle.s1x2_rec.specs.declared.records.CoreRecord.{CoreRecord}
 use Rattle.s1x2_rec.specs.Fields.{Fields, HandoverRequired, HandoverNotify, HandoverCancel}

@@ -50,6 +50,10 @@ abbrev pub is_fault : Result TwoLine WorldFault → Bool
 is_fault (Ok line) = false
 is_fault (Err fault) = true
 
+-- and both
+abbrev pub answer_report : ℕ → Result TwoLine WorldFault → Report
+answer_report step answer = record { text = told_text step answer; coincides = is_fault answer }
+
 -- what is answered to each event, this step and those behind it, to the first coincidence; and then the end
 abbrev pub two_told_from : ℕ → List (Result TwoLine WorldFault) → List ℕ → Report
 two_told_from step [] end = record { text = end; coincides = false }

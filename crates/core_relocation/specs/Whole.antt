@@ -1,5 +1,5 @@
 -- Two cores as a caller sees them.
-use Rattle.std.specs.Prelude.{◌≡◌, ℕ, ◌≤◌, ◌<◌, List, length, Result, Ok, Err}
+use Rattle.std.specs.Prelude.{◌≡◌, ◌≤◌, ◌<◌, List, [], ◌∷◌, ◌++◌, length}
 use Rattle.lte_events.specs.Conditions.{CanHappen, EventFits}
 use Rattle.lte_events.specs.declared.events.Event.{Event}
 use Rattle.lte_machine.specs.Ranges.{AllOf, IsEvent, IsSetup}
@@ -47,3 +47,10 @@ pub record CanTake (v : TwoWhole) (e : Event) : Type 0 where
   pub can : CanHappen v.world.setup e
   pub fits : EventFits e
   pub few : length v.events < most_events
+
+-- it was answered by a line, and they go on
+pub record Takes (v : TwoWhole) (e : Event) (after : TwoWhole) : Type 0 where
+  pub runs : StillRuns after
+  pub setup : after.world.setup ≡ v.world.setup
+  pub core_of : after.cores.core_of ≡ v.cores.core_of
+  pub events : after.events ≡ v.events ++ e ∷ []

@@ -1,6 +1,5 @@
 -- The end of a phone's report, by its world.
-use Rattle.std.proofs.Common.{◌≡◌, sym, ap, subst, ◌∙◌, ℕ, ◌<◌, ◌≤◌, List, length, arith}
-use Rattle.lte_events.specs.declared.events.Event.{Event}
+use Rattle.std.proofs.Common.{◌≡◌, sym, ap, subst, ◌∙◌, ℕ, ◌≤◌, length, arith}
 use Rattle.lte_machine.specs.Ranges.{IsSetup}
 use Rattle.lte_world.specs.Whole.{Whole, run_of, most_events}
 use Rattle.fleet_world.specs.Answers.{own_at}

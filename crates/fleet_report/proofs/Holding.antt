@@ -1,8 +1,8 @@
 -- What a fleet's report says of each phone is the report of a system of that phone's own events; and what holds of all phones.
-use Rattle.std.proofs.Common.{◌≡◌, ◌≢◌, refl, sym, ap, subst, ◌∙◌, ℕ, zero, suc, ◌+◌, ◌<◌, ◌≤◌, ◌==◌, Bool, true, false, List, [], ◌∷◌, ◌++◌, length, map, set, Option, Some, None, Result, Ok, Err, append_assoc, append-nil, arith}
-use Rattle.std.specs.Prelude.{is_ok, IsOk}
+use Rattle.std.proofs.Common.{◌≡◌, ◌≢◌, refl, sym, ap, subst, ◌∙◌, ℕ, zero, suc, ◌+◌, ◌<◌, ◌==◌, Bool, true, false, List, [], ◌∷◌, ◌++◌, length, map, set, Option, Some, None, Result, Ok, Err, append_assoc, append-nil, arith}
+use Rattle.std.specs.Prelude.{IsOk}
 use Rattle.std.specs.List.{flat_map}
-use Rattle.std.proofs.lemmas.Bool.{false≢true, eqb-true, eqb-false, eq-eqb}
+use Rattle.std.proofs.lemmas.Bool.{false≢true, eqb-true, eq-eqb}
 use Rattle.std.proofs.lemmas.List.{length-replicate}
 use Rattle.lte_events.specs.declared.events.Event.{Event}
 use Rattle.lte_events.specs.declared.lines.Line.{Line}
@@ -26,7 +26,7 @@ use Rattle.lte_properties.proofs.HeadlineHolds.{headline}
 use Rattle.report_text.specs.End.{end_text}
 use Rattle.report_text.specs.Ladder.{rows_from, row_text}
 use Rattle.report_text.specs.Line.{line_text}
-use Rattle.run_report.specs.Report.{Report, told_from, end_of, report_of}
+use Rattle.run_report.specs.Report.{told_from, end_of, report_of}
 use Rattle.run_stores.specs.Rows.{world_rows}
 use Rattle.fleet_world.specs.declared.faults.FleetFault.{FleetFault}
 use Rattle.fleet_world.specs.declared.lines.FleetLine.{FleetLine}
@@ -41,7 +41,7 @@ use Rattle.fleet_world.proofs.Separating.{GoesOn, Apart, length_after}
 use Rattle.fleet_world.proofs.Together.{no_use_twice, phones_separate}
 use Rattle.fleet_report.specs.Lines.{Output, ByPhone, ByFleet, answer_output, row_outputs, end_outputs}
 use Rattle.fleet_report.specs.Promises.{text_if, phone_texts, Holds}
-use Rattle.fleet_report.specs.Report.{Outputs, ends_from, goes_on, outputs_from, report_from, fleet_report_of}
+use Rattle.fleet_report.specs.Report.{ends_from, goes_on, outputs_from, fleet_report_of}
 
 -- A REPORT WITHOUT A COINCIDENCE
 

@@ -1,4 +1,3 @@
-pub mod Partly
 pub mod Telling
 pub mod Holding
 pub mod Shown

@@ -1,9 +1,7 @@
 -- A coincidence of a phone has a text.
 use Rattle.std.proofs.Common.{◌≡◌, ◌≢◌, refl, sym, ap, subst, ◌∙◌, ℕ, Bool, true, false, List, length, Option, Some, None, Result, Ok, Err}
-use Rattle.std.specs.Prelude.{IfOk}
-use Rattle.edge_io.proofs.Known.{none_of}
+use Rattle.std.specs.Prelude.{IfOk, IsTrue}
 use Rattle.edge_io.specs.Told.{Told}
-use Rattle.lte_events.specs.Conditions.{CanHappen, EventFits}
 use Rattle.lte_events.specs.declared.events.Event.{Event}
 use Rattle.lte_events.specs.declared.setups.Setup.{Setup}
 use Rattle.key_terms.specs.declared.proof.Proof.{Proof}
@@ -11,12 +9,14 @@ use Rattle.lte_machine.specs.BothRuns.{octet_run}
 use Rattle.lte_machine.specs.Ciphers.{annex_b}
 use Rattle.lte_machine.specs.Machines.{Kept, machine_in_octets}
 use Rattle.lte_machine.specs.Opening.{open_octets}
-use Rattle.lte_machine.specs.Ranges.{AllOf, IsEvent, IsSetup}
+use Rattle.lte_machine.specs.Ranges.{IsEvent, IsSetup}
 use Rattle.lte_machine.specs.Run.{RunState, Running, Stopped, EventReport, Reported, Coincided, event_report}
 use Rattle.lte_machine.proofs.Fitting.{event_fits}
 use Rattle.report_text.specs.Chance.{HasString}
 use Rattle.run_report.specs.Events.{HasCounts}
-use Rattle.run_report.specs.Written.{Written}
+use Rattle.run_report.specs.Report.{Report}
+use Rattle.run_report.specs.Written.{WritesReport}
+use Rattle.run_report.proofs.Partly.{unreported}
 use Rattle.run_report.specs.declared.unwritten.Unwritten.{Unwritten}
 use Rattle.run_report.specs.declared.unwritten.Unwritten.TheVariants as unwritten
 use Rattle.fleet_world.specs.declared.lines.FleetLine.{FleetLine}
@@ -27,12 +27,11 @@ use Rattle.fleet_world.specs.declared.faults.FleetFault.TheVariants as fault
 use Rattle.fleet_world.specs.Answers.{own_at, taken_by, crossing, unless_taken, answer}
 use Rattle.fleet_world.specs.Fleets.{Fleeted, CanTake, IsOwn, GoesOn, owns_in, answer_of, unless_over}
 use Rattle.fleet_world.specs.Meeting.{Meeting}
-use Rattle.fleet_world.specs.Phones.{phone_run, phone_told}
+use Rattle.fleet_world.specs.Phones.{phone_told}
 use Rattle.fleet_world.proofs.Standing.{told_is}
 use Rattle.fleet_world.proofs.Together.{octets_are}
 use Rattle.fleet_report.specs.Events.{HasItsCounts, ends_it}
 use Rattle.fleet_report.specs.Lines.{IsShown, output_text, answer_output}
-use Rattle.fleet_report.proofs.Partly.{if_ok}
 
 -- a Chance is one of the phone's own run
 chance_told : (t : Option ℕ) (told : EventReport (List ℕ)) (met : Option Meeting) (p q : ℕ) (proof : Proof) → unless_taken p t told met ≡ Err (fault.Chance q proof) → (c : _) × (told ≡ Coincided c) × (proof ≡ proof_of c)
@@ -66,26 +65,19 @@ fault_shown v p e (fault.Chance q proof) none is h can answered counts =
     (chance_shown v.setup (length v.journal) (own_at (owns_in v) p) e told.0 is h (event_fits v.setup e can.fits can.can) told.1 (subst HasCounts told.2 counts))
 
 -- the line for a coincidence is that of the answer
-pub fault_written : (v : Fleeted) (p : ℕ) (e : Event) (f : FleetFault) (step own : ℕ) (result : Result Bool Unwritten) (before after : Told)
+pub fault_reported : (v : Fleeted) (p : ℕ) (e : Event) (f : FleetFault) (step own : ℕ) (result : Result Bool Unwritten) (before after : Told)
     → (◌≢◌ {A = Result FleetLine FleetFault} (Err f) (Err fault.Memory) → Err f ≡ answer_of v p e)
-    → (f ≢ fault.Memory → Written (output_text (answer_output step own (Err f))) result before after) → (f ≡ fault.Memory → (result ≡ Err unwritten.Memory) × (after ≡ before))
-    → Written (output_text (answer_output step own (answer_of v p e))) result before after
-fault_written v p e fault.Memory step own result before after says text memory =
+    → (f ≢ fault.Memory → WritesReport (record { text = output_text (answer_output step own (Err f)); coincides = true }) result before after)
+    → (f ≡ fault.Memory → (result ≡ Err unwritten.Memory) × (after ≡ before)) → IsTrue before.ready
+    → WritesReport (record { text = output_text (answer_output step own (answer_of v p e)); coincides = ends_it (answer_of v p e) }) result before after
+fault_reported v p e fault.Memory step own result before after says report memory ready =
     let nothing = memory refl in
-    let whole = output_text (answer_output step own (answer_of v p e)) in
-    subst (λ r. Written whole r before after) (sym nothing.0) (subst (λ t. Written {A = Bool} whole (Err unwritten.Memory) before t) (sym nothing.1) (none_of before.written whole))
-fault_written v p e (fault.Chance q proof) step own result before after says text memory =
-    subst (λ a. Written (output_text (answer_output step own a)) result before after) (says (λ same. cc)) (text (λ same. cc))
-fault_written v p e (fault.Cross phone row other other_row) step own result before after says text memory =
-    subst (λ a. Written (output_text (answer_output step own a)) result before after) (says (λ same. cc)) (text (λ same. cc))
-
--- and so is its end
-pub fault_ends : (v : Fleeted) (p : ℕ) (e : Event) (f : FleetFault) (result : Result Bool Unwritten)
-    → (◌≢◌ {A = Result FleetLine FleetFault} (Err f) (Err fault.Memory) → Err f ≡ answer_of v p e)
-    → (f ≡ fault.Memory → result ≡ Err unwritten.Memory) → IfOk result (λ b. b ≡ true) → IfOk result (λ b. b ≡ ends_it (answer_of v p e))
-fault_ends v p e fault.Memory result says memory ends = subst (λ r. IfOk r (λ b. b ≡ ends_it (answer_of v p e))) (sym (memory refl)) tt
-fault_ends v p e (fault.Chance q proof) result says memory ends = if_ok (λ b. b ≡ true) (λ b. b ≡ ends_it (answer_of v p e)) result (λ b is. is ∙ ap ends_it (says (λ same. cc))) ends
-fault_ends v p e (fault.Cross phone row other other_row) result says memory ends = if_ok (λ b. b ≡ true) (λ b. b ≡ ends_it (answer_of v p e)) result (λ b is. is ∙ ap ends_it (says (λ same. cc))) ends
+    let whole : Report = record { text = output_text (answer_output step own (answer_of v p e)); coincides = ends_it (answer_of v p e) } in
+    subst (λ r. WritesReport whole r before after) (sym nothing.0) (subst (λ t. WritesReport whole (Err unwritten.Memory) before t) (sym nothing.1) (unreported whole before ready))
+fault_reported v p e (fault.Chance q proof) step own result before after says report memory ready =
+    subst (λ a. WritesReport (record { text = output_text (answer_output step own a); coincides = ends_it a }) result before after) (says (λ same. cc)) (report (λ same. cc))
+fault_reported v p e (fault.Cross phone row other other_row) step own result before after says report memory ready =
+    subst (λ a. WritesReport (record { text = output_text (answer_output step own a); coincides = ends_it a }) result before after) (says (λ same. cc)) (report (λ same. cc))
 
 -- which is not that of a line
 pub never_false : (A : Type 0) (result : Result Bool Unwritten) → IfOk result (λ b. b ≡ true) → result ≡ Ok false → A

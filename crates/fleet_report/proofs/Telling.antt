@@ -1,7 +1,7 @@
 -- The report of a fleet, piece by piece.
-use Rattle.std.proofs.Common.{◌≡◌, refl, sym, ap, subst, ◌∙◌, ℕ, zero, suc, ◌+◌, ◌<◌, ◌≤◌, Bool, true, false, List, [], ◌∷◌, ◌++◌, length, drop, get_or, append_assoc, append-nil, arith, Result, Ok, Err}
+use Rattle.std.proofs.Common.{◌≡◌, refl, sym, ap, ◌∙◌, ℕ, zero, suc, ◌+◌, ◌<◌, ◌≤◌, true, List, [], ◌∷◌, ◌++◌, length, drop, get_or, append_assoc, append-nil, arith, Result, Ok, Err}
 use Rattle.std.proofs.lemmas.List.{length-replicate}
-use Rattle.std.specs.Prelude.{slice_get, Some}
+use Rattle.std.specs.Prelude.{slice_get, Some, IfOk}
 use Rattle.lte_events.specs.declared.events.Event.{Event}
 use Rattle.lte_events.specs.declared.setups.Setup.{Setup}
 use Rattle.key_terms.specs.declared.row.LadderRow.{LadderRow}
@@ -18,6 +18,7 @@ use Rattle.fleet_world.specs.Fleets.{GoesOn}
 use Rattle.fleet_world.specs.Phones.{phone_run}
 use Rattle.fleet_world.proofs.Searching.{rows_left}
 use Rattle.fleet_world.proofs.Separating.{length_after}
+use Rattle.run_report.proofs.Partly.{Begins, followed}
 use Rattle.fleet_report.specs.Events.{ends_it}
 use Rattle.fleet_report.specs.Lines.{Output, output_text, texts, phone_text, answer_output, row_outputs, end_outputs}
 use Rattle.fleet_report.specs.Report.{Outputs, ends_from, goes_on, outputs_from, report_from}
@@ -25,8 +26,8 @@ use Rattle.fleet_report.specs.Report.{Outputs, ends_from, goes_on, outputs_from,
 -- ROWS
 
 pub row_next : (p : ℕ) (rows : List LadderRow) (k : ℕ) (r : LadderRow) → slice_get rows k ≡ Some r
-    → texts (row_outputs p rows k (drop k rows)) ≡ phone_text p (row_text rows k r) ++ texts (row_outputs p rows (k + 1) (drop (k + 1) rows))
-row_next p rows k r at = ap (λ l. texts (row_outputs p rows k l)) (rows_left rows k r at)
+    → Begins (texts (row_outputs p rows k (drop k rows))) (phone_text p (row_text rows k r)) (texts (row_outputs p rows (k + 1) (drop (k + 1) rows)))
+row_next p rows k r at = record { is = ap (λ l. texts (row_outputs p rows k l)) (rows_left rows k r at) }
 
 drop_past : {A : Type 0} (xs : List A) (k : ℕ) → length xs ≤ k → drop k xs ≡ []
 drop_past [] zero le = refl
@@ -56,11 +57,12 @@ drop_one (x ∷ xs) zero low = refl
 drop_one (x ∷ xs) (suc k) low = drop_one xs k (omega (arith, low))
 
 pub end_next : (setup : Setup) (owns : List (List Event)) (k : ℕ) → k < length owns
-    → texts (ends_from setup k (drop k owns)) ≡ texts (end_outputs k (length (own_at owns k)) (phone_run setup (own_at owns k))) ++ texts (ends_from setup (k + 1) (drop (k + 1) owns))
+    → Begins (texts (ends_from setup k (drop k owns))) (texts (end_outputs k (length (own_at owns k)) (phone_run setup (own_at owns k)))) (texts (ends_from setup (k + 1) (drop (k + 1) owns)))
 end_next setup owns k low =
-    let next : suc k ≡ k + 1 = omega arith in
-    ap (λ l. texts (ends_from setup k l)) (drop_one owns k low ∙ ap (λ n. own_at owns k ∷ drop n owns) next)
-    ∙ texts_append (end_outputs k (length (own_at owns k)) (phone_run setup (own_at owns k))) (ends_from setup (k + 1) (drop (k + 1) owns))
+    let next : suc k ≡ k + 1 = omega arith in record {
+      is = ap (λ l. texts (ends_from setup k l)) (drop_one owns k low ∙ ap (λ n. own_at owns k ∷ drop n owns) next)
+          ∙ texts_append (end_outputs k (length (own_at owns k)) (phone_run setup (own_at owns k))) (ends_from setup (k + 1) (drop (k + 1) owns));
+    }
 
 pub ends_past : (setup : Setup) (owns : List (List Event)) (k : ℕ) → length owns ≤ k → texts (ends_from setup k (drop k owns)) ≡ []
 ends_past setup owns k le = ap (λ l. texts (ends_from setup k l)) (drop_past owns k le)
@@ -74,44 +76,18 @@ many_owns setup phones events = length_from setup (no_events phones) events ∙ 
 
 -- EVENTS
 
--- a line, and what comes behind it
-module _ (setup : Setup) (owns : List (List Event)) (step : ℕ) (x : ℕ × Event) (xs : List (ℕ × Event)) where
-  abbrev pub told : Result FleetLine FleetFault
-  told = answer setup owns x.0 x.1
+-- an answer, and what comes behind it
+follows_by : (r : Result FleetLine FleetFault) (out : Output) (rest : Outputs)
+    → record { text = texts (goes_on r out rest).lines; coincides = (goes_on r out rest).coincides }
+    ≡ followed (record { text = output_text out; coincides = ends_it r }) (record { text = texts rest.lines; coincides = rest.coincides })
+follows_by (Ok told) out rest = refl
+follows_by (Err ended) out rest = ap (λ t. record { text = t; coincides = true }) (append-nil (output_text out))
 
-  abbrev pub piece : List ℕ
-  piece = output_text (answer_output step (length (own_at owns x.0)) told)
-
-  abbrev rest : Outputs
-  rest = outputs_from setup (owns_after setup owns x.0 x.1) (suc step) xs
-
-  going : (r : Result FleetLine FleetFault) (out : Output) → ends_it r ≡ false → goes_on r out rest ≡ record { lines = out ∷ rest.lines; coincides = rest.coincides }
-  going (Ok t) out is = refl
-  going (Err f) out is = absurd cc
-
-  ending : (r : Result FleetLine FleetFault) (out : Output) → ends_it r ≡ true → goes_on r out rest ≡ record { lines = out ∷ []; coincides = true }
-  ending (Ok t) out is = absurd cc
-  ending (Err f) out is = refl
-
-  pub line_text : ends_it told ≡ false → (report_from setup owns step (x ∷ xs)).text ≡ piece ++ (report_from setup (owns_after setup owns x.0 x.1) (suc step) xs).text
-  line_text is = ap (λ (o : Outputs). texts o.lines) (going told (answer_output step (length (own_at owns x.0)) told) is)
-
-  pub line_coincides : ends_it told ≡ false → (report_from setup owns step (x ∷ xs)).coincides ≡ (report_from setup (owns_after setup owns x.0 x.1) (suc step) xs).coincides
-  line_coincides is = ap (λ (o : Outputs). o.coincides) (going told (answer_output step (length (own_at owns x.0)) told) is)
-
-  pub last_text : ends_it told ≡ true → (report_from setup owns step (x ∷ xs)).text ≡ piece ++ []
-  last_text is = ap (λ (o : Outputs). texts o.lines) (ending told (answer_output step (length (own_at owns x.0)) told) is)
-
-  pub last_coincides : ends_it told ≡ true → (report_from setup owns step (x ∷ xs)).coincides ≡ true
-  last_coincides is = ap (λ (o : Outputs). o.coincides) (ending told (answer_output step (length (own_at owns x.0)) told) is)
-
-  -- its line is a part of the report either way
-  pub parts : (left : List ℕ) × ((report_from setup owns step (x ∷ xs)).text ≡ piece ++ left) × (ends_it told ≡ true → left ≡ [])
-  parts = by (ends_it told) refl
-    where
-      by : (b : Bool) → ends_it told ≡ b → (left : List ℕ) × ((report_from setup owns step (x ∷ xs)).text ≡ piece ++ left) × (ends_it told ≡ true → left ≡ [])
-      by true is = ([], last_text is, λ e. refl)
-      by false is = ((report_from setup (owns_after setup owns x.0 x.1) (suc step) xs).text, line_text is, λ e. let bad : true ≡ false = sym e ∙ is in absurd cc)
+pub event_more : (setup : Setup) (owns : List (List Event)) (step : ℕ) (x : ℕ × Event) (xs : List (ℕ × Event))
+    → report_from setup owns step (x ∷ xs)
+    ≡ followed (record { text = output_text (answer_output step (length (own_at owns x.0)) (answer setup owns x.0 x.1)); coincides = ends_it (answer setup owns x.0 x.1) }) (report_from setup (owns_after setup owns x.0 x.1) (suc step) xs)
+event_more setup owns step x xs =
+    follows_by (answer setup owns x.0 x.1) (answer_output step (length (own_at owns x.0)) (answer setup owns x.0 x.1)) (outputs_from setup (owns_after setup owns x.0 x.1) (suc step) xs)
 
 pub events_left : (events : List (ℕ × Event)) (i : ℕ) (x : ℕ × Event) → i < length events → x ≡ get_or events i x → drop i events ≡ x ∷ drop (suc i) events
 events_left [] i x low is = absurd (omega (arith, low))
@@ -120,3 +96,8 @@ events_left (y ∷ ys) (suc i) x low is = events_left ys i x (omega (arith, low)
 
 pub none_left : (events : List (ℕ × Event)) (i : ℕ) → length events ≤ i → drop i events ≡ []
 none_left events i le = drop_past events i le
+
+-- what holds of an answer
+pub if_ok : {A E : Type 0} (P Q : A → Type 0) (result : Result A E) → ((a : A) → P a → Q a) → IfOk result P → IfOk result Q
+if_ok P Q (Ok a) f h = f a h
+if_ok P Q (Err e) f h = h

@@ -1,7 +1,8 @@
 -- What is told of one event of a fleet.
-use Rattle.std.specs.Prelude.{◌≡◌, ℕ, ◌<◌, Bool, true, false, List, length, Result, Ok, Err}
+use Rattle.std.specs.Prelude.{◌≡◌, ℕ, ◌<◌, Bool, true, false, None, [], ◌∷◌, ◌++◌, length, Result, Ok, Err}
 use Rattle.lte_events.specs.declared.events.Event.{Event}
 use Rattle.run_report.specs.Events.{HasCounts}
+use Rattle.run_report.specs.Report.{Report}
 use Rattle.fleet_world.specs.declared.faults.FleetFault.{FleetFault}
 use Rattle.fleet_world.specs.declared.faults.FleetFault.TheVariants as fault
 use Rattle.fleet_world.specs.declared.lines.FleetLine.{FleetLine}
@@ -24,8 +25,15 @@ HasItsCounts (fault.Chance p proof) = HasCounts proof
 HasItsCounts other = Unit {0}
 
 -- the line for an event, and whether it ends the report
-unfoldable pub event_text : Fleeted → ℕ → Event → List ℕ
-event_text v p e = output_text (answer_output (length v.journal) (length (own_at (owns_in v) p)) (answer_of v p e))
+unfoldable pub event_report : Fleeted → ℕ → Event → Report
+event_report v p e = record {
+  text = output_text (answer_output (length v.journal) (length (own_at (owns_in v) p)) (answer_of v p e));
+  coincides = ends_it (answer_of v p e);
+}
 
-unfoldable pub event_ends : Fleeted → ℕ → Event → Bool
-event_ends v p e = ends_it (answer_of v p e)
+-- the event happened to the phone, and ended nothing
+pub record Takes (v : Fleeted) (p : ℕ) (e : Event) (after : Fleeted) : Type 0 where
+  pub over : after.over ≡ None
+  pub setup : after.setup ≡ v.setup
+  pub journal : after.journal ≡ v.journal ++ (p, e) ∷ []
+  pub worlds : length after.worlds ≡ length v.worlds

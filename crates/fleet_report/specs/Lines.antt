@@ -3,7 +3,6 @@ use Rattle.std.specs.Prelude.{ℕ, ◌+◌, List, [], ◌∷◌, ◌++◌, codes
 use Rattle.std.specs.List.{flat_map}
 use Rattle.std.specs.Fmt.{decimal}
 use Rattle.key_terms.specs.declared.row.LadderRow.{LadderRow}
-use Rattle.key_terms.specs.declared.row.Row.{Row}
 use Rattle.lte_machine.specs.Machines.{Kept}
 use Rattle.lte_machine.specs.Run.{RunState, Running, Stopped}
 use Rattle.report_text.specs.Chance.{HasString, chance_text}

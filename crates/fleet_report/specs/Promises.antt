@@ -7,7 +7,7 @@ use Rattle.run_report.specs.Report.{report_of}
 use Rattle.fleet_world.specs.Answers.{own, owns_of, no_events}
 use Rattle.fleet_world.specs.Apart.{NoUseTwice, PhonesSeparate}
 use Rattle.fleet_report.specs.Lines.{Output, ByPhone, ByFleet}
-use Rattle.fleet_report.specs.Report.{Outputs, outputs_from, fleet_report_of}
+use Rattle.fleet_report.specs.Report.{outputs_from, fleet_report_of}
 
 -- the texts of phone p among the lines, one behind the other, without its number
 abbrev pub text_if : Bool → List ℕ → List ℕ → List ℕ

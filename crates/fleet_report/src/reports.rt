@@ -1,26 +1,22 @@
-ghost use Rattle.std.specs.Prelude.{◌≡◌, ◌≢◌, ℕ, ◌<◌, ◌≤◌, ◌++◌, ◌∷◌, [], List, true, false, None, Ok, Err, length, All, IfOk, IsTrue};
-ghost use Rattle.edge_io.specs.Cause.{NoFault};
-ghost use Rattle.edge_io.specs.Lines.{EndsLine, are_lines};
-ghost use Rattle.edge_io.specs.Used.{UsedAsSink};
-ghost use Rattle.lte_events.specs.Conditions.{CanHappen, EventFits};
-ghost use Rattle.lte_world.specs.Whole.{CanBegin, most_events, run_of};
-ghost use Rattle.run_report.specs.Events.{HasCounts};
-ghost use Rattle.run_report.specs.Written.{Written};
+ghost use Rattle.std.specs.Prelude.{◌≡◌, ◌≢◌, ℕ, ◌≤◌, List, true, false, None, Ok, Err, length, All, IfOk, IsTrue};
+ghost use Rattle.edge_io.specs.Lines.{EndsLine};
+ghost use Rattle.lte_world.specs.Whole.{most_events, run_of};
+ghost use Rattle.run_report.specs.Ready.{ReadyBy};
+ghost use Rattle.run_report.specs.Written.{WritesReport, WritesText};
 ghost use Rattle.fleet_world.specs.Fleets.{most_phones, owns_in, CanTake};
 ghost use Rattle.fleet_world.specs.Worlds.{Goes};
-ghost use Rattle.fleet_report.specs.Events.{event_text, event_ends, HasItsCounts, IsOfPhone};
+ghost use Rattle.fleet_report.specs.Events.{event_report, HasItsCounts, IsOfPhone, Takes};
 ghost use Rattle.fleet_report.specs.Lines.{IsShown, answer_output, output_text, phone_text, texts, row_outputs, end_outputs};
 ghost use Rattle.fleet_report.specs.Report.{ends_from, fleet_report_of};
 
 use crate::lines::{fault_text, phone_text, told_text};
-use edge_io::{Sink, write_all};
+use edge_io::Sink;
 use fleet_world::{Fleet, FleetFault};
-use hmac_kdf::KdfInput;
-use key_terms::{Ladder, Proof, Row};
+use key_terms::{Ladder, Row};
 use lte_events::{Event, Setup};
 use lte_world::World;
 use report_text::{TextMemory, end, row_line};
-use run_report::Unwritten;
+use run_report::{Unwritten, has_counts, write_text};
 use std::alloc::Global;
 
 /// Lets these events happen to a fleet of so many phones, 1 to 256, and writes the report of them, each of its lines by one
@@ -35,17 +31,11 @@ pub fn write_fleet<W: Sink>(
     out: &mut W,
 ) -> Result<bool, Unwritten>
     requires out_ready { IsTrue (W.told out.old).ready }
-    requires begins { CanBegin setup.now }
+    requires ready { ReadyBy (λ x. x.1) setup.now events.now }
     requires some { 1 ≤ phones }
     requires phones { phones ≤ most_phones }
     requires of_phones { All (IsOfPhone phones) events.now }
-    requires can { All (λ x. CanHappen setup.now x.1) events.now }
-    requires fit { All (λ x. EventFits x.1) events.now }
-    requires few { length events.now ≤ most_events }
-    ensures report { Written (fleet_report_of setup.now phones events.now).text result (W.told out.old) (W.told out.new) }
-    ensures coincidence { IfOk result (λ coincides. coincides ≡ (fleet_report_of setup.now phones events.now).coincides) }
-    ensures no_fault { result ≢ Err Unwritten.WriteFault → NoFault (W.told out.old) (W.told out.new) }
-    ensures out { UsedAsSink (W.told out.old) (W.told out.new) }
+    ensures { WritesReport (fleet_report_of setup.now phones events.now) result (W.told out.old) (W.told out.new) }
 {
     let mut fleet = match Fleet::new(alloc, setup, phones) {
         Ok(fleet) => fleet,
@@ -75,14 +65,8 @@ fn write_event<W: Sink>(
     requires out_ready { IsTrue (W.told out.old).ready }
     requires goes_on { fleet.old.over ≡ None }
     requires can { CanTake fleet.old phone event.now }
-    ensures text { Written (event_text fleet.old phone event.now) result (W.told out.old) (W.told out.new) }
-    ensures coincidence { IfOk result (λ coincides. coincides ≡ event_ends fleet.old phone event.now) }
-    ensures fleet { result ≡ Ok false → fleet.new.over ≡ None }
-    ensures setup { result ≡ Ok false → fleet.new.setup ≡ fleet.old.setup }
-    ensures journal { result ≡ Ok false → fleet.new.journal ≡ fleet.old.journal ++ (phone, event.now) ∷ [] }
-    ensures phones { result ≡ Ok false → length fleet.new.worlds ≡ length fleet.old.worlds }
-    ensures no_fault { result ≢ Err Unwritten.WriteFault → NoFault (W.told out.old) (W.told out.new) }
-    ensures out { UsedAsSink (W.told out.old) (W.told out.new) }
+    ensures report { WritesReport (event_report fleet.old phone event.now) result (W.told out.old) (W.told out.new) }
+    ensures takes { result ≡ Ok false → Takes fleet.old phone event.now fleet.new }
 {
     let step = fleet.journal().len() as u32;
     let own = fleet.world(phone).journal().len() as u32;
@@ -105,16 +89,14 @@ fn write_fault<W: Sink>(
 ) -> Result<bool, Unwritten>
     requires out_ready { IsTrue (W.told out.old).ready }
     requires shown { HasItsCounts fault → IsShown fault }
-    ensures text { fault ≢ FleetFault.Memory → Written (output_text (answer_output step own (Err fault))) result (W.told out.old) (W.told out.new) }
+    ensures report { fault ≢ FleetFault.Memory → WritesReport (record { text = output_text (answer_output step own (Err fault)); coincides = true }) result (W.told out.old) (W.told out.new) }
     ensures memory { fault ≡ FleetFault.Memory → (result ≡ Err Unwritten.Memory) × (out.new ≡ out.old) }
     ensures ends { IfOk result (λ coincides. coincides ≡ true) }
-    ensures no_fault { result ≢ Err Unwritten.WriteFault → NoFault (W.told out.old) (W.told out.new) }
-    ensures out { UsedAsSink (W.told out.old) (W.told out.new) }
 {
     if fault == FleetFault::Memory {
         return Err(Unwritten::Memory);
     }
-    has_counts(fault);
+    counts_in(fault);
     match write_text(fault_text(alloc, step, own, fault), out) {
         Ok(()) => Ok(true),
         Err(fault) => Err(fault),
@@ -132,9 +114,7 @@ fn write_ends<W: Sink>(
     requires goes_on { fleet.now.over ≡ None }
     requires phones { phones ≡ length fleet.now.worlds }
     requires few { length fleet.now.journal ≤ most_events }
-    ensures text { Written (texts (ends_from fleet.now.setup 0 (owns_in fleet.now))) result (W.told out.old) (W.told out.new) }
-    ensures no_fault { result ≢ Err Unwritten.WriteFault → NoFault (W.told out.old) (W.told out.new) }
-    ensures out { UsedAsSink (W.told out.old) (W.told out.new) }
+    ensures { WritesText (texts (ends_from fleet.now.setup 0 (owns_in fleet.now))) result (W.told out.old) (W.told out.new) }
 {
     for phone in 0..phones {
         match write_end(alloc, phone, fleet.world(phone), out) {
@@ -155,9 +135,7 @@ fn write_end<W: Sink>(
     requires out_ready { IsTrue (W.told out.old).ready }
     requires goes_on { Goes world.now }
     requires few { length world.now.journal ≤ most_events }
-    ensures text { Written (texts (end_outputs phone (length world.now.journal) (run_of world.now))) result (W.told out.old) (W.told out.new) }
-    ensures no_fault { result ≢ Err Unwritten.WriteFault → NoFault (W.told out.old) (W.told out.new) }
-    ensures out { UsedAsSink (W.told out.old) (W.told out.new) }
+    ensures { WritesText (texts (end_outputs phone (length world.now.journal) (run_of world.now))) result (W.told out.old) (W.told out.new) }
 {
     let events = world.journal().len() as u32;
     let ladder = world.ladder();
@@ -176,9 +154,7 @@ fn write_rows<W: Sink>(
     out: &mut W,
 ) -> Result<(), Unwritten>
     requires { IsTrue (W.told out.old).ready }
-    ensures text { Written (texts (row_outputs phone ladder.now.rows 0 ladder.now.rows)) result (W.told out.old) (W.told out.new) }
-    ensures no_fault { result ≢ Err Unwritten.WriteFault → NoFault (W.told out.old) (W.told out.new) }
-    ensures out { UsedAsSink (W.told out.old) (W.told out.new) }
+    ensures { WritesText (texts (row_outputs phone ladder.now.rows 0 ladder.now.rows)) result (W.told out.old) (W.told out.new) }
 {
     for number in 0..ladder.len() {
         match write_line(
@@ -203,9 +179,7 @@ fn write_line<W: Sink>(
 ) -> Result<(), Unwritten>
     requires ready { IsTrue (W.told out.old).ready }
     requires ends { IfOk line (λ t. EndsLine t.items) }
-    ensures text { (octets : List ℕ) → IfOk line (λ t. t.items ≡ octets) → Written (phone_text phone octets) result (W.told out.old) (W.told out.new) }
-    ensures no_fault { result ≢ Err Unwritten.WriteFault → NoFault (W.told out.old) (W.told out.new) }
-    ensures out { UsedAsSink (W.told out.old) (W.told out.new) }
+    ensures { (octets : List ℕ) → IfOk line (λ t. t.items ≡ octets) → WritesText (phone_text phone octets) result (W.told out.old) (W.told out.new) }
 {
     match line {
         Ok(line) => write_text(phone_text(alloc, phone, &line), out),
@@ -213,41 +187,12 @@ fn write_line<W: Sink>(
     }
 }
 
-// Writes a text for which there was memory, which is whole lines.
-fn write_text<W: Sink>(text: Result<Vec<u8>, TextMemory>, out: &mut W) -> Result<(), Unwritten>
-    requires ready { IsTrue (W.told out.old).ready }
-    requires lines { IfOk text (λ t. are_lines t.items ≡ true) }
-    ensures text { (octets : List ℕ) → IfOk text (λ t. t.items ≡ octets) → Written octets result (W.told out.old) (W.told out.new) }
-    ensures no_fault { result ≢ Err Unwritten.WriteFault → NoFault (W.told out.old) (W.told out.new) }
-    ensures out { UsedAsSink (W.told out.old) (W.told out.new) }
-{
-    match text {
-        Err(_) => Err(Unwritten::Memory),
-        Ok(text) => match write_all(out, &text) {
-            Ok(()) => Ok(()),
-            Err(_) => Err(Unwritten::WriteFault),
-        },
-    }
-}
-
 // The COUNT of a derivation in it has 32 bits.
-fn has_counts(fault: FleetFault)
+fn counts_in(fault: FleetFault)
     ensures { HasItsCounts fault }
 {
     match fault {
-        FleetFault::Chance(_, proof) => count_of(proof),
+        FleetFault::Chance(_, proof) => has_counts(proof),
         FleetFault::Cross { .. } | FleetFault::Memory => {}
-    }
-}
-
-fn count_of(proof: Proof)
-    ensures { HasCounts proof }
-{
-    match proof {
-        Proof::Rows(_, made) => match made.input {
-            KdfInput::Kenb(_count) => {}
-            KdfInput::Nh(_) | KdfInput::Star(..) | KdfInput::Alg(..) => {}
-        },
-        Proof::RootIsRow(..) | Proof::Tuples(..) => {}
     }
 }

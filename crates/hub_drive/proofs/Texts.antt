@@ -1,7 +1,6 @@
 -- What the plan writes is the report.
-use Rattle.std.proofs.Common.{◌≡◌, ℕ, suc, ◌+◌, List, [], ◌∷◌, ◌++◌, length, All, refl, ap, sym, subst, ◌∙◌, append-nil, arith}
+use Rattle.std.proofs.Common.{◌≡◌, ℕ, suc, ◌+◌, List, [], ◌∷◌, ◌++◌, length, refl, ap, sym, subst, ◌∙◌, append-nil, arith}
 use Rattle.edge_io.specs.declared.peers.Role.{Role}
-use Rattle.lte_events.specs.Conditions.{CanHappen, EventFits}
 use Rattle.lte_events.specs.declared.events.Event.{Event}
 use Rattle.lte_events.specs.declared.inputs.ActorIn.{ActorIn}
 use Rattle.lte_events.specs.declared.replies.ActorOut.{ActorOut}
@@ -11,10 +10,10 @@ use Rattle.lte_machine.specs.Ciphers.{annex_b}
 use Rattle.lte_machine.specs.Machines.{Kept, machine_in_octets}
 use Rattle.lte_machine.specs.Opening.{open_octets}
 use Rattle.lte_machine.specs.Run.{RunState, Running, EventReport, Reported, Coincided, report, replay, first_world}
-use Rattle.lte_world.specs.Whole.{CanBegin}
 use Rattle.report_text.specs.Line.{line_text}
 use Rattle.role_wire.specs.declared.frames.RoleSetup.{RoleSetup}
 use Rattle.run_report.specs.Events.{told_of}
+use Rattle.run_report.specs.Ready.{Ready}
 use Rattle.run_report.specs.Report.{Report, told_from, end_of, report_of}
 use Rattle.run_report.proofs.Telling.{report_from, report_is}
 use Rattle.peer_calls.proofs.Composing.{writes-append}
@@ -60,9 +59,9 @@ events_report setup (e ∷ events) step count run is =
     (end_of count (replay (open_octets annex_b) (machine_in_octets annex_b) (turned run e) events))
     (events_report setup events (suc step) count (turned run e) (omega (arith, is)))
 
-pub plan_report : (setup : Setup) (events : List Event) → CanBegin setup → All (CanHappen setup) events → All EventFits events → Reports (plan_of setup events) (report_of setup events)
+pub plan_report : (setup : Setup) (events : List Event) → Ready setup events → Reports (plan_of setup events) (report_of setup events)
 unfolding plan_of
-plan_report setup events begins can fit =
+plan_report setup events ready =
     let P : Report → Type 0 = λ r. Reports (plan_of setup events) r in
     let first : List Act = starts (roles_of setup) ++ set_ups 0 (seeds_of setup) in
     let none : writes first ≡ [] =
@@ -71,7 +70,7 @@ plan_report setup events begins can fit =
     ∙ set_ups_write 0 (seeds_of setup) in
     let rest : Plan = events_plan setup 0 (Running (first_world setup)) events in
     let more : Reports rest (report_from (length events) 0 (Running (first_world setup)) events) = events_report setup events 0 (length events) (Running (first_world setup)) (omega arith) in
-    subst P (sym (report_is setup events begins can fit)) (record {
+    subst P (sym (report_is ready)) (record {
       text = writes-append first rest.acts ∙ ap (λ (octets : List ℕ). octets ++ writes rest.acts) none ∙ more.text;
       coincides = more.coincides;
     })

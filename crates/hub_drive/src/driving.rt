@@ -1,15 +1,15 @@
-ghost use Rattle.std.specs.Prelude.{◌≡◌, ◌≢◌, ◌<◌, ◌≤◌, ◌⊎◌, [], false, true, Ok, Err, ℕ, IsTrue, IsErrOf, OnOk, OnErr, All, IfSome, length};
+ghost use Rattle.std.specs.Prelude.{◌≡◌, ◌≢◌, ◌<◌, ◌≤◌, ◌⊎◌, [], false, true, Ok, Err, ℕ, IsTrue, IsErrOf, OnOk, OnErr, IfSome, length};
 ghost use Rattle.edge_io.specs.Cause.{NoFault, Rose};
 ghost use Rattle.edge_io.specs.Octets.{Grows, GrowsByPrefix, GrowsByProperPrefix};
 ghost use Rattle.edge_io.specs.Used.{UsedAsSink};
-ghost use Rattle.lte_events.specs.Conditions.{CanHappen, EventFits};
 ghost use Rattle.lte_machine.specs.Run.{Running, first_world};
-ghost use Rattle.lte_world.specs.Whole.{CanBegin, begun, most_events, run_of};
+ghost use Rattle.lte_world.specs.Whole.{begun, run_of};
 ghost use Rattle.peer_calls.specs.Acts.{calls};
 ghost use Rattle.peer_calls.specs.Driven.{PlanWent, Driven, WhereTold, AllStopped, FailedNext, GivesAll};
 ghost use Rattle.peer_calls.specs.Exchanges.{roles_of};
 ghost use Rattle.peer_calls.specs.Outside.{AllRun, HasStarted, outside};
 ghost use Rattle.peer_calls.specs.Peerwise.{Made};
+ghost use Rattle.run_report.specs.Ready.{Ready};
 ghost use Rattle.run_report.specs.Report.{report_of};
 ghost use Rattle.hub_drive.specs.Plan.{events_plan, plan_of};
 
@@ -35,11 +35,8 @@ pub fn drive<P: Peers, W: Sink>(
     peers: &mut P,
     out: &mut W,
 ) -> Result<(), DriveFault>
-    requires begins { CanBegin setup.now }
+    requires ready { Ready setup.now events.now }
     requires cells { 1 ≤ length setup.now.cells }
-    requires can { All (CanHappen setup.now) events.now }
-    requires fit { All EventFits events.now }
-    requires few { length events.now ≤ most_events }
     requires none { IfSome (P.told peers.old) (λ t. t.roles ≡ []) }
     requires out_ready { IsTrue (W.told out.old).ready }
 
@@ -88,11 +85,8 @@ fn drive_plan<P: Peers, W: Sink>(
     peers: &mut P,
     out: &mut W,
 ) -> Result<(), DriveFault>
-    requires begins { CanBegin setup.now }
+    requires ready { Ready setup.now events.now }
     requires cells { 1 ≤ length setup.now.cells }
-    requires can { All (CanHappen setup.now) events.now }
-    requires fit { All EventFits events.now }
-    requires few { length events.now ≤ most_events }
     requires none { IfSome (P.told peers.old) (λ t. t.roles ≡ []) }
     requires out_ready { IsTrue (W.told out.old).ready }
     ensures driven { Driven (plan_of setup.now events.now) result
@@ -121,11 +115,8 @@ fn play<P: Peers, W: Sink>(
     peers: &mut P,
     out: &mut W,
 ) -> (u8, Result<(), DriveFault>)
-    requires begins { CanBegin setup.now }
+    requires ready { Ready setup.now events.now }
     requires cells { 1 ≤ length setup.now.cells }
-    requires can { All (CanHappen setup.now) events.now }
-    requires fit { All EventFits events.now }
-    requires few { length events.now ≤ most_events }
     requires none { IfSome (P.told peers.old) (λ t. t.roles ≡ []) }
     requires out_ready { IsTrue (W.told out.old).ready }
     requires begun { world.old ≡ begun setup.now }
@@ -161,10 +152,7 @@ fn run_all<P: Peers, W: Sink>(
     peers: &mut P,
     out: &mut W,
 ) -> Result<(), DriveFault>
-    requires begins { CanBegin setup.now }
-    requires can { All (CanHappen setup.now) events.now }
-    requires fit { All EventFits events.now }
-    requires few { length events.now ≤ most_events }
+    requires ready { Ready setup.now events.now }
     requires running { AllRun (length (roles_of setup.now)) (P.told peers.old) }
     requires out_ready { IsTrue (W.told out.old).ready }
     requires begun { world.old ≡ begun setup.now }

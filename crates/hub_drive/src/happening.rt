@@ -1,15 +1,14 @@
 // One event, before peers.
-ghost use Rattle.std.specs.Prelude.{◌≡◌, ◌≢◌, ◌<◌, ◌≤◌, ◌++◌, ◌∷◌, [], Ok, Err, ℕ, IsTrue, IsErrOf, OnOk, length};
+ghost use Rattle.std.specs.Prelude.{◌≡◌, ◌≢◌, ◌≤◌, Err, ℕ, IsTrue, IsErrOf, OnOk, length};
 ghost use Rattle.edge_io.specs.Cause.{NoFault, Rose};
 ghost use Rattle.edge_io.specs.Used.{UsedAsSink};
-ghost use Rattle.lte_events.specs.Conditions.{CanHappen, EventFits};
-ghost use Rattle.lte_machine.specs.Ranges.{AllOf, IsEvent, IsSetup};
-ghost use Rattle.lte_world.specs.Whole.{most_events, run_of};
-ghost use Rattle.run_report.specs.Events.{told_of, GoesOn};
+ghost use Rattle.lte_world.specs.Whole.{run_of};
+ghost use Rattle.run_report.specs.Events.{told_of};
+ghost use Rattle.run_report.specs.Ready.{CanTake, Takes};
 ghost use Rattle.peer_calls.specs.Driven.{PlanWent};
 ghost use Rattle.peer_calls.specs.Exchanges.{roles_of};
 ghost use Rattle.peer_calls.specs.Outside.{AllRun, outside};
-ghost use Rattle.hub_drive.specs.Plan.{event_plan, replies_at, turned};
+ghost use Rattle.hub_drive.specs.Plan.{event_plan, replies_at};
 
 use edge_io::{Peers, Sink};
 use lte_events::{Event, Setup};
@@ -41,18 +40,11 @@ pub(crate) fn happen<P: Peers, W: Sink>(
 ) -> Result<(), DriveFault>
     requires out_ready { IsTrue (W.told out.old).ready }
     requires same { world.old.setup ≡ setup.now }
-    requires setup { IsSetup world.old.setup }
-    requires journal { AllOf IsEvent world.old.journal }
-    requires few { length world.old.journal < most_events }
-    requires goes_on { GoesOn (run_of world.old) }
-    requires can { CanHappen world.old.setup event.now }
-    requires fits { EventFits event.now }
+    requires can { CanTake world.old event.now }
     requires running { AllRun (length (roles_of setup.now)) (P.told peers.old) }
     ensures went { PlanWent (event_plan setup.now (length world.old.journal) (told_of (run_of world.old) event.now) (replies_at (run_of world.old) event.now)) result
         (outside (W.told out.old).written (P.told peers.old)) (outside (W.told out.new).written (P.told peers.new)) }
-    ensures run { OnOk result (run_of world.new ≡ turned (run_of world.old) event.now) }
-    ensures setup { OnOk result (world.new.setup ≡ world.old.setup) }
-    ensures journal { OnOk result (world.new.journal ≡ world.old.journal ++ event.now ∷ []) }
+    ensures takes { OnOk result (Takes world.old event.now world.new) }
     ensures peer_cause { IsErrOf result DriveFault.PeerFault → Rose (P.faults peers.old) (P.faults peers.new) }
     ensures write_cause { IsErrOf result DriveFault.WriteFault → Rose (W.told out.old).write_faults (W.told out.new).write_faults }
     ensures no_peer_fault { result ≢ Err DriveFault.PeerFault → P.faults peers.new ≡ P.faults peers.old }

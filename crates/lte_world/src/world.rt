@@ -9,7 +9,7 @@ ghost use Rattle.run_stores.specs.Records.{world_uses};
 ghost use Rattle.run_stores.specs.Rows.{world_rows};
 ghost use Rattle.lte_properties.specs.InOctets.{FarNeverThere};
 ghost use Rattle.lte_world.specs.InOctets.{answers_of, NoTwoEqual, IsJoined, CommandsShare, PacketsOpen};
-ghost use Rattle.lte_machine.specs.Ranges.{AllOf};
+ghost use Rattle.lte_machine.specs.Ranges.{AllOf, IsEvent, IsSetup};
 ghost use Rattle.lte_world.specs.Replies.{RepliedLast, IsOfSetup};
 ghost use Rattle.lte_world.specs.Whole.{begun, run_of, told_of, turned, journal_after, AreFew, CanBegin, CanApply, InRun, most_events, phone_kenb_in, station_kenb_in};
 
@@ -138,6 +138,8 @@ impl World {
         ensures same { OnOk result (self.new ≡ record self.old { ready = true }) }
         ensures err { OnErr result (self.new ≡ self.old) }
         ensures told { (event : AnEvent) → told_of self.new event ≡ told_of self.old event }
+        // The setup and the events so far are in their ranges.
+        ensures ranges { IsSetup self.old.setup × AllOf IsEvent self.old.journal }
     {
         match self.journal.reserve(1) {
             Ok(()) => {}

@@ -1,6 +1,7 @@
+pub mod Partly
 pub mod Shown
 pub mod Telling
-pub mod SoFar
+pub mod Taking
 pub mod Ending
 pub mod Ends
 pub mod Counting

@@ -1,12 +1,10 @@
 -- A coincidence of a run is shown by what has a string S.
-use Rattle.std.proofs.Common.{◌≡◌, refl, sym, subst, ap, ◌∙◌, ℕ, ◌<◌, ◌^◌, Bool, true, false, Option, Some, None, Err, List, [], ◌∷◌}
+use Rattle.std.proofs.Common.{◌≡◌, refl, sym, subst, ap, ℕ, Bool, true, false, Option, Some, None, Err, List, [], ◌∷◌}
 use Rattle.std.specs.Str.{bytes_eq}
 use Rattle.hmac_kdf.specs.declared.input.KdfInput.{KdfInput}
 use Rattle.hmac_kdf.specs.Kdf.{IsKdfInput}
-use Rattle.annex_a_keys.specs.declared.derived.Derived.{Derived}
 use Rattle.key_model.specs.Derivation.{derived_of}
 use Rattle.key_terms.specs.declared.proof.Proof.{Proof}
-use Rattle.key_terms.specs.declared.proof.Proof as proofs
 use Rattle.lte_events.specs.declared.events.Event.{Event}
 use Rattle.lte_events.specs.declared.setups.Setup.{Setup}
 use Rattle.lte_machine.specs.BothRuns.{octet_run}
@@ -24,11 +22,11 @@ use Rattle.lte_machine.proofs.Fitting.{event_fits}
 use Rattle.lte_world.specs.declared.faults.WorldFault.TheVariants as fault
 use Rattle.lte_world.specs.Whole.{Whole, run_of, unless_over, answer_of}
 use Rattle.lte_world.specs.Whole as whole
-use Rattle.run_stores.specs.Additions.{IsInput, CanAdd, CanAddTo, AllCanAdd, CanKeep}
+use Rattle.run_stores.specs.Additions.{IsInput, CanAddTo, AllCanAdd}
 use Rattle.run_stores.specs.Proofs.{proof_of, clash_proof}
 use Rattle.run_stores.proofs.EveryRun.{event_keeps}
 use Rattle.report_text.specs.Chance.{HasString}
-use Rattle.run_report.specs.Events.{HasCount, HasCounts, told_of, is_coincidence, GoesOn}
+use Rattle.run_report.specs.Events.{HasCount, HasCounts, told_of, GoesOn}
 
 input_fits : (input : KdfInput) → HasCount input → IsInput input → IsKdfInput input
 input_fits (KdfInput.Kenb count) few is = few

@@ -1,56 +1,67 @@
 -- The report, event by event.
-use Rattle.std.proofs.Common.{◌≡◌, refl, sym, ap, subst, ◌∙◌, ℕ, suc, Bool, true, false, Ok, Err, List, [], ◌∷◌, ◌++◌, length, map, append_assoc}
-use Rattle.std.specs.List.{All}
-use Rattle.lte_events.specs.Conditions.{CanHappen, EventFits}
+use Rattle.std.proofs.Common.{◌≡◌, refl, sym, ap, ◌∙◌, arith, ℕ, suc, ◌+◌, ◌≤◌, true, false, Result, Ok, Err, List, ◌∷◌, length, map, drop, drop_of_length-le}
 use Rattle.lte_events.specs.declared.events.Event.{Event}
+use Rattle.lte_events.specs.declared.lines.Line.{Line}
 use Rattle.lte_events.specs.declared.setups.Setup.{Setup}
+use Rattle.key_terms.specs.declared.proof.Proof.{Proof}
 use Rattle.lte_machine.specs.BothRuns.{octet_run, octet_report, written_run, written_report}
-use Rattle.lte_machine.specs.Calls.{line_out}
 use Rattle.lte_machine.specs.Carried.{run_value, report_value}
 use Rattle.lte_machine.specs.Ciphers.{annex_b}
 use Rattle.lte_machine.specs.Machines.{Kept, machine_in_octets}
 use Rattle.lte_machine.specs.Opening.{open_octets}
 use Rattle.lte_machine.specs.Ranges.{AllOf, IsEvent, IsSetup}
-use Rattle.lte_machine.specs.Run.{RunState, Running, Stopped, turn, replay, EventReport, Reported, Coincided, event_report, report, reported, after, first_world}
+use Rattle.lte_machine.specs.Run.{RunState, Running, Stopped, turn, replay, EventReport, Reported, Coincided, report, reported, after, first_world}
 use Rattle.lte_machine.specs.Step.{StepResult, Continues, Stops, next}
-use Rattle.lte_machine.specs.World.{World}
 use Rattle.lte_machine.proofs.AnnexB.{annex_b_ciphers}
 use Rattle.lte_machine.proofs.Fitting.{setup_fits, events_fit}
 use Rattle.lte_machine.proofs.WholeRun.{tale_is_value, run_is_value}
+use Rattle.lte_world.specs.declared.faults.WorldFault.{WorldFault}
+use Rattle.lte_world.specs.declared.faults.WorldFault.TheVariants as fault
+use Rattle.lte_world.specs.Whole.{answer_of}
+use Rattle.run_stores.specs.Proofs.{proof_of}
 use Rattle.report_text.specs.Line.{line_text}
 use Rattle.report_text.specs.Chance.{chance_text}
-use Rattle.key_terms.specs.declared.proof.Proof.{Proof}
-use Rattle.lte_events.specs.declared.lines.Line.{Line}
-use Rattle.lte_world.specs.declared.faults.WorldFault.TheVariants as fault
-use Rattle.lte_world.specs.Whole.{answer_of, CanBegin}
-use Rattle.run_stores.specs.Proofs.{proof_of}
-use Rattle.run_report.specs.Events.{told_of, event_text, is_coincidence, GoesOn}
-use Rattle.run_report.specs.Report.{Report, before, told_from, end_of, report_of}
+use Rattle.run_report.specs.Counted.{Tells}
+use Rattle.run_report.specs.Events.{told_of, told_report, is_coincidence, CanShow, GoesOn}
+use Rattle.run_report.specs.Ready.{Ready}
+use Rattle.run_report.specs.Report.{Report, told_from, end_of, report_of}
+use Rattle.run_report.proofs.Partly.{followed, Follows}
 
--- the run in octets after one event more
+-- the run in octets after one event more, and after a list of them; and what it tells of these
 abbrev pub turned : RunState (List ℕ) ℕ Kept → Event → RunState (List ℕ) ℕ Kept
 turned run e = turn (open_octets annex_b) (machine_in_octets annex_b) run e
 
+abbrev pub replayed : RunState (List ℕ) ℕ Kept → List Event → RunState (List ℕ) ℕ Kept
+replayed run events = replay (open_octets annex_b) (machine_in_octets annex_b) run events
+
+abbrev pub reports : RunState (List ℕ) ℕ Kept → List Event → List (EventReport (List ℕ))
+reports run events = report (open_octets annex_b) (machine_in_octets annex_b) run events
+
 -- the report from this step on, of so many events in all
 abbrev pub report_from : ℕ → ℕ → RunState (List ℕ) ℕ Kept → List Event → Report
-report_from count step run events =
-    told_from step (report (open_octets annex_b) (machine_in_octets annex_b) run events) (end_of count (replay (open_octets annex_b) (machine_in_octets annex_b) run events))
+report_from count step run events = told_from step (reports run events) (end_of count (replayed run events))
 
--- the report of the written machine's run is that of the run in octets
-pub report_in_octets : (setup : Setup) (events : List Event) → IsSetup setup → AllOf IsEvent events → report_of setup events ≡ report_from (length events) 0 (Running (first_world setup)) events
+-- WHAT A CALLER GIVES
+
+pub is_setup : {setup : Setup} {events : List Event} → Ready setup events → IsSetup setup
+is_setup {setup} ready = setup_fits setup ready.begins.fits ready.begins.can
+
+pub are_events : {setup : Setup} {events : List Event} → Ready setup events → AllOf IsEvent events
+are_events {setup} {events} ready = events_fit setup events (λ k d low. (ready.fit k d low, ready.can k d low))
+
+-- the run of the written machine in values, and what it tells, are those of the run in octets
+pub in_octets : {A : Type 0} {setup : Setup} {events : List Event} (f : RunState (List ℕ) ℕ Kept → List (EventReport (List ℕ)) → A) → Ready setup events
+    → f (run_value annex_b (written_run setup events)) (map report_value (written_report setup events)) ≡ f (octet_run setup events) (octet_report setup events)
+in_octets {setup} {events} f ready =
+    let is = is_setup ready in
+    let are = are_events ready in
+    λ j. f (sym (run_is_value annex_b annex_b_ciphers setup is events are) j) (sym (tale_is_value annex_b annex_b_ciphers setup is events are) j)
+
+pub report_is : {setup : Setup} {events : List Event} → Ready setup events → report_of setup events ≡ report_from (length events) 0 (Running (first_world setup)) events
 unfolding report_of
-report_in_octets setup events is are =
-    ap (λ told. told_from 0 told (end_of (length events) (run_value annex_b (written_run setup events)))) (sym (tale_is_value annex_b annex_b_ciphers setup is events are))
-    ∙ ap (λ run. told_from 0 (octet_report setup events) (end_of (length events) run)) (sym (run_is_value annex_b annex_b_ciphers setup is events are))
+report_is {events} ready = in_octets (λ run told. told_from 0 told (end_of (length events) run)) ready
 
--- one event more of the report: its line, or the coincidence that ends it
-pub one_more : (step : ℕ) (rest : List (EventReport (List ℕ))) (end : List ℕ) (told : EventReport (List ℕ)) → is_coincidence told ≡ false → told_from step (told ∷ rest) end ≡ before (event_text step told) (told_from (suc step) rest end)
-one_more step rest end (Reported line) e = refl
-one_more step rest end (Coincided chance) e = cc
-
-pub the_last : (step : ℕ) (rest : List (EventReport (List ℕ))) (end : List ℕ) (told : EventReport (List ℕ)) → is_coincidence told ≡ true → told_from step (told ∷ rest) end ≡ record { text = event_text step told; coincides = true }
-the_last step rest end (Reported line) e = cc
-the_last step rest end (Coincided chance) e = refl
+-- ONE EVENT MORE
 
 -- an event that is told with a line is one by which the run goes on
 goes_by : (s : StepResult (List ℕ) ℕ Kept) → is_coincidence (reported s) ≡ false → GoesOn (after s)
@@ -61,20 +72,45 @@ pub still_goes : (run : RunState (List ℕ) ℕ Kept) (e : Event) → is_coincid
 still_goes (Running w) e is = goes_by (next (open_octets annex_b) (machine_in_octets annex_b) w e) is
 still_goes (Stopped chance) e is = cc
 
--- a text before a text before a report
-pub before_twice : (front text : List ℕ) (r : Report) → before front (before text r) ≡ before (front ++ text) r
-before_twice front text r = ap (λ t. record { text = t; coincides = r.coincides }) (sym (append_assoc front text r.text))
+one_more : (step : ℕ) (told : EventReport (List ℕ)) (rest : List (EventReport (List ℕ))) (end : List ℕ) → told_from step (told ∷ rest) end ≡ followed (told_report step told) (told_from (suc step) rest end)
+one_more step (Reported line) rest end = refl
+one_more step (Coincided chance) rest end = refl
 
--- what a caller is answered, and what it tells
-pub a_line : (step : ℕ) (told : EventReport (List ℕ)) (line : Line) → Ok line ≡ answer_of told → (line_text line ≡ event_text step told) × (false ≡ is_coincidence told)
-a_line step (Reported told) line answer = let one : line ≡ line_out told = cc in (ap line_text one, refl)
-a_line step (Coincided chance) line answer = cc
+pub report_more : (count i n : ℕ) (run run' : RunState (List ℕ) ℕ Kept) (events : List Event) (e : Event) → drop i events ≡ e ∷ drop (suc i) events → n ≡ i → run' ≡ turned run e
+    → Follows (report_from count i run (drop i events)) (told_report n (told_of run e)) (report_from count (i + 1) run' (drop (i + 1) events))
+report_more count i n run run' events e left number turns =
+    let next : suc i ≡ i + 1 = omega arith in record {
+      is = ap (report_from count i run) left
+          ∙ one_more i (told_of run e) (reports (turned run e) (drop (suc i) events)) (end_of count (replayed (turned run e) (drop (suc i) events)))
+          ∙ (λ j. followed (told_report (sym number j) (told_of run e)) (report_from count (next j) (sym turns j) (drop (next j) events)));
+    }
 
-pub a_chance : (step : ℕ) (told : EventReport (List ℕ)) (proof : Proof) → Err (fault.Chance proof) ≡ answer_of told → (chance_text step proof ≡ event_text step told) × (true ≡ is_coincidence told)
-a_chance step (Reported told) proof answer = cc
-a_chance step (Coincided chance) proof answer = let one : proof ≡ proof_of chance = cc in (ap (chance_text step) one, refl)
+pub report_ends : (i n : ℕ) (run : RunState (List ℕ) ℕ Kept) (events : List Event) → n ≡ i → i ≤ length events → length events ≤ i → report_from (length events) i run (drop i events) ≡ record { text = end_of n run; coincides = false }
+report_ends i n run events number low past =
+    let all : length events ≡ n = omega (arith, number, low, past) in
+    ap (report_from (length events) i run) (drop_of_length-le events past) ∙ ap (λ k. record { text = end_of k run; coincides = false }) all
 
--- the same, as a caller knows the setup and the events
-pub report_is : (setup : Setup) (events : List Event) → CanBegin setup → All (CanHappen setup) events → All EventFits events → report_of setup events ≡ report_from (length events) 0 (Running (first_world setup)) events
-report_is setup events begins can fit =
-    report_in_octets setup events (setup_fits setup begins.fits begins.can) (events_fit setup events (λ k d low. (fit k d low, can k d low)))
+-- WHAT A CALLER IS ANSWERED
+
+pub tells : (told : EventReport (List ℕ)) (answer : Result Line WorldFault) → answer ≡ answer_of told → ((proof : Proof) → answer ≡ Err (fault.Chance proof) → CanShow proof) → Tells told answer
+tells told (Err fault.Memory) is shows = tt
+tells (Reported told) (Ok line) is shows = cc
+tells (Coincided chance) (Err (fault.Chance proof)) is shows = let one : proof ≡ proof_of chance = cc in (one, shows proof refl)
+tells (Reported told) (Err (fault.Chance proof)) is shows = cc
+tells (Coincided chance) (Ok line) is shows = cc
+
+pub a_line : (told : EventReport (List ℕ)) (line : Line) (step : ℕ) → Tells told (Ok line) → told_report step told ≡ record { text = line_text line; coincides = false }
+a_line (Reported told) line step is = ap (λ l. record { text = line_text l; coincides = false }) (sym is)
+a_line (Coincided chance) line step is = absurd is
+
+pub a_chance : (told : EventReport (List ℕ)) (proof : Proof) (step : ℕ) → Tells told (Err (fault.Chance proof)) → told_report step told ≡ record { text = chance_text step proof; coincides = true }
+a_chance (Reported told) proof step is = absurd is
+a_chance (Coincided chance) proof step is = ap (λ p. record { text = chance_text step p; coincides = true }) (sym is.0)
+
+pub can_show : (told : EventReport (List ℕ)) (proof : Proof) → Tells told (Err (fault.Chance proof)) → CanShow proof
+can_show (Reported told) proof is = absurd is
+can_show (Coincided chance) proof is = is.1
+
+pub is_plain : (told : EventReport (List ℕ)) (line : Line) → Tells told (Ok line) → is_coincidence told ≡ false
+is_plain (Reported told) line is = refl
+is_plain (Coincided chance) line is = absurd is

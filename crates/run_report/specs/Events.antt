@@ -11,8 +11,9 @@ use Rattle.lte_machine.specs.Machines.{Kept, machine_in_octets}
 use Rattle.lte_machine.specs.Opening.{open_octets}
 use Rattle.lte_machine.specs.Run.{RunState, Running, Stopped, EventReport, Reported, Coincided, event_report}
 use Rattle.report_text.specs.Line.{line_text}
-use Rattle.report_text.specs.Chance.{chance_text}
+use Rattle.report_text.specs.Chance.{HasString, chance_text}
 use Rattle.run_stores.specs.Proofs.{proof_of}
+use Rattle.run_report.specs.Report.{Report}
 
 -- in a run in octets
 abbrev pub told_of : RunState (List ℕ) ℕ Kept → Event → EventReport (List ℕ)
@@ -27,6 +28,10 @@ abbrev pub is_coincidence : EventReport (List ℕ) → Bool
 is_coincidence (Reported line) = false
 is_coincidence (Coincided chance) = true
 
+-- and both
+abbrev pub told_report : ℕ → EventReport (List ℕ) → Report
+told_report step told = record { text = event_text step told; coincides = is_coincidence told }
+
 -- a run that goes on
 abbrev pub GoesOn : RunState (List ℕ) ℕ Kept → Type 0
 GoesOn (Running w) = Unit {0}
@@ -40,3 +45,7 @@ HasCount other = Unit {0}
 abbrev pub HasCounts : Proof → Type 0
 HasCounts (proofs.Rows row made) = HasCount made.input
 HasCounts other = Unit {0}
+
+-- a derivation in it has a string S
+abbrev pub CanShow : Proof → Type 0
+CanShow proof = HasCounts proof → HasString proof

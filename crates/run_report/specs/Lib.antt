@@ -1,5 +1,6 @@
 pub mod Report
 pub mod Written
 pub mod Events
+pub mod Ready
 pub mod Summary
 pub mod Counted

@@ -2,10 +2,14 @@
 //! all keys with their holders.
 #![tactic(auto)]
 
+mod courses;
 mod reports;
 mod summaries;
 mod unwritten;
 
-pub use reports::{write_chance, write_end, write_event, write_run};
+pub use courses::{Course, run_through};
+pub use reports::{
+    has_counts, write_chance, write_end, write_event, write_lines, write_run, write_text,
+};
 pub use summaries::write_summary;
 pub use unwritten::Unwritten;

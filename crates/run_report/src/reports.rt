@@ -1,22 +1,20 @@
-ghost use Rattle.std.specs.Prelude.{◌≡◌, ◌≢◌, ◌<◌, ◌≤◌, ℕ, List, [], ◌∷◌, ◌++◌, false, true, Ok, Err, length, All, IfOk, IsTrue};
-ghost use Rattle.edge_io.specs.Cause.{NoFault};
+ghost use Rattle.std.specs.Prelude.{◌≡◌, ◌≤◌, ℕ, List, true, false, Ok, length, IfOk, IsTrue};
 ghost use Rattle.edge_io.specs.Lines.{are_lines};
-ghost use Rattle.edge_io.specs.Used.{UsedAsSink};
-ghost use Rattle.lte_events.specs.Conditions.{CanHappen, EventFits};
-ghost use Rattle.lte_machine.specs.Ranges.{AllOf, IsEvent, IsSetup};
-ghost use Rattle.lte_world.specs.Whole.{CanBegin, most_events, run_of, turned};
-ghost use Rattle.report_text.specs.Chance.{HasString, chance_text};
+ghost use Rattle.lte_world.specs.Whole.{most_events, run_of};
+ghost use Rattle.report_text.specs.Chance.{chance_text};
 ghost use Rattle.run_report.specs.Report.{report_of, end_of};
-ghost use Rattle.run_report.specs.Events.{told_of, event_text, is_coincidence, GoesOn, HasCounts};
-ghost use Rattle.run_report.specs.Written.{Written};
+ghost use Rattle.run_report.specs.Events.{told_of, told_report, CanShow, GoesOn, HasCounts};
+ghost use Rattle.run_report.specs.Ready.{CanTake, Ready, Takes};
+ghost use Rattle.run_report.specs.Written.{WritesReport, WritesText};
 
 use crate::Unwritten;
+use crate::courses::happen;
 use edge_io::{Sink, write_all};
 use hmac_kdf::KdfInput;
 use key_terms::Proof;
 use lte_events::{Event, Setup};
 use lte_world::{World, WorldFault};
-use report_text::{TextMemory, chance, end, ladder_text, line};
+use report_text::{chance, end, ladder_text, line};
 use std::alloc::Global;
 
 /// Lets these events happen to a system, and writes the report of them: a line for each event by one
@@ -30,14 +28,8 @@ pub fn write_run<W: Sink>(
     out: &mut W,
 ) -> Result<bool, Unwritten>
     requires out_ready { IsTrue (W.told out.old).ready }
-    requires begins { CanBegin setup.now }
-    requires can { All (CanHappen setup.now) events.now }
-    requires fit { All EventFits events.now }
-    requires few { length events.now ≤ most_events }
-    ensures report { Written (report_of setup.now events.now).text result (W.told out.old) (W.told out.new) }
-    ensures coincidence { IfOk result (λ coincides. coincides ≡ (report_of setup.now events.now).coincides) }
-    ensures no_fault { result ≢ Err Unwritten.WriteFault → NoFault (W.told out.old) (W.told out.new) }
-    ensures out { UsedAsSink (W.told out.old) (W.told out.new) }
+    requires ready { Ready setup.now events.now }
+    ensures { WritesReport (report_of setup.now events.now) result (W.told out.old) (W.told out.new) }
 {
     let mut world = match World::new(alloc, setup) {
         Ok(world) => world,
@@ -65,26 +57,12 @@ pub fn write_event<W: Sink>(
     out: &mut W,
 ) -> Result<bool, Unwritten>
     requires out_ready { IsTrue (W.told out.old).ready }
-    requires setup { IsSetup world.old.setup }
-    requires journal { AllOf IsEvent world.old.journal }
-    requires few { length world.old.journal < most_events }
-    requires goes_on { GoesOn (run_of world.old) }
-    requires can { CanHappen world.old.setup event.now }
-    requires fits { EventFits event.now }
-    ensures text { Written (event_text (length world.old.journal) (told_of (run_of world.old) event.now)) result (W.told out.old) (W.told out.new) }
-    ensures coincidence { IfOk result (λ coincides. coincides ≡ is_coincidence (told_of (run_of world.old) event.now)) }
-    ensures run { result ≡ Ok false → run_of world.new ≡ turned world.old event.now }
-    ensures setup { result ≡ Ok false → world.new.setup ≡ world.old.setup }
-    ensures journal { result ≡ Ok false → world.new.journal ≡ world.old.journal ++ event.now ∷ [] }
-    ensures no_fault { result ≢ Err Unwritten.WriteFault → NoFault (W.told out.old) (W.told out.new) }
-    ensures out { UsedAsSink (W.told out.old) (W.told out.new) }
+    requires can { CanTake world.old event.now }
+    ensures report { WritesReport (told_report (length world.old.journal) (told_of (run_of world.old) event.now)) result (W.told out.old) (W.told out.new) }
+    ensures takes { result ≡ Ok false → Takes world.old event.now world.new }
 {
-    match world.reserve() {
-        Ok(()) => {}
-        Err(_) => return Err(Unwritten::Memory),
-    }
     let step = world.journal().len() as u32;
-    match world.apply(event) {
+    match happen(world, event) {
         Ok(told) => match write_text(line(alloc, &told), out) {
             Ok(()) => Ok(false),
             Err(fault) => Err(fault),
@@ -105,17 +83,15 @@ pub fn write_chance<W: Sink>(
     out: &mut W,
 ) -> Result<(), Unwritten>
     requires out_ready { IsTrue (W.told out.old).ready }
-    requires string { HasCounts proof → HasString proof }
-    ensures text { Written (chance_text step proof) result (W.told out.old) (W.told out.new) }
-    ensures no_fault { result ≢ Err Unwritten.WriteFault → NoFault (W.told out.old) (W.told out.new) }
-    ensures out { UsedAsSink (W.told out.old) (W.told out.new) }
+    requires string { CanShow proof }
+    ensures { WritesText (chance_text step proof) result (W.told out.old) (W.told out.new) }
 {
     has_counts(proof);
     write_text(chance(alloc, step, &proof), out)
 }
 
-// The COUNT of a derivation in it has 32 bits.
-fn has_counts(proof: Proof)
+/// The COUNT of a derivation in what shows a coincidence has 32 bits.
+pub fn has_counts(proof: Proof)
     ensures { HasCounts proof }
 {
     match proof {
@@ -133,9 +109,7 @@ pub fn write_end<W: Sink>(alloc: Global, world: &World, out: &mut W) -> Result<(
     requires out_ready { IsTrue (W.told out.old).ready }
     requires goes_on { GoesOn (run_of world.now) }
     requires few { length world.now.journal ≤ most_events }
-    ensures text { Written (end_of (length world.now.journal) (run_of world.now)) result (W.told out.old) (W.told out.new) }
-    ensures no_fault { result ≢ Err Unwritten.WriteFault → NoFault (W.told out.old) (W.told out.new) }
-    ensures out { UsedAsSink (W.told out.old) (W.told out.new) }
+    ensures { WritesText (end_of (length world.now.journal) (run_of world.now)) result (W.told out.old) (W.told out.new) }
 {
     let events = world.journal().len() as u32;
     let rows = world.ladder().len() as u32;
@@ -145,22 +119,30 @@ pub fn write_end<W: Sink>(alloc: Global, world: &World, out: &mut W) -> Result<(
     }
 }
 
-// Writes a text for which there was memory, which is whole lines.
-pub(crate) fn write_text<W: Sink>(
-    text: Result<Vec<u8>, TextMemory>,
+/// Writes a text, which is whole lines. `Memory` where there was none for the text, and `WriteFault` where the
+/// output fails.
+pub fn write_text<W: Sink, E: Drop>(
+    text: Result<Vec<u8>, E>,
     out: &mut W,
 ) -> Result<(), Unwritten>
     requires out_ready { IsTrue (W.told out.old).ready }
     requires lines { IfOk text (λ t. are_lines t.items ≡ true) }
-    ensures text { (octets : List ℕ) → IfOk text (λ t. t.items ≡ octets) → Written octets result (W.told out.old) (W.told out.new) }
-    ensures no_fault { result ≢ Err Unwritten.WriteFault → NoFault (W.told out.old) (W.told out.new) }
-    ensures out { UsedAsSink (W.told out.old) (W.told out.new) }
+    ensures { (octets : List ℕ) → IfOk text (λ t. t.items ≡ octets) → WritesText octets result (W.told out.old) (W.told out.new) }
 {
     match text {
+        Ok(text) => write_lines(&text, out),
         Err(_) => Err(Unwritten::Memory),
-        Ok(text) => match write_all(out, &text) {
-            Ok(()) => Ok(()),
-            Err(_) => Err(Unwritten::WriteFault),
-        },
+    }
+}
+
+/// Writes octets, which are whole lines, by one `write_all`. `WriteFault` where the output fails.
+pub fn write_lines<W: Sink>(octets: &[u8], out: &mut W) -> Result<(), Unwritten>
+    requires out_ready { IsTrue (W.told out.old).ready }
+    requires lines { are_lines octets.now ≡ true }
+    ensures { WritesText octets.now result (W.told out.old) (W.told out.new) }
+{
+    match write_all(out, octets) {
+        Ok(()) => Ok(()),
+        Err(_) => Err(Unwritten::WriteFault),
     }
 }

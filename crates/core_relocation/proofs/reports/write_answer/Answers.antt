@@ -1,4 +1,6 @@
-use Rattle.std.proofs.Common.{length}
+use Rattle.std.proofs.Common.{sym, ap, ◌∙◌, Err, length}
+use Rattle.run_report.proofs.Partly.{one_piece, one_cut}
+use Rattle.core_relocation.specs.Report.{answer_report}
 use Rattle.lte_world.specs.Whole.{told_of}
 use Rattle.run_report.proofs.Shown.{shown_in}
 use Rattle.core_relocation.specs.Holder.{acting, away, station_in}
@@ -16,3 +18,21 @@ write_chance-requires-clause-string g c =
 
 pub write_text-requires-clause-lines : goal.write_text-requires-clause-lines
 write_text-requires-clause-lines g c = text_is _ _ _ c.two_text.ensures (is_lines _ (two_ends (length c.events.result.now) c.in-Ok.line))
+
+pub returns-in-Ok-write_text-clause-report : goal.returns-in-Ok-write_text-clause-report
+returns-in-Ok-write_text-clause-report g c =
+    one_piece (λ j. answer_report (length (sym c.events.ensures j)) (sym (c.in-Ok.ensures.written c.requires.runs (λ same. cc)) j)) (c.in-Ok-write_text.ensures _ c.two_text.ensures)
+
+pub returns-in-Err-clause-report : goal.returns-in-Err-clause-report
+returns-in-Err-clause-report g c =
+    one_cut (λ j. answer_report (length (sym c.events.ensures j)) (sym (c.in-Ok.ensures.written c.requires.runs (λ same. cc)) j)) c.requires.out_ready (c.in-Err.ensures _ c.two_text.ensures)
+
+pub returns-in-Ok-write_chance-clause-report : goal.returns-in-Ok-write_chance-clause-report
+returns-in-Ok-write_chance-clause-report g c =
+    let told = ap Err (sym c.in-Err-Chance.field-0-is) ∙ c.in-Err-Chance.ensures.written c.requires.runs (λ same. cc) in
+    one_piece (λ j. answer_report (length (sym c.events.ensures j)) (sym told j)) c.in-Ok-write_chance.ensures
+
+pub returns-in-Err-write_chance-clause-report : goal.returns-in-Err-write_chance-clause-report
+returns-in-Err-write_chance-clause-report g c =
+    let told = ap Err (sym c.in-Err-Chance.field-0-is) ∙ c.in-Err-Chance.ensures.written c.requires.runs (λ same. cc) in
+    one_cut (λ j. answer_report (length (sym c.events.ensures j)) (sym told j)) c.requires.out_ready c.in-Err-write_chance.ensures

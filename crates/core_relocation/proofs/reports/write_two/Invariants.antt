@@ -1,18 +1,15 @@
 use Rattle.std.proofs.Common.{◌≡◌, take}
-use Rattle.edge_io.specs.Cause.{NoFault}
-use Rattle.edge_io.specs.Used.{UsedAsSink}
+use Rattle.run_report.proofs.Partly.{ReportPartly}
 use Rattle.core_relocation.specs.Report.{two_report_of}
 use Rattle.core_relocation.specs.Whole.{StillRuns}
-use Rattle.core_relocation.proofs.SoFar.{SoFar, rest_at}
+use Rattle.core_relocation.proofs.SoFar.{rest_at}
 use Rattle.core_relocation.proofs.reports.write_two.Given as goal
 
 abbrev pub invariant-loop-event : goal.invariant-loop-event
 invariant-loop-event g l = record {
-  told : SoFar (two_report_of l.fn.setup l.fn.core_of l.events) (rest_at l.fn.setup l.fn.core_of l.events l.event-index) (g.W.Edge.told l.initial.out) (g.W.Edge.told l.out);
+  report : ReportPartly (two_report_of l.fn.setup l.fn.core_of l.events) (rest_at l.fn.setup l.fn.core_of l.events l.event-index) (g.W.Edge.told l.initial.out) (g.W.Edge.told l.out);
   events : l.two.events ≡ take l.event-index l.events;
   setup : l.two.world.setup ≡ l.fn.setup;
   core_of : l.two.cores.core_of ≡ l.fn.core_of;
   runs : StillRuns l.two;
-  no_fault : NoFault (g.W.Edge.told l.initial.out) (g.W.Edge.told l.out);
-  out : UsedAsSink (g.W.Edge.told l.initial.out) (g.W.Edge.told l.out);
 }

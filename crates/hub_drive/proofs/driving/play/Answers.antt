@@ -26,7 +26,7 @@ returns-in-Err-clause-write_cause g c = λ is.
     absurd (c.start_all-count.ensures.no_write (subst P (sym c.in-Err.is) is))
 
 pub set_up_all-requires-clause-seeds : goal.set_up_all-requires-clause-seeds
-set_up_all-requires-clause-seeds g c = seeds_good c.args.setup.now c.requires.begins.can c.requires.cells
+set_up_all-requires-clause-seeds g c = seeds_good c.args.setup.now c.requires.ready.begins.can c.requires.cells
 
 pub returns-in-Err-set_up_all-clause-went : goal.returns-in-Err-set_up_all-clause-went
 returns-in-Err-set_up_all-clause-went g c =

@@ -1,10 +1,9 @@
 use Rattle.std.proofs.Common.{◌≡◌, drop, length}
 use Rattle.edge_io.specs.Cause.{NoFault}
 use Rattle.edge_io.specs.Used.{UsedAsSink}
-use Rattle.lte_machine.specs.Ranges.{AllOf, IsEvent}
 use Rattle.lte_machine.specs.Run.{Running, first_world}
 use Rattle.lte_world.specs.Whole.{run_of}
-use Rattle.run_report.specs.Events.{GoesOn}
+use Rattle.run_report.proofs.Taking.{Took}
 use Rattle.peer_calls.specs.Exchanges.{roles_of}
 use Rattle.peer_calls.specs.Outside.{AllRun, outside}
 use Rattle.hub_drive.proofs.Planned.{PlanGoing}
@@ -15,10 +14,7 @@ abbrev pub invariant-loop-event : goal.invariant-loop-event
 invariant-loop-event g l = record {
   plan : PlanGoing (events_plan l.fn.setup 0 (Running (first_world l.fn.setup)) l.events) (events_plan l.fn.setup l.event-index (run_of l.world) (drop l.event-index l.events))
       (outside (g.W.Edge.told l.initial.out).written (g.P.Peers.told l.initial.peers)) (outside (g.W.Edge.told l.out).written (g.P.Peers.told l.peers));
-  goes : GoesOn (run_of l.world);
-  setup : l.world.setup ≡ l.fn.setup;
-  journal : AllOf IsEvent l.world.journal;
-  count : length l.world.journal ≡ l.event-index;
+  took : Took l.fn.setup l.event-index l.world;
   running : AllRun (length (roles_of l.fn.setup)) (g.P.Peers.told l.peers);
   no_peer_fault : g.P.Peers.faults l.peers ≡ g.P.Peers.faults l.initial.peers;
   no_fault : NoFault (g.W.Edge.told l.initial.out) (g.W.Edge.told l.out);

@@ -1,4 +1,4 @@
-use Rattle.std.proofs.Common.{◌≡◌, List, length, false, sym, subst, ◌∙◌, All, rules}
+use Rattle.std.proofs.Common.{◌≡◌, List, length, true, false, Ok, sym, ap, subst, ◌∙◌, All, rules}
 use Rattle.lte_events.specs.declared.inputs.ActorIn.{ActorIn}
 use Rattle.lte_events.specs.declared.replies.ActorOut.{ActorOut}
 use Rattle.lte_world.specs.Whole.{Whole, run_of}
@@ -14,23 +14,25 @@ use Rattle.hub_drive.proofs.happening.happen.Goals as goal
 pub returns-in-Ok-true-clause-went : goal.returns-in-Ok-true-clause-went
 returns-in-Ok-true-clause-went g c =
     let v : Whole = c.args.world.now in
+    let flag : c.in-Ok-true.field-0 ≡ true = search (rules, c.in-Ok-true.field-0-test) in
     event_coincides (Unit {0}) c.args.setup.now (length v.journal) (told_of (run_of v) c.args.event.now) (replies_at (run_of v) c.args.event.now)
-    (g.W.Edge.told c.args.out.now) (g.W.Edge.told c.write_event.new.out) (g.P.Peers.told c.args.peers.now) (search rules) (search rules)
+    (g.W.Edge.told c.args.out.now) (g.W.Edge.told c.write_event.new.out) (g.P.Peers.told c.args.peers.now) (sym flag ∙ c.in-Ok-true.ensures.report.coincidence) c.in-Ok-true.ensures.report.text.written
 
 pub returns-in-Err-clause-went : goal.returns-in-Err-clause-went
 returns-in-Err-clause-went g c =
     let v : Whole = c.args.world.now in
     event_unwritten (Unit {0}) c.args.setup.now (length v.journal) (told_of (run_of v) c.args.event.now) (replies_at (run_of v) c.args.event.now) c.in-Err.fault c.fault_of.result
-    (g.W.Edge.told c.args.out.now) (g.W.Edge.told c.write_event.new.out) (g.P.Peers.told c.args.peers.now) c.fault_of.ensures.memory c.fault_of.ensures.write c.in-Err.ensures.text
+    (g.W.Edge.told c.args.out.now) (g.W.Edge.told c.write_event.new.out) (g.P.Peers.told c.args.peers.now) c.fault_of.ensures.memory c.fault_of.ensures.write c.in-Err.ensures.report.text.written
 
 pub tell_all-requires-clause-inputs : goal.tell_all-requires-clause-inputs
 tell_all-requires-clause-inputs g c =
     let v : Whole = c.args.world.now in
     let w : Whole = c.write_event.new.world in
-    let plain : is_coincidence (told_of (run_of v) c.args.event.now) ≡ false = search rules in
-    let turns : run_of w ≡ _ = c.write_event.ensures.run (search rules) in
-    let goes : GoesOn (run_of w) = subst (λ r. GoesOn r) (sym turns) (still_goes (run_of v) c.args.event.now plain) in
-    let setup : w.setup ≡ c.args.setup.now = c.write_event.ensures.setup (search rules) ∙ c.requires.same in
+    let flag : c.in-Ok-false.field-0 ≡ false = search (rules, c.in-Ok-false.field-0-test) in
+    let plain : is_coincidence (told_of (run_of v) c.args.event.now) ≡ false = sym c.in-Ok-false.ensures.report.coincidence ∙ flag in
+    let takes = c.write_event.ensures.takes (c.in-Ok-false.is ∙ ap Ok flag) in
+    let goes : GoesOn (run_of w) = subst (λ r. GoesOn r) (sym takes.run) (still_goes (run_of v) c.args.event.now plain) in
+    let setup : w.setup ≡ c.args.setup.now = takes.setup ∙ c.requires.same in
     let P : List (ActorIn × ActorOut) → Type 0 = λ rs. All (λ r. HasActor c.args.setup.now r.0) rs in
     subst P (sym c.as_slice.ensures.value)
     (subst (λ s. All (λ r. HasActor s r.0) c.replies.result.now) setup (all_have w.setup c.replies.result.now (c.replies.ensures.there (no_chance w goes))))
@@ -39,16 +41,17 @@ pub returns-clause-went : goal.returns-clause-went
 returns-clause-went g c =
     let v : Whole = c.args.world.now in
     let w : Whole = c.write_event.new.world in
-    let plain : is_coincidence (told_of (run_of v) c.args.event.now) ≡ false = search rules in
-    let turns : run_of w ≡ _ = c.write_event.ensures.run (search rules) in
-    let goes : GoesOn (run_of w) = subst (λ r. GoesOn r) (sym turns) (still_goes (run_of v) c.args.event.now plain) in
+    let flag : c.in-Ok-false.field-0 ≡ false = search (rules, c.in-Ok-false.field-0-test) in
+    let plain : is_coincidence (told_of (run_of v) c.args.event.now) ≡ false = sym c.in-Ok-false.ensures.report.coincidence ∙ flag in
+    let takes = c.write_event.ensures.takes (c.in-Ok-false.is ∙ ap Ok flag) in
+    let goes : GoesOn (run_of w) = subst (λ r. GoesOn r) (sym takes.run) (still_goes (run_of v) c.args.event.now plain) in
     let same : c.replies.result.now ≡ replies_at (run_of v) c.args.event.now =
-    replies_are v w c.args.event.now c.replies.result.now c.requires.goes_on (c.write_event.ensures.setup (search rules)) (c.write_event.ensures.journal (search rules)) (c.replies.ensures.last (no_chance w goes)) in
+    replies_are v w c.args.event.now c.replies.result.now c.requires.can.goes_on takes.setup takes.journal (c.replies.ensures.last (no_chance w goes)) in
     let P : List (ActorIn × ActorOut) → Type 0 = λ rs. Went (replied c.args.setup.now (length v.journal) rs) c.tell_all.result
     (outside (g.W.Edge.told c.write_event.new.out).written (g.P.Peers.told c.args.peers.now)) (outside (g.W.Edge.told c.write_event.new.out).written (g.P.Peers.told c.tell_all.new.peers)) in
     event_told c.args.setup.now (length v.journal) (told_of (run_of v) c.args.event.now) (replies_at (run_of v) c.args.event.now) c.tell_all.result
     (g.W.Edge.told c.args.out.now) (g.W.Edge.told c.write_event.new.out) (g.P.Peers.told c.args.peers.now) (g.P.Peers.told c.tell_all.new.peers)
-    (sym plain) (search rules) (subst P (c.as_slice.ensures.value ∙ same) (search (rules, c.tell_all.ensures.went)))
+    (sym plain) c.in-Ok-false.ensures.report.text.written (subst P (c.as_slice.ensures.value ∙ same) (search (rules, c.tell_all.ensures.went)))
 
 pub returns-clause-write_cause : goal.returns-clause-write_cause
 returns-clause-write_cause g c = λ is. absurd (c.tell_all.ensures.no_write is)

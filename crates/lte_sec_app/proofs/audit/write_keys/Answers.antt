@@ -23,4 +23,4 @@ returns-in-Ok-clause-holds g c =
     (subst (EachAlone setup) same c.write_audit.ensures.alone)
     written
     (subst (λ es. written ≡ Ok false → AuditIsExact setup es × AuditIsOfRun setup es) same (λ ok. (c.write_audit.ensures.exact ok, c.write_audit.ensures.of_run ok)))
-    (subst (λ es. IfOk written (λ coincides. coincides ≡ (audit_report_of setup es).coincides)) same c.write_audit.ensures.coincidence))
+    (subst (λ es. IfOk written (λ coincides. coincides ≡ (audit_report_of setup es).coincides)) same c.write_audit.ensures.report.coincidence))

@@ -1,0 +1,198 @@
+-- A text or a report of which a part is written, and the rest is to be.
+use Rattle.std.proofs.Common.{◌≡◌, ◌≢◌, refl, sym, ap, subst, ◌∙◌, arith, Bool, true, false, Result, Ok, Err, List, [], ◌++◌, append_assoc, append-nil, ℕ}
+use Rattle.std.specs.Prelude.{IsTrue}
+use Rattle.std.proofs.Math.Nat.{le_refl}
+use Rattle.edge_io.proofs.Known.{nothing_out, none_of, grows_twice, prefix_on, proper_prefix_on}
+use Rattle.edge_io.specs.Told.{Told}
+use Rattle.edge_io.specs.Cause.{NoFault}
+use Rattle.edge_io.specs.Octets.{Grows, GrowsByPrefix, GrowsByProperPrefix}
+use Rattle.edge_io.specs.Used.{UsedAsSink}
+use Rattle.run_report.specs.declared.unwritten.Unwritten.{Unwritten}
+use Rattle.run_report.specs.declared.unwritten.Unwritten.TheVariants.{Memory, WriteFault}
+use Rattle.run_report.specs.Report.{Report, before}
+use Rattle.run_report.specs.Written.{Written, WritesText, WritesReport}
+
+-- THE SINK
+
+no_fault_on : {first mid now : Told} → NoFault first mid → NoFault mid now → NoFault first now
+no_fault_on a b = record { reads = b.reads ∙ a.reads; writes = b.writes ∙ a.writes; opens = b.opens ∙ a.opens }
+
+used_on : {first mid now : Told} → UsedAsSink first mid → UsedAsSink mid now → UsedAsSink first now
+used_on a b = record {
+  ready = b.ready;
+  left = b.left ∙ a.left;
+  most = b.most ∙ a.most;
+  ended = b.ended ∙ a.ended;
+  lines = b.lines ∙ a.lines;
+  counts = record {
+    reads = omega (arith, a.counts.reads, b.counts.reads);
+    writes = omega (arith, a.counts.writes, b.counts.writes);
+    opens = omega (arith, a.counts.opens, b.counts.opens);
+  };
+}
+
+unused : (now : Told) → IsTrue now.ready → UsedAsSink now now
+unused now ready = record {
+  ready = ready;
+  left = refl;
+  most = refl;
+  ended = refl;
+  lines = refl;
+  counts = record { reads = le_refl now.read_faults; writes = le_refl now.write_faults; opens = le_refl now.open_faults };
+}
+
+-- A TEXT
+
+-- its front is written, and no fault was met
+pub record Partly (whole rest : List ℕ) (first now : Told) : Type 0 where
+  pub front : List ℕ
+  pub grown : Grows first.written now.written front
+  pub parts : whole ≡ front ++ rest
+  pub no_fault : NoFault first now
+  pub used : UsedAsSink first now
+
+-- what is to be written begins with a piece
+pub record Begins (rest piece left : List ℕ) : Type 0 where
+  pub is : rest ≡ piece ++ left
+
+one_left : (rest : List ℕ) → Begins rest rest []
+one_left rest = record { is = sym (append-nil rest) }
+
+two_left : (one two : List ℕ) → Begins (one ++ two) one two
+two_left one two = record { is = refl }
+
+pub none_written : (whole : List ℕ) (first : Told) → IsTrue first.ready → Partly whole whole first first
+none_written whole first ready = record {
+  front = [];
+  grown = nothing_out first.written;
+  parts = refl;
+  no_fault = record { reads = refl; writes = refl; opens = refl };
+  used = unused first ready;
+}
+
+-- a piece more
+pub more_written : {A : Type 0} {done : A} {whole rest piece left : List ℕ} {first mid now : Told} → Partly whole rest first mid → Begins rest piece left → WritesText piece (Ok done) mid now → Partly whole left first now
+more_written {piece} {left} {first} {mid} {now} s begins w = record {
+  front = s.front ++ piece;
+  grown = grows_twice first.written mid.written now.written s.front piece s.grown w.written;
+  parts = s.parts ∙ ap (λ r. s.front ++ r) begins.is ∙ sym (append_assoc s.front piece left);
+  no_fault = no_fault_on s.no_fault (w.no_fault (λ e. cc));
+  used = used_on s.used w.used;
+}
+
+-- all of it
+pub all_written : {A : Type 0} {done : A} {whole rest : List ℕ} {first now : Told} → Partly whole rest first now → rest ≡ [] → WritesText whole (Ok done) first now
+all_written {whole} {first} {now} s none = record {
+  written = subst (Grows first.written now.written) (sym (s.parts ∙ ap (λ r. s.front ++ r) none ∙ append-nil s.front)) s.grown;
+  no_fault = λ differs. s.no_fault;
+  used = s.used;
+}
+
+-- a piece that was cut
+pub cut_written : {A B : Type 0} {fault : Unwritten} {whole rest piece left : List ℕ} {first mid now : Told} → Partly whole rest first mid → Begins rest piece left → WritesText {A = A} piece (Err fault) mid now
+    → WritesText {A = B} whole (Err fault) first now
+cut_written {A} {B} {fault} {whole} {rest} {piece} {left} {first} {mid} {now} s begins w = record { written = by fault w.written; no_fault = λ differs. no_fault_on s.no_fault (w.no_fault (clear fault differs)); used = used_on s.used w.used }
+  where
+    parts : whole ≡ (s.front ++ piece) ++ left
+    parts = s.parts ∙ ap (λ r. s.front ++ r) begins.is ∙ sym (append_assoc s.front piece left)
+
+    by : (f : Unwritten) → Written {A = A} piece (Err f) mid now → Written {A = B} whole (Err f) first now
+    by Memory cut = subst (λ t. GrowsByPrefix first.written now.written t) (sym parts) (prefix_on first.written mid.written now.written s.front piece left s.grown cut)
+    by WriteFault cut = (
+      omega (arith, s.used.counts.writes, cut.0),
+      subst (λ t. GrowsByProperPrefix first.written now.written t) (sym parts) (proper_prefix_on first.written mid.written now.written s.front piece left s.grown cut.1),
+    )
+
+    clear : (f : Unwritten) → ◌≢◌ {A = Result B Unwritten} (Err f) (Err WriteFault) → ◌≢◌ {A = Result A Unwritten} (Err f) (Err WriteFault)
+    clear Memory differs = λ e. cc
+    clear WriteFault differs = absurd (differs refl)
+
+-- the last piece
+pub last_written : {A B : Type 0} {done : A} {more : B} {whole rest : List ℕ} {first mid now : Told} → Partly whole rest first mid → WritesText rest (Ok done) mid now → WritesText whole (Ok more) first now
+last_written {rest} s w = all_written (more_written s (one_left rest) w) refl
+
+pub last_cut : {A B : Type 0} {fault : Unwritten} {whole rest : List ℕ} {first mid now : Told} → Partly whole rest first mid → WritesText {A = A} rest (Err fault) mid now → WritesText {A = B} whole (Err fault) first now
+last_cut {rest} s w = cut_written s (one_left rest) w
+
+-- two pieces
+pub both_written : {A B : Type 0} {done : A} {first mid now : Told} (result : Result B Unwritten) (one two : List ℕ) → IsTrue first.ready → WritesText one (Ok done) first mid → WritesText two result mid now → WritesText (one ++ two) result first now
+both_written {first} (Ok more) one two ready a b = last_written (more_written (none_written (one ++ two) first ready) (two_left one two) a) b
+both_written {first} (Err fault) one two ready a b = last_cut (more_written (none_written (one ++ two) first ready) (two_left one two) a) b
+
+pub first_cut : {A B : Type 0} {fault : Unwritten} {first now : Told} (one two : List ℕ) → IsTrue first.ready → WritesText {A = A} one (Err fault) first now → WritesText {A = B} (one ++ two) (Err fault) first now
+first_cut {first} one two ready cut = cut_written (none_written (one ++ two) first ready) (two_left one two) cut
+
+-- nothing, for want of memory
+pub unwritten : {A : Type 0} (text : List ℕ) (now : Told) → IsTrue now.ready → WritesText {A = A} text (Err Memory) now now
+unwritten text now ready = record { written = none_of now.written text; no_fault = λ differs. record { reads = refl; writes = refl; opens = refl }; used = unused now ready }
+
+-- A REPORT
+
+-- a piece of a report and what comes behind it, where no coincidence ends it
+abbrev pub followed_if : Bool → Report → Report → Report
+followed_if true piece rest = piece
+followed_if false piece rest = before piece.text rest
+
+abbrev pub followed : Report → Report → Report
+followed piece rest = followed_if piece.coincides piece rest
+
+-- what is to be reported begins with a piece
+pub record Follows (rest piece left : Report) : Type 0 where
+  pub is : rest ≡ followed piece left
+
+pub record ReportPartly (whole rest : Report) (first now : Told) : Type 0 where
+  pub text : Partly whole.text rest.text first now
+  pub coincidence : whole.coincides ≡ rest.coincides
+
+pub none_reported : {whole rest : Report} (first : Told) → IsTrue first.ready → whole ≡ rest → ReportPartly whole rest first first
+none_reported {whole} first ready is = subst (λ r. ReportPartly whole r first first) is (record { text = none_written whole.text first ready; coincidence = refl })
+
+-- a piece more, which is no coincidence
+pub more_reported : {b : Bool} {whole rest piece left : Report} {first mid now : Told} → ReportPartly whole rest first mid → Follows rest piece left → b ≡ false → WritesReport piece (Ok b) mid now → ReportPartly whole left first now
+more_reported {rest} {piece} {left} s follows plain w =
+    let goes : piece.coincides ≡ false = sym w.coincidence ∙ plain in
+    let more = follows.is ∙ ap (λ b. followed_if b piece left) goes in
+    let begins : Begins rest.text piece.text left.text = record { is = ap (λ r. r.text) more } in
+    record { text = more_written s.text begins w.text; coincidence = s.coincidence ∙ ap (λ r. r.coincides) more }
+
+-- the coincidence that ends it
+pub coincidence_reported : {b : Bool} {whole rest piece left : Report} {first mid now : Told} → ReportPartly whole rest first mid → Follows rest piece left → b ≡ true → WritesReport piece (Ok b) mid now → WritesReport whole (Ok true) first now
+coincidence_reported {rest} {piece} {left} s follows ends w =
+    let coincides : piece.coincides ≡ true = sym w.coincidence ∙ ends in
+    let last = follows.is ∙ ap (λ b. followed_if b piece left) coincides in
+    let begins : Begins rest.text piece.text [] = record { is = ap (λ r. r.text) last ∙ sym (append-nil piece.text) } in
+    record { text = all_written (more_written s.text begins w.text) refl; coincidence = sym (s.coincidence ∙ ap (λ r. r.coincides) last ∙ coincides) }
+
+-- a piece that was cut
+begins_with : (piece left : Report) (b : Bool) → (more : List ℕ) × ((followed_if b piece left).text ≡ piece.text ++ more)
+begins_with piece left true = ([], sym (append-nil piece.text))
+begins_with piece left false = (left.text, refl)
+
+pub cut_reported : {fault : Unwritten} {whole rest piece left : Report} {first mid now : Told} → ReportPartly whole rest first mid → Follows rest piece left → WritesReport piece (Err fault) mid now → WritesReport whole (Err fault) first now
+cut_reported {rest} {piece} {left} s follows w =
+    let more = begins_with piece left piece.coincides in
+    let begins : Begins rest.text piece.text more.0 = record { is = ap (λ r. r.text) follows.is ∙ more.1 } in
+    record { text = cut_written s.text begins w.text; coincidence = tt }
+
+-- nothing, for want of memory
+pub unreported : (report : Report) (now : Told) → IsTrue now.ready → WritesReport report (Err Memory) now now
+unreported report now ready = record { text = unwritten report.text now ready; coincidence = tt }
+
+-- its end
+pub end_reported : {A : Type 0} {done : A} {whole rest : Report} {text : List ℕ} {first mid now : Told} → ReportPartly whole rest first mid → rest ≡ record { text = text; coincides = false } → WritesText text (Ok done) mid now
+    → WritesReport whole (Ok false) first now
+end_reported {whole} {first} {mid} s is w =
+    record { text = last_written (subst (λ r. Partly whole.text r.text first mid) is s.text) w; coincidence = sym (s.coincidence ∙ ap (λ r. r.coincides) is) }
+
+pub end_cut : {A : Type 0} {fault : Unwritten} {whole rest : Report} {text : List ℕ} {first mid now : Told} → ReportPartly whole rest first mid → rest ≡ record { text = text; coincides = false } → WritesText {A = A} text (Err fault) mid now
+    → WritesReport whole (Err fault) first now
+end_cut {whole} {first} {mid} s is w = record { text = last_cut (subst (λ r. Partly whole.text r.text first mid) is s.text) w; coincidence = tt }
+
+-- a report of one piece
+pub one_piece : {A : Type 0} {done : A} {b : Bool} {report : Report} {text : List ℕ} {first now : Told} → report ≡ record { text = text; coincides = b } → WritesText text (Ok done) first now → WritesReport report (Ok b) first now
+one_piece {b} {first} {now} is w =
+    subst (λ r. WritesReport r (Ok b) first now) (sym is) (record { text = record { written = w.written; no_fault = λ differs. w.no_fault (λ e. cc); used = w.used }; coincidence = refl })
+
+pub one_cut : {A : Type 0} {fault : Unwritten} {b : Bool} {report : Report} {text : List ℕ} {first now : Told} → report ≡ record { text = text; coincides = b } → IsTrue first.ready → WritesText {A = A} text (Err fault) first now
+    → WritesReport report (Err fault) first now
+one_cut {fault} {text} {first} {now} is ready w = subst (λ r. WritesReport r (Err fault) first now) (sym is) (record { text = last_cut (none_written text first ready) w; coincidence = tt })

@@ -1,0 +1,60 @@
+// A run, to its end or to the first coincidence.
+ghost use Rattle.std.specs.Prelude.{◌≡◌, [], IfOk, OnOk, OnErr};
+ghost use Rattle.lte_world.specs.Whole.{begun, run_of};
+ghost use Rattle.report_text.specs.Summary.{tally_of};
+ghost use Rattle.run_report.specs.Counted.{ComesOut, Tells};
+ghost use Rattle.run_report.specs.Events.{told_of};
+ghost use Rattle.run_report.specs.Ready.{CanTake, Ready, Takes};
+
+use key_terms::Proof;
+use lte_events::{Event, Line};
+use lte_world::{World, WorldFault};
+use report_text::Tally;
+
+/// How a run comes out.
+#[derive(Clone, Copy, Debug, PartialEq, Eq)]
+pub enum Course {
+    /// All events happened.
+    Ended,
+    /// A coincidence ended it, at this step.
+    Chance(u32, Proof),
+}
+
+/// Lets these events happen to a system that has just begun, one after the other, to the first coincidence, and
+/// counts their lines. `Memory` where memory runs out.
+pub fn run_through(
+    world: &mut World,
+    events: &[Event],
+    tally: &mut Tally,
+) -> Result<Course, WorldFault>
+    requires begun { world.old ≡ begun world.old.setup }
+    requires ready { Ready world.old.setup events.now }
+    requires none { tally.old ≡ tally_of [] }
+    ensures { IfOk result (ComesOut world.old.setup events.now tally.new (run_of world.new)) }
+{
+    for event in events {
+        match happen(world, event) {
+            Ok(line) => tally.count(&line),
+            Err(WorldFault::Chance(proof)) => {
+                let step = world.journal().len() as u32;
+                return Ok(Course::Chance(step, proof));
+            }
+            Err(WorldFault::Memory) => return Err(WorldFault::Memory),
+        }
+    }
+    Ok(Course::Ended)
+}
+
+// Lets one event happen, for which it makes room.
+pub(crate) fn happen(world: &mut World, event: &Event) -> Result<Line, WorldFault>
+    requires { CanTake world.old event.now }
+    ensures tells { Tells (told_of (run_of world.old) event.now) result }
+    ensures takes { OnOk result (Takes world.old event.now world.new) }
+    ensures same { OnErr result (world.new.journal ≡ world.old.journal) }
+{
+    match world.reserve() {
+        Ok(()) => {}
+        Err(_) => return Err(WorldFault::Memory),
+    }
+    world.apply(event)
+}
