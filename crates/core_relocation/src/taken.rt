@@ -2,14 +2,14 @@
 ghost use Rattle.std.specs.Prelude.{◌≡◌, option_map};
 ghost use Rattle.core_relocation.specs.Holder.{fields_from, fields_of, fields_told};
 
-use lte_events::{ActorIn, ActorOut, CoreIn, Few};
+use lte_events::{ActorIn, ActorOut, CoreIn};
 use s1x2_rec::CoreRecord;
 
 // The record on S1 that came to a core in an event with these replies, if one did.
-pub(crate) fn taken(replies: &Few<(ActorIn, ActorOut), 2>) -> Option<CoreRecord>
+pub(crate) fn taken(replies: &[(ActorIn, ActorOut)]) -> Option<CoreRecord>
     ensures { option_map fields_of result ≡ fields_told replies.now }
 {
-    match replies.as_slice().first() {
+    match replies.first() {
         Some(reply) => record_in(&reply.0),
         None => None,
     }

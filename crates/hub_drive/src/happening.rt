@@ -57,5 +57,5 @@ pub(crate) fn happen<P: Peers, W: Sink>(
         Ok(true) => return Err(DriveFault::Chance),
         Err(fault) => return Err(fault_of(fault)),
     }
-    tell_all(peers, setup, step, world.replies().as_slice())
+    tell_all(peers, setup, step, world.replies())
 }

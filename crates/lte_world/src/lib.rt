@@ -5,6 +5,7 @@
 mod faults;
 mod network;
 mod noting;
+mod replies;
 mod shelf;
 mod show;
 mod start;

@@ -15,21 +15,19 @@ ghost use Rattle.lte_world.specs.Replies.{input_at, replies_by, Tells};
 
 use crate::WorldFault;
 use crate::network::{Enrolled, Network, class_of, line};
+use crate::replies::Replies;
 use alg_choice::Caps;
 use annex_a_keys::Kasme;
 use enb_context::Station;
 use key_terms::{Holder, Proof};
 use lte_events::{
-    ActorIn, ActorOut, Address, Answer, CoreAct, CoreIn, Event, Few, Line, PhoneAct, PhoneIn,
-    StationAct, StationIn, Who,
+    ActorIn, ActorOut, Address, Answer, CoreAct, CoreIn, Event, Line, PhoneAct, PhoneIn, StationAct,
+    StationIn, Who,
 };
 use mme_context::Core;
 use rec_base::{Octets, Use};
 use std::marker::Model;
 use ue_context::Phone;
-
-// The inputs of an event, and what the actors replied to them.
-pub(crate) type Replies = Few<(ActorIn, ActorOut), 2>;
 
 // The phone, the core, the stations, and what is kept beside them.
 #[derive(Drop)]
@@ -81,7 +79,7 @@ impl System {
         let line = self
             .network
             .settle(&out, sender, Holder::Phone, Who::Phone, step);
-        told.push((ActorIn::Phone(input), out));
+        told.push(ActorIn::Phone(input), out);
         line
     }
 
@@ -105,7 +103,7 @@ impl System {
         let line = self
             .network
             .settle(&out, sender, Holder::Core, Who::Core, step);
-        told.push((ActorIn::Core(input), out));
+        told.push(ActorIn::Core(input), out);
         line
     }
 
@@ -154,10 +152,10 @@ impl System {
         let root = Kasme::of_octets(root);
         let input = PhoneIn::Auth(ksi, root);
         let out = self.phone.step(&input);
-        told.push((ActorIn::Phone(input), out));
+        told.push(ActorIn::Phone(input), out);
         let input = CoreIn::Auth(ksi, root, caps);
         let out = self.core.step(&input);
-        told.push((ActorIn::Core(input), out));
+        told.push(ActorIn::Core(input), out);
         Ok(line(&ActorOut::of(Answer::Done), None, Who::Both, step))
     }
 
@@ -320,7 +318,7 @@ impl System {
         let line = self
             .network
             .settle(&out, sender, Holder::Station(id), Who::Station(id), step);
-        told.push((ActorIn::Station(id, input), out));
+        told.push(ActorIn::Station(id, input), out);
         line
     }
 

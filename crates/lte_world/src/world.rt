@@ -14,8 +14,9 @@ ghost use Rattle.lte_world.specs.Replies.{RepliedLast, IsOfSetup};
 ghost use Rattle.lte_world.specs.Whole.{begun, run_of, told_of, turned, journal_after, AreFew, CanBegin, CanApply, InRun, most_events, phone_kenb_in, station_kenb_in};
 
 use crate::WorldFault;
+use crate::replies::Replies;
 use crate::shelf::Shelf;
-use crate::system::{Replies, System};
+use crate::system::System;
 use key_terms::{Ladder, Proof};
 use lte_events::{ActorIn, ActorOut, Cells, Event, Few, Line, Setup};
 use rec_base::Use;
@@ -74,7 +75,7 @@ impl World {
             system,
             over: None,
             ready: false,
-            replies: Few::new(),
+            replies: Replies::new(),
         })
     }
 
@@ -112,11 +113,10 @@ impl World {
             return Err(WorldFault::Chance(proof));
         }
         let step = self.journal.as_slice().len() as u32;
-        let mut told = Few::new();
-        match self.system.happen(event, step, &mut told) {
+        self.replies.clear();
+        match self.system.happen(event, step, &mut self.replies) {
             Ok(line) => {
                 self.journal.put(copied(event));
-                self.replies = told;
                 Ok(line)
             }
             Err(proof) => {
@@ -201,11 +201,11 @@ impl World {
 
     /// The inputs of the last event with their replies: none, that of one actor, or at an authentication the phone's
     /// and the core's. Each is of an actor of the setup.
-    pub fn replies(&self) -> &Few<(ActorIn, ActorOut), 2>
+    pub fn replies(&self) -> &[(ActorIn, ActorOut)]
         ensures last { self.now.over ≡ None → RepliedLast self.now.setup self.now.journal result.now }
         ensures there { self.now.over ≡ None → AllOf (λ r. IsOfSetup self.now.setup r.0) result.now }
     {
-        &self.replies
+        self.replies.as_slice()
     }
 }
 

@@ -15,8 +15,8 @@ enum By {
 }
 
 fn expect_replies(rt: &impl Abort, world: &World, want: &[By]) {
-    same(rt, world.replies().as_slice().len(), want.len());
-    for ((input, out), by) in world.replies().as_slice().iter().zip(want) {
+    same(rt, world.replies().len(), want.len());
+    for ((input, out), by) in world.replies().iter().zip(want) {
         same(rt, out.answer, Answer::Done);
         let actor = match input {
             ActorIn::Phone(_) => By::Phone,
