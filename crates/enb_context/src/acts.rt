@@ -18,21 +18,21 @@ use s1x2_rec::CoreRecord;
 
 impl Station {
     // Path Switch Request again (TS 36.413 8.4.4), under a new number, whose answer alone is taken now.
-    pub(crate) fn ask(&mut self) -> ActorOut
-        ensures { (self.new, result) ≡ answered self.old (StationActs Ask) }
+    pub(crate) fn ask(&mut self, out: &mut ActorOut)
+        ensures { (self.new, out.new) ≡ answered self.old (StationActs Ask) }
     {
         let drawn = self.number(1);
         let Some(context) = &mut self.context else {
-            return ActorOut::of(Answer::NoUe);
+            return out.only(Answer::NoUe);
         };
         if context.starting {
-            return ActorOut::of(Answer::NotActive);
+            return out.only(Answer::NotActive);
         }
         if context.origin.is_none() {
-            return ActorOut::of(Answer::NoPathSwitch);
+            return out.only(Answer::NoPathSwitch);
         }
         let Some(number) = drawn else {
-            return ActorOut::of(Answer::NumberSpent);
+            return out.only(Answer::NumberSpent);
         };
         let request = CoreRecord::PathSwitchRequest {
             conn: context.conn,
@@ -43,45 +43,45 @@ impl Station {
         };
         context.await_answer(number);
         self.next = u64::from(number) + 1;
-        sends(Address::CoreS1, &request)
+        sends(Address::CoreS1, &request, out)
     }
 
     // A user packet on a DRB (TS 36.323 5.1.1).
-    pub(crate) fn send_user(&mut self, bearer: Bearer, text: &UserText) -> ActorOut
+    pub(crate) fn send_user(&mut self, bearer: Bearer, text: &UserText, out: &mut ActorOut)
         requires { IsDrb bearer }
-        ensures { (self.new, result) ≡ answered self.old (StationActs (SendUser bearer text.now)) }
+        ensures { (self.new, out.new) ≡ answered self.old (StationActs (SendUser bearer text.now)) }
     {
         let id = self.id;
         let Some(context) = &mut self.context else {
-            return ActorOut::of(Answer::NoUe);
+            return out.only(Answer::NoUe);
         };
-        context.send_user(id, bearer, text)
+        context.send_user(id, bearer, text, out)
     }
 
     // An RRC text on an SRB.
-    pub(crate) fn send_rrc(&mut self, bearer: Bearer, text: &ShortText) -> ActorOut
+    pub(crate) fn send_rrc(&mut self, bearer: Bearer, text: &ShortText, out: &mut ActorOut)
         requires { IsSrb bearer }
-        ensures { (self.new, result) ≡ answered self.old (StationActs (SendRrc bearer text.now)) }
+        ensures { (self.new, out.new) ≡ answered self.old (StationActs (SendRrc bearer text.now)) }
     {
         let id = self.id;
         let Some(context) = &mut self.context else {
-            return ActorOut::of(Answer::NoUe);
+            return out.only(Answer::NoUe);
         };
-        context.send_rrc(id, bearer, text)
+        context.send_rrc(id, bearer, text, out)
     }
 
     // Leaves out so many sending COUNTs of a bearer.
-    pub(crate) fn skip(&mut self, bearer: Bearer, n: u32) -> ActorOut
-        ensures { (self.new, result) ≡ answered self.old (StationActs (Skip bearer n)) }
+    pub(crate) fn skip(&mut self, bearer: Bearer, n: u32, out: &mut ActorOut)
+        ensures { (self.new, out.new) ≡ answered self.old (StationActs (Skip bearer n)) }
     {
         let Some(context) = &mut self.context else {
-            return ActorOut::of(Answer::NoUe);
+            return out.only(Answer::NoUe);
         };
         if context.starting {
-            return ActorOut::of(Answer::NotActive);
+            return out.only(Answer::NotActive);
         }
         context.skip(bearer, n);
-        ActorOut::of(Answer::Done)
+        out.only(Answer::Done)
     }
 }
 
@@ -100,33 +100,31 @@ impl Context {
     }
 
     #[tactic(auto, using(crate::proofs::Serving::which_drb))]
-    fn send_user(&mut self, id: u8, bearer: Bearer, text: &UserText) -> ActorOut
+    fn send_user(&mut self, id: u8, bearer: Bearer, text: &UserText, out: &mut ActorOut)
         requires drb { IsDrb bearer }
-        ensures step { (s : State (List ℕ) ℕ) → (serving_at s id self.new, result) ≡ answered (serving_at s id self.old) (StationActs (SendUser bearer text.now)) }
+        ensures step { (s : State (List ℕ) ℕ) → (serving_at s id self.new, out.new) ≡ answered (serving_at s id self.old) (StationActs (SendUser bearer text.now)) }
         ensures conn { self.new.conn ≡ self.old.conn }
     {
         if self.starting {
-            return ActorOut::of(Answer::NotActive);
+            return out.only(Answer::NotActive);
         }
-        match self.packet(id, bearer, text) {
-            Some(sent) => sent,
-            None => ActorOut::of(Answer::CountSpent),
+        if !self.packet(id, bearer, text, out) {
+            out.only(Answer::CountSpent);
         }
     }
 
     #[tactic(auto, using(crate::proofs::Serving::which_srb))]
-    fn send_rrc(&mut self, id: u8, bearer: Bearer, text: &ShortText) -> ActorOut
+    fn send_rrc(&mut self, id: u8, bearer: Bearer, text: &ShortText, out: &mut ActorOut)
         requires srb { IsSrb bearer }
-        ensures step { (s : State (List ℕ) ℕ) → (serving_at s id self.new, result) ≡ answered (serving_at s id self.old) (StationActs (SendRrc bearer text.now)) }
+        ensures step { (s : State (List ℕ) ℕ) → (serving_at s id self.new, out.new) ≡ answered (serving_at s id self.old) (StationActs (SendRrc bearer text.now)) }
         ensures conn { self.new.conn ≡ self.old.conn }
     {
         if self.starting {
-            return ActorOut::of(Answer::NotActive);
+            return out.only(Answer::NotActive);
         }
         let message = RrcRecord::RrcData(copied(text)).write();
-        match self.signal(id, bearer, true, message.as_slice()) {
-            Some(sent) => sent,
-            None => ActorOut::of(Answer::CountSpent),
+        if !self.signal(id, bearer, true, message.as_slice(), out) {
+            out.only(Answer::CountSpent);
         }
     }
 }

@@ -19,33 +19,33 @@ use rrc_rec::RrcRecord;
 
 impl Context {
     // A PDU at the context's air address.
-    pub(crate) fn air(&mut self, air: u32, bearer: Bearer, pdu: &[u8]) -> ActorOut
+    pub(crate) fn air(&mut self, air: u32, bearer: Bearer, pdu: &[u8], out: &mut ActorOut)
         requires here { (self.old.air == air) ≡ true }
         requires pdu { length pdu.now ≤ 1536 }
-        ensures step { (s : State (List ℕ) ℕ) → (serving s self.new, result) ≡ answered (serving s self.old) (AirPdu air bearer pdu.now) }
+        ensures step { (s : State (List ℕ) ℕ) → (serving s self.new, out.new) ≡ answered (serving s self.old) (AirPdu air bearer pdu.now) }
         ensures conn { self.new.conn ≡ self.old.conn }
     {
         if self.starting {
-            return self.air_starting(air, bearer, pdu);
+            return self.air_starting(air, bearer, pdu, out);
         }
         if is_srb(bearer) {
-            return self.air_srb(air, bearer, pdu);
+            return self.air_srb(air, bearer, pdu, out);
         }
-        self.air_drb(air, bearer, pdu)
+        self.air_drb(air, bearer, pdu, out)
     }
 
     // While security starts: SRB1, not ciphered yet (TS 36.331 5.3.4.3).
-    fn air_starting(&mut self, air: u32, bearer: Bearer, pdu: &[u8]) -> ActorOut
+    fn air_starting(&mut self, air: u32, bearer: Bearer, pdu: &[u8], out: &mut ActorOut)
         requires here { (self.old.air == air) ≡ true }
         requires starting { self.old.starting ≡ true }
         requires pdu { length pdu.now ≤ 1536 }
-        ensures step { (s : State (List ℕ) ℕ) → (serving s self.new, result) ≡ answered (serving s self.old) (AirPdu air bearer pdu.now) }
+        ensures step { (s : State (List ℕ) ℕ) → (serving s self.new, out.new) ≡ answered (serving s self.old) (AirPdu air bearer pdu.now) }
         ensures conn { self.new.conn ≡ self.old.conn }
     {
         match bearer {
             Bearer::Srb1 => {}
             Bearer::Srb2 | Bearer::Drb1 | Bearer::Drb2 | Bearer::Drb3 | Bearer::Drb4 => {
-                return ActorOut::of(Answer::NotActive);
+                return out.only(Answer::NotActive);
             }
         }
         let opened = match self
@@ -53,15 +53,15 @@ impl Context {
             .open_srb(Bearer::Srb1, &self.keys, Dir::Up, false, pdu)
         {
             Ok(opened) => opened,
-            Err(fault) => return ActorOut::of(answer_of(fault)),
+            Err(fault) => return out.only(answer_of(fault)),
         };
-        self.take_starting(&opened)
+        self.take_starting(&opened, out)
     }
 
     // What was opened while security starts: the Security Mode Complete.
-    fn take_starting(&mut self, opened: &PdcpOpened) -> ActorOut
+    fn take_starting(&mut self, opened: &PdcpOpened, out: &mut ActorOut)
         requires { self.old.bearers.srb1.receive ≤ opened.now.count }
-        ensures step { (s : State (List ℕ) ℕ) → (serving s self.new, result)
+        ensures step { (s : State (List ℕ) ℕ) → (serving s self.new, out.new)
             ≡ by_air (serving s self.old) (Some (from_phone self.old.keys Srb1 opened.now.count)) (starting_row opened.now.count (read_rrc opened.now.text)) }
         ensures conn { self.new.conn ≡ self.old.conn }
     {
@@ -75,20 +75,18 @@ impl Context {
             }
             Ok(other) => Answer::WrongKind(kind_of(&other)),
         };
-        ActorOut {
-            accepted,
-            ..ActorOut::of(answer)
-        }
+        out.only(answer);
+        out.accepted = accepted;
     }
 
     // On an SRB of an active context.
-    fn air_srb(&mut self, air: u32, bearer: Bearer, pdu: &[u8]) -> ActorOut
+    fn air_srb(&mut self, air: u32, bearer: Bearer, pdu: &[u8], out: &mut ActorOut)
         requires here { (self.old.air == air) ≡ true }
         requires active { self.old.starting ≡ false }
         requires on { which bearer ≡ OnSrb (srb_of bearer) }
         requires srb { IsSrb bearer }
         requires pdu { length pdu.now ≤ 1536 }
-        ensures step { (s : State (List ℕ) ℕ) → (serving s self.new, result) ≡ answered (serving s self.old) (AirPdu air bearer pdu.now) }
+        ensures step { (s : State (List ℕ) ℕ) → (serving s self.new, out.new) ≡ answered (serving s self.old) (AirPdu air bearer pdu.now) }
         ensures conn { self.new.conn ≡ self.old.conn }
     {
         let opened = match self
@@ -96,66 +94,60 @@ impl Context {
             .open_srb(bearer, &self.keys, Dir::Up, true, pdu)
         {
             Ok(opened) => opened,
-            Err(fault) => return ActorOut::of(answer_of(fault)),
+            Err(fault) => return out.only(answer_of(fault)),
         };
-        self.take_rrc(bearer, &opened)
+        self.take_rrc(bearer, &opened, out)
     }
 
     // What was opened on an SRB: data, or a Reconfiguration Complete that the phone sent again.
-    fn take_rrc(&mut self, bearer: Bearer, opened: &PdcpOpened) -> ActorOut
+    fn take_rrc(&mut self, bearer: Bearer, opened: &PdcpOpened, out: &mut ActorOut)
         requires srb { IsSrb bearer }
         requires count { (srb_counts (srb_of bearer) self.old.bearers).receive ≤ opened.now.count }
-        ensures step { (s : State (List ℕ) ℕ) → (serving s self.new, result)
+        ensures step { (s : State (List ℕ) ℕ) → (serving s self.new, out.new)
             ≡ by_air (serving s self.old) (Some (from_phone self.old.keys bearer opened.now.count)) (rrc_row (srb_of bearer) opened.now.count (read_rrc opened.now.text)) }
         ensures conn { self.new.conn ≡ self.old.conn }
     {
         let accepted = Some(verified_use(&self.keys, bearer, opened.count, Dir::Up));
         match RrcRecord::read(opened.text.as_slice()) {
-            Err(fault) => ActorOut {
-                accepted,
-                ..ActorOut::of(Answer::BadRecord(fault))
-            },
+            Err(fault) => {
+                out.only(Answer::BadRecord(fault));
+                out.accepted = accepted;
+            }
             Ok(RrcRecord::RrcData(data)) => {
                 self.bearers.accept_srb(bearer, opened.count);
                 let mut text = UserText::new();
                 text.append(data.as_slice());
-                ActorOut {
-                    accepted,
-                    opened: Some(text),
-                    ..ActorOut::of(Answer::Done)
-                }
+                out.only(Answer::Done);
+                out.accepted = accepted;
+                out.opened = Some(text);
             }
             Ok(RrcRecord::ReconfigurationComplete) => {
                 self.bearers.accept_srb(bearer, opened.count);
-                ActorOut {
-                    accepted,
-                    ..ActorOut::of(Answer::Done)
-                }
+                out.only(Answer::Done);
+                out.accepted = accepted;
             }
-            Ok(other) => ActorOut {
-                accepted,
-                ..ActorOut::of(Answer::WrongKind(kind_of(&other)))
-            },
+            Ok(other) => {
+                out.only(Answer::WrongKind(kind_of(&other)));
+                out.accepted = accepted;
+            }
         }
     }
 
     // On a DRB of an active context: nothing is verified, and a text is cut to its first 1,500 octets.
-    fn air_drb(&mut self, air: u32, bearer: Bearer, pdu: &[u8]) -> ActorOut
+    fn air_drb(&mut self, air: u32, bearer: Bearer, pdu: &[u8], out: &mut ActorOut)
         requires here { (self.old.air == air) ≡ true }
         requires active { self.old.starting ≡ false }
         requires on { which bearer ≡ OnDrb (drb_of bearer) }
         requires drb { IsDrb bearer }
         requires pdu { length pdu.now ≤ 1536 }
-        ensures step { (s : State (List ℕ) ℕ) → (serving s self.new, result) ≡ answered (serving s self.old) (AirPdu air bearer pdu.now) }
+        ensures step { (s : State (List ℕ) ℕ) → (serving s self.new, out.new) ≡ answered (serving s self.old) (AirPdu air bearer pdu.now) }
         ensures conn { self.new.conn ≡ self.old.conn }
     {
         let opened = match self.bearers.receive_drb(bearer, &self.keys, Dir::Up, pdu) {
             Ok(opened) => opened,
-            Err(fault) => return ActorOut::of(answer_of(fault)),
+            Err(fault) => return out.only(answer_of(fault)),
         };
-        ActorOut {
-            opened: Some(packet_text(opened.text.as_slice())),
-            ..ActorOut::of(Answer::Done)
-        }
+        out.only(Answer::Done);
+        out.opened = Some(packet_text(opened.text.as_slice()));
     }
 }

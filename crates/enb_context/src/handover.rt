@@ -22,7 +22,7 @@ use crate::sends::sends;
 use annex_a_keys::{Cell, Derived, Star};
 use arrayvec::ArrayVec;
 use ho_prep::{By, Prep};
-use lte_events::{ActorOut, Address, Answer, Few, HoKind, KeyNote};
+use lte_events::{ActorOut, Address, Answer, HoKind, KeyNote};
 use nh_chain::{Spent, StationKey};
 use pdcp_guard::AsKeys;
 use rec_base::Way;
@@ -32,13 +32,13 @@ use x2_handover::X2Open;
 
 impl Station {
     // A handover of this kind to a cell begins.
-    pub(crate) fn start(&mut self, kind: HoKind, cell: &Cell) -> ActorOut
-        ensures { (self.new, result) ≡ answered self.old (StationActs (Start kind cell.now)) }
+    pub(crate) fn start(&mut self, kind: HoKind, cell: &Cell, out: &mut ActorOut)
+        ensures { (self.new, out.new) ≡ answered self.old (StationActs (Start kind cell.now)) }
     {
         match kind {
-            HoKind::X2 => self.start_x2(cell),
-            HoKind::S1 => self.start_s1(cell),
-            HoKind::Intra => self.start_within(cell),
+            HoKind::X2 => self.start_x2(cell, out),
+            HoKind::S1 => self.start_s1(cell, out),
+            HoKind::Intra => self.start_within(cell, out),
         }
     }
 
@@ -66,18 +66,18 @@ impl Station {
     }
 
     // Over X2: KeNB* goes to the target (TS 33.401 7.2.8.4.2).
-    fn start_x2(&mut self, cell: &Cell) -> ActorOut
-        ensures { (self.new, result) ≡ answered self.old (StationActs (Start Kind.X2 cell.now)) }
+    fn start_x2(&mut self, cell: &Cell, out: &mut ActorOut)
+        ensures { (self.new, out.new) ≡ answered self.old (StationActs (Start Kind.X2 cell.now)) }
     {
         let target = match self.target(HoKind::X2, cell) {
             Ok(target) => target,
-            Err(answer) => return ActorOut::of(answer),
+            Err(answer) => return out.only(answer),
         };
         let Some(number) = self.number(1) else {
-            return ActorOut::of(Answer::NumberSpent);
+            return out.only(Answer::NumberSpent);
         };
         let Some(context) = &mut self.context else {
-            return ActorOut::of(Answer::NoUe);
+            return out.only(Answer::NoUe);
         };
         let (star, spent, ncc, made) = context.open(cell);
         let request = CoreRecord::X2Request {
@@ -93,28 +93,24 @@ impl Station {
         let attempt = X2Open::new(number, target, *cell, star, ncc, spent);
         context.begin(Attempt::OverX2(X2State::Open(attempt)));
         self.next = u64::from(number) + 1;
-        let mut derived = Few::new();
-        derived.push(made);
-        ActorOut {
-            derived,
-            note: Some(note),
-            ..sends(Address::StationX2(target), &request)
-        }
+        sends(Address::StationX2(target), &request, out);
+        out.derived.push(made);
+        out.note = Some(note);
     }
 
     // Over S1: the core gives the target its pair, and the stored pair stays (TS 33.401 7.2.8.4.3).
-    fn start_s1(&mut self, cell: &Cell) -> ActorOut
-        ensures { (self.new, result) ≡ answered self.old (StationActs (Start Kind.S1 cell.now)) }
+    fn start_s1(&mut self, cell: &Cell, out: &mut ActorOut)
+        ensures { (self.new, out.new) ≡ answered self.old (StationActs (Start Kind.S1 cell.now)) }
     {
         let target = match self.target(HoKind::S1, cell) {
             Ok(target) => target,
-            Err(answer) => return ActorOut::of(answer),
+            Err(answer) => return out.only(answer),
         };
         let Some(number) = self.number(1) else {
-            return ActorOut::of(Answer::NumberSpent);
+            return out.only(Answer::NumberSpent);
         };
         let Some(context) = &mut self.context else {
-            return ActorOut::of(Answer::NoUe);
+            return out.only(Answer::NoUe);
         };
         let required = CoreRecord::HandoverRequired {
             conn: context.conn,
@@ -125,25 +121,25 @@ impl Station {
         let attempt = S1Open::new(number, target, *cell);
         context.begin(Attempt::OverS1(S1State::Open(attempt)));
         self.next = u64::from(number) + 1;
-        sends(Address::CoreS1, &required)
+        sends(Address::CoreS1, &required, out)
     }
 
     // Within the station: the preparation is added, and the attempt is ready at once (TS 33.401 7.2.8.4.1).
-    fn start_within(&mut self, cell: &Cell) -> ActorOut
-        ensures { (self.new, result) ≡ answered self.old (StationActs (Start Kind.Intra cell.now)) }
+    fn start_within(&mut self, cell: &Cell, out: &mut ActorOut)
+        ensures { (self.new, out.new) ≡ answered self.old (StationActs (Start Kind.Intra cell.now)) }
     {
         if let Err(answer) = self.target(HoKind::Intra, cell) {
-            return ActorOut::of(answer);
+            return out.only(answer);
         }
         if self.is_full() {
-            return ActorOut::of(Answer::PrepFull);
+            return out.only(Answer::PrepFull);
         }
         let Some(number) = self.number(2) else {
-            return ActorOut::of(Answer::NumberSpent);
+            return out.only(Answer::NumberSpent);
         };
         let id = self.id;
         let Some(context) = &mut self.context else {
-            return ActorOut::of(Answer::NoUe);
+            return out.only(Answer::NoUe);
         };
         let air = number + 1;
         let (star, spent, ncc, made) = context.open(cell);
@@ -153,14 +149,10 @@ impl Station {
         context.begin(Attempt::Within(X2State::Ready(attempt)));
         self.next = u64::from(air) + 1;
         self.add_prep(prep);
-        let mut derived = Few::new();
-        derived.push(made);
-        derived.append(rest.as_slice());
-        ActorOut {
-            derived,
-            note: Some(note),
-            ..ActorOut::of(Answer::Done)
-        }
+        out.only(Answer::Done);
+        out.derived.push(made);
+        out.derived.append(rest.as_slice());
+        out.note = Some(note);
     }
 }
 

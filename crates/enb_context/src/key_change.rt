@@ -1,5 +1,6 @@
 // The change of the context's key (TS 36.413 8.3.4, TS 33.401 7.2.9.2).
-ghost use Rattle.std.specs.Prelude.{◌≡◌, ◌≤◌, ◌+◌, ◌∷◌, [], Some, IfSome, IfNone, true, false, ℕ};
+ghost use Rattle.std.specs.Prelude.{◌≡◌, ◌≤◌, ◌+◌, ◌∷◌, [], Some, true, false, ℕ};
+ghost use Rattle.std.specs.Bool.{OnTrue, OnFalse};
 ghost use Rattle.s1x2_rec.specs.Fields.{ContextModification as Modified};
 ghost use Rattle.lte_machine.specs.Bearers.{Signalling1, srb_sent, is_spent};
 ghost use Rattle.lte_machine.specs.StationState.{Renewing};
@@ -13,59 +14,60 @@ use crate::renewal::Renewal;
 use crate::sends::heard;
 use annex_a_keys::Kenb;
 use ho_prep::Prep;
-use lte_events::{ActorOut, Answer, Few, KeyNote};
+use lte_events::{ActorOut, Answer, KeyNote};
 use rec_base::{Bearer, Way};
 
 impl Station {
     // UE Context Modification Request (TS 36.413 8.3.4): KeNB* of the new KeNB for the same cell, a preparation
     // for it in place of all others, and the order under the present keys.
-    pub(crate) fn context_modification(&mut self, conn: u32, next: u32, kenb: Kenb) -> ActorOut
+    pub(crate) fn context_modification(
+        &mut self,
+        conn: u32,
+        next: u32,
+        kenb: Kenb,
+        out: &mut ActorOut,
+    )
         requires { 1 ≤ next }
-        ensures { (self.new, result) ≡ on_s1 self.old (Modified conn next) (Some (record { key = kenb; number = 0 })) }
+        ensures { (self.new, out.new) ≡ on_s1 self.old (Modified conn next) (Some (record { key = kenb; number = 0 })) }
     {
         let key = kenb.octets();
         let id = self.id;
         let last = self.last;
         let drawn = self.number(2);
         let Some(context) = &mut self.context else {
-            return heard(Answer::NoUe, key);
+            return heard(Answer::NoUe, key, out);
         };
         if context.conn != conn {
-            return heard(Answer::OldConnection(context.conn, conn), key);
+            return heard(Answer::OldConnection(context.conn, conn), key, out);
         }
         if next <= last {
-            return heard(Answer::OldConnection(last, next), key);
+            return heard(Answer::OldConnection(last, next), key, out);
         }
         if context.starting {
-            return heard(Answer::NotActive, key);
+            return heard(Answer::NotActive, key, out);
         }
         if let Some(attempt) = &context.attempt {
-            return heard(Answer::AttemptOpen(attempt.number()), key);
+            return heard(Answer::AttemptOpen(attempt.number()), key, out);
         }
         let Some(number) = drawn else {
-            return heard(Answer::NumberSpent, key);
+            return heard(Answer::NumberSpent, key, out);
         };
         let air = number + 1;
         let cell = context.cell;
-        let Some(sent) = context.renew(id, number, air) else {
-            return heard(Answer::CountSpent, key);
-        };
+        if !context.renew(id, number, air, out) {
+            return heard(Answer::CountSpent, key, out);
+        }
         let (star, first) = kenb.star(&cell);
         let (prep, rest) = context.own_prep(next, id, number, air, &cell, star, 0);
-        let mut derived = Few::new();
-        derived.push(first);
-        derived.append(rest.as_slice());
         self.renewed(prep);
-        ActorOut {
-            received: Some(key),
-            derived,
-            note: Some(KeyNote {
-                ncc: 0,
-                way: Way::Given,
-                key: star.octets(),
-            }),
-            ..sent
-        }
+        out.received = Some(key);
+        out.derived.push(first);
+        out.derived.append(rest.as_slice());
+        out.note = Some(KeyNote {
+            ncc: 0,
+            way: Way::Given,
+            key: star.octets(),
+        });
     }
 
     // A preparation within the station takes the place of all others, for the connection that is the last now.
@@ -82,18 +84,18 @@ impl Station {
 
 impl Context {
     // Orders the change, and keeps it as the attempt, or nothing where no COUNT is left.
-    fn renew(&mut self, id: u8, number: u32, air: u32) -> Option<ActorOut>
+    fn renew(&mut self, id: u8, number: u32, air: u32, out: &mut ActorOut) -> bool
         requires id { id ≤ 7 }
         requires number { 1 ≤ number }
         requires air { 1 ≤ air }
-        ensures spent { IfNone result (is_spent self.old.bearers.srb1 ≡ true) }
-        ensures same { IfNone result (self.new ≡ self.old) }
-        ensures left { IfSome result (λ out. is_spent self.old.bearers.srb1 ≡ false) }
-        ensures new { IfSome result (λ out. self.new ≡ record self.old {
+        ensures spent { OnFalse result (is_spent self.old.bearers.srb1 ≡ true) }
+        ensures same { OnFalse result (self.new ≡ self.old) }
+        ensures left { OnTrue result (is_spent self.old.bearers.srb1 ≡ false) }
+        ensures new { OnTrue result (self.new ≡ record self.old {
           bearers = srb_sent Signalling1 self.old.bearers;
           attempt = Some (Renewing (record { number = number; cell = self.old.cell; algs = self.old.algs; air = air }));
         }) }
-        ensures value { IfSome result (λ out. out ≡ sending (signalling_sent id self.old.air self.old.keys Signalling1 self.old.bearers.srb1.send
+        ensures value { OnTrue result (out.new ≡ sending (signalling_sent id self.old.air self.old.keys Signalling1 self.old.bearers.srb1.send
             (change_text id (record { number = number; cell = self.old.cell; algs = self.old.algs; air = air })))) }
     {
         let renewal = Renewal {
@@ -103,8 +105,10 @@ impl Context {
             air,
         };
         let order = renewal.order(id).write();
-        let sent = self.signal(id, Bearer::Srb1, true, order.as_slice())?;
+        if !self.signal(id, Bearer::Srb1, true, order.as_slice(), out) {
+            return false;
+        }
         self.begin(Attempt::Renewing(renewal));
-        Some(sent)
+        true
     }
 }

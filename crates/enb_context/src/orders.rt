@@ -17,30 +17,30 @@ use s1x2_rec::CoreRecord;
 
 impl Station {
     // The command, which may be sent again (TS 36.331 5.3.5.4).
-    pub(crate) fn command(&mut self) -> ActorOut
-        ensures { (self.new, result) ≡ answered self.old (StationActs Command) }
+    pub(crate) fn command(&mut self, out: &mut ActorOut)
+        ensures { (self.new, out.new) ≡ answered self.old (StationActs Command) }
     {
         let id = self.id;
         let Some(context) = &mut self.context else {
-            return ActorOut::of(Answer::NoUe);
+            return out.only(Answer::NoUe);
         };
-        context.command(id)
+        context.command(id, out)
     }
 
     // Giving an attempt up, until its command was sent (TS 36.413 8.4.5, TS 36.423 8.2.4).
     #[tactic(auto, using(crate::proofs::OrderSteps::cancel_is))]
-    pub(crate) fn cancel(&mut self) -> ActorOut
-        ensures { (self.new, result) ≡ answered self.old (StationActs CancelAct) }
+    pub(crate) fn cancel(&mut self, out: &mut ActorOut)
+        ensures { (self.new, out.new) ≡ answered self.old (StationActs CancelAct) }
     {
         let id = self.id;
         let Some(context) = &mut self.context else {
-            return ActorOut::of(Answer::NoUe);
+            return out.only(Answer::NoUe);
         };
         let Some(attempt) = &context.attempt else {
-            return ActorOut::of(Answer::NoAttempt);
+            return out.only(Answer::NoAttempt);
         };
         let Some(cancel) = attempt.cancels() else {
-            return ActorOut::of(Answer::CommandSent);
+            return out.only(Answer::CommandSent);
         };
         let conn = context.conn;
         context.give_up();
@@ -52,6 +52,7 @@ impl Station {
                     source: id,
                     attempt,
                 },
+                out,
             ),
             Cancel::OverS1(attempt, cell) => sends(
                 Address::CoreS1,
@@ -61,10 +62,11 @@ impl Station {
                     attempt,
                     cell,
                 },
+                out,
             ),
             Cancel::Within(attempt) => {
                 let _ = self.remove_prep(id, attempt);
-                ActorOut::of(Answer::Done)
+                out.only(Answer::Done);
             }
         }
     }
@@ -72,43 +74,44 @@ impl Station {
 
 impl Context {
     #[tactic(auto, using(crate::proofs::OrderSteps::command_is))]
-    fn command(&mut self, id: u8) -> ActorOut
+    fn command(&mut self, id: u8, out: &mut ActorOut)
         requires { id ≤ 7 }
-        ensures step { (s : State (List ℕ) ℕ) → (serving_at s id self.new, result) ≡ answered (serving_at s id self.old) (StationActs Command) }
+        ensures step { (s : State (List ℕ) ℕ) → (serving_at s id self.new, out.new) ≡ answered (serving_at s id self.old) (StationActs Command) }
         ensures conn { self.new.conn ≡ self.old.conn }
     {
         let Some(attempt) = &self.attempt else {
-            return ActorOut::of(Answer::NoAttempt);
+            return out.only(Answer::NoAttempt);
         };
         if attempt.is_open() {
-            return ActorOut::of(Answer::NotReady);
+            return out.only(Answer::NotReady);
         }
         if self.bearers.is_spent() {
-            return ActorOut::of(Answer::CountSpent);
+            return out.only(Answer::CountSpent);
         }
-        self.order(id)
+        self.order(id, out)
     }
 
     // Sends the order of an attempt, for which a COUNT is left.
-    fn order(&mut self, id: u8) -> ActorOut
+    fn order(&mut self, id: u8, out: &mut ActorOut)
         requires id { id ≤ 7 }
         requires left { is_spent self.old.bearers.srb1 ≡ false }
         ensures step { (s : State (List ℕ) ℕ) (a : Tried (List ℕ) ℕ) → self.old.attempt ≡ Some a →
-            (serving_at s id self.new, result) ≡ commanded_by s id self.old false (ordered id a) }
+            (serving_at s id self.new, out.new) ≡ commanded_by s id self.old false (ordered id a) }
         ensures conn { self.new.conn ≡ self.old.conn }
     {
         let Some(attempt) = self.attempt.take() else {
-            return ActorOut::of(Answer::NoAttempt);
+            return out.only(Answer::NoAttempt);
         };
         match attempt.command(id) {
             Ok((attempt, order)) => {
                 self.begin(attempt);
-                let sent = self.signal(id, Bearer::Srb1, true, order.write().as_slice());
-                sent.unwrap_or_default()
+                if !self.signal(id, Bearer::Srb1, true, order.write().as_slice(), out) {
+                    unreachable!()
+                }
             }
             Err(attempt) => {
                 self.begin(attempt);
-                ActorOut::of(Answer::NotReady)
+                out.only(Answer::NotReady);
             }
         }
     }

@@ -29,68 +29,68 @@ use s1x2_rec::CoreRecord;
 impl Station {
     // A PDU at an air address that is not the context's. A preparation expects COUNT 0 on SRB1, and nothing
     // else (TS 36.331 5.3.5.4).
-    pub(crate) fn prep_air(&mut self, air: u32, bearer: Bearer, pdu: &[u8]) -> ActorOut
+    pub(crate) fn prep_air(&mut self, air: u32, bearer: Bearer, pdu: &[u8], out: &mut ActorOut)
         requires elsewhere { IsElsewhere air self.old.context }
         requires pdu { length pdu.now ≤ 1536 }
-        ensures { (self.new, result) ≡ answered self.old (AirPdu air bearer pdu.now) }
+        ensures { (self.new, out.new) ≡ answered self.old (AirPdu air bearer pdu.now) }
     {
         let Some(prep) = self.preps.at_air(air) else {
-            return ActorOut::of(Answer::NotAddressed);
+            return out.only(Answer::NotAddressed);
         };
         if !is_srb1(bearer) {
-            return ActorOut::of(Answer::NotActive);
+            return out.only(Answer::NotActive);
         }
         let opened = match Srb::new(Bearer::Srb1).open(&prep.keys, Dir::Up, true, pdu) {
             Ok(opened) => opened,
-            Err(fault) => return ActorOut::of(answer_of(fault)),
+            Err(fault) => return out.only(answer_of(fault)),
         };
-        self.take_prepared(air, &opened)
+        self.take_prepared(air, &opened, out)
     }
 
     // What was opened at a preparation: the Reconfiguration Complete.
-    fn take_prepared(&mut self, air: u32, opened: &PdcpOpened) -> ActorOut
-        ensures { (p : PrepOf (List ℕ) ℕ) → at_air air self.old.preps ≡ Some p → (self.new, result)
+    fn take_prepared(&mut self, air: u32, opened: &PdcpOpened, out: &mut ActorOut)
+        ensures { (p : PrepOf (List ℕ) ℕ) → at_air air self.old.preps ≡ Some p → (self.new, out.new)
             ≡ by_air self.old (Some (from_phone p.keys Srb1 opened.now.count)) (prepared_row self.old.next air opened.now.count p.by (read_rrc opened.now.text)) }
     {
         let Some(prep) = self.preps.at_air(air) else {
-            return ActorOut::of(Answer::NotAddressed);
+            return out.only(Answer::NotAddressed);
         };
         let accepted = Some(verified_use(&prep.keys, Bearer::Srb1, opened.count, Dir::Up));
-        let out = match RrcRecord::read(opened.text.as_slice()) {
-            Err(fault) => ActorOut::of(Answer::BadRecord(fault)),
-            Ok(RrcRecord::ReconfigurationComplete) => self.complete(air, opened.count),
-            Ok(_) => ActorOut::of(Answer::NotActive),
-        };
-        ActorOut { accepted, ..out }
+        match RrcRecord::read(opened.text.as_slice()) {
+            Err(fault) => out.only(Answer::BadRecord(fault)),
+            Ok(RrcRecord::ReconfigurationComplete) => self.complete(air, opened.count, out),
+            Ok(_) => out.only(Answer::NotActive),
+        }
+        out.accepted = accepted;
     }
 
     // A preparation becomes the context, and all others are dropped. After X2 the core is asked for a pair under
     // a number that is drawn (TS 36.413 8.4.4), after S1 it is notified (8.4.3).
-    fn complete(&mut self, air: u32, count: u32) -> ActorOut
-        ensures { (p : PrepOf (List ℕ) ℕ) → at_air air self.old.preps ≡ Some p → (self.new, result)
+    fn complete(&mut self, air: u32, count: u32, out: &mut ActorOut)
+        ensures { (p : PrepOf (List ℕ) ℕ) → at_air air self.old.preps ≡ Some p → (self.new, out.new)
             ≡ by_air self.old None (completed_row self.old.next air count p.by) }
     {
         let drawn = self.number(1);
         let Some(prep) = self.preps.at_air(air) else {
-            return ActorOut::of(Answer::NotAddressed);
+            return out.only(Answer::NotAddressed);
         };
         match prep.by {
             By::X2 => match drawn {
-                Some(number) => self.complete_x2(air, count, number),
-                None => ActorOut::of(Answer::NumberSpent),
+                Some(number) => self.complete_x2(air, count, number, out),
+                None => out.only(Answer::NumberSpent),
             },
-            By::S1 => self.complete_s1(air, count),
-            By::Intra(came) => self.complete_within(air, count, origin_of(came)),
+            By::S1 => self.complete_s1(air, count, out),
+            By::Intra(came) => self.complete_within(air, count, origin_of(came), out),
         }
     }
 
-    fn complete_x2(&mut self, air: u32, count: u32, number: u32) -> ActorOut
+    fn complete_x2(&mut self, air: u32, count: u32, number: u32, out: &mut ActorOut)
         requires number { 1 ≤ number }
         requires context { IsFound air self.old.preps }
-        ensures { (self.new, result) ≡ by_air self.old None (CompletedByX2 air count number) }
+        ensures { (self.new, out.new) ≡ by_air self.old None (CompletedByX2 air count number) }
     {
         let Some(prep) = self.take_only(air) else {
-            return ActorOut::of(Answer::NotAddressed);
+            return out.only(Answer::NotAddressed);
         };
         let origin = Origin {
             source: prep.source,
@@ -106,18 +106,16 @@ impl Station {
         let note = arrival(&prep.key);
         self.next = u64::from(number) + 1;
         self.context = Some(arrived(prep, count, Some(number), Some(origin)));
-        ActorOut {
-            note: Some(note),
-            ..sends(Address::CoreS1, &request)
-        }
+        sends(Address::CoreS1, &request, out);
+        out.note = Some(note);
     }
 
-    fn complete_s1(&mut self, air: u32, count: u32) -> ActorOut
+    fn complete_s1(&mut self, air: u32, count: u32, out: &mut ActorOut)
         requires { IsFound air self.old.preps }
-        ensures { (self.new, result) ≡ by_air self.old None (CompletedByS1 air count) }
+        ensures { (self.new, out.new) ≡ by_air self.old None (CompletedByS1 air count) }
     {
         let Some(prep) = self.take_only(air) else {
-            return ActorOut::of(Answer::NotAddressed);
+            return out.only(Answer::NotAddressed);
         };
         let notify = CoreRecord::HandoverNotify {
             conn: prep.conn,
@@ -126,25 +124,21 @@ impl Station {
         };
         let note = arrival(&prep.key);
         self.context = Some(arrived(prep, count, None, None));
-        ActorOut {
-            note: Some(note),
-            ..sends(Address::CoreS1, &notify)
-        }
+        sends(Address::CoreS1, &notify, out);
+        out.note = Some(note);
     }
 
-    fn complete_within(&mut self, air: u32, count: u32, origin: Option<Origin>) -> ActorOut
+    fn complete_within(&mut self, air: u32, count: u32, origin: Option<Origin>, out: &mut ActorOut)
         requires { IsFound air self.old.preps }
-        ensures { (self.new, result) ≡ by_air self.old None (CompletedWithin air count origin) }
+        ensures { (self.new, out.new) ≡ by_air self.old None (CompletedWithin air count origin) }
     {
         let Some(prep) = self.take_only(air) else {
-            return ActorOut::of(Answer::NotAddressed);
+            return out.only(Answer::NotAddressed);
         };
         let note = arrival(&prep.key);
         self.context = Some(arrived(prep, count, None, origin));
-        ActorOut {
-            note: Some(note),
-            ..ActorOut::of(Answer::Done)
-        }
+        out.only(Answer::Done);
+        out.note = Some(note);
     }
 
     // Takes the preparation at an air address, and drops all others.

@@ -16,7 +16,7 @@ use crate::sends::{heard, sends};
 use alg_choice::{Algs, Caps};
 use annex_a_keys::{Cell, Kenb};
 use ho_prep::{By, Prep};
-use lte_events::{ActorOut, Address, Answer, Few, KeyNote};
+use lte_events::{ActorOut, Address, Answer, KeyNote};
 use nh_chain::{NhPair, StationKey};
 use pdcp_guard::AsKeys;
 use radio_bearers::Bearers;
@@ -33,14 +33,15 @@ impl Station {
         cell: Cell,
         caps: Caps,
         kenb: Kenb,
-    ) -> ActorOut
+        out: &mut ActorOut,
+    )
         requires { 1 ≤ conn }
-        ensures { (self.new, result) ≡ on_s1 self.old (Given conn cell caps) (Some (record { key = kenb; number = 0 })) }
+        ensures { (self.new, out.new) ≡ on_s1 self.old (Given conn cell caps) (Some (record { key = kenb; number = 0 })) }
     {
         let key = kenb.octets();
         let (algs, air) = match self.admit_context(conn, &cell, &caps) {
             Ok(taken) => taken,
-            Err(answer) => return heard(answer, key),
+            Err(answer) => return heard(answer, key, out),
         };
         let (keys, made) = AsKeys::derive(&kenb, algs);
         let mut context = Context {
@@ -62,51 +63,55 @@ impl Station {
             station: self.id,
             air,
         };
-        let sent = context.signal(self.id, Bearer::Srb1, false, command.write().as_slice());
-        let mut derived = Few::new();
-        derived.append(made.as_slice());
+        let text = command.write();
+        if !context.signal(self.id, Bearer::Srb1, false, text.as_slice(), out) {
+            unreachable!()
+        }
+        out.received = Some(key);
+        out.derived.append(made.as_slice());
+        out.note = Some(KeyNote {
+            ncc: 0,
+            way: Way::Given,
+            key,
+        });
         self.next = u64::from(air) + 1;
         self.last = conn;
         self.context = Some(context);
         self.preps.clear();
-        ActorOut {
-            received: Some(key),
-            derived,
-            note: Some(KeyNote {
-                ncc: 0,
-                way: Way::Given,
-                key,
-            }),
-            ..sent.unwrap_or_default()
-        }
     }
 
     // UE Context Release Command (TS 36.413 8.3.3).
     #[tactic(auto, using(crate::proofs::PrepFacts::none_above_nil))]
-    pub(crate) fn context_release(&mut self, conn: u32) -> ActorOut
-        ensures { (self.new, result) ≡ on_s1 self.old (Released conn) None }
+    pub(crate) fn context_release(&mut self, conn: u32, out: &mut ActorOut)
+        ensures { (self.new, out.new) ≡ on_s1 self.old (Released conn) None }
     {
         match self.context.as_ref() {
-            None => return ActorOut::of(Answer::NoUe),
+            None => return out.only(Answer::NoUe),
             Some(context) => {
                 if context.conn != conn {
-                    return ActorOut::of(Answer::OldConnection(context.conn, conn));
+                    return out.only(Answer::OldConnection(context.conn, conn));
                 }
             }
         }
         self.context = None;
         self.preps.clear();
-        ActorOut::of(Answer::Done)
+        out.only(Answer::Done)
     }
 
     // Path Switch Request Acknowledge (TS 36.413 8.4.4).
-    pub(crate) fn path_switch_answer(&mut self, conn: u32, number: u32, pair: NhPair) -> ActorOut
-        ensures { (self.new, result) ≡ on_s1 self.old (Answered conn number) (Some pair) }
+    pub(crate) fn path_switch_answer(
+        &mut self,
+        conn: u32,
+        number: u32,
+        pair: NhPair,
+        out: &mut ActorOut,
+    )
+        ensures { (self.new, out.new) ≡ on_s1 self.old (Answered conn number) (Some pair) }
     {
         let Some(context) = &mut self.context else {
-            return heard(Answer::NoUe, pair.nh().octets());
+            return heard(Answer::NoUe, pair.nh().octets(), out);
         };
-        context.path_switch_answer(conn, number, pair)
+        context.path_switch_answer(conn, number, pair, out)
     }
 
     // Handover Request (TS 36.413 8.4.2): KeNB* is derived of the NH (TS 33.401 7.2.8.4.3).
@@ -118,23 +123,21 @@ impl Station {
         cell: Cell,
         caps: Caps,
         pair: NhPair,
-    ) -> ActorOut
+        out: &mut ActorOut,
+    )
         requires conn { 1 ≤ conn }
         requires source { source ≤ 7 }
         requires attempt { 1 ≤ attempt }
-        ensures { (self.new, result) ≡ on_s1 self.old (Requested conn source attempt cell caps) (Some pair) }
+        ensures { (self.new, out.new) ≡ on_s1 self.old (Requested conn source attempt cell caps) (Some pair) }
     {
         let key = pair.nh().octets();
         let (algs, air) = match self.admit(conn, source, attempt, &cell, &caps) {
             Ok(taken) => taken,
-            Err(answer) => return heard(answer, key),
+            Err(answer) => return heard(answer, key, out),
         };
         let ncc = pair.ncc();
         let (star, _, first) = pair.into_star(&cell);
         let (keys, made) = AsKeys::derive(&star.install(), algs);
-        let mut derived = Few::new();
-        derived.push(first);
-        derived.append(made.as_slice());
         let answer = CoreRecord::HandoverRequestAck {
             conn,
             source,
@@ -156,16 +159,15 @@ impl Station {
             keys,
             caps,
         });
-        ActorOut {
-            received: Some(key),
-            derived,
-            note: Some(KeyNote {
-                ncc,
-                way: Way::Vertical,
-                key: star.octets(),
-            }),
-            ..sends(Address::CoreS1, &answer)
-        }
+        sends(Address::CoreS1, &answer, out);
+        out.received = Some(key);
+        out.derived.push(first);
+        out.derived.append(made.as_slice());
+        out.note = Some(KeyNote {
+            ncc,
+            way: Way::Vertical,
+            key: star.octets(),
+        });
     }
 
     // Handover Command (TS 36.413 8.4.1).
@@ -177,15 +179,16 @@ impl Station {
         ncc: u8,
         algs: Algs,
         air: u32,
-    ) -> ActorOut
+        out: &mut ActorOut,
+    )
         requires ncc { ncc ≤ 7 }
         requires air { 1 ≤ air }
-        ensures { (self.new, result) ≡ on_s1 self.old (Commanded conn attempt cell ncc algs air) None }
+        ensures { (self.new, out.new) ≡ on_s1 self.old (Commanded conn attempt cell ncc algs air) None }
     {
         let Some(context) = &mut self.context else {
-            return ActorOut::of(Answer::NoUe);
+            return out.only(Answer::NoUe);
         };
-        context.handover_command(conn, attempt, cell, ncc, algs, air)
+        context.handover_command(conn, attempt, cell, ncc, algs, air, out)
     }
 
     // Handover Cancel (TS 36.413 8.4.5), which the core passes on.
@@ -196,48 +199,47 @@ impl Station {
         source: u8,
         attempt: u32,
         cell: Cell,
-    ) -> ActorOut
-        ensures { (self.new, result) ≡ on_s1 self.old (Cancelled conn source attempt cell) None }
+        out: &mut ActorOut,
+    )
+        ensures { (self.new, out.new) ≡ on_s1 self.old (Cancelled conn source attempt cell) None }
     {
         if !self.remove_prep(source, attempt) {
-            return ActorOut::of(Answer::NoAttempt);
+            return out.only(Answer::NoAttempt);
         }
-        ActorOut::of(Answer::Done)
+        out.only(Answer::Done)
     }
 }
 
 impl Context {
     // Only the answer to the newest request is taken, once.
-    fn path_switch_answer(&mut self, conn: u32, number: u32, pair: NhPair) -> ActorOut
+    fn path_switch_answer(&mut self, conn: u32, number: u32, pair: NhPair, out: &mut ActorOut)
         ensures step { (s : State (List ℕ) ℕ) →
-            (serving s self.new, result) ≡ on_s1 (serving s self.old) (Answered conn number) (Some pair) }
+            (serving s self.new, out.new) ≡ on_s1 (serving s self.old) (Answered conn number) (Some pair) }
         ensures conn { self.new.conn ≡ self.old.conn }
     {
         let key = pair.nh().octets();
         let outstanding = self.outstanding.unwrap_or(0);
         if self.outstanding != Some(number) {
-            return heard(Answer::Stale(outstanding, number), key);
+            return heard(Answer::Stale(outstanding, number), key, out);
         }
         self.key.store(pair);
         self.outstanding = None;
-        self.release_source(key)
+        self.release_source(key, out)
     }
 
     // The X2 source is told to release its context (TS 36.423 8.2.3).
-    fn release_source(&self, key: [u8; 32]) -> ActorOut
-        ensures { result ≡ actor_out (finished (Some key) None (record (only Done) { sent = source_release self.now.conn self.now.origin })) }
+    fn release_source(&self, key: [u8; 32], out: &mut ActorOut)
+        ensures { out.new ≡ actor_out (finished (Some key) None (record (only Done) { sent = source_release self.now.conn self.now.origin })) }
     {
         let Some(origin) = self.origin else {
-            return heard(Answer::Done, key);
+            return heard(Answer::Done, key, out);
         };
         let message = CoreRecord::X2Release {
             conn: self.conn,
             attempt: origin.attempt,
         };
-        ActorOut {
-            received: Some(key),
-            ..sends(Address::StationX2(origin.source), &message)
-        }
+        sends(Address::StationX2(origin.source), &message, out);
+        out.received = Some(key);
     }
 
     // The attempt over S1 that is open becomes ready.
@@ -249,34 +251,35 @@ impl Context {
         ncc: u8,
         algs: Algs,
         air: u32,
-    ) -> ActorOut
+        out: &mut ActorOut,
+    )
         requires ncc { ncc ≤ 7 }
         requires air { 1 ≤ air }
         ensures step { (s : State (List ℕ) ℕ) →
-            (serving s self.new, result) ≡ on_s1 (serving s self.old) (Commanded conn attempt cell ncc algs air) None }
+            (serving s self.new, out.new) ≡ on_s1 (serving s self.old) (Commanded conn attempt cell ncc algs air) None }
         ensures conn { self.new.conn ≡ self.old.conn }
     {
         match &self.attempt {
             Some(Attempt::OverS1(S1State::Open(open))) => {
                 if open.number() != attempt {
-                    return ActorOut::of(Answer::NoAttempt);
+                    return out.only(Answer::NoAttempt);
                 }
             }
             Some(Attempt::OverS1(S1State::Ready(ready))) => {
-                return acked_before(ready.number(), attempt);
+                return acked_before(ready.number(), attempt, out);
             }
             Some(Attempt::OverS1(S1State::Commanded(commanded))) => {
-                return acked_before(commanded.number(), attempt);
+                return acked_before(commanded.number(), attempt, out);
             }
             None
             | Some(Attempt::OverX2(_))
             | Some(Attempt::Within(_))
             | Some(Attempt::Renewing(_)) => {
-                return ActorOut::of(Answer::NoAttempt);
+                return out.only(Answer::NoAttempt);
             }
         }
         self.ack_s1(ncc, algs, air);
-        ActorOut::of(Answer::Done)
+        out.only(Answer::Done)
     }
 
     // An open attempt over S1 is ready now.
@@ -295,12 +298,12 @@ impl Context {
 }
 
 // The answer to an acknowledgement of an attempt of this number that was acknowledged before.
-pub(crate) fn acked_before(own: u32, attempt: u32) -> ActorOut
-    ensures { result ≡ reply_of (if own == attempt then Repeated attempt attempt else NoAttempt) }
+pub(crate) fn acked_before(own: u32, attempt: u32, out: &mut ActorOut)
+    ensures { out.new ≡ reply_of (if own == attempt then Repeated attempt attempt else NoAttempt) }
 {
     if own == attempt {
-        ActorOut::of(Answer::Repeated(attempt, attempt))
+        out.only(Answer::Repeated(attempt, attempt))
     } else {
-        ActorOut::of(Answer::NoAttempt)
+        out.only(Answer::NoAttempt)
     }
 }

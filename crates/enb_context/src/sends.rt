@@ -9,25 +9,21 @@ use lte_events::{ActorOut, Address, Answer, Record};
 use s1x2_rec::CoreRecord;
 
 // An answer to a record that held this key.
-pub(crate) fn heard(answer: Answer, key: [u8; 32]) -> ActorOut
-    ensures { result ≡ record (reply_of answer) { received = Some key } }
+pub(crate) fn heard(answer: Answer, key: [u8; 32], out: &mut ActorOut)
+    ensures { out.new ≡ record (reply_of answer) { received = Some key } }
 {
-    ActorOut {
-        received: Some(key),
-        ..ActorOut::of(answer)
-    }
+    out.only(answer);
+    out.received = Some(key);
 }
 
 // What sends a record on S1 or X2.
-pub(crate) fn sends(to: Address, message: &CoreRecord) -> ActorOut
+pub(crate) fn sends(to: Address, message: &CoreRecord, out: &mut ActorOut)
     requires { InRange (content_of message.now) }
-    ensures { result ≡ sending (Between to (content_of message.now).fields (content_of message.now).key) }
+    ensures { out.new ≡ sending (Between to (content_of message.now).fields (content_of message.now).key) }
 {
-    ActorOut {
-        sent: Some(Record {
-            to,
-            octets: message.write(),
-        }),
-        ..ActorOut::of(Answer::Done)
-    }
+    out.only(Answer::Done);
+    out.sent = Some(Record {
+        to,
+        octets: message.write(),
+    });
 }

@@ -1,5 +1,6 @@
 // What a context sends to the phone.
-ghost use Rattle.std.specs.Prelude.{◌≡◌, ◌≤◌, IfNone, IfSome, true, false, length};
+ghost use Rattle.std.specs.Prelude.{◌≡◌, ◌≤◌, true, false, length};
+ghost use Rattle.std.specs.Bool.{OnTrue, OnFalse};
 ghost use Rattle.rec_base.specs.declared.uses.Dir.TheVariants.{Down};
 ghost use Rattle.pdcp_guard.specs.Srb.{IsSrb};
 ghost use Rattle.pdcp_guard.specs.Drb.{IsDrb};
@@ -11,7 +12,7 @@ ghost use Rattle.enb_context.specs.Step.{sending};
 
 use crate::context::Context;
 use annex_a_keys::AlgType;
-use lte_events::{ActorOut, Address, Answer, Few, Record};
+use lte_events::{ActorOut, Address, Answer, Record};
 use rec_base::{Bearer, Dir, Use, UserText};
 
 impl Context {
@@ -22,77 +23,81 @@ impl Context {
         bearer: Bearer,
         cipher: bool,
         text: &[u8],
-    ) -> Option<ActorOut>
+        out: &mut ActorOut,
+    ) -> bool
         requires srb { IsSrb bearer }
         requires text { length text.now ≤ 201 }
-        ensures spent { IfNone result (is_spent (srb_counts (srb_of bearer) self.old.bearers) ≡ true) }
-        ensures same { IfNone result (self.new ≡ self.old) }
-        ensures left { IfSome result (λ out. is_spent (srb_counts (srb_of bearer) self.old.bearers) ≡ false) }
-        ensures new { IfSome result (λ out. self.new ≡ record self.old { bearers = srb_sent (srb_of bearer) self.old.bearers }) }
-        ensures value { IfSome result (λ out. out ≡ sending
+        ensures spent { OnFalse result (is_spent (srb_counts (srb_of bearer) self.old.bearers) ≡ true) }
+        ensures same { OnFalse result (self.new ≡ self.old) }
+        ensures left { OnTrue result (is_spent (srb_counts (srb_of bearer) self.old.bearers) ≡ false) }
+        ensures new { OnTrue result (self.new ≡ record self.old { bearers = srb_sent (srb_of bearer) self.old.bearers }) }
+        ensures value { OnTrue result (out.new ≡ sending
             (SealedRrc Down id self.old.air (srb_of bearer)
             (srb_use Down self.old.keys.rrc_int (srb_of bearer) (srb_counts (srb_of bearer) self.old.bearers).send)
             (ciphering_if cipher (srb_ciphering Down self.old.keys (srb_of bearer) (srb_counts (srb_of bearer) self.old.bearers).send))
             text.now)) }
     {
-        let sent = self
+        let sent = match self
             .bearers
             .send_srb(bearer, &self.keys, Dir::Down, cipher, text)
-            .ok()?;
+        {
+            Ok(sent) => sent,
+            Err(_) => return false,
+        };
         let protection = Use {
             key: self.keys.key(AlgType::RrcInt),
             count: sent.count,
             bearer: bearer.bearer5(),
             dir: Dir::Down,
         };
-        let mut used = Few::new();
+        out.only(Answer::Done);
+        out.sent = Some(Record {
+            to: Address::Phone(id, self.air, bearer),
+            octets: sent.pdu,
+        });
+        out.tuple = Some(protection);
         if cipher {
-            used.push(Use {
+            out.used.push(Use {
                 key: self.keys.key(AlgType::RrcEnc),
                 ..protection
             });
         }
-        used.push(protection);
-        Some(ActorOut {
-            sent: Some(Record {
-                to: Address::Phone(id, self.air, bearer),
-                octets: sent.pdu,
-            }),
-            tuple: Some(protection),
-            used,
-            ..ActorOut::of(Answer::Done)
-        })
+        out.used.push(protection);
+        true
     }
 
     // Sends a user packet on a DRB (TS 36.323 5.6), or nothing where no COUNT is left.
-    pub(crate) fn packet(&mut self, id: u8, bearer: Bearer, text: &UserText) -> Option<ActorOut>
+    pub(crate) fn packet(
+        &mut self,
+        id: u8,
+        bearer: Bearer,
+        text: &UserText,
+        out: &mut ActorOut,
+    ) -> bool
         requires { IsDrb bearer }
-        ensures spent { IfNone result (is_spent (drb_counts (drb_of bearer) self.old.bearers) ≡ true) }
-        ensures same { IfNone result (self.new ≡ self.old) }
-        ensures left { IfSome result (λ out. is_spent (drb_counts (drb_of bearer) self.old.bearers) ≡ false) }
-        ensures new { IfSome result (λ out. self.new ≡ record self.old { bearers = drb_sent (drb_of bearer) self.old.bearers }) }
-        ensures value { IfSome result (λ out. out ≡ sending
+        ensures spent { OnFalse result (is_spent (drb_counts (drb_of bearer) self.old.bearers) ≡ true) }
+        ensures same { OnFalse result (self.new ≡ self.old) }
+        ensures left { OnTrue result (is_spent (drb_counts (drb_of bearer) self.old.bearers) ≡ false) }
+        ensures new { OnTrue result (self.new ≡ record self.old { bearers = drb_sent (drb_of bearer) self.old.bearers }) }
+        ensures value { OnTrue result (out.new ≡ sending
             (packet_sent id self.old.air self.old.keys (drb_of bearer) (drb_counts (drb_of bearer) self.old.bearers).send text.now)) }
     {
-        let sent = self
-            .bearers
-            .send_drb(bearer, &self.keys, Dir::Down, text)
-            .ok()?;
+        let sent = match self.bearers.send_drb(bearer, &self.keys, Dir::Down, text) {
+            Ok(sent) => sent,
+            Err(_) => return false,
+        };
         let ciphering = Use {
             key: self.keys.key(AlgType::UpEnc),
             count: sent.count,
             bearer: bearer.bearer5(),
             dir: Dir::Down,
         };
-        let mut used = Few::new();
-        used.push(ciphering);
-        Some(ActorOut {
-            sent: Some(Record {
-                to: Address::Phone(id, self.air, bearer),
-                octets: sent.pdu,
-            }),
-            used,
-            ..ActorOut::of(Answer::Done)
-        })
+        out.only(Answer::Done);
+        out.sent = Some(Record {
+            to: Address::Phone(id, self.air, bearer),
+            octets: sent.pdu,
+        });
+        out.used.push(ciphering);
+        true
     }
 }

@@ -7,7 +7,7 @@ ghost use Rattle.lte_machine.specs.StationState.{first_station};
 use crate::context::Context;
 use alg_choice::Priority;
 use ho_prep::Preps;
-use lte_events::{ActorOut, Cells, StationIn};
+use lte_events::{ActorOut, Answer, Cells, StationIn};
 use std::marker::Model;
 
 /// A base station of LTE with what it keeps of the phone (TS 33.401 7.2.8, TS 36.331 5.3). A contract
@@ -76,19 +76,21 @@ impl Station {
         ensures step { (self.new, result) ≡ station_call self.old input.now }
         ensures refused { result.answer ≢ Done → self.new ≡ self.old }
     {
-        self.routed(input)
+        let mut out = ActorOut::of(Answer::Done);
+        self.reply(input, &mut out);
+        out
     }
 
-    // The step, by what comes.
-    fn routed(&mut self, input: &StationIn) -> ActorOut
+    /// The same step, whose reply is written in place of another.
+    pub fn reply(&mut self, input: &StationIn, out: &mut ActorOut)
         requires { IsInput input.now }
-        ensures { (self.new, result) ≡ station_call self.old input.now }
+        ensures { (self.new, out.new) ≡ station_call self.old input.now }
     {
         match input {
-            StationIn::Act(act) => self.act(act),
-            StationIn::Air(air, bearer, pdu) => self.air(*air, *bearer, pdu.as_slice()),
-            StationIn::S1(octets) => self.s1(octets.as_slice()),
-            StationIn::X2(octets) => self.x2(octets.as_slice()),
+            StationIn::Act(act) => self.act(act, out),
+            StationIn::Air(air, bearer, pdu) => self.air(*air, *bearer, pdu.as_slice(), out),
+            StationIn::S1(octets) => self.s1(octets.as_slice(), out),
+            StationIn::X2(octets) => self.x2(octets.as_slice(), out),
         }
     }
 

@@ -21,33 +21,33 @@ use s1x2_rec::CoreRecord;
 
 impl Station {
     // An act of its own.
-    pub(crate) fn act(&mut self, act: &StationAct) -> ActorOut
+    pub(crate) fn act(&mut self, act: &StationAct, out: &mut ActorOut)
         requires { IsAct act.now }
-        ensures { (self.new, result) ≡ answered self.old (StationActs act.now) }
+        ensures { (self.new, out.new) ≡ answered self.old (StationActs act.now) }
     {
         match act {
-            StationAct::Start(kind, cell) => self.start(*kind, cell),
-            StationAct::Command => self.command(),
-            StationAct::Cancel => self.cancel(),
-            StationAct::Ask => self.ask(),
-            StationAct::SendUser(bearer, text) => self.send_user(*bearer, text),
-            StationAct::SendRrc(bearer, text) => self.send_rrc(*bearer, text),
-            StationAct::Skip(bearer, n) => self.skip(*bearer, *n),
+            StationAct::Start(kind, cell) => self.start(*kind, cell, out),
+            StationAct::Command => self.command(out),
+            StationAct::Cancel => self.cancel(out),
+            StationAct::Ask => self.ask(out),
+            StationAct::SendUser(bearer, text) => self.send_user(*bearer, text, out),
+            StationAct::SendRrc(bearer, text) => self.send_rrc(*bearer, text, out),
+            StationAct::Skip(bearer, n) => self.skip(*bearer, *n, out),
         }
     }
 
     // A PDU at an air address.
-    pub(crate) fn air(&mut self, air: u32, bearer: Bearer, pdu: &[u8]) -> ActorOut
+    pub(crate) fn air(&mut self, air: u32, bearer: Bearer, pdu: &[u8], out: &mut ActorOut)
         requires { length pdu.now ≤ 1536 }
-        ensures { (self.new, result) ≡ answered self.old (AirPdu air bearer pdu.now) }
+        ensures { (self.new, out.new) ≡ answered self.old (AirPdu air bearer pdu.now) }
     {
         if !self.serves(air) {
-            return self.prep_air(air, bearer, pdu);
+            return self.prep_air(air, bearer, pdu, out);
         }
         let Some(context) = &mut self.context else {
-            return self.prep_air(air, bearer, pdu);
+            return self.prep_air(air, bearer, pdu, out);
         };
-        context.air(air, bearer, pdu)
+        context.air(air, bearer, pdu, out)
     }
 
     // Whether the context has this air address.
@@ -62,31 +62,31 @@ impl Station {
     }
 
     // A record on S1.
-    pub(crate) fn s1(&mut self, octets: &[u8]) -> ActorOut
-        ensures { (self.new, result) ≡ answered self.old (StationRecord OnS1 (read_core octets.now)) }
+    pub(crate) fn s1(&mut self, octets: &[u8], out: &mut ActorOut)
+        ensures { (self.new, out.new) ≡ answered self.old (StationRecord OnS1 (read_core octets.now)) }
     {
         let message = match CoreRecord::read(octets) {
             Ok(message) => message,
-            Err(fault) => return ActorOut::of(Answer::BadRecord(fault)),
+            Err(fault) => return out.only(Answer::BadRecord(fault)),
         };
-        self.s1_message(&message)
+        self.s1_message(&message, out)
     }
 
     // A record on X2.
-    pub(crate) fn x2(&mut self, octets: &[u8]) -> ActorOut
-        ensures { (self.new, result) ≡ answered self.old (StationRecord OnX2 (read_core octets.now)) }
+    pub(crate) fn x2(&mut self, octets: &[u8], out: &mut ActorOut)
+        ensures { (self.new, out.new) ≡ answered self.old (StationRecord OnX2 (read_core octets.now)) }
     {
         let message = match CoreRecord::read(octets) {
             Ok(message) => message,
-            Err(fault) => return ActorOut::of(Answer::BadRecord(fault)),
+            Err(fault) => return out.only(Answer::BadRecord(fault)),
         };
-        self.x2_message(&message)
+        self.x2_message(&message, out)
     }
 
     // By the kinds that a station takes on S1.
-    fn s1_message(&mut self, message: &CoreRecord) -> ActorOut
+    fn s1_message(&mut self, message: &CoreRecord, out: &mut ActorOut)
         requires { InRange (content_of message.now) }
-        ensures { (self.new, result) ≡ answered self.old (StationRecord OnS1 (Ok (content_of message.now))) }
+        ensures { (self.new, out.new) ≡ answered self.old (StationRecord OnS1 (Ok (content_of message.now))) }
     {
         match *message {
             CoreRecord::InitialContext {
@@ -94,14 +94,14 @@ impl Station {
                 cell,
                 caps,
                 kenb,
-            } => self.initial_context(conn, cell, caps, kenb),
-            CoreRecord::ContextRelease { conn } => self.context_release(conn),
+            } => self.initial_context(conn, cell, caps, kenb, out),
+            CoreRecord::ContextRelease { conn } => self.context_release(conn, out),
             CoreRecord::PathSwitchAnswer {
                 conn,
                 number,
                 ncc,
                 nh,
-            } => self.path_switch_answer(conn, number, NhPair::new(nh, ncc)),
+            } => self.path_switch_answer(conn, number, NhPair::new(nh, ncc), out),
             CoreRecord::HandoverRequest {
                 conn,
                 source,
@@ -110,7 +110,15 @@ impl Station {
                 caps,
                 ncc,
                 nh,
-            } => self.handover_request(conn, source, attempt, cell, caps, NhPair::new(nh, ncc)),
+            } => self.handover_request(
+                conn,
+                source,
+                attempt,
+                cell,
+                caps,
+                NhPair::new(nh, ncc),
+                out,
+            ),
             CoreRecord::HandoverCommand {
                 conn,
                 attempt,
@@ -118,31 +126,35 @@ impl Station {
                 ncc,
                 algs,
                 air,
-            } => self.handover_command(conn, attempt, cell, ncc, algs, air),
+            } => self.handover_command(conn, attempt, cell, ncc, algs, air, out),
             CoreRecord::HandoverCancel {
                 conn,
                 source,
                 attempt,
                 cell,
-            } => self.handover_cancel(conn, source, attempt, cell),
+            } => self.handover_cancel(conn, source, attempt, cell, out),
             CoreRecord::ContextModification { conn, next, kenb } => {
-                self.context_modification(conn, next, kenb)
+                self.context_modification(conn, next, kenb, out)
             }
-            CoreRecord::PathSwitchRequest { .. } => wrong(0x22),
-            CoreRecord::HandoverRequired { .. } => wrong(0x24),
-            CoreRecord::HandoverRequestAck { .. } => wrong(0x26),
-            CoreRecord::HandoverNotify { .. } => wrong(0x28),
-            CoreRecord::X2Request { star, .. } => heard(Answer::WrongKind(0x30), star.octets()),
-            CoreRecord::X2Ack { .. } => wrong(0x31),
-            CoreRecord::X2Cancel { .. } => wrong(0x32),
-            CoreRecord::X2Release { .. } => wrong(0x33),
+            CoreRecord::PathSwitchRequest { .. } => wrong(0x22, out),
+            CoreRecord::HandoverRequired { .. } => wrong(0x24, out),
+            CoreRecord::HandoverRequestAck { .. } => wrong(0x26, out),
+            CoreRecord::HandoverNotify { .. } => wrong(0x28, out),
+            CoreRecord::X2Request { star, .. } => heard(
+                Answer::WrongKind(0x30),
+                star.octets(),
+                out,
+            ),
+            CoreRecord::X2Ack { .. } => wrong(0x31, out),
+            CoreRecord::X2Cancel { .. } => wrong(0x32, out),
+            CoreRecord::X2Release { .. } => wrong(0x33, out),
         }
     }
 
     // By the kinds that a station takes on X2.
-    fn x2_message(&mut self, message: &CoreRecord) -> ActorOut
+    fn x2_message(&mut self, message: &CoreRecord, out: &mut ActorOut)
         requires { InRange (content_of message.now) }
-        ensures { (self.new, result) ≡ answered self.old (StationRecord OnX2 (Ok (content_of message.now))) }
+        ensures { (self.new, out.new) ≡ answered self.old (StationRecord OnX2 (Ok (content_of message.now))) }
     {
         match *message {
             CoreRecord::X2Request {
@@ -153,42 +165,50 @@ impl Station {
                 caps,
                 ncc,
                 star,
-            } => self.x2_request(conn, source, attempt, cell, caps, star, ncc),
+            } => self.x2_request(conn, source, attempt, cell, caps, star, ncc, out),
             CoreRecord::X2Ack {
                 conn,
                 attempt,
                 cell,
                 algs,
                 air,
-            } => self.x2_ack(conn, attempt, cell, algs, air),
+            } => self.x2_ack(conn, attempt, cell, algs, air, out),
             CoreRecord::X2Cancel {
                 conn,
                 source,
                 attempt,
-            } => self.x2_cancel(conn, source, attempt),
-            CoreRecord::X2Release { conn, attempt } => self.x2_release(conn, attempt),
+            } => self.x2_cancel(conn, source, attempt, out),
+            CoreRecord::X2Release { conn, attempt } => self.x2_release(conn, attempt, out),
             CoreRecord::InitialContext { kenb, .. } => {
-                heard(Answer::WrongKind(0x20), kenb.octets())
+                heard(Answer::WrongKind(0x20), kenb.octets(), out)
             }
-            CoreRecord::ContextRelease { .. } => wrong(0x21),
-            CoreRecord::PathSwitchRequest { .. } => wrong(0x22),
-            CoreRecord::PathSwitchAnswer { nh, .. } => heard(Answer::WrongKind(0x23), nh.octets()),
-            CoreRecord::HandoverRequired { .. } => wrong(0x24),
-            CoreRecord::HandoverRequest { nh, .. } => heard(Answer::WrongKind(0x25), nh.octets()),
-            CoreRecord::HandoverRequestAck { .. } => wrong(0x26),
-            CoreRecord::HandoverCommand { .. } => wrong(0x27),
-            CoreRecord::HandoverNotify { .. } => wrong(0x28),
-            CoreRecord::HandoverCancel { .. } => wrong(0x29),
+            CoreRecord::ContextRelease { .. } => wrong(0x21, out),
+            CoreRecord::PathSwitchRequest { .. } => wrong(0x22, out),
+            CoreRecord::PathSwitchAnswer { nh, .. } => heard(
+                Answer::WrongKind(0x23),
+                nh.octets(),
+                out,
+            ),
+            CoreRecord::HandoverRequired { .. } => wrong(0x24, out),
+            CoreRecord::HandoverRequest { nh, .. } => heard(
+                Answer::WrongKind(0x25),
+                nh.octets(),
+                out,
+            ),
+            CoreRecord::HandoverRequestAck { .. } => wrong(0x26, out),
+            CoreRecord::HandoverCommand { .. } => wrong(0x27, out),
+            CoreRecord::HandoverNotify { .. } => wrong(0x28, out),
+            CoreRecord::HandoverCancel { .. } => wrong(0x29, out),
             CoreRecord::ContextModification { kenb, .. } => {
-                heard(Answer::WrongKind(0x34), kenb.octets())
+                heard(Answer::WrongKind(0x34), kenb.octets(), out)
             }
         }
     }
 }
 
 // A kind that is not taken there.
-fn wrong(kind: u8) -> ActorOut
-    ensures { result ≡ reply_of (WrongKind kind) }
+fn wrong(kind: u8, out: &mut ActorOut)
+    ensures { out.new ≡ reply_of (WrongKind kind) }
 {
-    ActorOut::of(Answer::WrongKind(kind))
+    out.only(Answer::WrongKind(kind))
 }

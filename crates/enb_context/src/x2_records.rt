@@ -13,7 +13,7 @@ use crate::sends::{heard, sends};
 use alg_choice::{Algs, Caps};
 use annex_a_keys::{Cell, Star};
 use ho_prep::{By, Prep};
-use lte_events::{ActorOut, Address, Answer, Few, KeyNote};
+use lte_events::{ActorOut, Address, Answer, KeyNote};
 use nh_chain::StationKey;
 use pdcp_guard::AsKeys;
 use rec_base::Way;
@@ -30,21 +30,20 @@ impl Station {
         caps: Caps,
         star: Star,
         ncc: u8,
-    ) -> ActorOut
+        out: &mut ActorOut,
+    )
         requires conn { 1 ≤ conn }
         requires source { source ≤ 7 }
         requires attempt { 1 ≤ attempt }
         requires ncc { ncc ≤ 7 }
-        ensures { (self.new, result) ≡ on_x2 self.old (Requested conn source attempt cell caps) (Some (record { key = star; number = ncc })) }
+        ensures { (self.new, out.new) ≡ on_x2 self.old (Requested conn source attempt cell caps) (Some (record { key = star; number = ncc })) }
     {
         let key = star.octets();
         let (algs, air) = match self.admit(conn, source, attempt, &cell, &caps) {
             Ok(taken) => taken,
-            Err(answer) => return heard(answer, key),
+            Err(answer) => return heard(answer, key, out),
         };
         let (keys, made) = AsKeys::derive(&star.install(), algs);
-        let mut derived = Few::new();
-        derived.append(made.as_slice());
         let answer = CoreRecord::X2Ack {
             conn,
             attempt,
@@ -64,16 +63,14 @@ impl Station {
             keys,
             caps,
         });
-        ActorOut {
-            received: Some(key),
-            derived,
-            note: Some(KeyNote {
-                ncc,
-                way: Way::Given,
-                key,
-            }),
-            ..sends(Address::StationX2(source), &answer)
-        }
+        sends(Address::StationX2(source), &answer, out);
+        out.received = Some(key);
+        out.derived.append(made.as_slice());
+        out.note = Some(KeyNote {
+            ncc,
+            way: Way::Given,
+            key,
+        });
     }
 
     // Handover Request Acknowledge (TS 36.423 8.2.1).
@@ -84,38 +81,39 @@ impl Station {
         cell: Cell,
         algs: Algs,
         air: u32,
-    ) -> ActorOut
+        out: &mut ActorOut,
+    )
         requires { 1 ≤ air }
-        ensures { (self.new, result) ≡ on_x2 self.old (Acked conn attempt cell algs air) None }
+        ensures { (self.new, out.new) ≡ on_x2 self.old (Acked conn attempt cell algs air) None }
     {
         let Some(context) = &mut self.context else {
-            return ActorOut::of(Answer::NoUe);
+            return out.only(Answer::NoUe);
         };
-        context.x2_ack(conn, attempt, cell, algs, air)
+        context.x2_ack(conn, attempt, cell, algs, air, out)
     }
 
     // Handover Cancel (TS 36.423 8.2.4).
     #[tactic(auto, using(crate::proofs::PrepFacts::has_attempt_map_preps, crate::proofs::PrepFacts::none_without))]
-    pub(crate) fn x2_cancel(&mut self, conn: u32, source: u8, attempt: u32) -> ActorOut
-        ensures { (self.new, result) ≡ on_x2 self.old (Cancelled conn source attempt) None }
+    pub(crate) fn x2_cancel(&mut self, conn: u32, source: u8, attempt: u32, out: &mut ActorOut)
+        ensures { (self.new, out.new) ≡ on_x2 self.old (Cancelled conn source attempt) None }
     {
         if !self.remove_prep(source, attempt) {
-            return ActorOut::of(Answer::NoAttempt);
+            return out.only(Answer::NoAttempt);
         }
-        ActorOut::of(Answer::Done)
+        out.only(Answer::Done)
     }
 
     // UE Context Release (TS 36.423 8.2.3), which is taken only after the command was sent.
-    pub(crate) fn x2_release(&mut self, conn: u32, attempt: u32) -> ActorOut
-        ensures { (self.new, result) ≡ on_x2 self.old (Released conn attempt) None }
+    pub(crate) fn x2_release(&mut self, conn: u32, attempt: u32, out: &mut ActorOut)
+        ensures { (self.new, out.new) ≡ on_x2 self.old (Released conn attempt) None }
     {
         let Some(context) = &self.context else {
-            return ActorOut::of(Answer::NoUe);
+            return out.only(Answer::NoUe);
         };
         match &context.attempt {
             Some(Attempt::OverX2(X2State::Commanded(commanded))) => {
                 if commanded.number() != attempt {
-                    return ActorOut::of(Answer::NoAttempt);
+                    return out.only(Answer::NoAttempt);
                 }
             }
             None
@@ -124,43 +122,51 @@ impl Station {
             | Some(Attempt::OverS1(_))
             | Some(Attempt::Within(_))
             | Some(Attempt::Renewing(_)) => {
-                return ActorOut::of(Answer::NoAttempt);
+                return out.only(Answer::NoAttempt);
             }
         }
         self.context = None;
-        ActorOut::of(Answer::Done)
+        out.only(Answer::Done)
     }
 }
 
 impl Context {
     // The attempt over X2 that is open becomes ready.
-    fn x2_ack(&mut self, conn: u32, attempt: u32, cell: Cell, algs: Algs, air: u32) -> ActorOut
+    fn x2_ack(
+        &mut self,
+        conn: u32,
+        attempt: u32,
+        cell: Cell,
+        algs: Algs,
+        air: u32,
+        out: &mut ActorOut,
+    )
         requires { 1 ≤ air }
         ensures step { (s : State (List ℕ) ℕ) →
-            (serving s self.new, result) ≡ on_x2 (serving s self.old) (Acked conn attempt cell algs air) None }
+            (serving s self.new, out.new) ≡ on_x2 (serving s self.old) (Acked conn attempt cell algs air) None }
         ensures conn { self.new.conn ≡ self.old.conn }
     {
         match &self.attempt {
             Some(Attempt::OverX2(X2State::Open(open))) => {
                 if open.number() != attempt {
-                    return ActorOut::of(Answer::NoAttempt);
+                    return out.only(Answer::NoAttempt);
                 }
             }
             Some(Attempt::OverX2(X2State::Ready(ready))) => {
-                return acked_before(ready.number(), attempt);
+                return acked_before(ready.number(), attempt, out);
             }
             Some(Attempt::OverX2(X2State::Commanded(commanded))) => {
-                return acked_before(commanded.number(), attempt);
+                return acked_before(commanded.number(), attempt, out);
             }
             None
             | Some(Attempt::OverS1(_))
             | Some(Attempt::Within(_))
             | Some(Attempt::Renewing(_)) => {
-                return ActorOut::of(Answer::NoAttempt);
+                return out.only(Answer::NoAttempt);
             }
         }
         self.ack_x2(algs, air);
-        ActorOut::of(Answer::Done)
+        out.only(Answer::Done)
     }
 
     // An open attempt over X2 is ready now.

@@ -68,6 +68,15 @@ impl<T: Drop, const N: usize> Few<T, N> {
         let _ = self.items.try_extend_from_slice(items);
     }
 
+    /// Drops all items.
+    pub fn clear(&mut self)
+    where
+        T: Default,
+        ensures { self.new ≡ [] }
+    {
+        self.items.clear();
+    }
+
     /// The items, in order.
     pub fn as_slice(&self) -> &[T]
         ensures value { result.now ≡ self.now }

@@ -69,4 +69,24 @@ impl ActorOut {
             alarm: false,
         }
     }
+
+    /// Becomes the reply with this answer and nothing else. Only what was set is written.
+    pub fn only(&mut self, answer: Answer)
+        ensures { self.new ≡ reply_of answer }
+    {
+        self.answer = answer;
+        if self.sent.is_some() {
+            self.sent = None;
+        }
+        self.tuple = None;
+        if self.opened.is_some() {
+            self.opened = None;
+        }
+        self.derived.clear();
+        self.received = None;
+        self.used.clear();
+        self.accepted = None;
+        self.note = None;
+        self.alarm = false;
+    }
 }

@@ -1,6 +1,7 @@
 -- What is kept of the replies of an event is what its actors replied.
-use Rattle.std.proofs.Common.{◌≡◌, sym, ap, ◌∙◌, subst, ℕ, ◌==◌, List, [], ◌∷◌, ◌++◌, map, option_map, Option, Some, None, Result, Ok, Err}
-use Rattle.std.specs.Prelude.{ℤ, OnOk, position}
+use Rattle.std.proofs.Common.{◌≡◌, sym, ap, ◌∙◌, subst, ℕ, ◌==◌, ◌+◌, ◌<◌, ◌≤◌, List, [], ◌∷◌, ◌++◌, length, take, slice_set, map, option_map, Option, Some, None, Result, Ok, Err, arith}
+use Rattle.std.proofs.lemmas.List.{length-take-le, take_more_set}
+use Rattle.std.specs.Prelude.{ℤ, OnOk, position, slice_get}
 use Rattle.std.specs.Str.{bytes_eq}
 use Rattle.alg_choice.specs.declared.caps.Caps.{Caps}
 use Rattle.lte_events.specs.declared.acts.PhoneAct.{PhoneAct}
@@ -29,11 +30,25 @@ use Rattle.run_stores.specs.Records.{view_of}
 use Rattle.lte_world.specs.declared.network.Enrolled.{Enrolled}
 use Rattle.lte_world.specs.Enrolling.{with_root, EnrolledBy, EnrolledAs}
 use Rattle.lte_world.specs.Networks.{Stores, Fits}
-use Rattle.lte_world.specs.Replies.{station_replies, replies_by, input_at, replies_in, auth_replies, delivered_replies, injected_replies, replies_of, Tells}
+use Rattle.lte_world.specs.Replies.{ToldAt, station_replies, replies_by, input_at, replies_in, auth_replies, delivered_replies, injected_replies, replies_of, Tells}
 use Rattle.lte_world.specs.Systems.{Actors, Are, StepsAt}
 use Rattle.lte_world.proofs.Authenticating.{not_new_repeated, not_new_chance, not_repeated_chance}
 use Rattle.lte_world.proofs.Getting.{station_at, station_nowhere}
 use Rattle.lte_world.proofs.Refusing.{chosen_in, no_view, found_in}
+use Rattle.lte_world.proofs.Stations.{same_some}
+
+-- a cell that is written behind those that count
+pub put_last : {X : Type 0} (cells : List X) (count : ℕ) (x : X) → length cells ≡ 2 → count ≤ 2 → length (take count cells) < 2 → take (count + 1) (slice_set cells count x) ≡ take count cells ++ x ∷ []
+put_last cells count x two most room =
+    let there : length (take count cells) ≡ count = length-take-le count cells (omega (arith, two, most)) in
+    take_more_set cells count x (omega (arith, two, room, there))
+
+-- what is told first is all that is told
+pub only_told : (told before : List (ActorIn × ActorOut)) (x : ActorIn × ActorOut) → before ≡ [] → told ≡ before ++ x ∷ [] → told ≡ x ∷ []
+only_told told before x none is = is ∙ ap (λ xs. xs ++ x ∷ []) none
+
+pub first_is : (told : List (ActorIn × ActorOut)) (x : ActorIn × ActorOut) (out : ActorOut) → told ≡ x ∷ [] → option_map (λ r. r.1) (slice_get told 0) ≡ Some out → out ≡ x.1
+first_is told x out is at = sym (same_some (ap (λ xs. option_map (λ r. r.1) (slice_get xs 0)) (sym is) ∙ at))
 
 -- A TURN OF A STATION
 
@@ -46,6 +61,11 @@ module _ (a now : Actors) (view : a ≡ now) (ids : List ℕ) (are : map (λ s. 
   told_there k e after out steps is =
       is ∙ ap (λ o. (ActorIn.Station id i, o) ∷ []) (ap (λ d. d.1) steps.called)
       ∙ ap (station_replies id i) (sym (station_at ids a.stations are id k e ∙ steps.stands)) ∙ ap (λ v. station_replies id i (station_of_id id v.stations)) view
+
+-- the first reply is that of the step
+pub first_steps : {before after : List (Station (List ℕ) ℕ)} {place id : ℕ} {i : StationIn} (told : List (ActorIn × ActorOut)) (out : ActorOut) → (t : ToldAt before after place id i told)
+    → option_map (λ r. r.1) (slice_get told 0) ≡ Some out → StepsAt before after place i out
+first_steps {before} {after} {place} {id} {i} told out t first = subst (StepsAt before after place i) (sym (first_is told _ out t.is first)) t.steps
 
 -- EVENTS
 
@@ -127,11 +147,10 @@ module _ (a now : Actors) (view : a ≡ now) (told : List (ActorIn × ActorOut))
 
 -- phone and core reply one after the other
 pub two_told : (phone : Phone (List ℕ) ℕ) (core : Core (List ℕ) ℕ) (ksi : ℕ) (root made : List ℕ) → made ≡ root → (caps : Caps)
-    → (phone_then : Phone (List ℕ) ℕ) (out : ActorOut) → (phone_then, out) ≡ phone_call phone (PhoneIn.Auth ksi made)
-    → (core_then : Core (List ℕ) ℕ) (reply : ActorOut) → (core_then, reply) ≡ core_call core (CoreIn.Auth ksi made caps)
-    → (first second third : List (ActorIn × ActorOut)) → first ≡ [] → second ≡ first ++ (ActorIn.Phone (PhoneIn.Auth ksi made), out) ∷ [] → third ≡ second ++ (ActorIn.Core (CoreIn.Auth ksi made caps), reply) ∷ []
+    → (first second third : List (ActorIn × ActorOut)) → first ≡ []
+    → second ≡ first ++ (ActorIn.Phone (PhoneIn.Auth ksi made), (phone_call phone (PhoneIn.Auth ksi made)).1) ∷ []
+    → third ≡ second ++ (ActorIn.Core (CoreIn.Auth ksi made caps), (core_call core (CoreIn.Auth ksi made caps)).1) ∷ []
     → third ≡ (ActorIn.Phone (PhoneIn.Auth ksi root), (phone_call phone (PhoneIn.Auth ksi root)).1) ∷ (ActorIn.Core (CoreIn.Auth ksi root caps), (core_call core (CoreIn.Auth ksi root caps)).1) ∷ []
-two_told phone core ksi root made same caps phone_then out called core_then reply called_core first second third none one two =
-    two ∙ ap (λ xs. xs ++ (ActorIn.Core (CoreIn.Auth ksi made caps), reply) ∷ []) (one ∙ ap (λ xs. xs ++ (ActorIn.Phone (PhoneIn.Auth ksi made), out) ∷ []) none)
-    ∙ (λ j. (ActorIn.Phone (PhoneIn.Auth ksi made), (called j).1) ∷ (ActorIn.Core (CoreIn.Auth ksi made caps), (called_core j).1) ∷ [])
+two_told phone core ksi root made same caps first second third none one two =
+    two ∙ ap (λ xs. xs ++ (ActorIn.Core (CoreIn.Auth ksi made caps), (core_call core (CoreIn.Auth ksi made caps)).1) ∷ []) (only_told second first _ none one)
     ∙ (λ j. (ActorIn.Phone (PhoneIn.Auth ksi (same j)), (phone_call phone (PhoneIn.Auth ksi (same j))).1) ∷ (ActorIn.Core (CoreIn.Auth ksi (same j) caps), (core_call core (CoreIn.Auth ksi (same j) caps)).1) ∷ [])

@@ -20,7 +20,7 @@ use Rattle.lte_machine.specs.PhoneState.{Phone}
 use Rattle.lte_machine.specs.Run.{Running}
 use Rattle.lte_machine.specs.StationState.{Station}
 use Rattle.lte_machine.specs.World.{World, station_of_id, known_root, record_at, is_sent, class_of}
-use Rattle.lte_world.specs.Systems.{octets, Actors, Are}
+use Rattle.lte_world.specs.Systems.{octets, Actors, Are, StepsAt}
 
 -- the reply of a station, if it stands
 abbrev pub station_replies : ℕ → StationIn → Option (Station (List ℕ) ℕ) → List (ActorIn × ActorOut)
@@ -32,6 +32,12 @@ abbrev pub replies_by : Phone (List ℕ) ℕ → Core (List ℕ) ℕ → List (S
 replies_by phone core stations (ActorIn.Phone i) = (ActorIn.Phone i, (phone_call phone i).1) ∷ []
 replies_by phone core stations (ActorIn.Station id i) = station_replies id i (station_of_id id stations)
 replies_by phone core stations (ActorIn.Core i) = (ActorIn.Core i, (core_call core i).1) ∷ []
+
+-- of these stations the one at a place takes this input, and its reply is all that is told
+pub record ToldAt (before after : List (Station (List ℕ) ℕ)) (place id : ℕ) (i : StationIn) (told : List (ActorIn × ActorOut)) : Type 0 where
+  pub out : ActorOut
+  pub steps : StepsAt before after place i out
+  pub is : told ≡ (ActorIn.Station id i, out) ∷ []
 
 -- octets that come to an address, as an input of the actor there
 abbrev pub input_at : Address → List ℕ → ActorIn

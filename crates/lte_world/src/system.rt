@@ -9,7 +9,7 @@ ghost use Rattle.mme_context.specs.Step.{IsInput as IsCoreInput};
 ghost use Rattle.lte_machine.specs.Calls.{line_of_reply};
 ghost use Rattle.lte_machine.specs.Ranges.{TakesInjected};
 ghost use Rattle.lte_world.specs.Networks.{Grows, HasPlace};
-ghost use Rattle.lte_world.specs.Systems.{ArrivalCan, Arrives, EventCan, Happens, HasRoom, MayHappen, PhoneTurns, PhoneCan, CoreTurns, CoreCan, StationTurns, StationCan, StepsAt, with_room};
+ghost use Rattle.lte_world.specs.Systems.{ArrivalCan, Arrives, EventCan, Happens, HasRoom, MayHappen, PhoneTurns, PhoneCan, CoreTurns, CoreCan, StationTurns, StationCan, with_room};
 ghost use Rattle.lte_events.specs.declared.inputs.ActorIn.{ActorIn};
 ghost use Rattle.lte_world.specs.Replies.{input_at, replies_by, Tells};
 
@@ -21,7 +21,7 @@ use annex_a_keys::Kasme;
 use enb_context::Station;
 use key_terms::{Holder, Proof};
 use lte_events::{
-    ActorIn, ActorOut, Address, Answer, CoreAct, CoreIn, Event, Line, PhoneAct, PhoneIn, StationAct,
+    ActorOut, Address, Answer, CoreAct, CoreIn, Event, Line, PhoneAct, PhoneIn, StationAct,
     StationIn, Who,
 };
 use mme_context::Core;
@@ -75,12 +75,9 @@ impl System {
         ensures grows { Grows self.old.stores self.new.stores }
         ensures told { told.new ≡ replies_by self.old.phone self.old.core self.old.stations (ActorIn.Phone input) }
     {
-        let out = self.phone.step(&input);
-        let line = self
-            .network
-            .settle(&out, sender, Holder::Phone, Who::Phone, step);
-        told.push(ActorIn::Phone(input), out);
-        line
+        told.phone(&mut self.phone, input);
+        self.network
+            .settle(told.first(), sender, Holder::Phone, Who::Phone, step)
     }
 
     // A step of the core.
@@ -99,12 +96,9 @@ impl System {
         ensures grows { Grows self.old.stores self.new.stores }
         ensures told { told.new ≡ replies_by self.old.phone self.old.core self.old.stations (ActorIn.Core input) }
     {
-        let out = self.core.step(&input);
-        let line = self
-            .network
-            .settle(&out, sender, Holder::Core, Who::Core, step);
-        told.push(ActorIn::Core(input), out);
-        line
+        told.core(&mut self.core, input);
+        self.network
+            .settle(told.first(), sender, Holder::Core, Who::Core, step)
     }
 
     // One event.
@@ -150,12 +144,8 @@ impl System {
             Enrolled::Chance(proof) => return Err(proof),
         }
         let root = Kasme::of_octets(root);
-        let input = PhoneIn::Auth(ksi, root);
-        let out = self.phone.step(&input);
-        told.push(ActorIn::Phone(input), out);
-        let input = CoreIn::Auth(ksi, root, caps);
-        let out = self.core.step(&input);
-        told.push(ActorIn::Core(input), out);
+        told.phone(&mut self.phone, PhoneIn::Auth(ksi, root));
+        told.core(&mut self.core, CoreIn::Auth(ksi, root, caps));
         Ok(line(&ActorOut::of(Answer::Done), None, Who::Both, step))
     }
 
@@ -218,7 +208,7 @@ impl System {
         let Some(sent) = self.network.record_at(i) else {
             return Ok(refused(Answer::NoRecord, step));
         };
-        self.arrive(&sent.to, &sent.octets, sent.tuple, step, told)
+        self.arrive(sent.to, sent.octets, sent.tuple, step, told)
     }
 
     // Octets come that nobody sent, unless somebody did.
@@ -240,27 +230,26 @@ impl System {
         if let Some(number) = self.network.found(class_of(to), octets.as_slice()) {
             return Ok(refused(Answer::Sent(number), step));
         }
-        self.arrive(to, octets, None, step, told)
+        self.arrive(*to, copied(octets), None, step, told)
     }
 
     // Octets come to an address.
     fn arrive(
         &mut self,
-        to: &Address,
-        octets: &Octets,
+        to: Address,
+        octets: Octets,
         sender: Option<Use>,
         step: u32,
         told: &mut Replies,
     ) -> Result<Line, Proof>
         requires room { HasRoom self.old.stores }
-        requires can { ArrivalCan self.old to.now octets.now }
+        requires can { ArrivalCan self.old to octets }
         requires none { told.old ≡ [] }
-        ensures arrives { Arrives self.old self.new to.now octets.now sender step result }
+        ensures arrives { Arrives self.old self.new to octets sender step result }
         ensures grows { Grows self.old.stores self.new.stores }
-        ensures told { told.new ≡ replies_by self.old.phone self.old.core self.old.stations (input_at to.now octets.now) }
+        ensures told { told.new ≡ replies_by self.old.phone self.old.core self.old.stations (input_at to octets) }
     {
-        let octets = copied(octets);
-        match *to {
+        match to {
             Address::PhoneNas => self.phone_turn(PhoneIn::Nas(octets), sender, step, told),
             Address::Phone(id, air, bearer) => self.phone_turn(
                 PhoneIn::Air(id, air, bearer, octets),
@@ -314,12 +303,14 @@ impl System {
         let Some(place) = place_of(self.ids.as_slice(), id) else {
             return Ok(refused(Answer::NoUe, step));
         };
-        let out = step_at(&mut self.stations, place, &input);
-        let line = self
-            .network
-            .settle(&out, sender, Holder::Station(id), Who::Station(id), step);
-        told.push(ActorIn::Station(id, input), out);
-        line
+        told.station(&mut self.stations, place, id, input);
+        self.network.settle(
+            told.first(),
+            sender,
+            Holder::Station(id),
+            Who::Station(id),
+            step,
+        )
     }
 
     // Makes room for what one event gives out. Where memory runs out nothing changes but the room, and there was not this room.
@@ -333,15 +324,6 @@ impl System {
     {
         self.network.reserve()
     }
-}
-
-// A step of the station at a place.
-fn step_at(stations: &mut Vec<Station>, place: usize, input: &StationIn) -> ActorOut
-    requires place { place < length stations.old.items }
-    requires input { IsStationInput input.now }
-    ensures { StepsAt stations.old.items stations.new.items place input.now result }
-{
-    stations[place].step(input)
 }
 
 // The place of the first station with this number.

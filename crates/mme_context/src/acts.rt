@@ -20,35 +20,35 @@ use s1x2_rec::CoreRecord;
 
 impl Core {
     // An act of its own.
-    pub(crate) fn act(&mut self, act: &CoreAct) -> ActorOut
-        ensures { (self.new, result) ≡ answered self.old (CoreActs act.now) }
+    pub(crate) fn act(&mut self, act: &CoreAct, out: &mut ActorOut)
+        ensures { (self.new, out.new) ≡ answered self.old (CoreActs act.now) }
     {
         match act {
-            CoreAct::StartSmc => self.start_smc(),
-            CoreAct::Connect(cell) => self.connect(cell),
-            CoreAct::Release => self.release(),
-            CoreAct::SendNas(text) => self.send_nas(text),
-            CoreAct::Skip(n) => self.skip(*n),
+            CoreAct::StartSmc => self.start_smc(out),
+            CoreAct::Connect(cell) => self.connect(cell, out),
+            CoreAct::Release => self.release(out),
+            CoreAct::SendNas(text) => self.send_nas(text, out),
+            CoreAct::Skip(n) => self.skip(*n, out),
         }
     }
 
     // A connection with KeNB of the latest trigger (TS 33.401 7.2.6.2 and A.3, TS 36.413 8.3.1), in place of
     // one that stands.
-    fn connect(&mut self, cell: &Cell) -> ActorOut
-        ensures { (self.new, result) ≡ answered self.old (CoreActs (Connect cell.now)) }
+    fn connect(&mut self, cell: &Cell, out: &mut ActorOut)
+        ensures { (self.new, out.new) ≡ answered self.old (CoreActs (Connect cell.now)) }
     {
         let Some(station) = self.cells.station_of(cell) else {
-            return ActorOut::of(Answer::UnknownCell);
+            return out.only(Answer::UnknownCell);
         };
         let Some(root) = self.nas.root() else {
-            return ActorOut::of(Answer::NoContext);
+            return out.only(Answer::NoContext);
         };
         let caps = self.caps_in_use();
         let Some(count) = self.trigger else {
-            return ActorOut::of(Answer::NoTrigger);
+            return out.only(Answer::NoTrigger);
         };
         let Some(conn) = self.number() else {
-            return ActorOut::of(Answer::NumberSpent);
+            return out.only(Answer::NumberSpent);
         };
         let (chain, kenb, made) = CoreChain::begin(&root, count);
         self.trigger = None;
@@ -58,19 +58,19 @@ impl Core {
             chain,
             station,
         });
-        begins(station, conn, *cell, caps, &kenb, made)
+        begins(station, conn, *cell, caps, &kenb, made, out)
     }
 
     // UE Context Release Command (TS 36.413 8.3.3).
-    fn release(&mut self) -> ActorOut
-        ensures { (self.new, result) ≡ answered self.old (CoreActs Release) }
+    fn release(&mut self, out: &mut ActorOut)
+        ensures { (self.new, out.new) ≡ answered self.old (CoreActs Release) }
     {
         let Some(link) = &self.link else {
-            return ActorOut::of(Answer::NoUe);
+            return out.only(Answer::NoUe);
         };
         let (conn, station) = (link.conn, link.station);
         self.link = None;
-        sends(station, &CoreRecord::ContextRelease { conn })
+        sends(station, &CoreRecord::ContextRelease { conn }, out)
     }
 
     // The next connection number, where one is left.
@@ -88,9 +88,17 @@ impl Core {
 }
 
 // Initial Context Setup Request (TS 36.413 8.3.1), whose KeNB has NCC 0.
-fn begins(station: u8, conn: u32, cell: Cell, caps: Caps, kenb: &Kenb, made: Derived) -> ActorOut
+fn begins(
+    station: u8,
+    conn: u32,
+    cell: Cell,
+    caps: Caps,
+    kenb: &Kenb,
+    made: Derived,
+    out: &mut ActorOut,
+)
     requires { 1 ≤ conn }
-    ensures { result ≡ record (sending (to_station station (InitialContext conn cell caps) (Some (record { key = kenb.now; number = 0 }))))
+    ensures { out.new ≡ record (sending (to_station station (InitialContext conn cell caps) (Some (record { key = kenb.now; number = 0 }))))
         { derived = made ∷ []; note = Some (record { ncc = 0; way = Initial; key = kenb.now }) } }
 {
     let message = CoreRecord::InitialContext {
@@ -104,5 +112,5 @@ fn begins(station: u8, conn: u32, cell: Cell, caps: Caps, kenb: &Kenb, made: Der
         way: Way::Initial,
         key: kenb.octets(),
     };
-    sends_key(station, &message, made, note)
+    sends_key(station, &message, made, note, out)
 }

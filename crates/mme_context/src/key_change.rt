@@ -4,9 +4,9 @@ ghost use Rattle.nas_smc.specs.CoreNas.{changed, completes};
 
 use crate::Core;
 use crate::link::Link;
-use crate::sends::{sends_key, told};
+use crate::sends::told;
 use annex_a_keys::Kasme;
-use lte_events::{ActorOut, KeyNote};
+use lte_events::{ActorOut, Address, KeyNote, Record};
 use nas_smc::NasOut;
 use nh_chain::CoreChain;
 use rec_base::Way;
@@ -14,38 +14,39 @@ use s1x2_rec::CoreRecord;
 
 impl Core {
     // A new context is in use: a connection changes its key at once, where a number is left for it.
-    pub(crate) fn complete(&mut self, out: NasOut, count: u32) -> ActorOut
-        ensures { (self.new, result) ≡ completes self.old out count self.old.link }
+    pub(crate) fn complete(&mut self, said: NasOut, count: u32, out: &mut ActorOut)
+        ensures { (self.new, out.new) ≡ completes self.old said count self.old.link }
     {
         let next = self.number();
         let Some(link) = &self.link else {
-            return self.trigger_by(out, count);
+            return self.trigger_by(said, count, out);
         };
         let (conn, station) = (link.conn, link.station);
         let Some(next) = next else {
-            return self.trigger_by(out, count);
+            return self.trigger_by(said, count, out);
         };
         let Some(root) = self.nas.root() else {
-            return told(out);
+            return told(said, out);
         };
-        self.change_key(out, &root, count, conn, station, next)
+        self.change_key(said, &root, count, conn, station, next, out)
     }
 
     // The station gets KeNB of the new KASME and this COUNT, and the connection goes on under the next number
     // with a chain that begins anew (TS 33.401 A.3, TS 36.413 8.3.4).
     fn change_key(
         &mut self,
-        out: NasOut,
+        said: NasOut,
         root: &Kasme,
         count: u32,
         conn: u32,
         station: u8,
         next: u32,
-    ) -> ActorOut
+        out: &mut ActorOut,
+    )
         requires conn { 1 ≤ conn }
         requires station { station ≤ 7 }
         requires next { 1 ≤ next }
-        ensures { (self.new, result) ≡ changed self.old out root.now count conn station next }
+        ensures { (self.new, out.new) ≡ changed self.old said root.now count conn station next }
     {
         let (chain, kenb, made) = CoreChain::begin(root, count);
         self.trigger = None;
@@ -61,12 +62,13 @@ impl Core {
             way: Way::Initial,
             key: kenb.octets(),
         };
-        let sent = sends_key(station, &message, made, note);
-        ActorOut {
-            sent: sent.sent,
-            derived: sent.derived,
-            note: sent.note,
-            ..told(out)
-        }
+        told(said, out);
+        out.sent = Some(Record {
+            to: Address::StationS1(station),
+            octets: message.write(),
+        });
+        out.derived.clear();
+        out.derived.push(made);
+        out.note = Some(note);
     }
 }

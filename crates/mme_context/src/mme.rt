@@ -7,7 +7,7 @@ ghost use Rattle.mme_context.specs.Step.{IsInput};
 
 use crate::link::Link;
 use alg_choice::{Caps, Priority};
-use lte_events::{ActorOut, Cells, CoreIn};
+use lte_events::{ActorOut, Answer, Cells, CoreIn};
 use nas_smc::CoreNas;
 use std::marker::Model;
 
@@ -76,19 +76,21 @@ impl Core {
         // attempt seen of the station, and that of the record.
         ensures numbers { Tells self.old (core_input input.now) result.answer }
     {
-        self.routed(input)
+        let mut out = ActorOut::of(Answer::Done);
+        self.reply(input, &mut out);
+        out
     }
 
-    // The step, by what comes.
-    fn routed(&mut self, input: &CoreIn) -> ActorOut
+    /// The same step, whose reply is written in place of another.
+    pub fn reply(&mut self, input: &CoreIn, out: &mut ActorOut)
         requires { IsInput input.now }
-        ensures { (self.new, result) ≡ core_call self.old input.now }
+        ensures { (self.new, out.new) ≡ core_call self.old input.now }
     {
         match input {
-            CoreIn::Auth(ksi, root, caps) => self.authenticate(*ksi, *root, *caps),
-            CoreIn::Act(act) => self.act(act),
-            CoreIn::Nas(pdu) => self.nas(pdu.as_slice()),
-            CoreIn::S1(octets) => self.s1(octets.as_slice()),
+            CoreIn::Auth(ksi, root, caps) => self.authenticate(*ksi, *root, *caps, out),
+            CoreIn::Act(act) => self.act(act, out),
+            CoreIn::Nas(pdu) => self.nas(pdu.as_slice(), out),
+            CoreIn::S1(octets) => self.s1(octets.as_slice(), out),
         }
     }
 }

@@ -15,69 +15,69 @@ use rec_base::ShortText;
 
 impl Core {
     // An authentication (TS 24.301 5.4.2.4).
-    pub(crate) fn authenticate(&mut self, ksi: u8, root: Kasme, caps: Caps) -> ActorOut
+    pub(crate) fn authenticate(&mut self, ksi: u8, root: Kasme, caps: Caps, out: &mut ActorOut)
         requires { ksi ≤ 6 }
-        ensures { (self.new, result) ≡ answered self.old (CoreAuth ksi root caps) }
+        ensures { (self.new, out.new) ≡ answered self.old (CoreAuth ksi root caps) }
     {
         self.nas.authenticate(ksi, root, caps);
         self.latest = caps;
-        ActorOut::of(Answer::Done)
+        out.only(Answer::Done)
     }
 
     // SECURITY MODE COMMAND (TS 24.301 5.4.3.2).
-    pub(crate) fn start_smc(&mut self) -> ActorOut
-        ensures { (self.new, result) ≡ answered self.old (CoreActs StartSmc) }
+    pub(crate) fn start_smc(&mut self, out: &mut ActorOut)
+        ensures { (self.new, out.new) ≡ answered self.old (CoreActs StartSmc) }
     {
-        let out = self.nas.start_smc();
-        self.answer(out, false)
+        let said = self.nas.start_smc();
+        self.answer(said, false, out)
     }
 
     // A NAS text.
-    pub(crate) fn send_nas(&mut self, text: &ShortText) -> ActorOut
-        ensures { (self.new, result) ≡ answered self.old (CoreActs (SendNas text.now)) }
+    pub(crate) fn send_nas(&mut self, text: &ShortText, out: &mut ActorOut)
+        ensures { (self.new, out.new) ≡ answered self.old (CoreActs (SendNas text.now)) }
     {
-        let out = self.nas.send(text);
-        self.answer(out, false)
+        let said = self.nas.send(text);
+        self.answer(said, false, out)
     }
 
     // Leaves out so many downlink COUNTs.
-    pub(crate) fn skip(&mut self, n: u32) -> ActorOut
-        ensures { (self.new, result) ≡ answered self.old (CoreActs (Skip n)) }
+    pub(crate) fn skip(&mut self, n: u32, out: &mut ActorOut)
+        ensures { (self.new, out.new) ≡ answered self.old (CoreActs (Skip n)) }
     {
-        let out = self.nas.skip(n);
-        self.answer(out, false)
+        let said = self.nas.skip(n);
+        self.answer(said, false, out)
     }
 
     // A NAS message.
-    pub(crate) fn nas(&mut self, pdu: &[u8]) -> ActorOut
+    pub(crate) fn nas(&mut self, pdu: &[u8], out: &mut ActorOut)
         requires { length pdu.now ≤ 1536 }
-        ensures { (self.new, result) ≡ answered self.old (CoreNasPdu pdu.now) }
+        ensures { (self.new, out.new) ≡ answered self.old (CoreNasPdu pdu.now) }
     {
-        let out = self.nas.on_pdu(pdu);
-        self.answer(out, has_new_context(pdu))
+        let said = self.nas.on_pdu(pdu);
+        self.answer(said, has_new_context(pdu), out)
     }
 
     // The reply to a call of the NAS part. The COUNT of a SERVICE REQUEST is the trigger of a connection,
     // and so is that of a SECURITY MODE COMPLETE, unless a connection changes its key by it (TS 33.401
     // 7.2.6.2 and 7.2.9.2).
-    fn answer(&mut self, out: NasOut, new_context: bool) -> ActorOut
-        ensures { (self.new, result) ≡ core_after self.old out new_context }
+    fn answer(&mut self, said: NasOut, new_context: bool, out: &mut ActorOut)
+        ensures { (self.new, out.new) ≡ core_after self.old said new_context }
     {
-        let Some(count) = out.trigger else {
-            return told(out);
+        let Some(count) = said.trigger else {
+            return told(said, out);
         };
         if new_context {
-            return self.complete(out, count);
+            return self.complete(said, count, out);
         }
-        self.trigger_by(out, count)
+        self.trigger_by(said, count, out)
     }
 
     // This COUNT is the trigger of a connection.
-    pub(crate) fn trigger_by(&mut self, out: NasOut, count: u32) -> ActorOut
-        ensures { (self.new, result) ≡ triggers self.old out count }
+    pub(crate) fn trigger_by(&mut self, said: NasOut, count: u32, out: &mut ActorOut)
+        ensures { (self.new, out.new) ≡ triggers self.old said count }
     {
         self.trigger = Some(count);
-        told(out)
+        told(said, out)
     }
 }
 

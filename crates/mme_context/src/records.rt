@@ -21,20 +21,20 @@ use s1x2_rec::CoreRecord;
 
 impl Core {
     // A record on S1.
-    pub(crate) fn s1(&mut self, octets: &[u8]) -> ActorOut
-        ensures { (self.new, result) ≡ answered self.old (OnS1 (read_core octets.now)) }
+    pub(crate) fn s1(&mut self, octets: &[u8], out: &mut ActorOut)
+        ensures { (self.new, out.new) ≡ answered self.old (OnS1 (read_core octets.now)) }
     {
         let message = match CoreRecord::read(octets) {
             Ok(message) => message,
-            Err(fault) => return ActorOut::of(Answer::BadRecord(fault)),
+            Err(fault) => return out.only(Answer::BadRecord(fault)),
         };
-        self.message(&message)
+        self.message(&message, out)
     }
 
     // By the kinds that a core takes.
-    fn message(&mut self, message: &CoreRecord) -> ActorOut
+    fn message(&mut self, message: &CoreRecord, out: &mut ActorOut)
         requires { InRange (content_of message.now) }
-        ensures { (self.new, result) ≡ answered self.old (OnS1 (Ok (content_of message.now))) }
+        ensures { (self.new, out.new) ≡ answered self.old (OnS1 (Ok (content_of message.now))) }
     {
         match *message {
             CoreRecord::PathSwitchRequest {
@@ -43,13 +43,13 @@ impl Core {
                 number,
                 cell,
                 caps,
-            } => self.path_switch_request(conn, station, number, cell, caps),
+            } => self.path_switch_request(conn, station, number, cell, caps, out),
             CoreRecord::HandoverRequired {
                 conn,
                 station,
                 attempt,
                 cell,
-            } => self.handover_required(conn, station, attempt, cell),
+            } => self.handover_required(conn, station, attempt, cell, out),
             CoreRecord::HandoverRequestAck {
                 conn,
                 source,
@@ -58,31 +58,43 @@ impl Core {
                 ncc,
                 algs,
                 air,
-            } => self.handover_request_ack(conn, source, attempt, cell, ncc, algs, air),
+            } => self.handover_request_ack(conn, source, attempt, cell, ncc, algs, air, out),
             CoreRecord::HandoverNotify {
                 conn,
                 station,
                 cell,
-            } => self.handover_notify(conn, station, cell),
+            } => self.handover_notify(conn, station, cell, out),
             CoreRecord::HandoverCancel {
                 conn,
                 source,
                 attempt,
                 cell,
-            } => self.handover_cancel(conn, source, attempt, cell),
+            } => self.handover_cancel(conn, source, attempt, cell, out),
             CoreRecord::InitialContext { kenb, .. } => {
-                heard(Answer::WrongKind(0x20), kenb.octets())
+                heard(Answer::WrongKind(0x20), kenb.octets(), out)
             }
-            CoreRecord::ContextRelease { .. } => wrong(0x21),
-            CoreRecord::PathSwitchAnswer { nh, .. } => heard(Answer::WrongKind(0x23), nh.octets()),
-            CoreRecord::HandoverRequest { nh, .. } => heard(Answer::WrongKind(0x25), nh.octets()),
-            CoreRecord::HandoverCommand { .. } => wrong(0x27),
-            CoreRecord::X2Request { star, .. } => heard(Answer::WrongKind(0x30), star.octets()),
-            CoreRecord::X2Ack { .. } => wrong(0x31),
-            CoreRecord::X2Cancel { .. } => wrong(0x32),
-            CoreRecord::X2Release { .. } => wrong(0x33),
+            CoreRecord::ContextRelease { .. } => wrong(0x21, out),
+            CoreRecord::PathSwitchAnswer { nh, .. } => heard(
+                Answer::WrongKind(0x23),
+                nh.octets(),
+                out,
+            ),
+            CoreRecord::HandoverRequest { nh, .. } => heard(
+                Answer::WrongKind(0x25),
+                nh.octets(),
+                out,
+            ),
+            CoreRecord::HandoverCommand { .. } => wrong(0x27, out),
+            CoreRecord::X2Request { star, .. } => heard(
+                Answer::WrongKind(0x30),
+                star.octets(),
+                out,
+            ),
+            CoreRecord::X2Ack { .. } => wrong(0x31, out),
+            CoreRecord::X2Cancel { .. } => wrong(0x32, out),
+            CoreRecord::X2Release { .. } => wrong(0x33, out),
             CoreRecord::ContextModification { kenb, .. } => {
-                heard(Answer::WrongKind(0x34), kenb.octets())
+                heard(Answer::WrongKind(0x34), kenb.octets(), out)
             }
         }
     }
@@ -96,22 +108,23 @@ impl Core {
         number: u32,
         cell: Cell,
         caps: Caps,
-    ) -> ActorOut
+        out: &mut ActorOut,
+    )
         requires conn { 1 ≤ conn }
         requires station { station ≤ 7 }
         requires number { 1 ≤ number }
-        ensures { (self.new, result) ≡ on_s1 self.old (Switching conn station number cell caps) None }
+        ensures { (self.new, out.new) ≡ on_s1 self.old (Switching conn station number cell caps) None }
     {
         let alarm = !same(&caps, &self.latest);
         let seen = self.requests[usize::from(station)];
         let Some(link) = self.link.as_mut() else {
-            return ActorOut::of(Answer::OldConnection(0, conn));
+            return out.only(Answer::OldConnection(0, conn));
         };
         if link.conn != conn {
-            return ActorOut::of(Answer::OldConnection(link.conn, conn));
+            return out.only(Answer::OldConnection(link.conn, conn));
         }
         if number <= seen {
-            return ActorOut::of(Answer::Repeated(seen, number));
+            return out.only(Answer::Repeated(seen, number));
         }
         let (pair, made) = link.step();
         link.move_to(station);
@@ -123,33 +136,38 @@ impl Core {
             ncc,
             nh,
         };
-        ActorOut {
-            alarm,
-            ..sends_key(station, &message, made, chained(ncc, nh.octets()))
-        }
+        sends_key(station, &message, made, chained(ncc, nh.octets()), out);
+        out.alarm = alarm;
     }
 
     // Handover Required (TS 36.413 8.4.1): the target gets the next pair (TS 33.401 7.2.8.4.3).
-    fn handover_required(&mut self, conn: u32, source: u8, attempt: u32, cell: Cell) -> ActorOut
+    fn handover_required(
+        &mut self,
+        conn: u32,
+        source: u8,
+        attempt: u32,
+        cell: Cell,
+        out: &mut ActorOut,
+    )
         requires conn { 1 ≤ conn }
         requires source { source ≤ 7 }
         requires attempt { 1 ≤ attempt }
-        ensures { (self.new, result) ≡ on_s1 self.old (Required conn source attempt cell) None }
+        ensures { (self.new, out.new) ≡ on_s1 self.old (Required conn source attempt cell) None }
     {
         let caps = self.caps_in_use();
         let seen = self.attempts[usize::from(source)];
         let target = self.cells.station_of(&cell);
         let Some(link) = self.link.as_mut() else {
-            return ActorOut::of(Answer::OldConnection(0, conn));
+            return out.only(Answer::OldConnection(0, conn));
         };
         if link.conn != conn {
-            return ActorOut::of(Answer::OldConnection(link.conn, conn));
+            return out.only(Answer::OldConnection(link.conn, conn));
         }
         if attempt <= seen {
-            return ActorOut::of(Answer::Repeated(seen, attempt));
+            return out.only(Answer::Repeated(seen, attempt));
         }
         let Some(target) = target else {
-            return ActorOut::of(Answer::UnknownCell);
+            return out.only(Answer::UnknownCell);
         };
         let (pair, made) = link.step();
         self.attempts[usize::from(source)] = attempt;
@@ -163,7 +181,7 @@ impl Core {
             ncc,
             nh,
         };
-        sends_key(target, &message, made, chained(ncc, nh.octets()))
+        sends_key(target, &message, made, chained(ncc, nh.octets()), out)
     }
 
     // Handover Request Acknowledge (TS 36.413 8.4.2): the source gets the Handover Command.
@@ -176,19 +194,20 @@ impl Core {
         ncc: u8,
         algs: Algs,
         air: u32,
-    ) -> ActorOut
+        out: &mut ActorOut,
+    )
         requires conn { 1 ≤ conn }
         requires source { source ≤ 7 }
         requires attempt { 1 ≤ attempt }
         requires ncc { ncc ≤ 7 }
         requires air { 1 ≤ air }
-        ensures { (self.new, result) ≡ on_s1 self.old (Acknowledged conn source attempt cell ncc algs air) None }
+        ensures { (self.new, out.new) ≡ on_s1 self.old (Acknowledged conn source attempt cell ncc algs air) None }
     {
         let Some(link) = &self.link else {
-            return ActorOut::of(Answer::OldConnection(0, conn));
+            return out.only(Answer::OldConnection(0, conn));
         };
         if link.conn != conn {
-            return ActorOut::of(Answer::OldConnection(link.conn, conn));
+            return out.only(Answer::OldConnection(link.conn, conn));
         }
         let message = CoreRecord::HandoverCommand {
             conn,
@@ -198,39 +217,46 @@ impl Core {
             algs,
             air,
         };
-        sends(source, &message)
+        sends(source, &message, out)
     }
 
     // Handover Notify (TS 36.413 8.4.3): the phone is at this station.
-    fn handover_notify(&mut self, conn: u32, station: u8, cell: Cell) -> ActorOut
+    fn handover_notify(&mut self, conn: u32, station: u8, cell: Cell, out: &mut ActorOut)
         requires { station ≤ 7 }
-        ensures { (self.new, result) ≡ on_s1 self.old (Notified conn station cell) None }
+        ensures { (self.new, out.new) ≡ on_s1 self.old (Notified conn station cell) None }
     {
         let Some(link) = self.link.as_mut() else {
-            return ActorOut::of(Answer::OldConnection(0, conn));
+            return out.only(Answer::OldConnection(0, conn));
         };
         if link.conn != conn {
-            return ActorOut::of(Answer::OldConnection(link.conn, conn));
+            return out.only(Answer::OldConnection(link.conn, conn));
         }
         link.move_to(station);
-        ActorOut::of(Answer::Done)
+        out.only(Answer::Done)
     }
 
     // Handover Cancel (TS 36.413 8.4.5), which goes on to the target.
-    fn handover_cancel(&mut self, conn: u32, source: u8, attempt: u32, cell: Cell) -> ActorOut
+    fn handover_cancel(
+        &mut self,
+        conn: u32,
+        source: u8,
+        attempt: u32,
+        cell: Cell,
+        out: &mut ActorOut,
+    )
         requires conn { 1 ≤ conn }
         requires source { source ≤ 7 }
         requires attempt { 1 ≤ attempt }
-        ensures { (self.new, result) ≡ on_s1 self.old (Cancelled conn source attempt cell) None }
+        ensures { (self.new, out.new) ≡ on_s1 self.old (Cancelled conn source attempt cell) None }
     {
         let Some(link) = &self.link else {
-            return ActorOut::of(Answer::OldConnection(0, conn));
+            return out.only(Answer::OldConnection(0, conn));
         };
         if link.conn != conn {
-            return ActorOut::of(Answer::OldConnection(link.conn, conn));
+            return out.only(Answer::OldConnection(link.conn, conn));
         }
         let Some(target) = self.cells.station_of(&cell) else {
-            return ActorOut::of(Answer::UnknownCell);
+            return out.only(Answer::UnknownCell);
         };
         let message = CoreRecord::HandoverCancel {
             conn,
@@ -238,7 +264,7 @@ impl Core {
             attempt,
             cell,
         };
-        sends(target, &message)
+        sends(target, &message, out)
     }
 
     // The capabilities of the context in use; a connection never stands without one.
@@ -271,8 +297,8 @@ fn same(caps: &Caps, latest: &Caps) -> bool
 }
 
 // A kind that is not taken there.
-fn wrong(kind: u8) -> ActorOut
-    ensures { result ≡ reply_of (WrongKind kind) }
+fn wrong(kind: u8, out: &mut ActorOut)
+    ensures { out.new ≡ reply_of (WrongKind kind) }
 {
-    ActorOut::of(Answer::WrongKind(kind))
+    out.only(Answer::WrongKind(kind))
 }

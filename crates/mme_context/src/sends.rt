@@ -9,67 +9,60 @@ ghost use Rattle.s1x2_rec.specs.Spelling.{InRange};
 ghost use Rattle.mme_context.specs.Step.{sending};
 
 use annex_a_keys::Derived;
-use lte_events::{ActorOut, Address, Answer, Few, KeyNote, Record};
+use lte_events::{ActorOut, Address, Answer, KeyNote, Record};
 use nas_guard::NasPdu;
 use nas_smc::NasOut;
 use rec_base::{Octets, ShortText, Use, UserText};
 use s1x2_rec::CoreRecord;
 
 // An answer to a record that held this key.
-pub(crate) fn heard(answer: Answer, key: [u8; 32]) -> ActorOut
-    ensures { result ≡ record (reply_of answer) { received = Some key } }
+pub(crate) fn heard(answer: Answer, key: [u8; 32], out: &mut ActorOut)
+    ensures { out.new ≡ record (reply_of answer) { received = Some key } }
 {
-    ActorOut {
-        received: Some(key),
-        ..ActorOut::of(answer)
-    }
+    out.only(answer);
+    out.received = Some(key);
 }
 
 // What sends a record on S1 to a station.
-pub(crate) fn sends(station: u8, message: &CoreRecord) -> ActorOut
+pub(crate) fn sends(station: u8, message: &CoreRecord, out: &mut ActorOut)
     requires { InRange (content_of message.now) }
-    ensures { result ≡ sending (Between (StationS1 station) (content_of message.now).fields (content_of message.now).key) }
+    ensures { out.new ≡ sending (Between (StationS1 station) (content_of message.now).fields (content_of message.now).key) }
 {
-    ActorOut {
-        sent: Some(Record {
-            to: Address::StationS1(station),
-            octets: message.write(),
-        }),
-        ..ActorOut::of(Answer::Done)
-    }
+    out.only(Answer::Done);
+    out.sent = Some(Record {
+        to: Address::StationS1(station),
+        octets: message.write(),
+    });
 }
 
 // The same, where a key was made for it.
-pub(crate) fn sends_key(station: u8, message: &CoreRecord, made: Derived, note: KeyNote) -> ActorOut
+pub(crate) fn sends_key(
+    station: u8,
+    message: &CoreRecord,
+    made: Derived,
+    note: KeyNote,
+    out: &mut ActorOut,
+)
     requires { InRange (content_of message.now) }
-    ensures { result ≡ record (sending (Between (StationS1 station) (content_of message.now).fields (content_of message.now).key))
+    ensures { out.new ≡ record (sending (Between (StationS1 station) (content_of message.now).fields (content_of message.now).key))
         { derived = made ∷ []; note = Some note } }
 {
-    let mut derived = Few::new();
-    derived.push(made);
-    ActorOut {
-        derived,
-        note: Some(note),
-        ..sends(station, message)
-    }
+    sends(station, message, out);
+    out.derived.push(made);
+    out.note = Some(note);
 }
 
 // The core's reply to a call of its NAS part.
-pub(crate) fn told(out: NasOut) -> ActorOut
-    ensures { result ≡ core_reply out }
+pub(crate) fn told(said: NasOut, out: &mut ActorOut)
+    ensures { out.new ≡ core_reply said }
 {
-    let mut derived = Few::new();
-    derived.append(out.derived.as_slice());
-    ActorOut {
-        answer: out.answer,
-        sent: sent(&out.pdu),
-        tuple: tuple(out.used.as_slice()),
-        opened: opened(&out.opened),
-        derived,
-        used: out.used,
-        accepted: out.accepted,
-        ..ActorOut::of(Answer::Done)
-    }
+    out.only(said.answer);
+    out.sent = sent(&said.pdu);
+    out.tuple = tuple(said.used.as_slice());
+    out.opened = opened(&said.opened);
+    out.derived.append(said.derived.as_slice());
+    out.used = said.used;
+    out.accepted = said.accepted;
 }
 
 // A NAS message goes to the phone.

@@ -121,10 +121,7 @@ pub fn write_end<W: Sink>(alloc: Global, world: &World, out: &mut W) -> Result<(
 
 /// Writes a text, which is whole lines. `Memory` where there was none for the text, and `WriteFault` where the
 /// output fails.
-pub fn write_text<W: Sink, E: Drop>(
-    text: Result<Vec<u8>, E>,
-    out: &mut W,
-) -> Result<(), Unwritten>
+pub fn write_text<W: Sink, E: Drop>(text: Result<Vec<u8>, E>, out: &mut W) -> Result<(), Unwritten>
     requires out_ready { IsTrue (W.told out.old).ready }
     requires lines { IfOk text (λ t. are_lines t.items ≡ true) }
     ensures { (octets : List ℕ) → IfOk text (λ t. t.items ≡ octets) → WritesText octets result (W.told out.old) (W.told out.new) }

@@ -18,97 +18,94 @@ use rrc_rec::RrcRecord;
 
 impl Phone {
     // The completion of the last handover or key change once more.
-    pub(crate) fn resend_complete(&mut self) -> ActorOut
-        ensures { (self.new, result) ≡ phone_call self.old (Act ResendComplete) }
+    pub(crate) fn resend_complete(&mut self, out: &mut ActorOut)
+        ensures { (self.new, out.new) ≡ phone_call self.old (Act ResendComplete) }
     {
         let Radio::Connected(link) = &mut self.radio else {
-            return ActorOut::of(Answer::NotConnected);
+            return out.only(Answer::NotConnected);
         };
-        link.resend_complete()
+        link.resend_complete(out)
     }
 
     // Leaves the connection, or stops to wait for one. An idle phone keeps no key of its connection (TS
     // 33.401 7.2.6.3).
-    pub(crate) fn go_idle(&mut self) -> ActorOut
-        ensures { (self.new, result) ≡ phone_call self.old (Act GoIdle) }
+    pub(crate) fn go_idle(&mut self, out: &mut ActorOut)
+        ensures { (self.new, out.new) ≡ phone_call self.old (Act GoIdle) }
     {
         match &self.radio {
-            Radio::Idle => ActorOut::of(Answer::NotConnected),
+            Radio::Idle => out.only(Answer::NotConnected),
             Radio::Connecting(_) | Radio::Connected(_) => {
                 self.radio = Radio::Idle;
-                ActorOut::of(Answer::Done)
+                out.only(Answer::Done);
             }
         }
     }
 
     // A user packet on a DRB (TS 36.323 5.1.1).
-    pub(crate) fn send_user(&mut self, bearer: Bearer, text: &UserText) -> ActorOut
+    pub(crate) fn send_user(&mut self, bearer: Bearer, text: &UserText, out: &mut ActorOut)
         requires { IsDrb bearer }
-        ensures { (self.new, result) ≡ phone_call self.old (Act (SendUser bearer text.now)) }
+        ensures { (self.new, out.new) ≡ phone_call self.old (Act (SendUser bearer text.now)) }
     {
         let Radio::Connected(link) = &mut self.radio else {
-            return ActorOut::of(Answer::NotConnected);
+            return out.only(Answer::NotConnected);
         };
-        link.send_user(bearer, text)
+        link.send_user(bearer, text, out)
     }
 
     // An RRC text on an SRB.
-    pub(crate) fn send_rrc(&mut self, bearer: Bearer, text: &ShortText) -> ActorOut
+    pub(crate) fn send_rrc(&mut self, bearer: Bearer, text: &ShortText, out: &mut ActorOut)
         requires { IsSrb bearer }
-        ensures { (self.new, result) ≡ phone_call self.old (Act (SendRrc bearer text.now)) }
+        ensures { (self.new, out.new) ≡ phone_call self.old (Act (SendRrc bearer text.now)) }
     {
         let Radio::Connected(link) = &mut self.radio else {
-            return ActorOut::of(Answer::NotConnected);
+            return out.only(Answer::NotConnected);
         };
-        link.send_rrc(bearer, text)
+        link.send_rrc(bearer, text, out)
     }
 
     // Leaves out so many sending COUNTs of a bearer.
-    pub(crate) fn skip_bearer(&mut self, bearer: Bearer, n: u32) -> ActorOut
-        ensures { (self.new, result) ≡ phone_call self.old (Act (Skip (Some bearer) n)) }
+    pub(crate) fn skip_bearer(&mut self, bearer: Bearer, n: u32, out: &mut ActorOut)
+        ensures { (self.new, out.new) ≡ phone_call self.old (Act (Skip (Some bearer) n)) }
     {
         let Radio::Connected(link) = &mut self.radio else {
-            return ActorOut::of(Answer::NotConnected);
+            return out.only(Answer::NotConnected);
         };
         link.skip(bearer, n);
-        ActorOut::of(Answer::Done)
+        out.only(Answer::Done)
     }
 }
 
 impl Link {
-    fn resend_complete(&mut self) -> ActorOut
-        ensures { (n : NasPart) → (linked n self.new, result) ≡ phone_call (linked n self.old) (Act ResendComplete) }
+    fn resend_complete(&mut self, out: &mut ActorOut)
+        ensures { (n : NasPart) → (linked n self.new, out.new) ≡ phone_call (linked n self.old) (Act ResendComplete) }
     {
         if !self.by_handover {
-            return ActorOut::of(Answer::NothingToResend);
+            return out.only(Answer::NothingToResend);
         }
         let complete = RrcRecord::ReconfigurationComplete.write();
-        match self.signal(Bearer::Srb1, true, complete.as_slice()) {
-            Some(sent) => sent,
-            None => ActorOut::of(Answer::CountSpent),
+        if !self.signal(Bearer::Srb1, true, complete.as_slice(), out) {
+            out.only(Answer::CountSpent);
         }
     }
 
     #[tactic(auto, using(radio_bearers::proofs::Which::which_drb))]
-    fn send_user(&mut self, bearer: Bearer, text: &UserText) -> ActorOut
+    fn send_user(&mut self, bearer: Bearer, text: &UserText, out: &mut ActorOut)
         requires { IsDrb bearer }
-        ensures { (n : NasPart) → (linked n self.new, result) ≡ phone_call (linked n self.old) (Act (SendUser bearer text.now)) }
+        ensures { (n : NasPart) → (linked n self.new, out.new) ≡ phone_call (linked n self.old) (Act (SendUser bearer text.now)) }
     {
-        match self.packet(bearer, text) {
-            Some(sent) => sent,
-            None => ActorOut::of(Answer::CountSpent),
+        if !self.packet(bearer, text, out) {
+            out.only(Answer::CountSpent);
         }
     }
 
     #[tactic(auto, using(radio_bearers::proofs::Which::which_srb))]
-    fn send_rrc(&mut self, bearer: Bearer, text: &ShortText) -> ActorOut
+    fn send_rrc(&mut self, bearer: Bearer, text: &ShortText, out: &mut ActorOut)
         requires { IsSrb bearer }
-        ensures { (n : NasPart) → (linked n self.new, result) ≡ phone_call (linked n self.old) (Act (SendRrc bearer text.now)) }
+        ensures { (n : NasPart) → (linked n self.new, out.new) ≡ phone_call (linked n self.old) (Act (SendRrc bearer text.now)) }
     {
         let message = RrcRecord::RrcData(copied(text)).write();
-        match self.signal(bearer, true, message.as_slice()) {
-            Some(sent) => sent,
-            None => ActorOut::of(Answer::CountSpent),
+        if !self.signal(bearer, true, message.as_slice(), out) {
+            out.only(Answer::CountSpent);
         }
     }
 

@@ -31,17 +31,18 @@ impl Link {
         air: u32,
         bearer: Bearer,
         pdu: &[u8],
-    ) -> ActorOut
+        out: &mut ActorOut,
+    )
         requires { length pdu.now ≤ 1536 }
-        ensures { (linked nas.now self.new, result) ≡ phone_call (linked nas.now self.old) (Air station air bearer pdu.now) }
+        ensures { (linked nas.now self.new, out.new) ≡ phone_call (linked nas.now self.old) (Air station air bearer pdu.now) }
     {
         if !self.is_at(station, air) {
-            return ActorOut::of(Answer::NotAddressed);
+            return out.only(Answer::NotAddressed);
         }
         if is_srb(bearer) {
-            return self.air_srb(nas, station, air, bearer, pdu);
+            return self.air_srb(nas, station, air, bearer, pdu, out);
         }
-        self.air_drb(nas, station, air, bearer, pdu)
+        self.air_drb(nas, station, air, bearer, pdu, out)
     }
 
     // Whether the connection is at this station and air address.
@@ -59,42 +60,42 @@ impl Link {
         air: u32,
         bearer: Bearer,
         pdu: &[u8],
-    ) -> ActorOut
+        out: &mut ActorOut,
+    )
         requires here { ((self.old.station == station) && (self.old.air == air)) ≡ true }
         requires on { which bearer ≡ OnSrb (srb_of bearer) }
         requires srb { IsSrb bearer }
         requires pdu { length pdu.now ≤ 1536 }
-        ensures { (linked nas.now self.new, result) ≡ phone_call (linked nas.now self.old) (Air station air bearer pdu.now) }
+        ensures { (linked nas.now self.new, out.new) ≡ phone_call (linked nas.now self.old) (Air station air bearer pdu.now) }
     {
         let opened = match self
             .bearers
             .open_srb(bearer, &self.keys, Dir::Down, true, pdu)
         {
             Ok(opened) => opened,
-            Err(fault) => return ActorOut::of(answer_of(fault)),
+            Err(fault) => return out.only(answer_of(fault)),
         };
-        self.take_rrc(nas, bearer, &opened)
+        self.take_rrc(nas, bearer, &opened, out)
     }
 
     // What was opened on an SRB: data, a handover command or a key change.
-    fn take_rrc(&mut self, nas: &PhoneNas, bearer: Bearer, opened: &PdcpOpened) -> ActorOut
+    fn take_rrc(&mut self, nas: &PhoneNas, bearer: Bearer, opened: &PdcpOpened, out: &mut ActorOut)
         requires srb { IsSrb bearer }
         requires count { (srb_counts (srb_of bearer) self.old.bearers).receive ≤ opened.now.count }
-        ensures { (linked nas.now self.new, result) ≡ by_air (linked nas.now self.old) (Some (to_phone self.old.keys bearer opened.now.count))
+        ensures { (linked nas.now self.new, out.new) ≡ by_air (linked nas.now self.old) (Some (to_phone self.old.keys bearer opened.now.count))
             (signalling_read nas.now.caps (srb_of bearer) opened.now.count self.old.chain.number (read_rrc opened.now.text)) }
     {
         let accepted = Some(verified_use(&self.keys, bearer, opened.count, Dir::Down));
         let message = match RrcRecord::read(opened.text.as_slice()) {
             Ok(message) => message,
             Err(fault) => {
-                return ActorOut {
-                    accepted,
-                    ..ActorOut::of(Answer::BadRecord(fault))
-                };
+                out.only(Answer::BadRecord(fault));
+                out.accepted = accepted;
+                return;
             }
         };
-        let out = self.take_message(nas, bearer, opened.count, &message);
-        ActorOut { accepted, ..out }
+        self.take_message(nas, bearer, opened.count, &message, out);
+        out.accepted = accepted;
     }
 
     // By the kinds that a phone takes on a connection.
@@ -104,50 +105,49 @@ impl Link {
         bearer: Bearer,
         count: u32,
         message: &RrcRecord,
-    ) -> ActorOut
+        out: &mut ActorOut,
+    )
         requires srb { IsSrb bearer }
         requires count { (srb_counts (srb_of bearer) self.old.bearers).receive ≤ count }
         requires in_range { InRange message.now }
-        ensures { (linked nas.now self.new, result) ≡ by_air (linked nas.now self.old) None
+        ensures { (linked nas.now self.new, out.new) ≡ by_air (linked nas.now self.old) None
             (signalling_read nas.now.caps (srb_of bearer) count self.old.chain.number (Ok message.now)) }
     {
         match message {
-            RrcRecord::RrcData(text) => self.take_data(bearer, count, text),
+            RrcRecord::RrcData(text) => self.take_data(bearer, count, text, out),
             RrcRecord::Reconfiguration {
                 cell,
                 ncc,
                 algs,
                 station,
                 air,
-            } => self.hand_over(nas, bearer, cell, *ncc, *algs, *station, *air),
+            } => self.hand_over(nas, bearer, cell, *ncc, *algs, *station, *air, out),
             RrcRecord::KeyChange {
                 cell,
                 algs,
                 station,
                 air,
-            } => self.change_key(nas, bearer, cell, *algs, *station, *air),
+            } => self.change_key(nas, bearer, cell, *algs, *station, *air, out),
             RrcRecord::SecurityModeCommand { .. }
             | RrcRecord::SecurityModeComplete
             | RrcRecord::ReconfigurationComplete => {
-                ActorOut::of(Answer::WrongKind(kind_of(message)))
+                out.only(Answer::WrongKind(kind_of(message)))
             }
         }
     }
 
     // An RRC text that is data.
-    fn take_data(&mut self, bearer: Bearer, count: u32, text: &ShortText) -> ActorOut
+    fn take_data(&mut self, bearer: Bearer, count: u32, text: &ShortText, out: &mut ActorOut)
         requires srb { IsSrb bearer }
         requires count { (srb_counts (srb_of bearer) self.old.bearers).receive ≤ count }
         ensures link { self.new ≡ record self.old { bearers = srb_taken (srb_of bearer) count self.old.bearers } }
-        ensures value { result ≡ record (reply_of Done) { opened = Some text.now } }
+        ensures value { out.new ≡ record (reply_of Done) { opened = Some text.now } }
     {
         self.bearers.accept_srb(bearer, count);
         let mut opened = UserText::new();
         opened.append(text.as_slice());
-        ActorOut {
-            opened: Some(opened),
-            ..ActorOut::of(Answer::Done)
-        }
+        out.only(Answer::Done);
+        out.opened = Some(opened);
     }
 
     // On a DRB: nothing is verified, and a text is cut to its first 1,500 octets.
@@ -158,20 +158,19 @@ impl Link {
         air: u32,
         bearer: Bearer,
         pdu: &[u8],
-    ) -> ActorOut
+        out: &mut ActorOut,
+    )
         requires here { ((self.old.station == station) && (self.old.air == air)) ≡ true }
         requires on { which bearer ≡ OnDrb (drb_of bearer) }
         requires drb { IsDrb bearer }
         requires pdu { length pdu.now ≤ 1536 }
-        ensures { (linked nas.now self.new, result) ≡ phone_call (linked nas.now self.old) (Air station air bearer pdu.now) }
+        ensures { (linked nas.now self.new, out.new) ≡ phone_call (linked nas.now self.old) (Air station air bearer pdu.now) }
     {
         let opened = match self.bearers.receive_drb(bearer, &self.keys, Dir::Down, pdu) {
             Ok(opened) => opened,
-            Err(fault) => return ActorOut::of(answer_of(fault)),
+            Err(fault) => return out.only(answer_of(fault)),
         };
-        ActorOut {
-            opened: Some(packet_text(opened.text.as_slice())),
-            ..ActorOut::of(Answer::Done)
-        }
+        out.only(Answer::Done);
+        out.opened = Some(packet_text(opened.text.as_slice()));
     }
 }

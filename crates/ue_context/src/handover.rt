@@ -20,7 +20,7 @@ ghost use Rattle.ue_context.specs.Step.{by_air, sending};
 use crate::link::Link;
 use alg_choice::{Algs, supports};
 use annex_a_keys::{Cell, Derived, Star};
-use lte_events::{ActorOut, Answer, Few, KeyNote};
+use lte_events::{ActorOut, Answer, KeyNote};
 use nas_smc::PhoneNas;
 use nh_chain::PhoneChain;
 use pdcp_guard::AsKeys;
@@ -39,29 +39,30 @@ impl Link {
         algs: Algs,
         station: u8,
         air: u32,
-    ) -> ActorOut
+        out: &mut ActorOut,
+    )
         requires srb { IsSrb bearer }
         requires ncc { ncc ≤ 7 }
-        ensures { (linked nas.now self.new, result) ≡ by_air (linked nas.now self.old) None
+        ensures { (linked nas.now self.new, out.new) ≡ by_air (linked nas.now self.old) None
             (command_taken nas.now.caps (srb_of bearer) self.old.chain.number cell.now ncc algs station air) }
     {
         if is_srb2(bearer) {
-            return ActorOut::of(Answer::WrongKind(0x03));
+            return out.only(Answer::WrongKind(0x03));
         }
         if !supports(&nas.caps(), &algs) {
-            return ActorOut::of(Answer::AlgUnsupported(algs));
+            return out.only(Answer::AlgUnsupported(algs));
         }
-        self.obey(cell, ncc, algs, station, air)
+        self.obey(cell, ncc, algs, station, air, out)
     }
 
     // KeNB* for the cell of what the chain reaches on the NCC (TS 33.401 7.2.8.4.4).
-    fn obey(&mut self, cell: &Cell, ncc: u8, algs: Algs, station: u8, air: u32) -> ActorOut
+    fn obey(&mut self, cell: &Cell, ncc: u8, algs: Algs, station: u8, air: u32, out: &mut ActorOut)
         requires { ncc ≤ 7 }
-        ensures { (n : NasPart) → (linked n self.new, result) ≡ by_air (linked n self.old) None
+        ensures { (n : NasPart) → (linked n self.new, out.new) ≡ by_air (linked n self.old) None
             (HandedOver cell.now (steps_to self.old.chain.number ncc) algs station air) }
     {
         let (star, way, made) = self.chain.reach(&self.kenb, ncc, cell);
-        self.arrive(star, way, made.as_slice(), algs, station, air)
+        self.arrive(star, way, made.as_slice(), algs, station, air, out)
     }
 
     // A key change: the same tests, and the KASME of the NAS context in use is another one than that of the
@@ -74,36 +75,53 @@ impl Link {
         algs: Algs,
         station: u8,
         air: u32,
-    ) -> ActorOut
+        out: &mut ActorOut,
+    )
         requires { IsSrb bearer }
-        ensures { (linked nas.now self.new, result) ≡ by_air (linked nas.now self.old) None
+        ensures { (linked nas.now self.new, out.new) ≡ by_air (linked nas.now self.old) None
             (change_taken nas.now.caps (srb_of bearer) cell.now algs station air) }
     {
         if is_srb2(bearer) {
-            return ActorOut::of(Answer::WrongKind(0x06));
+            return out.only(Answer::WrongKind(0x06));
         }
         if !supports(&nas.caps(), &algs) {
-            return ActorOut::of(Answer::AlgUnsupported(algs));
+            return out.only(Answer::AlgUnsupported(algs));
         }
-        self.renew(nas, cell, algs, station, air)
+        self.renew(nas, cell, algs, station, air, out)
     }
 
     // A new chain that begins with KeNB of the KASME in use and COUNT 0, and KeNB* of it for the cell (TS
     // 33.401 7.2.9.2, A.3 and A.5).
-    fn renew(&mut self, nas: &PhoneNas, cell: &Cell, algs: Algs, station: u8, air: u32) -> ActorOut
-        ensures { (linked nas.now self.new, result) ≡ by_air (linked nas.now self.old) None (KeyChanged cell.now algs station air) }
+    fn renew(
+        &mut self,
+        nas: &PhoneNas,
+        cell: &Cell,
+        algs: Algs,
+        station: u8,
+        air: u32,
+        out: &mut ActorOut,
+    )
+        ensures { (linked nas.now self.new, out.new) ≡ by_air (linked nas.now self.old) None (KeyChanged cell.now algs station air) }
     {
         let Some(root) = nas.root() else {
-            return ActorOut::of(Answer::Done);
+            return out.only(Answer::Done);
         };
         if root == self.root {
-            return ActorOut::of(Answer::NoTrigger);
+            return out.only(Answer::NoTrigger);
         }
         let (kenb, first) = root.kenb(0);
         let (star, second) = kenb.star(cell);
         self.chain = PhoneChain::begin(&root, &kenb);
         self.root = root;
-        self.arrive(star, Way::Initial, &[first, second], algs, station, air)
+        self.arrive(
+            star,
+            Way::Initial,
+            &[first, second],
+            algs,
+            station,
+            air,
+            out,
+        )
     }
 
     // The connection in its new cell: new keys, all bearers anew, and RRCConnectionReconfigurationComplete
@@ -116,7 +134,8 @@ impl Link {
         algs: Algs,
         station: u8,
         air: u32,
-    ) -> ActorOut
+        out: &mut ActorOut,
+    )
         requires { length made.now ≤ 8 }
         ensures link { self.new ≡ record {
           station = station;
@@ -127,16 +146,13 @@ impl Link {
           bearers = srb_sent Signalling1 new_bearers;
           by_handover = true;
         } }
-        ensures value { result ≡ record (sending (rrc_sealed (as_keys_of octet_reading star algs) station air Signalling1 0 ReconfigurationComplete)) {
+        ensures value { out.new ≡ record (sending (rrc_sealed (as_keys_of octet_reading star algs) station air Signalling1 0 ReconfigurationComplete)) {
           derived = made.now ++ map derived_of (as_derivations octet_reading star algs);
           note = Some (record { ncc = self.old.chain.number; way = way; key = star });
         } }
     {
         let kenb = star.install();
         let (keys, rest) = AsKeys::derive(&kenb, algs);
-        let mut derived = Few::new();
-        derived.append(made);
-        derived.append(rest.as_slice());
         self.station = station;
         self.air = air;
         self.kenb = kenb;
@@ -149,14 +165,12 @@ impl Link {
             key: kenb.octets(),
         };
         let complete = RrcRecord::ReconfigurationComplete.write();
-        let Some(out) = self.signal(Bearer::Srb1, true, complete.as_slice()) else {
+        if !self.signal(Bearer::Srb1, true, complete.as_slice(), out) {
             unreachable!()
-        };
-        ActorOut {
-            derived,
-            note: Some(note),
-            ..out
         }
+        out.derived.append(made);
+        out.derived.append(rest.as_slice());
+        out.note = Some(note);
     }
 }
 

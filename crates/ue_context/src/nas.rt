@@ -13,114 +13,101 @@ use crate::Phone;
 use crate::radio::Radio;
 use crate::waiting::Waiting;
 use annex_a_keys::{Derived, Kasme};
-use lte_events::{ActorOut, Address, Answer, Few, Record};
+use lte_events::{ActorOut, Address, Answer, Record};
 use nas_guard::NasPdu;
 use nas_smc::NasOut;
 use rec_base::{Octets, ShortText, Use, UserText};
 
 impl Phone {
     // An authentication left a KSI and a KASME (TS 33.401 6.1.1).
-    pub(crate) fn authenticate(&mut self, ksi: u8, root: Kasme) -> ActorOut
+    pub(crate) fn authenticate(&mut self, ksi: u8, root: Kasme, out: &mut ActorOut)
         requires { ksi ≤ 6 }
-        ensures { (self.new, result) ≡ phone_call self.old (Auth ksi root) }
+        ensures { (self.new, out.new) ≡ phone_call self.old (Auth ksi root) }
     {
         self.nas.authenticate(ksi, root);
-        ActorOut::of(Answer::Done)
+        out.only(Answer::Done)
     }
 
     // A NAS message.
-    pub(crate) fn nas_message(&mut self, pdu: &[u8]) -> ActorOut
+    pub(crate) fn nas_message(&mut self, pdu: &[u8], out: &mut ActorOut)
         requires { length pdu.now ≤ 1536 }
-        ensures { (self.new, result) ≡ phone_call self.old (Nas pdu.now) }
+        ensures { (self.new, out.new) ≡ phone_call self.old (Nas pdu.now) }
     {
-        let out = self.nas.on_pdu(pdu);
-        self.follow(out)
+        let said = self.nas.on_pdu(pdu);
+        self.follow(said, out)
     }
 
     // SERVICE REQUEST, of a phone with no connection (TS 24.301 5.6.1.1).
-    pub(crate) fn service_request(&mut self) -> ActorOut
-        ensures { (self.new, result) ≡ phone_call self.old (Act ServiceRequest) }
+    pub(crate) fn service_request(&mut self, out: &mut ActorOut)
+        ensures { (self.new, out.new) ≡ phone_call self.old (Act ServiceRequest) }
     {
         match &self.radio {
-            Radio::Connected(_) => ActorOut::of(Answer::AlreadyConnected),
+            Radio::Connected(_) => out.only(Answer::AlreadyConnected),
             Radio::Idle | Radio::Connecting(_) => {
-                let out = self.nas.service_request();
-                self.follow(out)
+                let said = self.nas.service_request();
+                self.follow(said, out)
             }
         }
     }
 
     // A NAS text.
-    pub(crate) fn send_nas(&mut self, text: &ShortText) -> ActorOut
-        ensures { (self.new, result) ≡ phone_call self.old (Act (SendNas text.now)) }
+    pub(crate) fn send_nas(&mut self, text: &ShortText, out: &mut ActorOut)
+        ensures { (self.new, out.new) ≡ phone_call self.old (Act (SendNas text.now)) }
     {
-        let out = self.nas.send(text);
-        self.follow(out)
+        let said = self.nas.send(text);
+        self.follow(said, out)
     }
 
     // Leaves out so many uplink NAS COUNTs.
-    pub(crate) fn skip_nas(&mut self, n: u32) -> ActorOut
-        ensures { (self.new, result) ≡ phone_call self.old (Act (Skip None n)) }
+    pub(crate) fn skip_nas(&mut self, n: u32, out: &mut ActorOut)
+        ensures { (self.new, out.new) ≡ phone_call self.old (Act (Skip None n)) }
     {
-        let out = self.nas.skip(n);
-        self.follow(out)
+        let said = self.nas.skip(n);
+        self.follow(said, out)
     }
 
     // What a call of the NAS part leads to: where a message asked for a connection and the phone has none, it
     // waits for one (TS 33.401 7.2.8.1.1).
-    fn follow(&mut self, out: NasOut) -> ActorOut
-        ensures { (self.new, result) ≡ phone_after (nas_of self.old) out self.old.radio }
+    fn follow(&mut self, said: NasOut, out: &mut ActorOut)
+        ensures { (self.new, out.new) ≡ phone_after (nas_of self.old) said self.old.radio }
     {
-        let Some(count) = out.trigger else {
-            return reply(out, None);
+        let Some(count) = said.trigger else {
+            return reply(said, None, out);
         };
         let Some(root) = self.nas.root() else {
-            return reply(out, None);
+            return reply(said, None, out);
         };
         match &self.radio {
-            Radio::Connected(_) => reply(out, None),
-            Radio::Idle | Radio::Connecting(_) => self.wait(root, count, out),
+            Radio::Connected(_) => reply(said, None, out),
+            Radio::Idle | Radio::Connecting(_) => self.wait(root, count, said, out),
         }
     }
 
     // The phone waits with KeNB of this COUNT (TS 33.401 A.3).
-    fn wait(&mut self, root: Kasme, count: u32, out: NasOut) -> ActorOut
+    fn wait(&mut self, root: Kasme, count: u32, said: NasOut, out: &mut ActorOut)
         ensures new { self.new ≡ waiting (nas_of self.old) (record { root = root; kenb = octet_reading.kenb root count }) }
-        ensures value { result ≡ phone_reply out (listed (Some (derived_of (kenb_made octet_reading root count))) ++ out.derived) }
+        ensures value { out.new ≡ phone_reply said (listed (Some (derived_of (kenb_made octet_reading root count))) ++ said.derived) }
     {
         let (kenb, made) = root.kenb(count);
         self.radio = Radio::Connecting(Waiting { root, kenb });
-        reply(out, Some(made))
+        reply(said, Some(made), out)
     }
 }
 
 // The phone's reply by that of its NAS part, and the derivation of KeNB, if there is one.
-fn reply(out: NasOut, kenb: Option<Derived>) -> ActorOut
-    ensures { result ≡ phone_reply out (listed kenb ++ out.derived) }
+fn reply(said: NasOut, kenb: Option<Derived>, out: &mut ActorOut)
+    ensures { out.new ≡ phone_reply said (listed kenb ++ said.derived) }
 {
-    let mut derived = listed(kenb);
-    derived.append(out.derived.as_slice());
-    ActorOut {
-        answer: out.answer,
-        sent: sent(&out.pdu),
-        tuple: tuple(out.used.as_slice()),
-        opened: opened(&out.opened),
-        derived,
-        used: out.used,
-        accepted: out.accepted,
-        ..ActorOut::of(Answer::Done)
+    out.only(said.answer);
+    out.sent = sent(&said.pdu);
+    out.tuple = tuple(said.used.as_slice());
+    out.opened = opened(&said.opened);
+    if let Some(made) = kenb {
+        out.derived.push(made);
     }
-}
-
-// A list of one derivation, or of none.
-fn listed(made: Option<Derived>) -> Few<Derived, 12>
-    ensures { result ≡ listed made }
-{
-    let mut derived = Few::new();
-    if let Some(made) = made {
-        derived.push(made);
-    }
-    derived
+    out.derived.append(said.derived.as_slice());
+    out.used = said.used;
+    out.accepted = said.accepted;
 }
 
 // A NAS message goes to the core.

@@ -8,7 +8,7 @@ ghost use Rattle.ue_context.specs.Step.{kenb_of};
 
 use crate::radio::Radio;
 use alg_choice::Caps;
-use lte_events::{ActorOut, PhoneIn};
+use lte_events::{ActorOut, Answer, PhoneIn};
 use nas_smc::PhoneNas;
 use std::marker::Model;
 
@@ -67,7 +67,9 @@ impl Phone {
         // The use by which what came was protected stands wherever its MAC was right, whatever the answer.
         ensures accepted { result.accepted ≡ accepted_in self.old input.now }
     {
-        self.routed(input)
+        let mut out = ActorOut::of(Answer::Done);
+        self.reply(input, &mut out);
+        out
     }
 
     /// The KeNB of the connection, 32 octets, which is KeNB* since a handover. `None` where there is no

@@ -19,7 +19,7 @@ ghost use Rattle.ue_context.specs.Step.{by_air, counted, start_front, to_phone};
 use crate::link::Link;
 use crate::waiting::Waiting;
 use alg_choice::{Algs, Caps, supports};
-use lte_events::{ActorOut, Answer, Few, KeyNote};
+use lte_events::{ActorOut, Answer, KeyNote};
 use nas_smc::PhoneNas;
 use nh_chain::PhoneChain;
 use pdcp_guard::{AsKeys, Srb};
@@ -46,55 +46,60 @@ impl Waiting {
         air: u32,
         bearer: Bearer,
         pdu: &[u8],
-    ) -> (Option<Link>, ActorOut)
+        out: &mut ActorOut,
+    ) -> Option<Link>
         requires { length pdu.now ≤ 1536 }
-        ensures { (started nas.now self.now result.0, result.1) ≡ phone_call (waiting nas.now self.now) (Air station air bearer pdu.now) }
+        ensures { (started nas.now self.now result, out.new) ≡ phone_call (waiting nas.now self.now) (Air station air bearer pdu.now) }
     {
         match bearer {
             Bearer::Srb1 => {}
             Bearer::Srb2 | Bearer::Drb1 | Bearer::Drb2 | Bearer::Drb3 | Bearer::Drb4 => {
-                return (None, ActorOut::of(Answer::NotConnected));
+                out.only(Answer::NotConnected);
+                return None;
             }
         }
         let start = match read_start(&nas.caps(), station, air, pdu) {
             Ok(start) => start,
-            Err(answer) => return (None, ActorOut::of(answer)),
+            Err(answer) => {
+                out.only(answer);
+                return None;
+            }
         };
         let (keys, _) = AsKeys::derive(&self.kenb, start.algs);
         match Srb::new(Bearer::Srb1).open(&keys, Dir::Down, false, pdu) {
-            Ok(_) => self.take_start(&start, station, air),
-            Err(fault) => (None, ActorOut::of(answer_of(fault))),
+            Ok(_) => self.take_start(&start, station, air, out),
+            Err(fault) => {
+                out.only(answer_of(fault));
+                None
+            }
         }
     }
 
     // The record was verified: it must name its station and air address.
-    fn take_start(&self, start: &Start, station: u8, air: u32) -> (Option<Link>, ActorOut)
-        ensures { (n : NasPart) → (started n self.now result.0, result.1)
+    fn take_start(&self, start: &Start, station: u8, air: u32, out: &mut ActorOut) -> Option<Link>
+        ensures { (n : NasPart) → (started n self.now result, out.new)
             ≡ by_air (waiting n self.now) (Some (to_phone (as_keys_of octet_reading self.now.kenb start.now.algs) Srb1 start.now.count))
             (start_row start.now.count start.now.algs start.now.named station air (Opened [])) }
     {
         let (keys, _) = AsKeys::derive(&self.kenb, start.algs);
         let accepted = Some(verified_use(&keys, Bearer::Srb1, start.count, Dir::Down));
         if !start.named {
-            let out = ActorOut {
-                accepted,
-                ..ActorOut::of(Answer::NotAddressed)
-            };
-            return (None, out);
+            out.only(Answer::NotAddressed);
+            out.accepted = accepted;
+            return None;
         }
-        let (link, out) = self.secure(start, station, air);
-        (Some(link), ActorOut { accepted, ..out })
+        let link = self.secure(start, station, air, out);
+        out.accepted = accepted;
+        Some(link)
     }
 
     // The connection begins: its chain with KeNB, SecurityModeComplete goes unciphered, and all that follows
     // is ciphered (TS 33.401 7.2.8.1.1, TS 36.331 5.3.4.3).
-    fn secure(&self, start: &Start, station: u8, air: u32) -> (Link, ActorOut)
-        ensures { (n : NasPart) → (linked n result.0, result.1)
+    fn secure(&self, start: &Start, station: u8, air: u32, out: &mut ActorOut) -> Link
+        ensures { (n : NasPart) → (linked n result, out.new)
             ≡ by_air (waiting n self.now) None (LinkSecured station air start.now.algs start.now.count) }
     {
         let (keys, made) = AsKeys::derive(&self.kenb, start.algs);
-        let mut derived = Few::new();
-        derived.append(made.as_slice());
         let mut bearers = Bearers::new();
         bearers.accept_srb(Bearer::Srb1, start.count);
         let mut link = Link {
@@ -108,19 +113,16 @@ impl Waiting {
             by_handover: false,
         };
         let complete = RrcRecord::SecurityModeComplete.write();
-        let Some(sent) = link.signal(Bearer::Srb1, false, complete.as_slice()) else {
+        if !link.signal(Bearer::Srb1, false, complete.as_slice(), out) {
             unreachable!()
-        };
-        let out = ActorOut {
-            derived,
-            note: Some(KeyNote {
-                ncc: 0,
-                way: Way::Initial,
-                key: self.kenb.octets(),
-            }),
-            ..sent
-        };
-        (link, out)
+        }
+        out.derived.append(made.as_slice());
+        out.note = Some(KeyNote {
+            ncc: 0,
+            way: Way::Initial,
+            key: self.kenb.octets(),
+        });
+        link
     }
 }
 

@@ -5,5 +5,5 @@ use Rattle.enb_context.proofs.station.Station.air.Goals as goal
 
 pub returns : goal.returns
 returns c =
-    serves _ _ c.in-Some.context c.air.new.self c.air.result (AirPdu c.args.air c.args.bearer c.args.pdu.now) c.self.view_is (search rules)
+    serves _ _ c.in-Some.context c.air.new.self c.air.new.out (AirPdu c.args.air c.args.bearer c.args.pdu.now) c.self.view_is (search rules)
     c.air.ensures.step

@@ -6,5 +6,5 @@ use Rattle.enb_context.proofs.station.Station.command.Goals as goal
 
 pub returns : goal.returns
 returns c =
-    serves_at _ _ c.in-Some.context c.command.new.self c.command.result (StationActs (Command)) c.self.view_is (search rules)
+    serves_at _ _ c.in-Some.context c.command.new.self c.command.new.out (StationActs (Command)) c.self.view_is (search rules)
     c.command.ensures.step

@@ -5,16 +5,16 @@ use Rattle.enb_context.proofs.station.Station.prep_air.Goals as goal
 
 pub returns-in_default : goal.returns-in_default
 returns-in_default c =
-    prep_absent c.args.self.now c.args.air c.args.bearer c.args.pdu.now c.of.result c.requires.elsewhere (search rules) c.of.ensures
+    prep_absent c.args.self.now c.args.air c.args.bearer c.args.pdu.now c.only.new.self c.requires.elsewhere (search rules) c.only.ensures
 
 pub returns-then-not-is_srb1 : goal.returns-then-not-is_srb1
 returns-then-not-is_srb1 c =
-    prep_other c.args.self.now c.in-Some.prep.now c.args.air c.args.bearer c.args.pdu.now c.of-then-not-is_srb1.result c.requires.elsewhere (search rules) (search rules) c.of-then-not-is_srb1.ensures
+    prep_other c.args.self.now c.in-Some.prep.now c.args.air c.args.bearer c.args.pdu.now c.only-then-not-is_srb1.new.self c.requires.elsewhere (search rules) (search rules) c.only-then-not-is_srb1.ensures
 
 pub returns-in-Err : goal.returns-in-Err
 returns-in-Err c =
     rw (first_is c.args.bearer (search rules))
-    (prep_refused c.args.self.now c.in-Some.prep.now c.args.air c.args.pdu.now c.in-Err.fault c.of-in-Err.result c.requires.elsewhere (search rules) (search rules) (search rules))
+    (prep_refused c.args.self.now c.in-Some.prep.now c.args.air c.args.pdu.now c.in-Err.fault c.only-in-Err.new.self c.requires.elsewhere (search rules) (search rules) (search rules))
 
 pub returns : goal.returns
 returns c =

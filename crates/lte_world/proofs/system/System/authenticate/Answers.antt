@@ -22,9 +22,10 @@ returns-in-Chance-clause-happens c =
 pub returns-clause-happens : goal.returns-clause-happens
 returns-clause-happens c =
     happens_from (record { phone = c.self.inside.phone; core = c.self.inside.core; stations = c.self.inside.stations.items; stores = c.self.inside.network }) c.args.self.now _ c.self.view_is (Event.Auth c.args.ksi c.args.root c.args.caps) c.args.step _
-    (auth_new (record { phone = c.self.inside.phone; core = c.self.inside.core; stations = c.self.inside.stations.items; stores = c.self.inside.network }) c.enroll.new.self c.args.ksi c.args.root c.args.caps c.args.step c.step-out.new.self c.step-out-2.new.self c.step-out.result c.step-out-2.result c.line.result c.in-New.ensures.enrolled
-    (c.step-out.ensures.step ∙ ap (λ k. phone_call c.self.inside.phone (PhoneIn.Auth c.args.ksi k)) c.of_octets-root.ensures)
-    (c.step-out-2.ensures.step ∙ ap (λ k. core_call c.self.inside.core (CoreIn.Auth c.args.ksi k c.args.caps)) c.of_octets-root.ensures)
+    (auth_new (record { phone = c.self.inside.phone; core = c.self.inside.core; stations = c.self.inside.stations.items; stores = c.self.inside.network }) c.enroll.new.self c.args.ksi c.args.root c.args.caps c.args.step c.phone.new.phone c.core.new.core
+    (phone_call c.self.inside.phone (PhoneIn.Auth c.args.ksi c.of_octets-root.result)).1 (core_call c.self.inside.core (CoreIn.Auth c.args.ksi c.of_octets-root.result c.args.caps)).1 c.line.result c.in-New.ensures.enrolled
+    ((λ j. (c.phone.ensures.actor j, (phone_call c.self.inside.phone (PhoneIn.Auth c.args.ksi c.of_octets-root.result)).1)) ∙ ap (λ k. phone_call c.self.inside.phone (PhoneIn.Auth c.args.ksi k)) c.of_octets-root.ensures)
+    ((λ j. (c.core.ensures.actor j, (core_call c.self.inside.core (CoreIn.Auth c.args.ksi c.of_octets-root.result c.args.caps)).1)) ∙ ap (λ k. core_call c.self.inside.core (CoreIn.Auth c.args.ksi k c.args.caps)) c.of_octets-root.ensures)
     (c.line.ensures ∙ ap (λ o. line_of_reply c.args.step Who.Both None o) c.of.ensures))
 
 pub returns-in-Repeated-clause-told : goal.returns-in-Repeated-clause-told
@@ -35,5 +36,4 @@ pub returns-clause-told : goal.returns-clause-told
 returns-clause-told c =
     new_tells (record { phone = c.self.inside.phone; core = c.self.inside.core; stations = c.self.inside.stations.items; stores = c.self.inside.network }) c.args.self.now c.self.view_is _ c.enroll.new.self c.args.ksi c.args.root c.args.caps c.in-New.ensures.enrolled
     (two_told c.self.inside.phone c.self.inside.core c.args.ksi c.args.root c.of_octets-root.result c.of_octets-root.ensures c.args.caps
-    c.step-out.new.self c.step-out.result c.step-out.ensures.step c.step-out-2.new.self c.step-out-2.result c.step-out-2.ensures.step
-    _ _ _ c.requires.none c.push.ensures c.push-2.ensures)
+    _ _ _ c.requires.none c.phone.ensures.told c.core.ensures.told)

@@ -1,8 +1,13 @@
+use Rattle.lte_world.proofs.Replying.{first_is, only_told}
 use Rattle.lte_world.proofs.Turning.{phone_settles_from, phone_turns_from}
 use Rattle.lte_world.proofs.system.System.phone_turn.Goals as goal
 
-pub settle-line-requires-clause-awaits : goal.settle-line-requires-clause-awaits
-settle-line-requires-clause-awaits c = phone_settles_from _ c.args.self.now c.self.view_is c.args.input c.step-out.new.self c.step-out.result c.step-out.ensures.step c.requires.can
+pub settle-requires-clause-awaits : goal.settle-requires-clause-awaits
+settle-requires-clause-awaits c =
+    phone_settles_from _ c.args.self.now c.self.view_is c.args.input c.phone.new.phone c.first.result.now
+    (λ j. (c.phone.ensures.actor j, first_is _ _ _ (only_told _ _ _ c.requires.none c.phone.ensures.told) c.first.ensures j)) c.requires.can
 
 pub returns-clause-turns : goal.returns-clause-turns
-returns-clause-turns c = phone_turns_from _ c.args.self.now c.self.view_is c.args.input c.step-out.new.self c.step-out.result c.step-out.ensures.step c.args.sender c.args.step c.settle-line.result _ c.settle-line.ensures.settled
+returns-clause-turns c =
+    phone_turns_from _ c.args.self.now c.self.view_is c.args.input c.phone.new.phone c.first.result.now
+    (λ j. (c.phone.ensures.actor j, first_is _ _ _ (only_told _ _ _ c.requires.none c.phone.ensures.told) c.first.ensures j)) c.args.sender c.args.step c.settle.result _ c.settle.ensures.settled

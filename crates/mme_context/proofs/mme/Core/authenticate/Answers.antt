@@ -7,5 +7,5 @@ pub returns : goal.returns
 returns c =
     let rest = rest_in c.self.inside in
     whole _ _ (CoreAuth c.args.ksi c.args.root c.args.caps) _ _ c.self.view_is
-    (λ j. (core_of c.authenticate.new.self (record rest { latest = c.args.caps }), c.of.ensures j))
+    (λ j. (core_of c.authenticate.new.self (record rest { latest = c.args.caps }), c.only.ensures j))
     (c.authenticate.ensures rest)

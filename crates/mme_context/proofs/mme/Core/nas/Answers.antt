@@ -8,5 +8,5 @@ pub returns : goal.returns
 returns c =
     let rest = rest_in c.self.inside in
     whole _ _ (CoreNasPdu c.args.pdu.now) _ _ c.self.view_is
-    (c.answer.ensures ∙ ap (core_after (core_of c.on_pdu-out.new.self rest) c.on_pdu-out.result) c.has_new_context.ensures)
-    (c.on_pdu-out.ensures rest)
+    (c.answer.ensures ∙ ap (core_after (core_of c.on_pdu-said.new.self rest) c.on_pdu-said.result) c.has_new_context.ensures)
+    (c.on_pdu-said.ensures rest)

@@ -12,4 +12,4 @@ pub returns-in-Err-open : goal.returns-in-Err-open
 returns-in-Err-open c =
     let s = c.in-Ok.start in
     rw c.in-Srb1.is
-    (start_fails c.args.nas.now c.args.self.now c.args.station c.args.air c.args.pdu.now s.count s.algs s.named (search rules) (search rules) c.in-Err-open.fault c.of-in-Err-open.result (search rules) (search rules))
+    (start_fails c.args.nas.now c.args.self.now c.args.station c.args.air c.args.pdu.now s.count s.algs s.named (search rules) (search rules) c.in-Err-open.fault c.only-in-Err-open.new.self (search rules) (search rules))

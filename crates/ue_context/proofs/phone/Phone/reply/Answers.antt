@@ -1,7 +1,7 @@
 use Rattle.std.proofs.Common.{◌∙◌, ap, sym}
 use Rattle.lte_events.specs.declared.inputs.PhoneIn.TheVariants.{Nas}
 use Rattle.lte_machine.specs.Calls.{phone_call}
-use Rattle.ue_context.proofs.phone.Phone.routed.Goals as goal
+use Rattle.ue_context.proofs.phone.Phone.reply.Goals as goal
 
 pub returns-in-Nas : goal.returns-in-Nas
 returns-in-Nas c =

@@ -1,7 +1,7 @@
 use Rattle.std.proofs.Common.{◌∙◌, ap, rules, ◌≡◌}
 use Rattle.lte_events.specs.declared.inputs.CoreIn.TheVariants.{Nas}
 use Rattle.lte_machine.specs.Calls.{core_call}
-use Rattle.mme_context.proofs.mme.Core.routed.Goals as goal
+use Rattle.mme_context.proofs.mme.Core.reply.Goals as goal
 
 pub returns-in-Nas : goal.returns-in-Nas
 returns-in-Nas c =
