@@ -45,7 +45,7 @@ impl Priority {
         self.first
     }
 
-    /// The other algorithm. `None` where the list has one alone.
+    /// The other algorithm. `None` if the list has only one.
     pub fn second(&self) -> Option<Eea>
         ensures value { result ≡ slice_get self.now 1 }
         ensures no_third { length self.now ≤ 2 }

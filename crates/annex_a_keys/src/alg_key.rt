@@ -7,7 +7,7 @@ use crate::{AlgType, Derived};
 use hmac_kdf::{KdfInput, KdfKey};
 use std::marker::Model;
 
-/// An algorithm key (TS 33.401 A.7): 32 octets, of which a 128-bit algorithm takes the last 16.
+/// An algorithm key (TS 33.401 A.7): 32 octets. A 128-bit algorithm takes the last 16.
 #[derive(Clone, Copy, Debug, PartialEq, Eq)]
 pub struct AlgKey {
     octets: [u8; 32],

@@ -87,7 +87,7 @@ impl Kasme {
         self.keyed().nas_alg(kind, id)
     }
 
-    /// This KASME, of which several NAS algorithm keys are to be derived.
+    /// This KASME, ready to derive several NAS algorithm keys.
     pub fn keyed(&self) -> KeyedKasme
         ensures { result ≡ self.now }
     {
@@ -97,7 +97,7 @@ impl Kasme {
     }
 }
 
-/// A KASME of which several NAS algorithm keys are derived: each after the first takes half the work.
+/// A KASME that derives several NAS algorithm keys: each after the first takes half the work.
 #[derive(Drop)]
 pub struct KeyedKasme {
     key: KdfKey,

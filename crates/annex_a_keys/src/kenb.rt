@@ -69,7 +69,7 @@ impl Kenb {
         self.keyed().alg(kind, id)
     }
 
-    /// This KeNB, of which several algorithm keys are to be derived.
+    /// This KeNB, ready to derive several algorithm keys.
     pub fn keyed(&self) -> KeyedKenb
         ensures { result ≡ self.now }
     {
@@ -79,7 +79,7 @@ impl Kenb {
     }
 }
 
-/// A KeNB of which several algorithm keys are derived: each after the first takes half the work.
+/// A KeNB that derives several algorithm keys: each after the first takes half the work.
 #[derive(Drop)]
 pub struct KeyedKenb {
     key: KdfKey,

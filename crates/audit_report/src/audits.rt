@@ -20,9 +20,9 @@ use run_report::{Course, Unwritten, run_through, write_chance};
 use std::alloc::Global;
 
 /// Lets these events happen to a system, and writes the exact audit of its keys, each line by one `write_all`: which
-/// station can derive which key by itself, and on which path, when a check of its own has accepted it. Where there is
-/// a coincidence its line is written alone, and the answer is whether there was one. `Memory` where memory runs
-/// out, and `WriteFault` where the output fails; a prefix is then written.
+/// station can derive which key by itself, and on which path, when a check of its own has accepted it. At
+/// a coincidence it writes only that line, and the answer is whether there was one. `Memory` if memory runs
+/// out, and `WriteFault` if the output fails; a prefix is then written.
 #[tactic(auto, using(crate::proofs::Together::each_alone))]
 pub fn write_audit<W: Sink>(
     alloc: Global,

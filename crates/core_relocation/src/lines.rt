@@ -6,7 +6,7 @@ use lte_events::{Line, Who};
 /// What is answered to an event of a system with two cores.
 #[derive(Clone, Debug, PartialEq, Eq, Drop)]
 pub enum TwoLine {
-    /// The line of the event, and the core that acted, if a core alone did.
+    /// The line of the event, and the core that acted, if only a core did.
     By(Line, Option<u8>),
     /// The event asks this core, which does not hold the context; where a record came to it, it is not to get it
     /// either.

@@ -27,7 +27,7 @@ pub struct MemPeers {
 }
 
 impl MemPeers {
-    /// Peers of which none is started, as many as replies, at most 256. The one error is want of memory.
+    /// Peers that are not started, as many as replies, at most 256. The only error is want of memory.
     pub fn new(
         alloc: Global,
         replies: Vec<Vec<u8>>,

@@ -33,8 +33,8 @@ pub enum PeerCall {
 
 /// Peers that are started, each in a role, sent octets and asked for octets.
 ///
-/// A peer's number is the place of its role among those started, from 0. Each call changes what is
-/// told of its own peer alone.
+/// A peer's number is the place of its role among those started, from 0. Each call changes only what is
+/// told of its own peer.
 pub trait Peers {
     ghost use Rattle.std.specs.Prelude.{◌≡◌, ◌≤◌, ℕ, Option, length, take, IfOk, OnOk, OnErr, IsErrOf, IfSome};
     ghost use Rattle.std.specs.Option.{option_map};

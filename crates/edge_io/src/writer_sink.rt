@@ -14,8 +14,8 @@ use crate::lines::are_lines;
 use crate::sink::Sink;
 use crate::writer::Writer;
 
-/// A sink over a writer, such as standard output. It counts each error of the writer, and each
-/// write of which the writer took nothing, and tells nothing of the octets. It doesn't flush.
+/// A sink over a writer, such as standard output. It counts each error of the writer and each write that took
+/// nothing, and tells nothing of the octets. It does not flush.
 #[derive(Drop)]
 pub struct WriterSink<W: Drop> {
     /// The writer that the octets go to.

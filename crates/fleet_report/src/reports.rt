@@ -19,9 +19,9 @@ use report_text::{TextMemory, end, row_line};
 use run_report::{Unwritten, has_counts, write_text};
 use std::alloc::Global;
 
-/// Lets these events happen to a fleet of so many phones, 1 to 256, and writes the report of them, each of its lines by one
-/// `write_all`: a line for each event, and behind the last the end of each phone's own report. A coincidence ends
-/// the report, and the answer is whether there was one. `Memory` where memory runs out, and `WriteFault` where the
+/// Lets these events happen to a fleet of 1 to 256 phones and writes their report, each line by one
+/// `write_all`: a line for each event, and after the last the end of each phone's own report. A coincidence ends
+/// the report, and the answer is whether there was one. `Memory` if memory runs out, and `WriteFault` if the
 /// output fails; a prefix is then written.
 pub fn write_fleet<W: Sink>(
     alloc: Global,

@@ -61,11 +61,11 @@ impl Fleet {
 
     /// A phone takes an event, which can happen to it; there are fewer than 200,000 events before it.
     ///
-    /// An authentication with a root of another phone is answered `Taken`, with the least such phone, and no
-    /// world sees it. `Chance` is a coincidence of the phone's own world, and `Cross` a key that the event adds to
-    /// the phone's ladder and another phone's ladder has already: the first such key, and there the least such
-    /// phone. Both end the fleet: the event does not enter the journal, and every later event is answered with
-    /// the same. `Memory` leaves the fleet as it was.
+    /// For an authentication with a root of another phone the answer is `Taken`, with the least such phone, and no
+    /// world sees it. `Chance` is a coincidence of the phone's own world. `Cross` is a key that the event adds to
+    /// the phone's ladder although another phone's ladder has it: the first such key, and the least such
+    /// phone. Both end the fleet: the event does not enter the journal, and every later event gets the same
+    /// answer. `Memory` leaves the fleet as it was.
     pub fn apply(&mut self, phone: u16, event: &Event) -> Result<FleetLine, FleetFault>
         requires { CanTake self.old phone event.now }
         ensures memory { result ≡ Err FleetFault.Memory → self.new ≡ self.old }
@@ -109,9 +109,9 @@ impl Fleet {
 
     /// The events that were answered by a line, in order, each with its phone; those answered `Taken` among them.
     ///
-    /// Where no coincidence ended the fleet, no phone sees another: each phone's lines are those of the run of its
-    /// own events, no use of a key stands twice, and what stations hold for the other phones derives no key that
-    /// comes of a phone's root.
+    /// If no coincidence ended the fleet, no phone sees another: each phone's lines are those of the run of its
+    /// own events, no use of a key repeats, and no key from a phone's root can be derived from what stations hold
+    /// for the other phones.
     pub fn journal(&self) -> &[(u16, Event)]
         ensures journal { result.now ≡ self.now.journal }
         ensures isolation { self.now.over ≡ None → LinesAreOwn self.now.setup (length self.now.worlds) result.now }

@@ -9,8 +9,8 @@ use crate::blocks::{block_of, padded};
 use sha2::{Digest, Sha256};
 use std::marker::Model;
 
-/// A key of 32 octets of which several keys are derived: what HMAC makes of the key before any text is made once
-/// (RFC 2104, 4), so that each key after the first takes two compressions of SHA-256 in place of four.
+/// A key of 32 octets that derives several keys. What HMAC computes from the key before any text is computed once
+/// (RFC 2104, 4), so each key after the first takes two compressions of SHA-256 and not four.
 #[derive(Drop)]
 pub struct KdfKey {
     key: [u8; 32],

@@ -8,10 +8,10 @@ use crate::status::Status;
 use edge_io::{Sink, Source};
 use std::alloc::Global;
 
-/// Runs the program with the words after its name, of which it takes none: each line of the input is answered at once, in
-/// order, and the answer is the status. One line is held at a time.
+/// Runs the program: answers each line of the input at once, in order, and returns the status. It holds one line at
+/// a time.
 ///
-/// Words are answered with `BadWords`, and leave input and output as they were.
+/// It takes no words after its name: `BadWords` if there are any, and input and output stay as they were.
 pub fn run<R: Source, W: Sink>(
     alloc: Global,
     words: &[String],

@@ -7,13 +7,13 @@ pub enum Status {
     Done,
     /// Memory ran out.
     Memory,
-    /// There are words, of which the program takes none.
+    /// There are words; the program takes none.
     BadWords,
     /// Each line was answered, and one was bad at least.
     Refused,
-    /// The input failed while it was read.
+    /// Reading the input failed.
     ReadFault,
-    /// The output failed while it was written.
+    /// Writing the output failed.
     WriteFault,
     /// A line has more than 65,536 octets.
     TooLong,

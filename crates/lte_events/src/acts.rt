@@ -27,7 +27,7 @@ pub enum PhoneAct {
     SendRrc(Bearer, ShortText),
     /// Sends a NAS text.
     SendNas(ShortText),
-    /// Passes over so many sending COUNTs of a bearer, or of NAS where there is none.
+    /// Skips this many sending COUNTs of a bearer, or of NAS without one.
     Skip(Option<Bearer>, u32),
 }
 

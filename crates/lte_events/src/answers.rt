@@ -31,9 +31,9 @@ pub enum Answer {
     /// A protected message is shorter than its header and MAC: 6 octets for NAS, 5 on an SRB, 2 on a
     /// DRB, which has no MAC.
     Short,
-    /// The first octet of a protected message is none of those taken.
+    /// The first octet does not begin a protected message that is taken here.
     BadHeader(u8),
-    /// A record reads, and is none of the kinds taken here: its kind.
+    /// A record reads well but is not of a kind taken here: its kind.
     WrongKind(u8),
     /// The phone has no connection.
     NotConnected,
@@ -51,27 +51,27 @@ pub enum Answer {
     OldConnection(u32, u32),
     /// The context is not active yet.
     NotActive,
-    /// The cell is none of those taken here.
+    /// The cell is not one of those taken here.
     UnknownCell,
     /// The context did not come by an X2 handover.
     NoPathSwitch,
     /// An attempt at a handover or a key change is present: its number.
     AttemptOpen(u32),
-    /// There is no such handover attempt.
+    /// There is no handover attempt, or not this one.
     NoAttempt,
     /// The command of the handover or key change was sent already.
     CommandSent,
     /// The number is not above the greatest seen: seen, got. Of an answer to an attempt that was answered
     /// already: the attempt's number, twice.
     Repeated(u32, u32),
-    /// Eight handover preparations stand.
+    /// There are eight handover preparations already.
     PrepFull,
     /// The handover attempt was not acknowledged yet.
     NotReady,
     /// Too few numbers are left.
     NumberSpent,
-    /// No NAS message asks for a connection. At a phone also: a key change, where the KASME in use is that of
-    /// the connection.
+    /// No NAS message asks for a connection. At a phone also: a key change although the KASME in use is already
+    /// that of the connection.
     NoTrigger,
     /// No NAS security mode command procedure is open.
     NoSmc,

@@ -14,12 +14,12 @@ pub struct Record {
     pub octets: Octets,
 }
 
-/// What is told of a key that an actor came by.
+/// What is told of a key that an actor got.
 #[derive(Clone, Copy, Debug, PartialEq, Eq)]
 pub struct KeyNote {
     /// The NCC that belongs to it, 0 to 7.
     pub ncc: u8,
-    /// How the actor came by it.
+    /// How the actor got it.
     pub way: Way,
     /// Its 32 octets.
     pub key: [u8; 32],

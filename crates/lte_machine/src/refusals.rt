@@ -10,8 +10,8 @@ ghost use Rattle.lte_machine.specs.StationStep.{station_step};
 ghost use Rattle.lte_machine.specs.CoreState.{Core, CoreInput};
 ghost use Rattle.lte_machine.specs.CoreStep.{core_step};
 
-/// A refused step leaves the phone as it was, but for the uplink NAS COUNT of a SECURITY MODE REJECT
-/// that it sends under a context (TS 24.301 5.4.3.5), and sends nothing but such a Reject. This holds
+/// A refused step leaves the phone as it was, except for the uplink NAS COUNT of a SECURITY MODE REJECT
+/// that it sends under a context (TS 24.301 5.4.3.5), and sends nothing except such a Reject. This holds
 /// in every reading of keys and chain numbers, for every input and outcome of its opening.
 pub fn refused_phone_step<K, C>()
     ensures state { (r : Reading K C) (s : Phone K C) (i : PhoneInput K) (outcome : Outcome) →

@@ -16,7 +16,7 @@ ghost use Rattle.lte_properties.specs.Accounts.{UsesAreThoseSent, HoldersGain};
 /// B.2.1). So what is said of all uses is said of all that was sent.
 ///
 /// It holds for any ciphers and any writing of S1 and X2, whichever test says that two keys are one,
-/// and by both ways of opening; also behind a coincidence.
+/// and by both ways of opening; also after a coincidence.
 pub fn uses_are_those_of_the_records_sent()
     ensures by_uses { (same : Term → Term → Bool) (c : Ciphers Term)
         (between : Fields → Option (NumberedKey Term ℕ) → List ℕ) (setup : Setup) (events : List Event)

@@ -18,7 +18,7 @@ ghost use Rattle.lte_properties.specs.ChainHolds.{ChainNumbersHold};
 ///
 /// It holds for any ciphers and any writing of S1 and X2, whichever test says that two keys are one:
 /// where records open by their senders' uses, as in the written machine (`by_uses`), and where octets
-/// open by themselves (`by_octets`); also behind a coincidence.
+/// open by themselves (`by_octets`); also after a coincidence.
 pub fn chain_numbers_hold_in_every_run()
     ensures by_uses { (same : Term → Term → Bool) (c : Ciphers Term)
         (between : Fields → Option (NumberedKey Term ℕ) → List ℕ) (setup : Setup) (events : List Event)

@@ -7,13 +7,13 @@ ghost use Rattle.lte_machine.specs.Ranges.{AllOf, IsEvent, IsSetup};
 ghost use Rattle.lte_properties.specs.Headline.{Headline};
 
 /// The headline holds of every setup and every list of events: whatever is delivered, lost, repeated, late,
-/// skipped or injected. In the run of the written machine, of which the report is the value, a phone that
+/// skipped or injected. The report is the value of the written machine's run. In that run a phone that
 /// obeys a handover command fewer than eight chain steps ahead shares the target's key; intact packets in
 /// a ready receiver's COUNT window open to what was sent; no key, COUNT, bearer and direction repeats; and
 /// stations other than source and target cannot derive a shared vertical key. A coincidence ends the run,
 /// and all this holds of the steps before it.
 ///
-/// It asks that setup and events are in range (`ranges`), as they are where they fit their types, the
+/// It requires that setup and events are in range (`ranges`), as they are if they fit their types, the
 /// system can start with the setup and each event can happen (`conditions`).
 pub fn the_headline_holds()
     ensures ranges { (setup : Setup) (events : List Event) → IsSetup setup → AllOf IsEvent events → Headline setup events }

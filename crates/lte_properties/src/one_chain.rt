@@ -24,7 +24,7 @@ ghost use Rattle.lte_properties.specs.Chains.{ChainsHold};
 ///   context, in place of a key that the phone had taken at that station;
 /// - an attempt, and a change of the key, belong to the context under whose key they were opened;
 /// - each key that the phone took has the number of its place on the chain of the phone's KASME. It
-///   belongs to the connection for which its air address was drawn, but for a change of the key that
+///   belongs to the connection for which its air address was drawn, except at a change of the key that
 ///   was made from another authentication; its number does not pass the core's.
 ///
 /// A change of the key begins the next number. TS 33.401 7.2.8.1.1, 7.2.9.2.

@@ -13,7 +13,7 @@ ghost use Rattle.lte_properties.specs.SecondCase.{SecondAtStarting};
 
 /// In every run of the written machine with the algorithms of TS 33.401 Annex B that has met no
 /// coincidence: whatever event comes next, a record whose sender's integrity use is the one that its
-/// receiver expects, and whose ciphering is another, comes at a station alone whose context's security is
+/// receiver expects, but whose ciphering is another, comes only at a station whose context's security is
 /// starting. There the octets decide (`open_case`): the station waits for the unciphered Security Mode
 /// Complete, and the phone may cipher already. Anywhere else a record that has the expected integrity use
 /// has the expected ciphering too, and opens to the text that was sent. TS 33.401 7.2.4.5, TS 36.331

@@ -34,13 +34,13 @@ pub const LIMIT: usize = 16_777_216;
 /// - `two` reads a scenario of two cores and writes its report, with the core that acted.
 /// - `audit` reads a scenario and writes which stations can derive which of its keys.
 /// - `drive` reads a scenario, starts a peer for each of its actors, tells each what its actor is told, and writes the
-///   report of `run`; where a reply differs from the local actor's, a line with both ends it.
+///   report of `run`; if a reply differs from the local actor's, it ends with a line that has both.
 /// - `serve` and a role opens the port and serves the actor of that role there: `phone`, `station` and its
-///   number 0 to 7, or `core`. It reads no input, takes no memory, and writes nothing but the line for a frame
-///   that is none.
+///   number 0 to 7, or `core`. It reads no input, takes no memory, and writes only the line for octets that are
+///   not a frame.
 /// - `gen` with a number of steps and a seed reads nothing, runs the scenario of the seed and writes its summary.
 ///
-/// Other words are answered with `BadWords`, and leave every object as it was.
+/// For other words the answer is `BadWords`, and every object stays as it was.
 pub fn run<R: Source, W: Sink, P: Peers, L: Port>(
     alloc: Global,
     words: &[String],

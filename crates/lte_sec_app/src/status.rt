@@ -7,24 +7,24 @@ pub enum Status {
     Done,
     /// Memory ran out.
     Memory,
-    /// The words are none that the program takes.
+    /// The words are not a command of the program.
     BadWords,
-    /// The input is no text of the command.
+    /// The input is not a text of the command.
     Refused,
-    /// The input failed while it was read.
+    /// Reading the input failed.
     ReadFault,
-    /// The output failed while it was written.
+    /// Writing the output failed.
     WriteFault,
     /// A peer failed, or the port of a served actor.
     PeerFault,
-    /// A coincidence: a derivation or a KASME has the octets of another key, two phones have one key, or a MAC let
-    /// pass what was sealed otherwise or by nobody.
+    /// A coincidence: a derivation or a KASME has the octets of another key, two phones have one key, or a MAC
+    /// verified although the record was sealed under another use, or forged.
     Coincidence,
     /// A peer's reply differs from the local actor's.
     Differs,
     /// The input has more than 16,777,216 octets.
     TooLong,
-    /// A frame of a session is no frame.
+    /// What came in a session is not a frame.
     BadFrame,
 }
 

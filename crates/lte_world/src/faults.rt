@@ -5,6 +5,6 @@ use key_terms::Proof;
 pub enum WorldFault {
     /// Memory ran out.
     Memory,
-    /// A coincidence: two keys, or two uses of keys, are the same by chance alone. It ends the world.
+    /// A coincidence: two keys, or two uses of keys, are equal by chance. It ends the world.
     Chance(Proof),
 }

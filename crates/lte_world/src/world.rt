@@ -27,7 +27,7 @@ use std::marker::Model;
 ///
 /// A contract sees what it started with, the events that it took, the coincidence that ended it if one did, and
 /// whether there is room for one event more. All else is what the run of the written machine in octets says of
-/// these events, up to a coincidence: behind one nothing is said of `ladder`, `records`, `uses`, the KeNBs and
+/// these events, up to a coincidence: after one nothing is said of `ladder`, `records`, `uses`, the KeNBs and
 /// `replies`.
 #[derive(Drop)]
 pub struct World {

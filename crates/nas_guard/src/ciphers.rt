@@ -33,7 +33,7 @@ pub fn mac(key: &AlgKey, count: u32, bearer: u8, dir: Dir, text: &[u8]) -> [u8; 
     eia2(&key.key128(), count, bearer, dir, text)
 }
 
-/// The MAC of an octet and the octets behind it, as `mac` of them joined (TS 33.401 B.2.1). `bearer` is
+/// The MAC of an octet and the octets after it, as `mac` of them joined (TS 33.401 B.2.1). `bearer` is
 /// BEARER, of 5 bits.
 pub fn mac_behind(key: &AlgKey, count: u32, bearer: u8, dir: Dir, first: u8, text: &[u8]) -> [u8; 4]
     requires { bearer < 32 }

@@ -55,7 +55,7 @@ impl NasKeys {
         mac(&self.int, count, 0, dir, covered)
     }
 
-    /// The NAS-MAC over a sequence number and the text as sent behind it, as `mac` of them joined.
+    /// The NAS-MAC over a sequence number and the text as sent after it, as `mac` of them joined.
     pub fn mac_behind(&self, count: u32, dir: Dir, sn: u8, sent: &[u8]) -> [u8; 4]
         ensures { result ≡ mac_of self.now.int count nas_bearer dir (sn ∷ sent.now) }
     {

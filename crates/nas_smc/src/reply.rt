@@ -15,7 +15,7 @@ pub struct NasOut {
     pub pdu: Option<NasPdu>,
     /// The NAS text that was accepted, if one was.
     pub opened: Option<ShortText>,
-    /// The uplink NAS COUNT of a message that asks for a connection, of which KeNB is derived (TS 33.401
+    /// The uplink NAS COUNT of a message that asks for a connection, from which KeNB is derived (TS 33.401
     /// 7.2.8.1.1 and A.3).
     pub trigger: Option<u32>,
     /// The derivations of NAS keys, by rising algorithm type.

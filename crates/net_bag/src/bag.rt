@@ -97,7 +97,7 @@ impl Bag {
     }
 
     /// The number of the first record of this interface that has these octets, on NAS from the second
-    /// octet on; none exactly where there is no such record.
+    /// octet on; `None` exactly if there is no such record.
     pub fn find(&self, class: Class, octets: &[u8]) -> Option<u32>
         ensures { result ≡ spec.first_sent self.now.records class octets.now }
     {

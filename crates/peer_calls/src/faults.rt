@@ -9,7 +9,7 @@ pub enum DriveFault {
     PeerFault,
     /// A reply differs from the wanted one.
     Differs {
-        /// The number of the event, or none where a peer was set up.
+        /// The number of the event, or `None` while a peer was set up.
         step: Option<u32>,
         /// The wanted reply.
         wanted: Frame,

@@ -113,7 +113,7 @@ pub fn cell_at(octets: &[u8], place: u8) -> Result<Cell, RecFault>
     }
 }
 
-/// The text behind the kind, to the end of the record: 0 to 200 octets; more are `Long`.
+/// The text after the kind, to the end of the record: 0 to 200 octets; more are `Long`.
 #[tactic(auto, unfolding(crate::specs::Field::rest_at))]
 pub fn text_of(octets: &[u8]) -> Result<ShortText, RecFault>
     requires { 0 < length octets.now }

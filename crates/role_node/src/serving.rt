@@ -15,10 +15,10 @@ use role_wire::{FrameFault, FrameIn, input_frame, read_frame, reply_frame};
 /// How a session ended.
 #[derive(Clone, Copy, PartialEq, Eq, Debug)]
 pub enum ServeEnd {
-    /// The input ended behind a frame, and each frame has its reply.
+    /// The input ended after a frame, and each frame has its reply.
     Done,
-    /// The next frame is none: its place, in octets from the begin of the session, which stops at
-    /// 2^64 - 1, and why.
+    /// The next octets are not a frame: their place, in octets from the beginning of the session, which
+    /// stops at 2^64 - 1, and why.
     BadFrame(u64, FrameFault),
     /// A read of the port failed.
     ReadFault,

@@ -38,10 +38,10 @@ pub enum FrameFault {
     Ended,
     /// The input ended inside the frame.
     Truncated,
-    /// The length, which is above 4,096. Nothing behind it was read.
+    /// The length, which is above 4,096. Nothing after it was read.
     TooLong(u16),
-    /// The body is none for this role and place in the session: the offset of its first bad octet,
-    /// counted from the kind; where octets are wanting, its end.
+    /// There is no such body for this role and place in the session: the offset of its first bad octet,
+    /// counted from the kind; its end if octets are missing.
     BadBody(u16),
     /// A read of the source failed.
     ReadFault,

@@ -5,7 +5,7 @@ ghost use Rattle.role_wire.specs.declared.frames.FrameIn.{FrameIn};
 ghost use Rattle.role_wire.specs.Ranges.{IsFrame};
 ghost use Rattle.role_wire.specs.Frame.{body_limit, frame_spelling, frame_at};
 
-/// The octets of a frame are read as that frame, whatever stands behind them.
+/// The octets of a frame are read as that frame, whatever follows them.
 pub fn spelled_is_read()
     ensures { (role : Role) (first : Bool) (frame : FrameIn) (rest : List ℕ) → IsFrame role first frame
         → frame_at role first (frame_spelling frame ++ rest) ≡ Ok frame }

@@ -13,11 +13,11 @@ use rec_base::u16_at;
 
 /// Reads the next frame for a role: the first of a session is a Setup, and no later one is.
 ///
-/// Otherwise, and exactly then where the source tells its octets and no read failed: `Ended` where the input ends before
-/// the frame; `Truncated` where it ends inside the two octets of the length, or inside a body whose
-/// length is at most 4,096; `TooLong` where the length is above 4,096, and nothing behind it is then
-/// read; `BadBody` where the body is none for the role, with the offset of its first bad octet, counted
-/// from the kind. `ReadFault` comes only where the source's count of read faults rose.
+/// Otherwise, and exactly then if the source tells its octets and no read failed: `Ended` if the input ends before
+/// the frame; `Truncated` if it ends inside the two octets of the length, or inside a body whose
+/// length is at most 4,096; `TooLong` if the length is above 4,096, and nothing after it is then
+/// read; `BadBody` if the role takes no such body, with the offset of its first bad octet, counted
+/// from the kind. `ReadFault` comes only if the source's count of read faults rose.
 pub fn read_frame<S: Source>(src: &mut S, role: Role, first: bool) -> Result<FrameIn, FrameFault>
     requires ready { IsTrue (S.told src.old).ready }
     requires role { IsRole role }

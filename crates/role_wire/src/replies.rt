@@ -14,9 +14,9 @@ use rec_base::{Bearer, Bounded, RecFault, UserText, Way};
 use rec_fields::{algs_octet, list_of, put_u16, put_u32};
 
 /// The frame of a reply of an actor: kind 80; the number of the answer; the values that it keeps,
-/// behind their length; the record sent, with its address; the text opened; the outputs of the
-/// derivations, behind their count; what is told of a key; the alarm. The three answers of the network
-/// alone, 50 to 52, which no actor gives, keep no values here.
+/// after their length; the record sent, with its address; the text opened; the outputs of the
+/// derivations, after their count; what is told of a key; the alarm. The three answers that only the
+/// network gives, 50 to 52, keep no values here.
 pub fn reply_frame(reply: &ActorOut) -> Frame
     ensures { result ≡ reply_spelling reply.now }
 {

@@ -1,4 +1,4 @@
-//! The report of a run: what a system does on each event of a list, line after line, and behind the last
+//! The report of a run: what a system does on each event of a list, line after line, and after the last
 //! all keys with their holders.
 #![tactic(auto)]
 

@@ -18,9 +18,9 @@ use report_text::{chance, end, ladder_text, line};
 use std::alloc::Global;
 
 /// Lets these events happen to a system, and writes the report of them: a line for each event by one
-/// `write_all`, and behind the last how many events, records and rows there were, and the rows. A coincidence
-/// ends the report, and the answer is whether there was one. `Memory` where memory runs out, and `WriteFault`
-/// where the output fails; a prefix is then written.
+/// `write_all`, and after the last how many events, records and rows there were, and the rows. A coincidence
+/// ends the report, and the answer is whether there was one. `Memory` if memory runs out, and `WriteFault`
+/// if the output fails; a prefix is then written.
 pub fn write_run<W: Sink>(
     alloc: Global,
     setup: &Setup,

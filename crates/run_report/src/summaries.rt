@@ -15,8 +15,8 @@ use report_text::{Figure, Tally, summary_line};
 use std::alloc::Global;
 
 /// Lets these events happen to a system, and writes the summary of them, each of its lines by one `write_all`.
-/// Where there is a coincidence its line is written alone, and the answer is whether there was one. `Memory`
-/// where memory runs out, and `WriteFault` where the output fails; a prefix is then written.
+/// At a coincidence it writes only that line, and the answer is whether there was one. `Memory`
+/// if memory runs out, and `WriteFault` if the output fails; a prefix is then written.
 pub fn write_summary<W: Sink>(
     alloc: Global,
     setup: &Setup,

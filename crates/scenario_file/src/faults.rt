@@ -9,13 +9,13 @@ use std::alloc::{AllocError, AllocFailed};
 pub enum ScenarioFault {
     /// Memory ran out. This says nothing of the text.
     Memory,
-    /// The text is no TOML document.
+    /// The text is not a TOML document.
     NotToml,
-    /// A field that must stand does not.
+    /// A required field is missing.
     Missing(Option<u32>, Field),
     /// A field has a value that it does not take.
     Wrong(Option<u32>, Field),
-    /// A key is none of the fields of its table.
+    /// A key is not a field of its table.
     Unknown(Option<u32>),
     /// There are more than 200,000 steps.
     TooMany,

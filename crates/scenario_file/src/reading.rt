@@ -33,7 +33,7 @@ pub struct FleetScenario {
 pub struct TwoScenario {
     /// The phone, the cores, the stations and their cells.
     pub setup: Setup,
-    /// The core, 0 or 1, of each station by its number; 0 where there is no such station.
+    /// The core, 0 or 1, of each station by its number; 0 if there is no such station.
     pub core_of: [u8; 8],
     /// The events, in their order, at most 200,000.
     pub events: Vec<Event>,

@@ -1,7 +1,7 @@
 ghost use Rattle.std.specs.Prelude.{◌≡◌, ◌<◌, ◌∷◌, length, IfSome, position};
 ghost use Rattle.text_lines.specs.Lines.{is_feed, lines_of};
 
-/// The first line of a text that is not empty, without its line feed, and what is behind it.
+/// The first line of a text that is not empty, without its line feed, and the rest of the text.
 pub fn first_line(text: &[u8]) -> (&[u8], &[u8])
     requires { 0 < length text.now }
     ensures lines { lines_of text.now ≡ result.0.now ∷ lines_of result.1.now }

@@ -49,9 +49,9 @@ impl Phone {
     /// One step: what comes, and the reply. The KSI of an authentication is 0 to 6, a user packet goes on a
     /// DRB, and an RRC text on an SRB.
     ///
-    /// The step is that of the written machine, and it takes no memory. Each answer stands with its cause, in the
-    /// order in which they are tried, in `PhoneChoice` of `lte_machine`, and `NoTrigger` of a key change in
-    /// `PhoneKeys`. A refused step leaves the phone as it was, but for the uplink NAS COUNT of a SECURITY
+    /// The step is that of the written machine, and it takes no memory. `PhoneChoice` of `lte_machine` has each
+    /// answer with its cause, in the order in which they are tried, and `PhoneKeys` has `NoTrigger` of a key
+    /// change. A refused step leaves the phone as it was, except for the uplink NAS COUNT of a SECURITY
     /// MODE REJECT (TS 24.301 5.4.3.5).
     pub fn step(&mut self, input: &PhoneIn) -> ActorOut
         requires { IsInput input.now }
