@@ -40,7 +40,7 @@ pub struct ChildPeers<H: Host + Drop> {
 }
 
 impl<H: Host + Drop> ChildPeers<H> {
-    /// Peers of which none is started. Any program can be named that serves a role by frames.
+    /// Peers, none started yet. Any program can be named that serves a role by frames.
     pub fn new(host: H, alloc: Global, programs: Programs) -> ChildPeers<H>
         ensures told { ⟦<ChildPeers<H> as Peers>⟧.told result ≡ None }
         ensures faults { ⟦<ChildPeers<H> as Peers>⟧.faults result ≡ 0 }

@@ -33,7 +33,7 @@ impl Preps {
         }
     }
 
-    /// Adds a preparation behind the others, or hands it back where eight stand.
+    /// Adds a preparation after the others, or hands it back if there are eight already.
     pub fn add(&mut self, prep: Prep) -> Result<(), Prep>
         ensures full { IsErr result ↔ (length self.old ≡ most_preparations) }
         ensures ok { OnOk result (self.new ≡ self.old ++ prep ∷ []) }
@@ -47,15 +47,15 @@ impl Preps {
         Ok(())
     }
 
-    /// The first preparation at an air address. `None` where there is none.
+    /// The first preparation at an air address. `None` if it has no preparation.
     pub fn at_air(&self, air: u32) -> Option<&Prep>
         ensures { option_copied result ≡ at_air air self.now }
     {
         self.list.as_slice().iter().find(|prep| prep.air == air)
     }
 
-    /// Takes the first preparation at an air address out, and leaves the others in order. `None` where
-    /// there is none.
+    /// Takes the first preparation at an air address out, and leaves the others in order. `None` if
+    /// it has no preparation.
     pub fn take_air(&mut self, air: u32) -> Option<Prep>
         ensures value { result ≡ at_air air self.old }
         ensures others { self.new ≡ without_at air self.old }

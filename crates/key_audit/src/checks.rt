@@ -8,8 +8,8 @@ use crate::{Audit, AuditRow};
 use hmac_kdf::KdfInput;
 use key_terms::{Ladder, LadderRow, Origin, Row};
 
-/// Whether an audit is the exact one of a ladder. Each row is looked at by its neighbours alone: a station can
-/// derive it exactly where it holds it, or can derive the row of its key and, for an NH, that of its SYNC-input
+/// Whether an audit is the exact one of a ladder. Each row is compared only with its neighbours: a station can
+/// derive it exactly if it holds it, or can derive the row of its key and, for an NH, that of its SYNC-input
 /// (TS 33.401 A.3, A.4, A.5 and A.7). It takes no memory.
 pub fn check(ladder: &Ladder, audit: &Audit) -> bool
     ensures { IsTrue result ↔ Exact ladder.now.rows audit.now.rows.items }

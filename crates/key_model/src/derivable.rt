@@ -28,8 +28,8 @@ pub fn no_key_above_is_derivable<S: KeySet>()
         Derivable (S.contains set) (Nh (Root r octets) t) ↔ S.contains set (Nh (Root r octets) t) }
 {}
 
-/// From a set with no KASME the KeNB* of a key of a chain can be derived exactly where the set has it
-/// or has that key: so a vertical key, of a chain number above 0, from its NH alone.
+/// From a set with no KASME the KeNB* of a key of a chain can be derived exactly if the set has it
+/// or has that key: so a vertical key, of a chain number above 0, only from its NH.
 pub fn star_is_derivable_from_its_nh<S: KeySet>()
     ensures { (set : S) (r n i pci earfcn : ℕ) (octets : List ℕ) → HasNoRoot (S.contains set) →
         Derivable (S.contains set) (Star (nh (Root r octets) n i) pci earfcn)

@@ -2,7 +2,7 @@ use crate::Row;
 use annex_a_keys::Derived;
 use rec_base::Use;
 
-/// What shows a coincidence: two keys, or two uses of keys, that are the same by chance alone.
+/// What shows a coincidence: two keys, or two uses of keys, that are the same only by chance.
 #[derive(Clone, Copy, Debug, PartialEq, Eq)]
 pub enum Proof {
     /// A row has the octets of a derivation and another origin.

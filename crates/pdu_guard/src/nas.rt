@@ -40,8 +40,8 @@ pub fn seal_nas(keys: &NasKeys, header: u8, count: u32, dir: Dir, text: &[u8], p
 /// The header type and the COUNT of a protected NAS message: the least COUNT at or above `next`, of at most 2^24, with the
 /// message's sequence number (TS 24.301 4.4.3.1).
 ///
-/// The answer is `Short` for fewer than six octets, else `BadHeader` where the first octet is none of a protected message,
-/// else `CountSpent` where that COUNT is 2^24 or more.
+/// The answer is `Short` for fewer than six octets, else `BadHeader` if the first octet is not that of a protected message,
+/// else `CountSpent` if that COUNT is 2^24 or more.
 #[tactic(auto, unfolding(crate::specs::Nas::nas_head_of))]
 pub fn nas_head(next: u32, pdu: &[u8]) -> Result<NasHead, OpenFault>
     requires { next ≤ count_limit }

@@ -68,7 +68,7 @@ impl Bearers {
     /// Makes the PDU of a text of at most 201 octets on an SRB under its next COUNT, which it takes. `cipher`
     /// says whether the bearer is ciphered (TS 36.323 5.6 and 5.7).
     ///
-    /// `CountSpent` alone, where the next COUNT would be 2^32; nothing changes then.
+    /// The only error is `CountSpent`: the next COUNT would be 2^32. Nothing changes then.
     #[tactic(auto, using(crate::proofs::Sealing::srb_sealed_is))]
     pub fn send_srb(
         &mut self,
@@ -97,7 +97,7 @@ impl Bearers {
 
     /// Makes the PDU of a packet on a DRB under its next COUNT, which it takes (TS 36.323 5.6).
     ///
-    /// `CountSpent` alone, where the next COUNT would be 2^32; nothing changes then.
+    /// The only error is `CountSpent`: the next COUNT would be 2^32. Nothing changes then.
     #[tactic(auto, using(crate::proofs::Sealing::drb_sealed_is))]
     pub fn send_drb(
         &mut self,

@@ -5,7 +5,7 @@ ghost use Rattle.report_text.specs.End.{end_text};
 use crate::TextMemory;
 use std::alloc::{AllocError, Global};
 
-/// The line of a report behind its last event, in ASCII, with the LF that ends it: how many events there
+/// The line of a report after its last event, in ASCII, with the LF that ends it: how many events there
 /// were, how many records were sent, and how many rows the ladder has. The one error is want of memory.
 pub fn end(alloc: Global, events: u32, records: u32, rows: u32) -> Result<Vec<u8>, TextMemory>
     ensures { IfOk result (λ text. text.items ≡ end_text events records rows) }
