@@ -1,19 +1,23 @@
 -- What is so of `drive` at each status.
-use Rattle.std.proofs.Common.{◌≡◌, ℕ, ◌<◌, ◌≤◌, inl, inr, Option, Some, None, List, length, Result, Ok, Err, refl, subst, arith}
+use Rattle.std.proofs.Common.{◌≡◌, ◌≢◌, ◌⊎◌, ℕ, ◌<◌, ◌≤◌, inl, inr, Option, Some, None, List, length, Result, Ok, Err, refl, sym, subst, arith}
 use Rattle.std.specs.Option.{IfSome}
+use Rattle.std.specs.Prelude.{IfErr}
 use Rattle.edge_io.specs.Told.{Told}
+use Rattle.edge_io.specs.Cause.{Rose}
 use Rattle.edge_io.specs.Peers.{PeersTold}
 use Rattle.edge_io.proofs.Known.{none_of}
 use Rattle.lte_events.specs.declared.events.Event.{Event}
 use Rattle.lte_events.specs.declared.setups.Setup.{Setup}
 use Rattle.scenario_file.specs.declared.faults.ScenarioFault.{ScenarioFault}
+use Rattle.scenario_file.specs.declared.faults.ScenarioFault.TheVariants as fault
 use Rattle.scenario_file.specs.Reading.{reading_of}
 use Rattle.scenario_file.specs.Refused.{refused_text}
 use Rattle.lte_sec_app.specs.declared.status.Status.{Status}
-use Rattle.lte_sec_app.specs.declared.status.Status.TheVariants.{Memory, ReadFault, TooLong}
-use Rattle.lte_sec_app.specs.Run.{Output, most_octets, CommandAt}
-use Rattle.lte_sec_app.specs.Scenario.{run_output}
+use Rattle.lte_sec_app.specs.declared.status.Status.TheVariants.{Done, Memory, Refused, ReadFault, WriteFault, Coincidence, TooLong}
+use Rattle.lte_sec_app.specs.Run.{Output, most_octets, CommandAt, WritesAt}
+use Rattle.lte_sec_app.specs.Scenario.{run_output, refusal_output, RefusedBy, IsRefused}
 use Rattle.lte_sec_app.specs.Drive.{TextAt, DriveAt, IsUnread, TextGoes, DriveIsComplete}
+use Rattle.lte_sec_app.proofs.Refusing.{is_memory}
 
 where_some : {A : Type 0} (o : Option A) (P : A → Type 0) → ((a : A) → P a) → IfSome o P
 where_some None P all = tt
@@ -44,3 +48,41 @@ unread_complete TooLong input input' out peers faults which at octets left withi
     let a = at run_output out in
     let long = subst (λ o. IfSome o (λ o'. most_octets < length o')) left a.1 in absurd (omega (arith, long, within))
 unread_complete status input input' out peers faults which at octets left within read = absurd which
+
+-- THE TEXT WAS REFUSED
+
+module _ (reading : Result (Setup × List Event) ScenarioFault) (status : Status) (out out' : Told) (peers : Option PeersTold) where
+  refused_by : (why : ScenarioFault) → (why ≢ fault.Memory → reading ≡ Err why) → RefusedBy why status out out' → (why ≡ fault.Memory) ⊎ (why ≢ fault.Memory) → TextAt reading status out out' peers peers
+  refused_by why read refused (inl memory) =
+      let at = refused.0 memory in
+      let Nothing : Told → Type 0 = λ o. TextAt reading Memory out o peers peers in
+      let Answered : Status → Type 0 = λ s. TextAt reading s out out' peers peers in
+      subst Answered (sym at.0) (subst Nothing (sym at.1) (nothing_done reading out peers))
+  refused_by why read refused (inr other) =
+      let At : Result (Setup × List Event) ScenarioFault → Type 0 = λ r. TextAt r status out out' peers peers in
+      subst At (sym (read other)) ((refused.1 other).1, refl)
+
+  pub refused_at : {A : Type 0} (read : Result A ScenarioFault) → IfErr read (λ why. why ≢ fault.Memory → reading ≡ Err why) → IsRefused read status out out' → TextAt reading status out out' peers peers
+  refused_at (Ok scenario) reads refused = absurd refused
+  refused_at (Err why) reads refused = refused_by why reads refused (is_memory why)
+
+  refusal_goes : (why : ScenarioFault) (ends : Status) → WritesAt (refusal_output why) ends out out' → ¬ (Rose out.write_faults out'.write_faults) → (ends ≡ Refused) ⊎ (ends ≡ Memory)
+  refusal_goes why Refused at writes = inl refl
+  refusal_goes why Memory at writes = inr refl
+  refusal_goes why WriteFault at writes = absurd (writes at.0)
+  refusal_goes why Done at writes = let clash : Refused ≡ Done = at.0 in absurd cc
+  refusal_goes why Coincidence at writes = let clash : Refused ≡ Coincidence = at.0 in absurd cc
+  refusal_goes why ends at writes = absurd at
+
+  module _ (faults faults' : ℕ) where
+    goes_by : (why : ScenarioFault) → (why ≢ fault.Memory → reading ≡ Err why) → RefusedBy why status out out' → (why ≡ fault.Memory) ⊎ (why ≢ fault.Memory) → TextGoes reading status out out' peers faults faults'
+    goes_by why read refused (inl memory) =
+        let Answered : Status → Type 0 = λ s. TextGoes reading s out out' peers faults faults' in
+        subst Answered (sym (refused.0 memory).0) (memory_goes reading out out' peers faults faults')
+    goes_by why read refused (inr other) =
+        let At : Result (Setup × List Event) ScenarioFault → Type 0 = λ r. TextGoes r status out out' peers faults faults' in
+        subst At (sym (read other)) (refusal_goes why status (refused.1 other).1)
+
+    pub refused_goes : {A : Type 0} (read : Result A ScenarioFault) → IfErr read (λ why. why ≢ fault.Memory → reading ≡ Err why) → IsRefused read status out out' → TextGoes reading status out out' peers faults faults'
+    refused_goes (Ok scenario) reads refused = absurd refused
+    refused_goes (Err why) reads refused = goes_by why reads refused (is_memory why)

@@ -4,3 +4,4 @@ pub mod Writing
 pub mod Driving
 pub mod Audited
 pub mod Ends
+pub mod Refusing

@@ -1,5 +1,6 @@
 -- What `run` writes for a scenario, and what holds of it.
-use Rattle.std.specs.Prelude.{◌≡◌, ℕ, Bool, true, false, List, Result, Ok, Err}
+use Rattle.std.specs.Prelude.{◌≡◌, ◌≢◌, ℕ, Bool, true, false, List, Result, Ok, Err}
+use Rattle.edge_io.specs.Told.{Told}
 use Rattle.lte_events.specs.declared.events.Event.{Event}
 use Rattle.lte_events.specs.declared.setups.Setup.{Setup}
 use Rattle.lte_properties.specs.Headline.{Headline}
@@ -7,11 +8,12 @@ use Rattle.run_report.specs.declared.unwritten.Unwritten.{Unwritten}
 use Rattle.run_report.specs.declared.unwritten.Unwritten.TheVariants as unwritten
 use Rattle.run_report.specs.Report.{Report, report_of}
 use Rattle.scenario_file.specs.declared.faults.ScenarioFault.{ScenarioFault}
+use Rattle.scenario_file.specs.declared.faults.ScenarioFault.TheVariants as fault
 use Rattle.scenario_file.specs.Reading.{reading_of}
 use Rattle.scenario_file.specs.Refused.{refused_text}
 use Rattle.lte_sec_app.specs.declared.status.Status.{Status}
 use Rattle.lte_sec_app.specs.declared.status.Status.TheVariants.{Done, Memory, Refused, WriteFault, Coincidence}
-use Rattle.lte_sec_app.specs.Run.{Output}
+use Rattle.lte_sec_app.specs.Run.{Output, WritesAt}
 
 -- how a report ends
 abbrev pub ending : Bool → Status
@@ -24,6 +26,17 @@ output_of_report report = record { text = report.text; ends = ending report.coin
 -- why a text is no scenario
 abbrev pub refusal_output : ScenarioFault → Output
 refusal_output fault = record { text = refused_text fault; ends = Refused }
+
+-- A text was not read as a scenario, by this fault: want of memory is answered as such, with nothing written; at each other fault the refusal
+-- is written, for which no memory is wanted.
+abbrev pub RefusedBy : ScenarioFault → Status → Told → Told → Type 0
+RefusedBy why status out out' =
+    (why ≡ fault.Memory → (status ≡ Memory) × (out' ≡ out))
+    × (why ≢ fault.Memory → (status ≢ Memory) × WritesAt (refusal_output why) status out out')
+
+abbrev pub IsRefused : {A : Type 0} → Result A ScenarioFault → Status → Told → Told → Type 0
+IsRefused (Ok scenario) status out out' = ⊥
+IsRefused (Err why) status out out' = RefusedBy why status out out'
 
 -- the report of a scenario, or the refusal of a text that is none
 abbrev pub output_of : Result (Setup × List Event) ScenarioFault → Output

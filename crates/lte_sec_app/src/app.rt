@@ -1,4 +1,4 @@
-ghost use Rattle.std.specs.Prelude.{◌≡◌, ◌≢◌, ◌↔◌, ℕ, false, Some, None, [], IfSome, IsTrue};
+ghost use Rattle.std.specs.Prelude.{◌≡◌, ◌≢◌, ◌↔◌, ℕ, List, false, Some, None, [], IfSome, IsTrue};
 ghost use Rattle.edge_io.specs.Cause.{NoFault, NoCountFell, Rose};
 ghost use Rattle.edge_io.specs.Used.{UsedAsSource, UsedAsSink};
 ghost use Rattle.lte_properties.specs.Headline.{Headline};
@@ -15,7 +15,7 @@ ghost use Rattle.lte_sec_app.specs.declared.command.TextCommand.{TextCommand};
 
 use crate::command::{Command, command_of};
 use crate::drive::drive;
-use crate::generated::run_generated;
+use crate::generated::report_gen;
 use crate::serve::serve;
 use crate::status::Status;
 use crate::text::answer_text;
@@ -59,18 +59,21 @@ pub fn run<R: Source, W: Sink, P: Peers, L: Port>(
     ensures bad_words_input { result ≡ Status.BadWords → input.new ≡ input.old }
     ensures bad_words_out { result ≡ Status.BadWords → out.new ≡ out.old }
 
-    // What a command writes for the text that it reads, and the cause of each of its statuses; and the headline of the
-    // scenario, at the statuses at which one was read. `ladder` writes keys, `run` the report of the written machine's run
+    // What a command writes for the text that it reads, and the cause of each of its statuses: where memory ran out nothing
+    // of a refusal was written, since a refusal takes none; and the headline of the scenario, at the statuses at which
+    // one was read. `ladder` writes keys, `run` the report of the written machine's run
     // over key terms, printed in values, `fleet` that of each phone, `two` that with two cores, and
     // `audit` who can derive which key of the run.
     ensures text { (command : TextCommand) → named words.now ≡ Some (Command.Text command) → CommandAt (text_output command) result (R.told input.old) (R.told input.new) (W.told out.old) (W.told out.new) }
     ensures text_complete { (command : TextCommand) → named words.now ≡ Some (Command.Text command) → CommandIsComplete (text_output command) result (R.told input.old) (R.told input.new) (W.told out.old) (W.told out.new) }
+    ensures no_refusal { (command : TextCommand) → named words.now ≡ Some (Command.Text command) → (octets : List ℕ) → (R.told input.old).left ≡ Some octets → result ≡ Status.Memory → (text_output command octets).ends ≡ Status.Refused → out.new ≡ out.old }
     ensures headline { (command : TextCommand) → named words.now ≡ Some (Command.Text command) → HoldsOf command result (R.told input.old) }
 
     // What `drive` writes and what it asks of the peers, at each of its statuses: the report of `run`, and the calls of the
     // plan of the scenario; all peers that were started are stopped; and the headline of the scenario.
     ensures drive { named words.now ≡ Some Command.Drive → DriveAt result (R.told input.old) (R.told input.new) (W.told out.old) (W.told out.new) (P.told peers.old) (P.told peers.new) }
     ensures drive_complete { named words.now ≡ Some Command.Drive → DriveIsComplete result (R.told input.old) (R.told input.new) (W.told out.old) (W.told out.new) (P.told peers.old) (P.faults peers.old) (P.faults peers.new) }
+    ensures drive_no_refusal { named words.now ≡ Some Command.Drive → (octets : List ℕ) → (R.told input.old).left ≡ Some octets → result ≡ Status.Memory → (text_output TextCommand.Run octets).ends ≡ Status.Refused → out.new ≡ out.old }
     ensures drive_headline { named words.now ≡ Some Command.Drive → HoldsOf TextCommand.Run result (R.told input.old) }
     ensures stopped { IfSome (P.told peers.new) AllStopped }
     ensures peer_cause { named words.now ≡ Some Command.Drive → result ≡ Status.PeerFault → Rose (P.faults peers.old) (P.faults peers.new) }
@@ -112,6 +115,6 @@ pub fn run<R: Source, W: Sink, P: Peers, L: Port>(
         Some(Command::Text(command)) => answer_text(alloc, command, input, out),
         Some(Command::Drive) => drive(alloc, input, peers, out),
         Some(Command::Serve(role)) => serve(role, out, port),
-        Some(Command::Gen(steps, seed)) => run_generated(alloc, steps, seed, out),
+        Some(Command::Gen(steps, seed)) => report_gen(alloc, steps, seed, out),
     }
 }

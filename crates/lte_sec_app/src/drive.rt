@@ -1,4 +1,4 @@
-ghost use Rattle.std.specs.Prelude.{◌≡◌, ◌≢◌, ◌≤◌, [], ℕ, List, Ok, Err, length, All, IfOk, IfSome, IsTrue};
+ghost use Rattle.std.specs.Prelude.{◌≡◌, ◌≢◌, ◌≤◌, [], ℕ, List, Some, Ok, Err, length, All, IfOk, IfSome, IsTrue};
 ghost use Rattle.std.specs.String.{string_bytes};
 ghost use Rattle.edge_io.specs.Cause.{NoFault, Rose};
 ghost use Rattle.edge_io.specs.Used.{UsedAsSource, UsedAsSink};
@@ -7,18 +7,18 @@ ghost use Rattle.peer_calls.specs.Driven.{AllStopped};
 ghost use Rattle.scenario_file.specs.Reading.{reading_of};
 ghost use Rattle.lte_sec_app.specs.Drive.{AllGoes, DriveAt, DriveIsComplete, LineAt, ScenarioAt, TextAt, TextGoes, difference_text, place_text};
 ghost use Rattle.lte_sec_app.specs.Run.{WhereRun};
-ghost use Rattle.lte_sec_app.specs.Scenario.{HasHeadline};
+ghost use Rattle.lte_sec_app.specs.Scenario.{HasHeadline, run_output};
 ghost use Rattle.lte_sec_app.specs.Text.{HoldsOf};
 ghost use Rattle.lte_sec_app.specs.declared.command.TextCommand.{TextCommand};
 
 use crate::reading::read_text;
-use crate::scenario::write_refusal;
+use crate::scenario::unless_refused;
 use crate::status::Status;
 use edge_io::{Peers, Sink, Source, write_all};
 use hub_drive::DriveFault;
 use lte_events::{Event, Setup};
 use role_wire::Frame;
-use scenario_file::{ScenarioFault, read};
+use scenario_file::read;
 use std::alloc::{AllocError, Global};
 
 // The command `drive`.
@@ -34,6 +34,7 @@ pub(crate) fn drive<R: Source, P: Peers, W: Sink>(
     ensures at { DriveAt result (R.told input.old) (R.told input.new) (W.told out.old) (W.told out.new) (P.told peers.old) (P.told peers.new) }
     ensures complete { DriveIsComplete result (R.told input.old) (R.told input.new) (W.told out.old) (W.told out.new) (P.told peers.old) (P.faults peers.old) (P.faults peers.new) }
     ensures headline { HoldsOf TextCommand.Run result (R.told input.old) }
+    ensures no_refusal { (octets : List ℕ) → (R.told input.old).left ≡ Some octets → result ≡ Status.Memory → (run_output octets).ends ≡ Status.Refused → out.new ≡ out.old }
     ensures stopped { IfSome (P.told peers.new) AllStopped }
     ensures peer_cause { result ≡ Status.PeerFault → Rose (P.faults peers.old) (P.faults peers.new) }
     ensures no_peer_fault { result ≢ Status.PeerFault → P.faults peers.new ≡ P.faults peers.old }
@@ -60,6 +61,7 @@ fn drive_text<P: Peers, W: Sink>(alloc: Global, octets: &[u8], peers: &mut P, ou
     ensures at { TextAt (reading_of octets.now) result (W.told out.old) (W.told out.new) (P.told peers.old) (P.told peers.new) }
     ensures complete { TextGoes (reading_of octets.now) result (W.told out.old) (W.told out.new) (P.told peers.old) (P.faults peers.old) (P.faults peers.new) }
     ensures headline { WhereRun (HasHeadline octets.now) result }
+    ensures no_refusal { result ≡ Status.Memory → (run_output octets.now).ends ≡ Status.Refused → out.new ≡ out.old }
     ensures stopped { IfSome (P.told peers.new) AllStopped }
     ensures peer_cause { result ≡ Status.PeerFault → Rose (P.faults peers.old) (P.faults peers.new) }
     ensures write_cause { result ≡ Status.WriteFault → Rose (W.told out.old).write_faults (W.told out.new).write_faults }
@@ -70,10 +72,9 @@ fn drive_text<P: Peers, W: Sink>(alloc: Global, octets: &[u8], peers: &mut P, ou
     ensures not_too_long { result ≢ Status.TooLong }
     ensures out { UsedAsSink (W.told out.old) (W.told out.new) }
 {
-    match read(alloc, octets) {
+    match unless_refused(read(alloc, octets), out) {
         Ok(scenario) => drive_scenario(alloc, &scenario.setup, &scenario.events, peers, out),
-        Err(ScenarioFault::Memory) => Status::Memory,
-        Err(fault) => write_refusal(alloc, &fault, out),
+        Err(status) => status,
     }
 }
 

@@ -4,22 +4,23 @@ ghost use Rattle.edge_io.specs.Used.{UsedAsSink};
 ghost use Rattle.lte_sec_app.specs.Fleet.{fleet_output, HasFleet};
 ghost use Rattle.lte_sec_app.specs.Run.{WhereRun, WritesAt};
 
-use crate::scenario::{status_of, write_refusal};
+use crate::scenario::{status_of, unless_refused};
 use crate::status::Status;
 use edge_io::Sink;
 use fleet_report::write_fleet;
-use scenario_file::{ScenarioFault, read_fleet};
+use scenario_file::read_fleet;
 use std::alloc::Global;
 
 // Writes what happens to the phones of a scenario, or the refusal of a text that says none.
-pub(crate) fn write_phones<W: Sink>(alloc: Global, octets: &[u8], out: &mut W) -> Status
+pub(crate) fn report_fleet<W: Sink>(alloc: Global, octets: &[u8], out: &mut W) -> Status
     requires { IsTrue (W.told out.old).ready }
     ensures text { WritesAt (fleet_output octets.now) result (W.told out.old) (W.told out.new) }
     ensures holds { WhereRun (HasFleet octets.now) result }
+    ensures no_refusal { result ≡ Status.Memory → (fleet_output octets.now).ends ≡ Status.Refused → out.new ≡ out.old }
     ensures no_fault { result ≢ Status.WriteFault → NoFault (W.told out.old) (W.told out.new) }
     ensures out { UsedAsSink (W.told out.old) (W.told out.new) }
 {
-    match read_fleet(alloc, octets) {
+    match unless_refused(read_fleet(alloc, octets), out) {
         Ok(scenario) => status_of(write_fleet(
             alloc,
             &scenario.setup,
@@ -27,7 +28,6 @@ pub(crate) fn write_phones<W: Sink>(alloc: Global, octets: &[u8], out: &mut W) -
             &scenario.events,
             out,
         )),
-        Err(ScenarioFault::Memory) => Status::Memory,
-        Err(fault) => write_refusal(alloc, &fault, out),
+        Err(status) => status,
     }
 }

@@ -16,7 +16,7 @@ use std::alloc::Global;
 
 // The command `gen`.
 #[tactic(auto, using(crate::proofs::Writing::generated_headline, crate::proofs::Writing::writing_is_complete))]
-pub(crate) fn run_generated<W: Sink>(alloc: Global, steps: u32, seed: u32, out: &mut W) -> Status
+pub(crate) fn report_gen<W: Sink>(alloc: Global, steps: u32, seed: u32, out: &mut W) -> Status
     requires out_ready { IsTrue (W.told out.old).ready }
     requires some { 1 ≤ steps }
     requires few { steps ≤ most_steps }

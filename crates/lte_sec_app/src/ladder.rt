@@ -10,9 +10,10 @@ use ladder_text::{Ending, write_answer};
 use std::alloc::Global;
 
 // Writes the keys of a ladder text.
-pub(crate) fn write_ladder<W: Sink>(alloc: Global, octets: &[u8], out: &mut W) -> Status
+pub(crate) fn report_ladder<W: Sink>(alloc: Global, octets: &[u8], out: &mut W) -> Status
     requires { IsTrue (W.told out.old).ready }
     ensures text { WritesAt (ladder_output octets.now) result (W.told out.old) (W.told out.new) }
+    ensures no_refusal { result ≡ Status.Memory → (ladder_output octets.now).ends ≡ Status.Refused → out.new ≡ out.old }
     ensures no_fault { result ≢ Status.WriteFault → NoFault (W.told out.old) (W.told out.new) }
     ensures out { UsedAsSink (W.told out.old) (W.told out.new) }
 {

@@ -1,9 +1,8 @@
-ghost use Rattle.std.specs.Prelude.{◌≡◌, ◌≢◌, ℕ, List, IsTrue};
-ghost use Rattle.std.specs.String.{string_bytes};
+ghost use Rattle.std.specs.Prelude.{◌≡◌, ◌≢◌, ◌↔◌, ℕ, List, Ok, Err, IfOk, IfErr, IsTrue};
 ghost use Rattle.edge_io.specs.Cause.{NoFault};
 ghost use Rattle.edge_io.specs.Used.{UsedAsSink};
 ghost use Rattle.lte_sec_app.specs.Run.{WhereRun, WritesAt};
-ghost use Rattle.lte_sec_app.specs.Scenario.{refusal_output, run_output, status_of, HasHeadline};
+ghost use Rattle.lte_sec_app.specs.Scenario.{refusal_output, run_output, status_of, HasHeadline, IsRefused};
 ghost use Rattle.lte_sec_app.specs.Text.{Holds};
 ghost use Rattle.lte_sec_app.specs.declared.command.TextCommand.{TextCommand};
 
@@ -14,35 +13,55 @@ use scenario_file::{ScenarioFault, read};
 use std::alloc::Global;
 
 // Writes the report of the scenario that a text says, or the refusal of a text that says none.
-pub(crate) fn write_scenario<W: Sink>(alloc: Global, octets: &[u8], out: &mut W) -> Status
+pub(crate) fn report_run<W: Sink>(alloc: Global, octets: &[u8], out: &mut W) -> Status
     requires { IsTrue (W.told out.old).ready }
     ensures text { WritesAt (run_output octets.now) result (W.told out.old) (W.told out.new) }
     ensures headline { WhereRun (HasHeadline octets.now) result }
+    ensures no_refusal { result ≡ Status.Memory → (run_output octets.now).ends ≡ Status.Refused → out.new ≡ out.old }
     ensures no_fault { result ≢ Status.WriteFault → NoFault (W.told out.old) (W.told out.new) }
     ensures out { UsedAsSink (W.told out.old) (W.told out.new) }
 {
-    match read(alloc, octets) {
+    match unless_refused(read(alloc, octets), out) {
         Ok(scenario) => status_of(write_run(alloc, &scenario.setup, &scenario.events, out)),
-        Err(ScenarioFault::Memory) => Status::Memory,
-        Err(fault) => write_refusal(alloc, &fault, out),
+        Err(status) => status,
+    }
+}
+
+// The scenario that was read. Of a text that is none the refusal is written, and only want of memory is answered as
+// such.
+pub(crate) fn unless_refused<T, W: Sink>(
+    reading: Result<T, ScenarioFault>,
+    out: &mut W,
+) -> Result<T, Status>
+    requires { IsTrue (W.told out.old).ready }
+    ensures read { IfOk result (λ scenario. (reading ≡ Ok scenario) × (out.new ≡ out.old)) }
+    ensures refused { IfErr result (λ status. IsRefused reading status (W.told out.old) (W.told out.new)) }
+    ensures memory { (result ≡ Err Status.Memory) ↔ (reading ≡ Err ScenarioFault.Memory) }
+    ensures memory_out { result ≡ Err Status.Memory → out.new ≡ out.old }
+    ensures holds { IfErr result (λ status. (command : TextCommand) (octets : List ℕ) → WhereRun (Holds command octets) status) }
+    ensures no_fault { IfErr result (λ status. status ≢ Status.WriteFault → NoFault (W.told out.old) (W.told out.new)) }
+    ensures out { UsedAsSink (W.told out.old) (W.told out.new) }
+{
+    match reading {
+        Ok(scenario) => Ok(scenario),
+        Err(ScenarioFault::Memory) => Err(Status::Memory),
+        Err(fault) => Err(write_refusal(&fault, out)),
     }
 }
 
 // Writes why a text is no scenario.
 #[tactic(auto, using(crate::proofs::Ends::refused_is))]
-pub(crate) fn write_refusal<W: Sink>(alloc: Global, fault: &ScenarioFault, out: &mut W) -> Status
+fn write_refusal<W: Sink>(fault: &ScenarioFault, out: &mut W) -> Status
     requires { IsTrue (W.told out.old).ready }
     ensures text { WritesAt (refusal_output fault.now) result (W.told out.old) (W.told out.new) }
+    ensures memory { result ≢ Status.Memory }
     ensures holds { (command : TextCommand) (octets : List ℕ) → WhereRun (Holds command octets) result }
     ensures no_fault { result ≢ Status.WriteFault → NoFault (W.told out.old) (W.told out.new) }
     ensures out { UsedAsSink (W.told out.old) (W.told out.new) }
 {
-    match fault.line(alloc) {
-        Err(_) => Status::Memory,
-        Ok(line) => match write_all(out, line.as_bytes()) {
-            Ok(()) => Status::Refused,
-            Err(_) => Status::WriteFault,
-        },
+    match write_all(out, fault.line().as_slice()) {
+        Ok(()) => Status::Refused,
+        Err(_) => Status::WriteFault,
     }
 }
 

@@ -1,17 +1,17 @@
-ghost use Rattle.std.specs.Prelude.{◌≡◌, ◌≢◌, IsTrue};
+ghost use Rattle.std.specs.Prelude.{◌≡◌, ◌≢◌, ℕ, List, Some, IsTrue};
 ghost use Rattle.edge_io.specs.Cause.{NoFault};
 ghost use Rattle.edge_io.specs.Used.{UsedAsSource, UsedAsSink};
 ghost use Rattle.lte_sec_app.specs.Run.{CommandAt, CommandIsComplete, WhereRun, WritesAt};
 ghost use Rattle.lte_sec_app.specs.Text.{text_output, Holds, HoldsOf};
 
-use crate::audit::write_keys;
+use crate::audit::report_audit;
 use crate::command::TextCommand;
-use crate::fleet::write_phones;
-use crate::ladder::write_ladder;
+use crate::fleet::report_fleet;
+use crate::ladder::report_ladder;
 use crate::reading::read_text;
-use crate::scenario::write_scenario;
+use crate::scenario::report_run;
 use crate::status::Status;
-use crate::two::write_cores;
+use crate::two::report_two;
 use edge_io::{Sink, Source};
 use std::alloc::Global;
 
@@ -27,6 +27,7 @@ pub(crate) fn answer_text<R: Source, W: Sink>(
     ensures at { CommandAt (text_output command) result (R.told input.old) (R.told input.new) (W.told out.old) (W.told out.new) }
     ensures complete { CommandIsComplete (text_output command) result (R.told input.old) (R.told input.new) (W.told out.old) (W.told out.new) }
     ensures holds { HoldsOf command result (R.told input.old) }
+    ensures no_refusal { (octets : List ℕ) → (R.told input.old).left ≡ Some octets → result ≡ Status.Memory → (text_output command octets).ends ≡ Status.Refused → out.new ≡ out.old }
     ensures unread { result ≡ Status.ReadFault → out.new ≡ out.old }
     ensures too_long { result ≡ Status.TooLong → out.new ≡ out.old }
     ensures no_read_fault { result ≢ Status.ReadFault → NoFault (R.told input.old) (R.told input.new) }
@@ -45,14 +46,15 @@ fn write_text<W: Sink>(alloc: Global, command: TextCommand, octets: &[u8], out: 
     requires { IsTrue (W.told out.old).ready }
     ensures text { WritesAt (text_output command octets.now) result (W.told out.old) (W.told out.new) }
     ensures holds { WhereRun (Holds command octets.now) result }
+    ensures no_refusal { result ≡ Status.Memory → (text_output command octets.now).ends ≡ Status.Refused → out.new ≡ out.old }
     ensures no_fault { result ≢ Status.WriteFault → NoFault (W.told out.old) (W.told out.new) }
     ensures out { UsedAsSink (W.told out.old) (W.told out.new) }
 {
     match command {
-        TextCommand::Ladder => write_ladder(alloc, octets, out),
-        TextCommand::Run => write_scenario(alloc, octets, out),
-        TextCommand::Fleet => write_phones(alloc, octets, out),
-        TextCommand::Two => write_cores(alloc, octets, out),
-        TextCommand::Audit => write_keys(alloc, octets, out),
+        TextCommand::Ladder => report_ladder(alloc, octets, out),
+        TextCommand::Run => report_run(alloc, octets, out),
+        TextCommand::Fleet => report_fleet(alloc, octets, out),
+        TextCommand::Two => report_two(alloc, octets, out),
+        TextCommand::Audit => report_audit(alloc, octets, out),
     }
 }

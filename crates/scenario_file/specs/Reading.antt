@@ -50,6 +50,14 @@ kept_from kept system start so_far (item value values) =
 abbrev pub if_few : Items → Result (Unit {0}) ScenarioFault
 if_few values = if nat_lt 200000 (count_of values) then Err TooMany else Ok tt
 
+-- what a document says before its steps: what a system of this kind starts with, and the tables of its steps
+abbrev pub before_steps : System → Members → Result (Start × Items) ScenarioFault
+before_steps system document = do
+  start ← at_place None (start_of system document)
+  values ← at_place None (steps_of document)
+  few ← if_few values
+  Ok (start, values)
+
 -- what a document says of a system of this kind: what it starts with, and what is kept of each step
 unfoldable pub whole_of : {E : Type 0} → (Step → E) → System → Members → Result (Start × List E) ScenarioFault
 whole_of kept system document = do

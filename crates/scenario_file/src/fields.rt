@@ -1,4 +1,4 @@
-ghost use Rattle.std.specs.Prelude.{◌≡◌};
+ghost use Rattle.std.specs.Prelude.{◌≡◌, ◌≤◌, length};
 
 /// A key of a scenario, at its top or in one of its tables.
 #[derive(Clone, Copy, Debug, PartialEq, Eq)]
@@ -56,9 +56,10 @@ pub enum Field {
 impl Field {
     ghost use Rattle.scenario_file.specs.Field.{name_of};
 
-    /// The key as a scenario writes it.
+    /// The key as a scenario writes it: at most eight letters.
     pub fn name(self) -> &'static str
-        ensures { result.now ≡ name_of self }
+        ensures name { result.now ≡ name_of self }
+        ensures short { length result.now ≤ 8 }
     {
         match self {
             Field::Phone => "phone",

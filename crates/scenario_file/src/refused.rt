@@ -1,52 +1,63 @@
-ghost use Rattle.std.specs.Prelude.{◌≡◌, IfOk};
-ghost use Rattle.std.specs.String.{string_bytes};
+ghost use Rattle.std.specs.Prelude.{◌≡◌, ◌≤◌, ◌+◌, ◌++◌, length};
 ghost use Rattle.scenario_file.specs.Refused.{place_text, fault_text, refused_text};
 
 use crate::ScenarioFault;
-use std::alloc::{AllocError, Global};
+use itoa::Buffer;
+use rec_base::Bounded;
 
 impl ScenarioFault {
     /// The line for a text that is no scenario, in ASCII, with the LF that ends it: its first fault, and the
-    /// place of it. The one error is want of memory.
+    /// place of it. It takes no memory: the longest line names a step of ten digits and a field of eight letters.
     #[tactic(auto, unfolding(crate::specs::Refused::refused_text))]
-    pub fn line(&self, alloc: Global) -> Result<String, AllocError>
-        ensures { IfOk result (λ text. string_bytes text ≡ refused_text self.now) }
+    pub fn line(&self) -> Bounded<48>
+        ensures { result ≡ refused_text self.now }
     {
-        let fault = fault_text(alloc, self)?;
-        format!(in alloc; "refused {fault}\n")
+        let mut line = Bounded::new();
+        line.append(b"refused ");
+        add_fault(&mut line, self);
+        line.append(b"\n");
+        line
     }
 }
 
-// What the fault is, and where.
-fn fault_text(alloc: Global, fault: &ScenarioFault) -> Result<String, AllocError>
-    ensures { IfOk result (λ text. string_bytes text ≡ fault_text fault.now) }
+// Adds what the fault is, and where.
+fn add_fault(line: &mut Bounded<48>, fault: &ScenarioFault)
+    requires { length line.old ≤ 8 }
+    ensures text { line.new ≡ line.old ++ fault_text fault.now }
+    ensures short { length line.new ≤ 47 }
 {
     match *fault {
-        ScenarioFault::Memory => Ok(String::new(alloc)),
-        ScenarioFault::NotToml => format!(in alloc; "text"),
-        ScenarioFault::TooMany => format!(in alloc; "steps"),
+        ScenarioFault::Memory => {}
+        ScenarioFault::NotToml => line.append(b"text"),
+        ScenarioFault::TooMany => line.append(b"steps"),
         ScenarioFault::Missing(step, field) => {
-            let place = place_text(alloc, step)?;
-            let name = field.name();
-            format!(in alloc; "{place} missing {name}")
+            add_place(line, step);
+            line.append(b" missing ");
+            line.append(field.name().as_bytes());
         }
         ScenarioFault::Wrong(step, field) => {
-            let place = place_text(alloc, step)?;
-            let name = field.name();
-            format!(in alloc; "{place} wrong {name}")
+            add_place(line, step);
+            line.append(b" wrong ");
+            line.append(field.name().as_bytes());
         }
         ScenarioFault::Unknown(step) => {
-            let place = place_text(alloc, step)?;
-            format!(in alloc; "{place} unknown")
+            add_place(line, step);
+            line.append(b" unknown");
         }
     }
 }
 
-fn place_text(alloc: Global, step: Option<u32>) -> Result<String, AllocError>
-    ensures { IfOk result (λ text. string_bytes text ≡ place_text step) }
+// Adds the place.
+fn add_place(line: &mut Bounded<48>, step: Option<u32>)
+    requires { length line.old ≤ 8 }
+    ensures text { line.new ≡ line.old ++ place_text step }
+    ensures short { length line.new ≤ 23 }
 {
     match step {
-        None => format!(in alloc; "setup"),
-        Some(step) => format!(in alloc; "step {step}"),
+        None => line.append(b"setup"),
+        Some(step) => {
+            line.append(b"step ");
+            line.append(Buffer::new().format(step).as_bytes());
+        }
     }
 }

@@ -4,7 +4,7 @@ ghost use Rattle.toml.specs.View.{table_view, items_view, view};
 ghost use Rattle.lte_events.specs.Conditions.{CanStart, CanHappen, SetupFits, EventFits};
 ghost use Rattle.scenario_file.specs.Values.{result_map};
 ghost use Rattle.scenario_file.specs.Setup.{start_of};
-ghost use Rattle.scenario_file.specs.Reading.{at_place, steps_of, step_in, step_at, kept_from, if_few, whole_of, document_of, text_of};
+ghost use Rattle.scenario_file.specs.Reading.{at_place, before_steps, steps_of, step_in, step_at, kept_from, if_few, whole_of, document_of, text_of};
 
 use crate::faults::Refusal;
 use crate::kept::{Kept, Step};
@@ -69,6 +69,7 @@ fn whole_in<E: Kept>(
 ) -> Result<Whole<E>, ScenarioFault>
     ensures whole { IfOk result (λ w. whole_of E.kept system (table_view document.now) ≡ Ok (w.start, w.steps.items)) }
     ensures refused { IfErr result (λ fault. ¬ (fault ≡ ScenarioFault.Memory) → whole_of E.kept system (table_view document.now) ≡ Err fault) }
+    ensures before_steps { (fault : ScenarioFault) → before_steps system (table_view document.now) ≡ Err fault → result ≡ Err fault }
     ensures can_start { IfOk result (λ w. CanStart w.start.setup) }
     ensures setup_fits { IfOk result (λ w. SetupFits w.start.setup) }
     ensures cells { IfOk result (λ w. 1 ≤ length w.start.setup.cells) }

@@ -1,0 +1,63 @@
+-- What is so of a text that was not read as a scenario, and that one that was read is not refused.
+use Rattle.std.proofs.Common.{◌≡◌, ◌≢◌, ◌∙◌, ◌⊎◌, inl, inr, ℕ, Bool, true, false, List, Result, Ok, Err, refl, sym, ap, subst}
+use Rattle.std.specs.Prelude.{IfErr}
+use Rattle.edge_io.specs.Told.{Told}
+use Rattle.edge_io.specs.Peers.{PeersTold}
+use Rattle.edge_io.proofs.Known.{none_of}
+use Rattle.scenario_file.specs.declared.faults.ScenarioFault.{ScenarioFault}
+use Rattle.scenario_file.specs.declared.faults.ScenarioFault.TheVariants as fault
+use Rattle.lte_sec_app.specs.declared.status.Status.{Status}
+use Rattle.lte_sec_app.specs.declared.status.Status.TheVariants.{Memory, Refused}
+use Rattle.ladder_text.specs.declared.ending.Ending.{Ending}
+use Rattle.ladder_text.specs.declared.ending.Ending.TheVariants as endings
+use Rattle.lte_sec_app.specs.Ladder.{status_of as ladder_status}
+use Rattle.lte_sec_app.specs.Run.{Output, WritesAt}
+use Rattle.lte_sec_app.specs.Scenario.{RefusedBy, IsRefused, ending, refusal_output}
+
+pub is_memory : (why : ScenarioFault) → (why ≡ fault.Memory) ⊎ (why ≢ fault.Memory)
+is_memory fault.Memory = inl refl
+is_memory fault.NotToml = inr (λ is. cc)
+is_memory (fault.Missing step field) = inr (λ is. cc)
+is_memory (fault.Wrong step field) = inr (λ is. cc)
+is_memory (fault.Unknown step) = inr (λ is. cc)
+is_memory fault.TooMany = inr (λ is. cc)
+
+module _ {B : Type 0} (output_of : Result B ScenarioFault → Output) (same : (why : ScenarioFault) → output_of (Err why) ≡ refusal_output why) (reading : Result B ScenarioFault) (status : Status) (out out' : Told) where
+  by_fault : (why : ScenarioFault) → (why ≢ fault.Memory → reading ≡ Err why) → RefusedBy why status out out' → (why ≡ fault.Memory) ⊎ (why ≢ fault.Memory) → WritesAt (output_of reading) status out out'
+  by_fault why read refused (inl memory) =
+      let at = refused.0 memory in
+      let Nothing : Told → Type 0 = λ o. WritesAt (output_of reading) Memory out o in
+      let Answered : Status → Type 0 = λ s. WritesAt (output_of reading) s out out' in
+      subst Answered (sym at.0) (subst Nothing (sym at.1) (none_of out.written (output_of reading).text))
+  by_fault why read refused (inr other) =
+      let At : Output → Type 0 = λ o. WritesAt o status out out' in
+      subst At (sym (ap output_of (read other) ∙ same why)) (refused.1 other).1
+
+  -- what is written for a text that was not read as a scenario
+  pub refusal_writes : {A : Type 0} (read : Result A ScenarioFault) → IfErr read (λ why. why ≢ fault.Memory → reading ≡ Err why) → IsRefused read status out out' → WritesAt (output_of reading) status out out'
+  refusal_writes (Ok scenario) reads refused = absurd refused
+  refusal_writes (Err why) reads refused = by_fault why reads refused (is_memory why)
+
+-- the output of a report is no refusal
+pub never_refused : (coincides : Bool) → ending coincides ≢ Refused
+never_refused true = λ is. cc
+never_refused false = λ is. cc
+
+pub read_never_refused : {B : Type 0} (ends_of : Result B ScenarioFault → Status) (reading : Result B ScenarioFault) (scenario : B) (coincides : Bool) → reading ≡ Ok scenario → ends_of (Ok scenario) ≡ ending coincides → ends_of reading ≢ Refused
+read_never_refused ends_of reading scenario coincides reads ends is =
+    never_refused coincides (sym ends ∙ ap ends_of (sym reads) ∙ is)
+
+-- the statuses of a ladder text that want of memory, and a refusal, have
+pub ladder_memory : (ended : Ending) → ladder_status ended ≡ Memory → ended ≡ endings.Memory
+ladder_memory endings.Done is = absurd cc
+ladder_memory endings.Memory is = refl
+ladder_memory endings.Refused is = absurd cc
+ladder_memory endings.WriteFault is = absurd cc
+ladder_memory endings.Coincidence is = absurd cc
+
+pub ladder_refused : (ended : Ending) → ladder_status ended ≡ Refused → ended ≡ endings.Refused
+ladder_refused endings.Done is = absurd cc
+ladder_refused endings.Memory is = absurd cc
+ladder_refused endings.Refused is = refl
+ladder_refused endings.WriteFault is = absurd cc
+ladder_refused endings.Coincidence is = absurd cc

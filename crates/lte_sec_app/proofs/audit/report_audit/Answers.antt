@@ -1,0 +1,39 @@
+use Rattle.std.proofs.Common.{◌≡◌, false, Ok, refl, subst, sym, rules}
+use Rattle.std.specs.Prelude.{IfOk}
+use Rattle.std.proofs.lemmas.Result.{IfOk-at_ok}
+use Rattle.audit_report.specs.Alone.{EachAlone}
+use Rattle.audit_report.specs.AuditReport.{audit_report_of}
+use Rattle.audit_report.specs.Audited.{AuditIsExact}
+use Rattle.audit_report.specs.OfRun.{AuditIsOfRun}
+use Rattle.scenario_file.specs.Reading.{reading_of}
+use Rattle.lte_sec_app.specs.Audit.{output_of, HasAudit}
+use Rattle.lte_sec_app.specs.Run.{WhereRun}
+use Rattle.lte_sec_app.proofs.Audited.{audited}
+use Rattle.lte_sec_app.proofs.Refusing.{refusal_writes, read_never_refused}
+use Rattle.lte_sec_app.proofs.Reports.{headline_of}
+use Rattle.lte_sec_app.proofs.audit.report_audit.Goals as goal
+
+pub returns-in-Ok-clause-holds : goal.returns-in-Ok-clause-holds
+returns-in-Ok-clause-holds g c =
+    let is = c.in-Ok.ensures.read.0 in
+    let read = c.read.ensures in
+    let setup = c.in-Ok.scenario.setup in
+    let events = c.in-Ok.scenario.events.items in
+    let written = c.write_audit.result in
+    let same : c.deref.result.now ≡ events = search rules in
+    subst (WhereRun (HasAudit c.args.octets.now)) (sym c.status_of.ensures)
+    (audited c.args.octets.now setup events (IfOk-at_ok _ is read.scenario)
+    (headline_of setup events (IfOk-at_ok _ is read.can_start) (IfOk-at_ok _ is read.setup_fits) (IfOk-at_ok _ is read.can_happen) (IfOk-at_ok _ is read.events_fit))
+    (subst (EachAlone setup) same c.write_audit.ensures.alone)
+    written
+    (subst (λ es. written ≡ Ok false → AuditIsExact setup es × AuditIsOfRun setup es) same (λ ok. (c.write_audit.ensures.exact ok, c.write_audit.ensures.of_run ok)))
+    (subst (λ es. IfOk written (λ coincides. coincides ≡ (audit_report_of setup es).coincides)) same c.write_audit.ensures.report.coincidence))
+
+pub returns-in-Err-clause-text : goal.returns-in-Err-clause-text
+returns-in-Err-clause-text g c =
+    refusal_writes output_of (λ why. refl) (reading_of c.args.octets.now) c.in-Err.status _ _ c.read.result c.read.ensures.refused c.in-Err.ensures.refused
+
+pub returns-in-Ok-clause-no_refusal : goal.returns-in-Ok-clause-no_refusal
+returns-in-Ok-clause-no_refusal g c memory refused =
+    let s = c.in-Ok.scenario in
+    absurd (read_never_refused (λ r. (output_of r).ends) (reading_of c.args.octets.now) _ (audit_report_of s.setup s.events.items).coincides (IfOk-at_ok _ c.in-Ok.ensures.read.0 c.read.ensures.scenario) refl refused)
