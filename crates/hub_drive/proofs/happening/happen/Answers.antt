@@ -33,9 +33,7 @@ tell_all-requires-clause-inputs g c =
     let takes = c.write_event.ensures.takes (c.in-Ok-false.is ∙ ap Ok flag) in
     let goes : GoesOn (run_of w) = subst (λ r. GoesOn r) (sym takes.run) (still_goes (run_of v) c.args.event.now plain) in
     let setup : w.setup ≡ c.args.setup.now = takes.setup ∙ c.requires.same in
-    let P : List (ActorIn × ActorOut) → Type 0 = λ rs. All (λ r. HasActor c.args.setup.now r.0) rs in
-    subst P (sym c.as_slice.ensures.value)
-    (subst (λ s. All (λ r. HasActor s r.0) c.replies.result.now) setup (all_have w.setup c.replies.result.now (c.replies.ensures.there (no_chance w goes))))
+    subst (λ s. All (λ r. HasActor s r.0) c.replies.result.now) setup (all_have w.setup c.replies.result.now (c.replies.ensures.there (no_chance w goes)))
 
 pub returns-clause-went : goal.returns-clause-went
 returns-clause-went g c =
@@ -51,7 +49,7 @@ returns-clause-went g c =
     (outside (g.W.Edge.told c.write_event.new.out).written (g.P.Peers.told c.args.peers.now)) (outside (g.W.Edge.told c.write_event.new.out).written (g.P.Peers.told c.tell_all.new.peers)) in
     event_told c.args.setup.now (length v.journal) (told_of (run_of v) c.args.event.now) (replies_at (run_of v) c.args.event.now) c.tell_all.result
     (g.W.Edge.told c.args.out.now) (g.W.Edge.told c.write_event.new.out) (g.P.Peers.told c.args.peers.now) (g.P.Peers.told c.tell_all.new.peers)
-    (sym plain) c.in-Ok-false.ensures.report.text.written (subst P (c.as_slice.ensures.value ∙ same) (search (rules, c.tell_all.ensures.went)))
+    (sym plain) c.in-Ok-false.ensures.report.text.written (subst P same (search (rules, c.tell_all.ensures.went)))
 
 pub returns-clause-write_cause : goal.returns-clause-write_cause
 returns-clause-write_cause g c = λ is. absurd (c.tell_all.ensures.no_write is)
