@@ -107,6 +107,10 @@ fn each_of_many_records_is_found(rt: HostRuntime) {
         );
     }
     same(&rt, bag.len(), 200_000);
+    // a first look-up asks for the index, and the next reserve makes it
+    same(&rt, bag.find(Class::Air, &numbered(0)), Some(0));
+    assert!(rt; bag.len() < 1_000_000);
+    same(&rt, bag.reserve(), Ok(()));
     for number in 0..200_000 {
         same(&rt, bag.find(Class::Air, &numbered(number)), Some(number));
     }
