@@ -1,3 +1,7 @@
+ghost use Rattle.std.specs.Prelude.{◌≡◌};
+ghost use Rattle.lte_events.specs.Class.{class_of};
+
+use crate::Class;
 use rec_base::Bearer;
 
 /// Where a record goes: an actor, and the interface at which it takes the record.
@@ -18,4 +22,18 @@ pub enum Address {
     StationS1(u8),
     /// A station, 0 to 7, at X2.
     StationX2(u8),
+}
+
+impl Address {
+    /// The interface that a record to it is sent on.
+    pub fn class(&self) -> Class
+        ensures { result ≡ class_of self.now }
+    {
+        match self {
+            Address::PhoneNas | Address::CoreNas => Class::Nas,
+            Address::Phone(..) | Address::StationAir(..) => Class::Air,
+            Address::CoreS1 | Address::StationS1(_) => Class::S1,
+            Address::StationX2(_) => Class::X2,
+        }
+    }
 }

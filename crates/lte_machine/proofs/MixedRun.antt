@@ -32,7 +32,8 @@ use Rattle.lte_machine.specs.StationState.{Station, StationInput, StationActs, A
 use Rattle.lte_machine.specs.StationStep.{station_front_of, station_opens, station_pdu_in, station_step}
 use Rattle.lte_machine.specs.CoreState.{CoreInput, CoreActs, CoreNasPdu, CoreRecord}
 use Rattle.lte_machine.specs.CoreStep.{core_front_of, core_opens, core_pdu_in, core_step}
-use Rattle.lte_machine.specs.World.{Machine, World, phone_after, core_after, station_after, phone_turn, core_turn, station_of_id, turn_of, station_turn, auth_unless, known_root, next_root, content_in, arrives, record_at, delivery, class_of, is_sent, injected, happens}
+use Rattle.lte_events.specs.Class.{class_of}
+use Rattle.lte_machine.specs.World.{Machine, World, phone_after, core_after, station_after, phone_turn, core_turn, station_of_id, turn_of, station_turn, auth_unless, known_root, next_root, content_in, arrives, record_at, delivery, is_sent, injected, happens}
 use Rattle.lte_machine.specs.Machines.{sender_of, machine_over}
 use Rattle.lte_machine.specs.Run.{Running, replay, first_world}
 use Rattle.lte_machine.specs.Distinct.{keys_of, Member, OneValueOneTerm}

@@ -17,7 +17,8 @@ use Rattle.lte_machine.specs.StationState.{Station, StationInput, StationActs, A
 use Rattle.lte_machine.specs.StationStep.{station_step, station_opens, station_pdu_in}
 use Rattle.lte_machine.specs.CoreState.{CoreInput, CoreActs, CoreNasPdu}
 use Rattle.lte_machine.specs.CoreStep.{core_step, core_opens, core_pdu_in}
-use Rattle.lte_machine.specs.World.{Machine, World, phone_after, core_after, station_after, phone_turn, core_turn, turn_of, station_of_id, content_in, arrives, record_at, delivery, injected, is_sent, class_of, happens}
+use Rattle.lte_events.specs.Class.{class_of}
+use Rattle.lte_machine.specs.World.{Machine, World, phone_after, core_after, station_after, phone_turn, core_turn, turn_of, station_of_id, content_in, arrives, record_at, delivery, injected, is_sent, happens}
 use Rattle.lte_machine.specs.Step.{attempted, arrival_attempts, attempts_at, delivery_attempts, injection_attempts, opening_chance, by_chance, next}
 use Rattle.lte_machine.specs.Run.{RunState, Running, Stopped, turn, replay, event_report, report, after, reported}
 use Rattle.lte_machine.specs.Machines.{machine_over, opening_by_octets}

@@ -15,7 +15,8 @@ use Rattle.lte_machine.specs.PhoneState.{PhoneInput, PhoneAuth, PhoneActs, Phone
 use Rattle.lte_machine.specs.PhoneStep.{phone_root}
 use Rattle.lte_machine.specs.StationState.{Station, StationInput, StationActs, AirPdu, StationRecord, Interface, OnS1, OnX2}
 use Rattle.lte_machine.specs.CoreState.{CoreInput, CoreActs, CoreNasPdu, CoreRecord}
-use Rattle.lte_machine.specs.World.{Machine, World, Line, by_world, phone_turn, core_turn, station_of_id, turn_of, authenticated, auth_unless, known_root, next_root, content_in, arrives, record_at, delivery, class_of, is_sent, injected, happens}
+use Rattle.lte_events.specs.Class.{class_of}
+use Rattle.lte_machine.specs.World.{Machine, World, Line, by_world, phone_turn, core_turn, station_of_id, turn_of, authenticated, auth_unless, known_root, next_root, content_in, arrives, record_at, delivery, is_sent, injected, happens}
 use Rattle.lte_machine.specs.Step.{Attempted, opens_none, phone_attempts, core_attempts, attempts_at, arrival_attempts, delivery_attempts, injection_attempts, attempted}
 use Rattle.lte_machine.proofs.KnownLists.{OfSome, all_find, all_chosen, all_each}
 

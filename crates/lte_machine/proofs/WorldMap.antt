@@ -24,7 +24,8 @@ use Rattle.lte_machine.specs.StationState.{Station, StationInput, StationActs, A
 use Rattle.lte_machine.specs.StationStep.{station_step, station_opens, station_pdu_in}
 use Rattle.lte_machine.specs.CoreState.{Core, CoreInput, CoreAuth, CoreActs, CoreNasPdu, CoreRecord, map_core, map_core_input}
 use Rattle.lte_machine.specs.CoreStep.{core_step, core_opens, core_pdu_in}
-use Rattle.lte_machine.specs.World.{Machine, World, Line, Holder, AtPhone, AtCore, AtStation, with_one, uses_in, holds, world_with, class_of, sent_line, line_of, phone_after, core_after, put_if, put_station, station_after, by_world, phone_turn, core_turn, station_of_id, turn_of, station_turn, authenticated, auth_unless, is_root_row, next_root, known_root, content_in, arrives, newest_if, record_at, delivery, told_in, same_class, is_sent, injected, happens}
+use Rattle.lte_events.specs.Class.{class_of, told_in, same_class}
+use Rattle.lte_machine.specs.World.{Machine, World, Line, Holder, AtPhone, AtCore, AtStation, with_one, uses_in, holds, world_with, sent_line, line_of, phone_after, core_after, put_if, put_station, station_after, by_world, phone_turn, core_turn, station_of_id, turn_of, station_turn, authenticated, auth_unless, is_root_row, next_root, known_root, content_in, arrives, newest_if, record_at, delivery, is_sent, injected, happens}
 use Rattle.lte_machine.specs.Carried.{map_holding, map_stations, map_world, map_line}
 use Rattle.lte_machine.proofs.PhoneMap.{phone_opens_map, phone_step_map}
 use Rattle.lte_machine.proofs.CoreMap.{core_opens_map, core_step_map}

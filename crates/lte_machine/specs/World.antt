@@ -6,6 +6,7 @@ use Rattle.std.specs.Str.{bytes_eq}
 use Rattle.alg_choice.specs.declared.caps.Caps.{Caps}
 use Rattle.rec_base.specs.declared.faults.RecFault.{RecFault}
 use Rattle.lte_events.specs.declared.addresses.Address.{Address}
+use Rattle.lte_events.specs.Class.{class_of, same_class, told_in}
 use Rattle.lte_events.specs.declared.answers.Answer.{Answer}
 use Rattle.lte_events.specs.declared.answers.Answer.TheVariants.{Done, NoUe, NoRecord, Sent, RepeatedRoot}
 use Rattle.lte_events.specs.declared.classes.Class.{Class}
@@ -116,16 +117,6 @@ world_with m w holder reply = record w {
   history = w.history ++ map Of reply.derived;
   held = w.held ++ holds holder reply.received reply.derived;
 }
-
--- an interface by an address
-abbrev pub class_of : Address → Class
-class_of (Address.Phone station air bearer) = Class.Air
-class_of Address.PhoneNas = Class.Nas
-class_of Address.CoreNas = Class.Nas
-class_of Address.CoreS1 = Class.S1
-class_of (Address.StationAir station air bearer) = Class.Air
-class_of (Address.StationS1 station) = Class.S1
-class_of (Address.StationX2 station) = Class.X2
 
 -- the number of the record that a step sent, with its interface
 abbrev pub sent_line : {K C S : Type 0} → Machine K C S → World K C S → Option S → Option (ℕ × Class)
@@ -254,19 +245,7 @@ abbrev pub delivery : {K C S : Type 0} → Machine K C S → World K C S → Opt
 delivery m w None = by_world m w NoRecord
 delivery m w (Some x) = arrives m w (m.address x) (m.octets x) (Some x)
 
-abbrev pub same_class : Class → Class → Bool
-same_class Class.Nas Class.Nas = true
-same_class Class.Air Class.Air = true
-same_class Class.S1 Class.S1 = true
-same_class Class.X2 Class.X2 = true
-same_class a b = false
-
-abbrev pub told_in : Class → List ℕ → List ℕ
-told_in Class.Nas octets = drop 1 octets
-told_in other octets = octets
-
--- whether octets of an interface are those of a record: on NAS from the second octet on, since the first has the header
--- type alone outside the MAC
+-- whether octets of an interface are those of a record, by what tells it from others
 abbrev pub is_sent : {K C S : Type 0} → Machine K C S → Class → List ℕ → S → Bool
 is_sent m class octets x = same_class class (class_of (m.address x)) && bytes_eq (told_in class octets) (told_in class (m.octets x))
 

@@ -22,7 +22,8 @@ use Rattle.lte_machine.specs.StationStep.{key_read, station_key, station_step, s
 use Rattle.lte_machine.specs.CoreState.{Core, CoreInput, CoreActs, CoreNasPdu, CoreRecord}
 use Rattle.lte_machine.specs.CoreStep.{core_step, core_opens, core_pdu_in, core_received}
 use Rattle.lte_machine.specs.Wire.{KeyUse, Outgoing, uses_of}
-use Rattle.lte_machine.specs.World.{Machine, World, Holder, AtPhone, AtCore, AtStation, holds, with_one, uses_in, phone_after, core_after, station_after, by_world, phone_turn, core_turn, turn_of, station_of_id, auth_unless, known_root, next_root, content_in, arrives, record_at, delivery, class_of, is_sent, injected, happens}
+use Rattle.lte_events.specs.Class.{class_of}
+use Rattle.lte_machine.specs.World.{Machine, World, Holder, AtPhone, AtCore, AtStation, holds, with_one, uses_in, phone_after, core_after, station_after, by_world, phone_turn, core_turn, turn_of, station_of_id, auth_unless, known_root, next_root, content_in, arrives, record_at, delivery, is_sent, injected, happens}
 use Rattle.lte_machine.specs.Machines.{machine_by}
 use Rattle.lte_machine.specs.Ranges.{AllOf}
 use Rattle.lte_machine.specs.Run.{run}

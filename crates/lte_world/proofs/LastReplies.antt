@@ -19,7 +19,8 @@ use Rattle.lte_machine.specs.Opening.{open_octets}
 use Rattle.lte_machine.specs.Ranges.{AllOf}
 use Rattle.lte_machine.specs.Run.{Running, first_world}
 use Rattle.lte_machine.specs.StationState.{Station}
-use Rattle.lte_machine.specs.World.{World, station_of_id, known_root, record_at, is_sent, class_of}
+use Rattle.lte_events.specs.Class.{class_of}
+use Rattle.lte_machine.specs.World.{World, station_of_id, known_root, record_at, is_sent}
 use Rattle.lte_machine.proofs.EventByEvent.{prefix_goes_on}
 use Rattle.lte_world.specs.Replies.{station_replies, input_at, replies_in, auth_replies, delivered_replies, injected_replies, replies_of, Tells, RepliedLast, IsOfSetup}
 use Rattle.lte_world.specs.Systems.{octets, Actors}

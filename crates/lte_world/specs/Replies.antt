@@ -19,7 +19,8 @@ use Rattle.lte_machine.specs.Machines.{Kept}
 use Rattle.lte_machine.specs.PhoneState.{Phone}
 use Rattle.lte_machine.specs.Run.{Running}
 use Rattle.lte_machine.specs.StationState.{Station}
-use Rattle.lte_machine.specs.World.{World, station_of_id, known_root, record_at, is_sent, class_of}
+use Rattle.lte_events.specs.Class.{class_of}
+use Rattle.lte_machine.specs.World.{World, station_of_id, known_root, record_at, is_sent}
 use Rattle.lte_world.specs.Systems.{octets, Actors, Are, StepsAt}
 
 -- the reply of a station, if it stands

@@ -2,6 +2,7 @@
 use Rattle.std.specs.Prelude.{◌≡◌, ℕ, List, [], ◌∷◌, Option, Some, None, option_map, slice_get, Result, Ok, Err}
 use Rattle.std.specs.Str.{bytes_eq}
 use Rattle.rec_base.specs.declared.uses.Use.{Use}
+use Rattle.lte_events.specs.Class.{class_of}
 use Rattle.lte_events.specs.declared.lines.Line.{Line}
 use Rattle.lte_events.specs.declared.lines.Who.{Who}
 use Rattle.lte_events.specs.declared.replies.ActorOut.{ActorOut}
@@ -36,7 +37,7 @@ sent_in tuple (Some x) = record { to = x.to; octets = x.octets; tuple = tuple } 
 -- its number, and its interface
 abbrev pub number_of : ℕ → Option Record → Option (ℕ × Class)
 number_of before None = None
-number_of before (Some x) = Some (before, world.class_of x.to)
+number_of before (Some x) = Some (before, class_of x.to)
 
 -- a world after a reply of one of its actors, whose holder is this
 abbrev pub after : World (List ℕ) ℕ Kept → world.Holder → Reply (List ℕ) ℕ → World (List ℕ) ℕ Kept

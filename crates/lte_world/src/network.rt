@@ -5,7 +5,6 @@ ghost use Rattle.lte_machine.specs.Calls.{use_in, line_of_reply};
 ghost use Rattle.lte_machine.specs.Tuples.{tuple_chance};
 ghost use Rattle.std.specs.Str.{bytes_eq};
 ghost use Rattle.lte_machine.specs.Tuples as tuples;
-ghost use Rattle.lte_machine.specs.World.{class_of as class_at};
 ghost use Rattle.lte_world.specs.Networks.{Grows, HasPlace};
 ghost use Rattle.lte_world.specs.Systems.{HasRoom};
 ghost use Rattle.net_bag.specs.Bag.{first_sent};
@@ -19,7 +18,7 @@ use crate::WorldFault;
 use crate::noting::{add_all, hold_all, hold_one, hold_received};
 use crate::shelf::Shelf;
 use key_terms::{Holder, Ladder, LadderFault, Proof, Row};
-use lte_events::{ActorOut, Address, Class, Line, Who};
+use lte_events::{ActorOut, Class, Line, Who};
 use net_bag::{Bag, BagView};
 use rec_base::{Use, UserText};
 use std::alloc::Global;
@@ -176,7 +175,7 @@ fn keep(bag: &mut Bag, out: &ActorOut) -> Option<(u32, Class)>
         return None;
     };
     let number = bag.put(rec, out.tuple.as_ref());
-    Some((number, class_of(&rec.to)))
+    Some((number, rec.to.class()))
 }
 
 // The number of a record among so many, from the newest back where it is negative.
@@ -224,18 +223,6 @@ fn same_sender(sender: &Option<Use>, receiver: &Use) -> bool
     match sender {
         None => false,
         Some(sender) => *receiver == *sender,
-    }
-}
-
-// The interface of an address.
-pub(crate) fn class_of(to: &Address) -> Class
-    ensures { result ≡ class_at to.now }
-{
-    match to {
-        Address::PhoneNas | Address::CoreNas => Class::Nas,
-        Address::Phone(..) | Address::StationAir(..) => Class::Air,
-        Address::CoreS1 | Address::StationS1(_) => Class::S1,
-        Address::StationX2(_) => Class::X2,
     }
 }
 

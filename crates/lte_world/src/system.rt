@@ -14,7 +14,7 @@ ghost use Rattle.lte_events.specs.declared.inputs.ActorIn.{ActorIn};
 ghost use Rattle.lte_world.specs.Replies.{input_at, replies_by, Tells};
 
 use crate::WorldFault;
-use crate::network::{Enrolled, Network, class_of, line};
+use crate::network::{Enrolled, Network, line};
 use crate::replies::Replies;
 use alg_choice::Caps;
 use annex_a_keys::Kasme;
@@ -227,7 +227,7 @@ impl System {
         ensures grows { Grows self.old.stores self.new.stores }
         ensures told { OnOk result (Tells self.old (Inject to.now octets.now) told.new) }
     {
-        if let Some(number) = self.network.found(class_of(to), octets.as_slice()) {
+        if let Some(number) = self.network.found(to.class(), octets.as_slice()) {
             return Ok(refused(Answer::Sent(number), step));
         }
         self.arrive(*to, copied(octets), None, step, told)

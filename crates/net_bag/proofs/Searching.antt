@@ -13,7 +13,8 @@ use Rattle.sha2.specs.Sha256.{sha256}
 use Rattle.lte_events.specs.declared.classes.Class.{Class}
 use Rattle.lte_events.specs.declared.classes.Class.TheVariants.{Nas, Air, S1, X2}
 use Rattle.net_bag.specs.declared.view.BagView.{BagView}
-use Rattle.net_bag.specs.Class.{class_of, same_class, told_in, class_octet, digest}
+use Rattle.lte_events.specs.Class.{class_of, same_class, told_in}
+use Rattle.net_bag.specs.Class.{class_octet, digest}
 use Rattle.net_bag.specs.Bag.{is_sent, first_sent, digest_of, IsIndexOf, IsCandidate}
 use Rattle.net_bag.specs.Chains.{IsFirstFrom}
 

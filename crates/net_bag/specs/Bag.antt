@@ -4,7 +4,8 @@ use Rattle.std.specs.Str.{bytes_eq}
 use Rattle.lte_events.specs.declared.classes.Class.{Class}
 use Rattle.net_bag.specs.declared.view.BagView.{BagView}
 use Rattle.net_bag.specs.declared.records.Entry.{Entry}
-use Rattle.net_bag.specs.Class.{class_of, same_class, told_in, digest}
+use Rattle.lte_events.specs.Class.{class_of, same_class, told_in}
+use Rattle.net_bag.specs.Class.{digest}
 
 -- the records, and for how many more there is room
 pub record Records : Type 0 where

@@ -4,7 +4,7 @@ ghost use Rattle.net_bag.specs.Bag.{IsIndexOf};
 
 use crate::BagView;
 use crate::chains::Chains;
-use crate::classes::{class_of, digest};
+use crate::classes::digest;
 use crate::records::Records;
 use crate::search::first_sent;
 use lte_events::{Class, Record};
@@ -120,7 +120,7 @@ fn index_all(index: &mut Chains, records: &Records)
     ensures { IsIndexOf index.new records.now.records }
 {
     for number in index.len()..records.len() {
-        let class = class_of(&records.to(number));
+        let class = records.to(number).class();
         match index.push(digest(&class, records.octets(number))) {
             Ok(()) => {}
             Err(_) => return,

@@ -1,32 +1,21 @@
-// The interface of a record, and what of its octets tells it from others.
+// What of a record's octets tells it from others, and the value by which it is looked up.
 ghost use Rattle.std.specs.Prelude.{◌≡◌};
+ghost use Rattle.lte_events.specs.Class as class;
 ghost use Rattle.net_bag.specs.Class as spec;
 
-use lte_events::{Address, Class};
+use lte_events::Class;
 use sha2::{Digest, Sha256};
-
-// The interface of an address.
-pub(crate) fn class_of(to: &Address) -> Class
-    ensures { result ≡ spec.class_of to.now }
-{
-    match to {
-        Address::PhoneNas | Address::CoreNas => Class::Nas,
-        Address::Phone(..) | Address::StationAir(..) => Class::Air,
-        Address::CoreS1 | Address::StationS1(_) => Class::S1,
-        Address::StationX2(_) => Class::X2,
-    }
-}
 
 // Whether two interfaces are one.
 pub(crate) fn same_class(a: &Class, b: &Class) -> bool
-    ensures { result ≡ spec.same_class a.now b.now }
+    ensures { result ≡ class.same_class a.now b.now }
 {
     *a == *b
 }
 
 // The octets that tell a record from others of its interface: on NAS those from the second on.
 pub(crate) fn told_in<'a>(class: &Class, octets: &'a [u8]) -> &'a [u8]
-    ensures { result.now ≡ spec.told_in class.now octets.now }
+    ensures { result.now ≡ class.told_in class.now octets.now }
 {
     match class {
         Class::Nas => octets.split_at(octets.len().min(1)).1,

@@ -5,7 +5,7 @@ ghost use Rattle.net_bag.specs.Bag as spec;
 ghost use Rattle.net_bag.specs.Bag.{IsIndexOf, IsFirstBefore};
 
 use crate::chains::Chains;
-use crate::classes::{class_of, digest, same_class, told_in};
+use crate::classes::{digest, same_class, told_in};
 use crate::records::Records;
 use lte_events::Class;
 
@@ -50,7 +50,7 @@ fn is_sent(records: &Records, number: usize, class: &Class, octets: &[u8]) -> bo
     requires { number < length records.now.records }
     ensures { option_map (spec.is_sent class.now octets.now) (slice_get records.now.records number) ≡ Some result }
 {
-    let own = class_of(&records.to(number));
+    let own = records.to(number).class();
     let same = told_in(class, octets) == told_in(class, records.octets(number));
     same_class(class, &own) && same
 }

@@ -18,7 +18,8 @@ use Rattle.lte_machine.specs.Ranges as ranges
 use Rattle.lte_machine.specs.Run.{stations_of, first_world}
 use Rattle.lte_machine.specs.StationState.{Station, StationInput, StationActs, AirPdu, StationRecord, OnS1, OnX2}
 use Rattle.lte_machine.specs.Wire.{KeyUse, Outgoing, address_of}
-use Rattle.lte_machine.specs.World.{Machine, World, station_of_id, turn_of, station_turn, auth_unless, known_root, next_root, content_in, arrives, record_at, delivery, class_of, is_sent, injected, happens}
+use Rattle.lte_events.specs.Class.{class_of}
+use Rattle.lte_machine.specs.World.{Machine, World, station_of_id, turn_of, station_turn, auth_unless, known_root, next_root, content_in, arrives, record_at, delivery, is_sent, injected, happens}
 use Rattle.lte_properties.specs.ChainBelow.{AllOf}
 use Rattle.lte_properties.specs.ChainHolds.{machine_by}
 use Rattle.lte_properties.specs.Reach.{IsAmong, AllReach, ReachesActor}
