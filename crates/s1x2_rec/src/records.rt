@@ -1,7 +1,7 @@
 ghost use Rattle.std.specs.Prelude.{◌≡◌, IfOk};
 
 use crate::reading::record_of;
-use crate::writing::written;
+use crate::writing::write_record;
 use alg_choice::{Algs, Caps};
 use annex_a_keys::{Cell, Kenb, Nh, Star};
 use rec_base::{Octets, RecFault};
@@ -217,6 +217,8 @@ impl CoreRecord {
         requires { InRange (content_of self.now) }
         ensures { result ≡ spelling_of (content_of self.now) }
     {
-        written(self)
+        let mut out = Octets::new();
+        write_record(self, &mut out);
+        out
     }
 }

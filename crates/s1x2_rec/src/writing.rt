@@ -8,13 +8,14 @@ ghost use Rattle.s1x2_rec.specs.Spelling.{spelling_of, InRange};
 use crate::CoreRecord;
 use alg_choice::Caps;
 use rec_base::Octets;
-use rec_fields::{algs_octet, list_of, put_cell, put_u32};
+use rec_fields::{algs_octet, put_cell, put_u32};
 
-// The spelling of any record: those of a context.
+// Writes any record: those of a context.
 #[tactic(auto, unfolding(crate::specs::Spelling::spelling_of))]
-pub(crate) fn written(core: &CoreRecord) -> Octets
-    requires { InRange (content_of core.now) }
-    ensures { result ≡ spelling_of (content_of core.now) }
+pub(crate) fn write_record(core: &CoreRecord, out: &mut Octets)
+    requires range { InRange (content_of core.now) }
+    requires none { out.old ≡ [] }
+    ensures { out.new ≡ spelling_of (content_of core.now) }
 {
     match core {
         CoreRecord::InitialContext {
@@ -23,30 +24,29 @@ pub(crate) fn written(core: &CoreRecord) -> Octets
             caps,
             kenb,
         } => {
-            let mut out = begun(0x20, *conn);
-            put_cell(&mut out, cell);
-            put_caps(&mut out, caps);
+            begin(out, 0x20, *conn);
+            put_cell(out, cell);
+            put_caps(out, caps);
             out.append(&kenb.octets());
-            out
         }
-        CoreRecord::ContextRelease { conn } => begun(0x21, *conn),
+        CoreRecord::ContextRelease { conn } => begin(out, 0x21, *conn),
         CoreRecord::ContextModification { conn, next, kenb } => {
-            let mut out = begun(0x34, *conn);
-            put_u32(&mut out, *next);
+            begin(out, 0x34, *conn);
+            put_u32(out, *next);
             out.append(&kenb.octets());
-            out
         }
-        _ => written_of_path_switch(core),
+        _ => write_path_switch(core, out),
     }
 }
 
-// The spelling of the records of a path switch.
+// Writes the records of a path switch.
 #[tactic(auto, unfolding(crate::specs::Spelling::spelling_of))]
-fn written_of_path_switch(core: &CoreRecord) -> Octets
+fn write_path_switch(core: &CoreRecord, out: &mut Octets)
     requires range { InRange (content_of core.now) }
+    requires none { out.old ≡ [] }
     requires from { 0x22 ≤ kind_of (content_of core.now).fields }
     requires to { kind_of (content_of core.now).fields ≤ 0x33 }
-    ensures { result ≡ spelling_of (content_of core.now) }
+    ensures { out.new ≡ spelling_of (content_of core.now) }
 {
     match core {
         CoreRecord::PathSwitchRequest {
@@ -56,10 +56,9 @@ fn written_of_path_switch(core: &CoreRecord) -> Octets
             cell,
             caps,
         } => {
-            let mut out = begun_by(0x22, *conn, *station, *number);
-            put_cell(&mut out, cell);
-            put_caps(&mut out, caps);
-            out
+            begin_by(out, 0x22, *conn, *station, *number);
+            put_cell(out, cell);
+            put_caps(out, caps);
         }
         CoreRecord::PathSwitchAnswer {
             conn,
@@ -67,22 +66,22 @@ fn written_of_path_switch(core: &CoreRecord) -> Octets
             ncc,
             nh,
         } => {
-            let mut out = begun(0x23, *conn);
-            put_u32(&mut out, *number);
-            put_pair(&mut out, *ncc, nh.octets());
-            out
+            begin(out, 0x23, *conn);
+            put_u32(out, *number);
+            put_pair(out, *ncc, nh.octets());
         }
-        _ => written_of_handover(core),
+        _ => write_handover(core, out),
     }
 }
 
-// The spelling of the records that prepare an S1 handover.
+// Writes the records that prepare an S1 handover.
 #[tactic(auto, unfolding(crate::specs::Spelling::spelling_of))]
-fn written_of_handover(core: &CoreRecord) -> Octets
+fn write_handover(core: &CoreRecord, out: &mut Octets)
     requires range { InRange (content_of core.now) }
+    requires none { out.old ≡ [] }
     requires from { 0x24 ≤ kind_of (content_of core.now).fields }
     requires to { kind_of (content_of core.now).fields ≤ 0x33 }
-    ensures { result ≡ spelling_of (content_of core.now) }
+    ensures { out.new ≡ spelling_of (content_of core.now) }
 {
     match core {
         CoreRecord::HandoverRequired {
@@ -91,9 +90,8 @@ fn written_of_handover(core: &CoreRecord) -> Octets
             attempt,
             cell,
         } => {
-            let mut out = begun_by(0x24, *conn, *station, *attempt);
-            put_cell(&mut out, cell);
-            out
+            begin_by(out, 0x24, *conn, *station, *attempt);
+            put_cell(out, cell);
         }
         CoreRecord::HandoverRequest {
             conn,
@@ -104,11 +102,10 @@ fn written_of_handover(core: &CoreRecord) -> Octets
             ncc,
             nh,
         } => {
-            let mut out = begun_by(0x25, *conn, *source, *attempt);
-            put_cell(&mut out, cell);
-            put_caps(&mut out, caps);
-            put_pair(&mut out, *ncc, nh.octets());
-            out
+            begin_by(out, 0x25, *conn, *source, *attempt);
+            put_cell(out, cell);
+            put_caps(out, caps);
+            put_pair(out, *ncc, nh.octets());
         }
         CoreRecord::HandoverRequestAck {
             conn,
@@ -119,23 +116,23 @@ fn written_of_handover(core: &CoreRecord) -> Octets
             algs,
             air,
         } => {
-            let mut out = begun_by(0x26, *conn, *source, *attempt);
-            put_cell(&mut out, cell);
+            begin_by(out, 0x26, *conn, *source, *attempt);
+            put_cell(out, cell);
             out.append(&[*ncc, algs_octet(algs)]);
-            put_u32(&mut out, *air);
-            out
+            put_u32(out, *air);
         }
-        _ => written_of_command(core),
+        _ => write_command(core, out),
     }
 }
 
-// The spelling of the records that end an S1 handover.
+// Writes the records that end an S1 handover.
 #[tactic(auto, unfolding(crate::specs::Spelling::spelling_of))]
-fn written_of_command(core: &CoreRecord) -> Octets
+fn write_command(core: &CoreRecord, out: &mut Octets)
     requires range { InRange (content_of core.now) }
+    requires none { out.old ≡ [] }
     requires from { 0x27 ≤ kind_of (content_of core.now).fields }
     requires to { kind_of (content_of core.now).fields ≤ 0x33 }
-    ensures { result ≡ spelling_of (content_of core.now) }
+    ensures { out.new ≡ spelling_of (content_of core.now) }
 {
     match core {
         CoreRecord::HandoverCommand {
@@ -146,22 +143,20 @@ fn written_of_command(core: &CoreRecord) -> Octets
             algs,
             air,
         } => {
-            let mut out = begun(0x27, *conn);
-            put_u32(&mut out, *attempt);
-            put_cell(&mut out, cell);
+            begin(out, 0x27, *conn);
+            put_u32(out, *attempt);
+            put_cell(out, cell);
             out.append(&[*ncc, algs_octet(algs)]);
-            put_u32(&mut out, *air);
-            out
+            put_u32(out, *air);
         }
         CoreRecord::HandoverNotify {
             conn,
             station,
             cell,
         } => {
-            let mut out = begun(0x28, *conn);
+            begin(out, 0x28, *conn);
             out.append(&[*station]);
-            put_cell(&mut out, cell);
-            out
+            put_cell(out, cell);
         }
         CoreRecord::HandoverCancel {
             conn,
@@ -169,21 +164,21 @@ fn written_of_command(core: &CoreRecord) -> Octets
             attempt,
             cell,
         } => {
-            let mut out = begun_by(0x29, *conn, *source, *attempt);
-            put_cell(&mut out, cell);
-            out
+            begin_by(out, 0x29, *conn, *source, *attempt);
+            put_cell(out, cell);
         }
-        _ => written_of_x2(core),
+        _ => write_x2(core, out),
     }
 }
 
-// The spelling of the records of X2.
+// Writes the records of X2.
 #[tactic(auto, unfolding(crate::specs::Spelling::spelling_of))]
-fn written_of_x2(core: &CoreRecord) -> Octets
+fn write_x2(core: &CoreRecord, out: &mut Octets)
     requires range { InRange (content_of core.now) }
+    requires none { out.old ≡ [] }
     requires from { 0x30 ≤ kind_of (content_of core.now).fields }
     requires to { kind_of (content_of core.now).fields ≤ 0x33 }
-    ensures { result ≡ spelling_of (content_of core.now) }
+    ensures { out.new ≡ spelling_of (content_of core.now) }
 {
     match core {
         CoreRecord::X2Request {
@@ -195,11 +190,10 @@ fn written_of_x2(core: &CoreRecord) -> Octets
             ncc,
             star,
         } => {
-            let mut out = begun_by(0x30, *conn, *source, *attempt);
-            put_cell(&mut out, cell);
-            put_caps(&mut out, caps);
-            put_pair(&mut out, *ncc, star.octets());
-            out
+            begin_by(out, 0x30, *conn, *source, *attempt);
+            put_cell(out, cell);
+            put_caps(out, caps);
+            put_pair(out, *ncc, star.octets());
         }
         CoreRecord::X2Ack {
             conn,
@@ -208,46 +202,44 @@ fn written_of_x2(core: &CoreRecord) -> Octets
             algs,
             air,
         } => {
-            let mut out = begun(0x31, *conn);
-            put_u32(&mut out, *attempt);
-            put_cell(&mut out, cell);
+            begin(out, 0x31, *conn);
+            put_u32(out, *attempt);
+            put_cell(out, cell);
             out.append(&[algs_octet(algs)]);
-            put_u32(&mut out, *air);
-            out
+            put_u32(out, *air);
         }
         CoreRecord::X2Cancel {
             conn,
             source,
             attempt,
-        } => begun_by(0x32, *conn, *source, *attempt),
+        } => begin_by(out, 0x32, *conn, *source, *attempt),
         CoreRecord::X2Release { conn, attempt } => {
-            let mut out = begun(0x33, *conn);
-            put_u32(&mut out, *attempt);
-            out
+            begin(out, 0x33, *conn);
+            put_u32(out, *attempt);
         }
         _ => unreachable!(),
     }
 }
 
 // The kind and the connection.
-fn begun(kind: u8, conn: u32) -> Octets
-    ensures octets { result ≡ kind ∷ octets_of 4 conn }
-    ensures count { length result ≡ 5 }
+fn begin(out: &mut Octets, kind: u8, conn: u32)
+    requires { out.old ≡ [] }
+    ensures octets { out.new ≡ kind ∷ octets_of 4 conn }
+    ensures count { length out.new ≡ 5 }
 {
-    let mut out = list_of(&[kind]);
-    put_u32(&mut out, conn);
-    out
+    out.append(&[kind]);
+    put_u32(out, conn);
 }
 
 // The kind, the connection, a station and the number of its request or attempt.
-fn begun_by(kind: u8, conn: u32, station: u8, number: u32) -> Octets
-    ensures octets { result ≡ kind ∷ octets_of 4 conn ++ station ∷ octets_of 4 number }
-    ensures count { length result ≡ 10 }
+fn begin_by(out: &mut Octets, kind: u8, conn: u32, station: u8, number: u32)
+    requires { out.old ≡ [] }
+    ensures octets { out.new ≡ kind ∷ octets_of 4 conn ++ station ∷ octets_of 4 number }
+    ensures count { length out.new ≡ 10 }
 {
-    let mut out = begun(kind, conn);
+    begin(out, kind, conn);
     out.append(&[station]);
-    put_u32(&mut out, number);
-    out
+    put_u32(out, number);
 }
 
 // Appends capabilities.
