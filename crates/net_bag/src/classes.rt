@@ -1,6 +1,6 @@
 // What of a record's octets tells it from others, and the value by which it is looked up.
 ghost use Rattle.std.specs.Prelude.{◌≡◌};
-ghost use Rattle.lte_events.specs.Class as class;
+ghost use Rattle.lte_events.specs.Class as interfaces;
 ghost use Rattle.net_bag.specs.Class as spec;
 
 use lte_events::Class;
@@ -8,14 +8,14 @@ use sha2::{Digest, Sha256};
 
 // Whether two interfaces are one.
 pub(crate) fn same_class(a: &Class, b: &Class) -> bool
-    ensures { result ≡ class.same_class a.now b.now }
+    ensures { result ≡ interfaces.same_class a.now b.now }
 {
     *a == *b
 }
 
 // The octets that tell a record from others of its interface: on NAS those from the second on.
 pub(crate) fn told_in<'a>(class: &Class, octets: &'a [u8]) -> &'a [u8]
-    ensures { result.now ≡ class.told_in class.now octets.now }
+    ensures { result.now ≡ interfaces.told_in class.now octets.now }
 {
     match class {
         Class::Nas => octets.split_at(octets.len().min(1)).1,
