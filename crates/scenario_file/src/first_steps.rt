@@ -1,17 +1,17 @@
 // The first steps of a scenario.
-ghost use Rattle.std.specs.Prelude.{◌≡◌, ◌≤◌, ◌<◌, ◌∷◌, [], length, IfOk, OnOk, IsTrue, IsOkUnless, ◌↔◌};
+ghost use Rattle.std.specs.Prelude.{◌≡◌, ◌≤◌, ◌<◌, ◌∷◌, [], length, OnOk, IsTrue, IsOkUnless, ◌↔◌};
 ghost use Rattle.scenario_file.specs.Draws.{arrivals};
 ghost use Rattle.scenario_file.specs.FirstSteps.{with_steps};
 
 use crate::ScenarioFault;
-use lte_events::Event;
+use lte_events::{Event, Events};
 use std::alloc::Global;
 use std::marker::Model;
 
 // Steps up to so many; what comes behind them is left out.
 #[derive(Drop)]
 pub(crate) struct FirstSteps {
-    steps: Vec<Event>,
+    steps: Events,
     most: usize,
 }
 
@@ -28,12 +28,11 @@ impl Model for FirstSteps {
 
 impl FirstSteps {
     // None yet, of so many.
-    pub(crate) fn new(alloc: Global, most: usize) -> Result<FirstSteps, ScenarioFault>
-        ensures none { IfOk result (λ first. first ≡ record { steps = []; most = most }) }
-        ensures memory { IsOkUnless result ScenarioFault.Memory }
+    pub(crate) fn new(alloc: Global, most: usize) -> FirstSteps
+        ensures { result ≡ record { steps = []; most = most } }
     {
-        let steps = Vec::with_capacity(alloc, most)?;
-        Ok(FirstSteps { steps, most })
+        let steps = Events::new(alloc);
+        FirstSteps { steps, most }
     }
 
     // Whether there are as many as are taken.
@@ -45,8 +44,8 @@ impl FirstSteps {
 
     // Takes one step more, where there is room.
     #[tactic(auto, unfolding(crate::specs::FirstSteps::with_steps))]
-    pub(crate) fn put(&mut self, step: Event) -> Result<(), ScenarioFault>
-        ensures step { OnOk result (self.new ≡ with_steps self.old (step ∷ [])) }
+    pub(crate) fn put(&mut self, step: &Event) -> Result<(), ScenarioFault>
+        ensures step { OnOk result (self.new ≡ with_steps self.old (step.now ∷ [])) }
         ensures memory { IsOkUnless result ScenarioFault.Memory }
     {
         if self.is_full() {
@@ -64,13 +63,13 @@ impl FirstSteps {
         // Reading the steps brings into the proof that they are no more than are taken.
         let _ = &self.steps;
         for _n in 0..count {
-            self.put(Event::Deliver(-1))?;
+            self.put(&Event::Deliver(-1))?;
         }
         Ok(())
     }
 
     // The steps.
-    pub(crate) fn into_steps(self) -> Vec<Event>
+    pub(crate) fn into_steps(self) -> Events
         ensures value { result.items ≡ self.steps }
         ensures within { length result.items ≤ self.most }
     {

@@ -11,7 +11,7 @@ use crate::turns::add_opening;
 use crate::{Scenario, ScenarioFault};
 use alg_choice::Caps;
 use annex_a_keys::Cell;
-use lte_events::{Cells, Event, Few, Setup, StationSetup};
+use lte_events::{Cells, Events, Few, Setup, StationSetup};
 use std::alloc::Global;
 
 /// The scenario of `n` steps that a seed gives, n being 1 to 100,000: a phone with traffic and handovers among
@@ -35,11 +35,11 @@ pub fn generate(alloc: Global, n: u32, seed: u32) -> Result<Scenario, ScenarioFa
 }
 
 // The first so many steps.
-fn generated_events(alloc: Global, n: u32, seed: u32) -> Result<Vec<Event>, ScenarioFault>
+fn generated_events(alloc: Global, n: u32, seed: u32) -> Result<Events, ScenarioFault>
     ensures events { IfOk result (λ events. events.items ≡ generated n seed) }
     ensures memory { IsOkUnless result ScenarioFault.Memory }
 {
-    let mut first = FirstSteps::new(alloc, n as usize)?;
+    let mut first = FirstSteps::new(alloc, n as usize);
     add_opening(&mut first)?;
     let mut journey = Journey {
         state: u64::from(seed),

@@ -1,7 +1,8 @@
 // What a scenario keeps of its steps.
-ghost use Rattle.std.specs.Prelude.{◌≡◌, ◌<◌};
+ghost use Rattle.std.specs.Prelude.{◌≡◌, ◌<◌, [], ◌∷◌, ◌++◌, length, IfOk, OnOk};
 
-use lte_events::Event;
+use lte_events::{Event, Events};
+use std::alloc::{AllocError, Global};
 
 // What a step says: which phone it happens to, and what happens.
 #[derive(Debug, PartialEq, Eq, Drop)]
@@ -10,45 +11,83 @@ pub(crate) struct Step {
     pub(crate) event: Event,
 }
 
-// What is kept of a step: the event, or the phone and the event.
+// A list of what is kept of the steps: the events, or the phones and the events.
 pub(crate) trait Kept: Drop {
-    ghost use Rattle.std.specs.Prelude.{ℕ};
+    ghost use Rattle.std.specs.Prelude.{ℕ, List};
     ghost use Rattle.lte_events.specs.declared.events.Event.{Event as AnEvent};
     ghost use Rattle.scenario_file.specs.declared.kept.Step.{Step as AStep};
 
-    // What is kept of it, the event of what is kept, and whether its phone is one of so many.
-    ghost kept: { AStep → Self };
+    // What is kept of one step.
+    type Item;
 
-    ghost happening: { Self → AnEvent };
+    // What the list holds.
+    ghost items: { Self → List Self.Item };
 
-    ghost is_of: { ℕ → Self → Type 0 };
+    // What is kept of a step, the event of what is kept, and whether its phone is one of so many.
+    ghost kept: { AStep → Self.Item };
 
-    fn of(step: Step) -> Self
-        ensures kept { result ≡ kept step }
-        ensures event { happening result ≡ step.event }
-        ensures phone { (phones : ℕ) → step.phone < phones → is_of phones result };
+    ghost happening: { Self.Item → AnEvent };
+
+    ghost is_of: { ℕ → Self.Item → Type 0 };
+
+    // Nothing yet, of so many steps.
+    fn new(alloc: Global, count: usize) -> Result<Self, AllocError>
+        ensures { IfOk result (λ steps. items steps ≡ []) };
+
+    fn len(&self) -> usize
+        ensures { result ≡ length (items self.now) };
+
+    fn keep(&mut self, step: &Step) -> Result<(), AllocError>
+        ensures kept { OnOk result (items self.new ≡ items self.old ++ kept step.now ∷ []) }
+        ensures event { happening (kept step.now) ≡ step.now.event }
+        ensures phone { (phones : ℕ) → step.now.phone < phones → is_of phones (kept step.now) };
 }
 
-impl Kept for Event {
+impl Kept for Events {
+    type Item = Event;
+
+    ghost items = { λ events. events.items };
+
     ghost kept = { λ step. step.event };
 
     ghost happening = { λ event. event };
 
     ghost is_of = { λ _ _. Unit {0} };
 
-    fn of(step: Step) -> Event {
-        step.event
+    fn new(alloc: Global, _count: usize) -> Result<Events, AllocError> {
+        Ok(Events::new(alloc))
+    }
+
+    fn len(&self) -> usize {
+        self.len()
+    }
+
+    fn keep(&mut self, step: &Step) -> Result<(), AllocError> {
+        self.push(&step.event)
     }
 }
 
-impl Kept for (u16, Event) {
+impl Kept for Vec<(u16, Event)> {
+    type Item = (u16, Event);
+
+    ghost items = { λ steps. steps.items };
+
     ghost kept = { λ step. (step.phone, step.event) };
 
     ghost happening = { λ step. step.1 };
 
     ghost is_of = { λ phones step. step.0 < phones };
 
-    fn of(step: Step) -> (u16, Event) {
-        (step.phone, step.event)
+    fn new(alloc: Global, count: usize) -> Result<Vec<(u16, Event)>, AllocError> {
+        Vec::with_capacity(alloc, count)
+    }
+
+    fn len(&self) -> usize {
+        self.len()
+    }
+
+    fn keep(&mut self, step: &Step) -> Result<(), AllocError> {
+        self.push((step.phone, step.event.clone().unwrap()))?;
+        Ok(())
     }
 }

@@ -5,20 +5,20 @@ ghost use Rattle.scenario_file.specs.Reading.{reading_of, fleet_reading_of, two_
 use crate::ScenarioFault;
 use crate::systems::System;
 use crate::whole::{Whole, read_as};
-use lte_events::{Event, Setup};
+use lte_events::{Event, Events, Setup};
 use std::alloc::Global;
 
 /// What a system starts with, and what then happens to it.
-#[derive(Debug, PartialEq, Eq, Drop)]
+#[derive(Debug, Drop)]
 pub struct Scenario {
     /// The phone, the core, the stations and their cells.
     pub setup: Setup,
     /// The events, in their order, at most 200,000.
-    pub events: Vec<Event>,
+    pub events: Events,
 }
 
 /// What a fleet of phones over the same stations and core starts with, and what then happens to them.
-#[derive(Debug, PartialEq, Eq, Drop)]
+#[derive(Debug, Drop)]
 pub struct FleetScenario {
     /// Each phone, the core, the stations and their cells.
     pub setup: Setup,
@@ -29,14 +29,14 @@ pub struct FleetScenario {
 }
 
 /// What a system of two cores starts with, and what then happens to it.
-#[derive(Debug, PartialEq, Eq, Drop)]
+#[derive(Debug, Drop)]
 pub struct TwoScenario {
     /// The phone, the cores, the stations and their cells.
     pub setup: Setup,
     /// The core, 0 or 1, of each station by its number; 0 if there is no such station.
     pub core_of: [u8; 8],
     /// The events, in their order, at most 200,000.
-    pub events: Vec<Event>,
+    pub events: Events,
 }
 
 /// The scenario that a text says, in TOML, or its first fault. `Memory` where memory ran out, which says nothing of
@@ -52,7 +52,7 @@ pub fn read(alloc: Global, octets: &[u8]) -> Result<Scenario, ScenarioFault>
     ensures events_fit { IfOk result (λ s. All EventFits s.events.items) }
     ensures few { IfOk result (λ s. length s.events.items ≤ 200000) }
 {
-    let whole: Whole<Event> = read_as(alloc, octets, System::Single)?;
+    let whole: Whole<Events> = read_as(alloc, octets, System::Single)?;
     Ok(Scenario {
         setup: whole.start.setup,
         events: whole.steps,
@@ -73,7 +73,7 @@ pub fn read_fleet(alloc: Global, octets: &[u8]) -> Result<FleetScenario, Scenari
     ensures phones { IfOk result (λ s. (1 ≤ s.phones) × (s.phones ≤ 256)) }
     ensures phones_stand { IfOk result (λ s. All (λ step. step.0 < s.phones) s.events.items) }
 {
-    let whole: Whole<(u16, Event)> = read_as(alloc, octets, System::Fleet)?;
+    let whole: Whole<Vec<(u16, Event)>> = read_as(alloc, octets, System::Fleet)?;
     let phones = whole.start.phones;
     Ok(FleetScenario {
         setup: whole.start.setup,
@@ -96,7 +96,7 @@ pub fn read_two(alloc: Global, octets: &[u8]) -> Result<TwoScenario, ScenarioFau
     ensures cores { IfOk result (λ s. All (λ core. core ≤ 1) s.core_of) }
     ensures eight { IfOk result (λ s. length s.core_of ≡ 8) }
 {
-    let whole: Whole<Event> = read_as(alloc, octets, System::TwoCores)?;
+    let whole: Whole<Events> = read_as(alloc, octets, System::TwoCores)?;
     let core_of = whole.start.core_of;
     Ok(TwoScenario {
         setup: whole.start.setup,

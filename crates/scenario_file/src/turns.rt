@@ -56,10 +56,10 @@ pub(crate) fn add_opening(first: &mut FirstSteps) -> Result<(), ScenarioFault>
     ensures steps { OnOk result (first.new ≡ with_steps first.old opening) }
     ensures memory { IsOkUnless result ScenarioFault.Memory }
 {
-    first.put(Event::Auth(0, KASME, generated_caps()))?;
-    first.put(Event::Core(CoreAct::StartSmc))?;
+    first.put(&Event::Auth(0, KASME, generated_caps()))?;
+    first.put(&Event::Core(CoreAct::StartSmc))?;
     first.arrivals(2)?;
-    first.put(Event::Core(CoreAct::Connect(cell_of(0))))?;
+    first.put(&Event::Core(CoreAct::Connect(cell_of(0))))?;
     first.arrivals(3)?;
     Ok(())
 }
@@ -68,7 +68,7 @@ fn uplink(first: &mut FirstSteps, octets: &[u8; 8]) -> Result<(), ScenarioFault>
     ensures steps { OnOk result (first.new ≡ with_steps first.old (steps_of (Turn.Uplink octets.now))) }
     ensures memory { IsOkUnless result ScenarioFault.Memory }
 {
-    first.put(Event::Phone(PhoneAct::SendUser(Bearer::Drb1, packet(octets))))?;
+    first.put(&Event::Phone(PhoneAct::SendUser(Bearer::Drb1, packet(octets))))?;
     first.arrivals(1)?;
     Ok(())
 }
@@ -77,7 +77,7 @@ fn downlink(first: &mut FirstSteps, s: u8, octets: &[u8; 8]) -> Result<(), Scena
     ensures steps { OnOk result (first.new ≡ with_steps first.old (steps_of (Turn.Downlink s octets.now))) }
     ensures memory { IsOkUnless result ScenarioFault.Memory }
 {
-    first.put(Event::Station(s, StationAct::SendUser(Bearer::Drb1, packet(octets))))?;
+    first.put(&Event::Station(s, StationAct::SendUser(Bearer::Drb1, packet(octets))))?;
     first.arrivals(1)?;
     Ok(())
 }
@@ -94,9 +94,9 @@ fn handover(
     ensures steps { OnOk result (first.new ≡ with_steps first.old (handover kind from to before behind)) }
     ensures memory { IsOkUnless result ScenarioFault.Memory }
 {
-    first.put(Event::Station(from, StationAct::Start(kind, cell_of(to))))?;
+    first.put(&Event::Station(from, StationAct::Start(kind, cell_of(to))))?;
     first.arrivals(before)?;
-    first.put(Event::Station(from, StationAct::Command))?;
+    first.put(&Event::Station(from, StationAct::Command))?;
     first.arrivals(behind)?;
     Ok(())
 }

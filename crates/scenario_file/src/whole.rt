@@ -14,11 +14,11 @@ use crate::{Field, ScenarioFault, setup, steps, values};
 use std::alloc::Global;
 use toml::{Table, Value};
 
-// What a system starts with, and what is kept of each step.
+// What a system starts with, and what is kept of the steps.
 #[derive(Drop)]
 pub(crate) struct Whole<E> {
     pub(crate) start: Start,
-    pub(crate) steps: Vec<E>,
+    pub(crate) steps: E,
 }
 
 // What a text says of a system of this kind, or its first fault.
@@ -27,17 +27,17 @@ pub(crate) fn read_as<E: Kept>(
     octets: &[u8],
     system: System,
 ) -> Result<Whole<E>, ScenarioFault>
-    ensures whole { IfOk result (λ w. text_of E.kept system octets.now ≡ Ok (w.start, w.steps.items)) }
+    ensures whole { IfOk result (λ w. text_of E.kept system octets.now ≡ Ok (w.start, E.items w.steps)) }
     ensures refused { IfErr result (λ fault. ¬ (fault ≡ ScenarioFault.Memory) → text_of E.kept system octets.now ≡ Err fault) }
     ensures can_start { IfOk result (λ w. CanStart w.start.setup) }
     ensures setup_fits { IfOk result (λ w. SetupFits w.start.setup) }
     ensures cells { IfOk result (λ w. 1 ≤ length w.start.setup.cells) }
     ensures phones { IfOk result (λ w. (1 ≤ w.start.phones) × (w.start.phones ≤ 256)) }
     ensures cores { IfOk result (λ w. All (λ core. core ≤ 1) w.start.core_of × (length w.start.core_of ≡ 8)) }
-    ensures can_happen { IfOk result (λ w. All (λ step. CanHappen w.start.setup (E.happening step)) w.steps.items) }
-    ensures events_fit { IfOk result (λ w. All (λ step. EventFits (E.happening step)) w.steps.items) }
-    ensures phones_stand { IfOk result (λ w. All (E.is_of w.start.phones) w.steps.items) }
-    ensures few { IfOk result (λ w. length w.steps.items ≤ 200000) }
+    ensures can_happen { IfOk result (λ w. All (λ step. CanHappen w.start.setup (E.happening step)) (E.items w.steps)) }
+    ensures events_fit { IfOk result (λ w. All (λ step. EventFits (E.happening step)) (E.items w.steps)) }
+    ensures phones_stand { IfOk result (λ w. All (E.is_of w.start.phones) (E.items w.steps)) }
+    ensures few { IfOk result (λ w. length (E.items w.steps) ≤ 200000) }
 {
     let document = document(alloc, octets)?;
     whole_in(alloc, &document, system)
@@ -67,7 +67,7 @@ fn whole_in<E: Kept>(
     document: &Table,
     system: System,
 ) -> Result<Whole<E>, ScenarioFault>
-    ensures whole { IfOk result (λ w. whole_of E.kept system (table_view document.now) ≡ Ok (w.start, w.steps.items)) }
+    ensures whole { IfOk result (λ w. whole_of E.kept system (table_view document.now) ≡ Ok (w.start, E.items w.steps)) }
     ensures refused { IfErr result (λ fault. ¬ (fault ≡ ScenarioFault.Memory) → whole_of E.kept system (table_view document.now) ≡ Err fault) }
     ensures before_steps { (fault : ScenarioFault) → before_steps system (table_view document.now) ≡ Err fault → result ≡ Err fault }
     ensures can_start { IfOk result (λ w. CanStart w.start.setup) }
@@ -75,10 +75,10 @@ fn whole_in<E: Kept>(
     ensures cells { IfOk result (λ w. 1 ≤ length w.start.setup.cells) }
     ensures phones { IfOk result (λ w. (1 ≤ w.start.phones) × (w.start.phones ≤ 256)) }
     ensures cores { IfOk result (λ w. All (λ core. core ≤ 1) w.start.core_of × (length w.start.core_of ≡ 8)) }
-    ensures can_happen { IfOk result (λ w. All (λ step. CanHappen w.start.setup (E.happening step)) w.steps.items) }
-    ensures events_fit { IfOk result (λ w. All (λ step. EventFits (E.happening step)) w.steps.items) }
-    ensures phones_stand { IfOk result (λ w. All (E.is_of w.start.phones) w.steps.items) }
-    ensures few { IfOk result (λ w. length w.steps.items ≤ 200000) }
+    ensures can_happen { IfOk result (λ w. All (λ step. CanHappen w.start.setup (E.happening step)) (E.items w.steps)) }
+    ensures events_fit { IfOk result (λ w. All (λ step. EventFits (E.happening step)) (E.items w.steps)) }
+    ensures phones_stand { IfOk result (λ w. All (E.is_of w.start.phones) (E.items w.steps)) }
+    ensures few { IfOk result (λ w. length (E.items w.steps) ≤ 200000) }
 {
     let start = start_in(document, system)?;
     let values = steps_in(document)?;
@@ -137,21 +137,21 @@ fn kept_steps<E: Kept>(
     values: &[Value],
     system: System,
     start: &Start,
-) -> Result<Vec<E>, ScenarioFault>
+) -> Result<E, ScenarioFault>
     requires setup { SetupFits start.now.setup }
     requires phones { 1 ≤ start.now.phones }
     requires few { length values.now ≤ 200000 }
-    ensures steps { IfOk result (λ es. kept_from E.kept system start.now [] (items_view values.now) ≡ Ok es.items) }
+    ensures steps { IfOk result (λ es. kept_from E.kept system start.now [] (items_view values.now) ≡ Ok (E.items es)) }
     ensures refused { IfErr result (λ fault. ¬ (fault ≡ ScenarioFault.Memory) → kept_from E.kept system start.now [] (items_view values.now) ≡ Err fault) }
-    ensures can { IfOk result (λ es. All (λ e. CanHappen start.now.setup (E.happening e)) es.items) }
-    ensures fit { IfOk result (λ es. All (λ e. EventFits (E.happening e)) es.items) }
-    ensures stand { IfOk result (λ es. All (E.is_of start.now.phones) es.items) }
-    ensures few { IfOk result (λ es. length es.items ≤ 200000) }
+    ensures can { IfOk result (λ es. All (λ e. CanHappen start.now.setup (E.happening e)) (E.items es)) }
+    ensures fit { IfOk result (λ es. All (λ e. EventFits (E.happening e)) (E.items es)) }
+    ensures stand { IfOk result (λ es. All (E.is_of start.now.phones) (E.items es)) }
+    ensures few { IfOk result (λ es. length (E.items es) ≤ 200000) }
 {
-    let mut steps = Vec::with_capacity(alloc, values.len())?;
+    let mut steps = E::new(alloc, values.len())?;
     for value in values {
         match step_at(value, system, start, steps.len() as u32) {
-            Ok(step) => steps.push(E::of(step))?,
+            Ok(step) => steps.keep(&step)?,
             Err(fault) => return Err(fault),
         }
     }

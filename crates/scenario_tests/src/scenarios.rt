@@ -4,6 +4,7 @@ mod systems;
 
 use crate::refusals::Refusal::{self, Missing, Unknown, Wrong};
 use crate::values::{same, same_at};
+use lte_events::{Event, Events};
 use scenario_file::Field::{
     Air, Bearer as BearerField, Caps as CapsField, Cell as CellField, Cells, Core, Do, First, From,
     Id, Kasme, Ksi, N, Octets as OctetsField, Phone, Priority as PriorityField, Record, Station,
@@ -22,6 +23,15 @@ const STATION: &str = "station=[{id=1,cells=[[10,100]]}]\n";
 // The fault of a text, or `None` where it is a scenario.
 fn fault_of(alloc: Global, text: &str) -> Option<ScenarioFault> {
     read(alloc, text.as_bytes()).err()
+}
+
+// An event by its number, if there are so many.
+fn event_at(events: &Events, number: usize) -> Option<Event> {
+    if number < events.len() {
+        Some(events.at(number))
+    } else {
+        None
+    }
 }
 
 #[test]

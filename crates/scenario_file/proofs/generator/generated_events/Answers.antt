@@ -8,7 +8,7 @@ use Rattle.scenario_file.proofs.generator.generated_events.Goals as goal
 
 pub loop-turn-init : goal.loop-turn-init
 loop-turn-init c = record {
-  first = c.in_ok-add_opening.ensures.steps ∙ ap (λ taken. with_steps taken opening) c.in_ok-first.ensures.none;
+  first = c.in_ok-add_opening.ensures.steps ∙ ap (λ taken. with_steps taken opening) c.new-first.ensures;
   journey = ap (λ x. record { state = x; serving = 0; unanswered = false }) c.from.ensures;
 }
 
