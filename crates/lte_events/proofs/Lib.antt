@@ -1,1 +1,2 @@
+pub mod FlatTexts
 pub mod SiteFacts

@@ -1,23 +1,27 @@
 // Events, one after the other.
 ghost use Rattle.std.specs.Prelude.{◌≡◌, ◌+◌, ◌-◌, ◌<◌, ◌≤◌, [], ◌∷◌, ◌++◌, length, Some, slice_get, IfOk, OnOk, OnErr};
 
-use crate::Event;
+use crate::heads::{Head, join, split};
+use crate::{Event, Texts};
 use std::alloc::{AllocError, Global};
 use std::marker::Model;
 
-/// A list of events. A contract sees the events, and for how many more there is room.
+/// A list of events, each of which takes only as much room as its own text needs. A contract sees the
+/// events, and for how many more there is room.
 #[derive(Debug, Drop)]
 pub struct Events {
-    items: Vec<Event>,
+    texts: Texts<Head>,
 }
 
 impl Model for Events {
-    ghost use Rattle.std.specs.Prelude.{◌-◌, vec_len, vec_capacity};
-    ghost use Rattle.lte_events.specs.Listed.{Listed};
+    ghost use Rattle.std.specs.Prelude.{map};
+    ghost use Rattle.lte_events.specs.Listed.{Listed, event_of, AllFit};
 
     ghost Value = { Listed };
 
-    ghost view = { λ e. record { items = e.items.items; spare = vec_capacity e.items - vec_len e.items } };
+    ghost view = { λ e. record { items = map event_of e.texts.items; spare = e.texts.spare } };
+
+    ghost invariant = { λ e. AllFit e.texts.items };
 }
 
 impl Events {
@@ -27,7 +31,7 @@ impl Events {
         ensures spare { result.spare ≡ 0 }
     {
         Events {
-            items: Vec::new(alloc),
+            texts: Texts::new(alloc),
         }
     }
 
@@ -50,7 +54,7 @@ impl Events {
         ensures spare { self.old.spare ≤ self.new.spare }
         ensures err { OnErr result (self.new ≡ self.old) }
     {
-        self.items.reserve(1)
+        self.texts.reserve()
     }
 
     /// Puts an event at the end, for which there is room.
@@ -59,7 +63,8 @@ impl Events {
         ensures items { self.new.items ≡ self.old.items ++ event.now ∷ [] }
         ensures spare { self.old.spare ≤ self.new.spare + 1 }
     {
-        self.items.push_reserved(event.clone().unwrap());
+        let (head, text) = split(event);
+        self.texts.put(head, text);
     }
 
     /// Puts an event at the end. Where memory runs out nothing changes.
@@ -76,7 +81,7 @@ impl Events {
     pub fn len(&self) -> usize
         ensures { result ≡ length self.now.items }
     {
-        self.items.len()
+        self.texts.len()
     }
 
     /// An event by its number, counted from 0.
@@ -84,6 +89,7 @@ impl Events {
         requires { number < length self.now.items }
         ensures { slice_get self.now.items number ≡ Some result }
     {
-        self.items[number].clone().unwrap()
+        let (head, text) = self.texts.at(number);
+        join(&head, text)
     }
 }
