@@ -1,10 +1,11 @@
 -- The bag of everything ever sent: the records, in the order in which they were sent.
-use Rattle.std.specs.Prelude.{◌≡◌, ℕ, ◌+◌, ◌<◌, ◌≤◌, Bool, false, ◌&&◌, List, Option, Some, None, length, map, take, drop, slice_get, position}
+use Rattle.std.specs.Prelude.{◌≡◌, ℕ, ◌<◌, Bool, false, ◌&&◌, List, Option, Some, None, length, map, take, slice_get, position}
 use Rattle.std.specs.Str.{bytes_eq}
 use Rattle.lte_events.specs.declared.classes.Class.{Class}
 use Rattle.net_bag.specs.declared.view.BagView.{BagView}
 use Rattle.net_bag.specs.declared.records.Entry.{Entry}
 use Rattle.lte_events.specs.Class.{class_of, same_class, told_in}
+use Rattle.lte_events.specs.Texts.{Item}
 use Rattle.net_bag.specs.Class.{digest}
 
 -- the records, and for how many more there is room
@@ -28,13 +29,9 @@ digest_of sent = digest (class_of sent.to) sent.octets
 abbrev pub IsIndexOf : List (List ℕ) → List BagView → Type 0
 IsIndexOf digests records = digests ≡ map digest_of (take (length digests) records)
 
--- a record whose octets stand in the flat list
-abbrev pub view_of : List ℕ → Entry → BagView
-view_of flat e = record { to = e.to; octets = take e.len (drop e.start flat); tuple = e.tuple }
-
--- each record lies within the flat list, and is no longer than a record can be
-abbrev pub AreWithin : List Entry → List ℕ → Type 0
-AreWithin entries flat = (k : ℕ) (e : Entry) → slice_get entries k ≡ Some e → (e.start + e.len ≤ length flat) × (e.len ≤ 1536)
+-- a record whose octets stand apart from what it is besides
+abbrev pub view_of : Item Entry → BagView
+view_of i = record { to = i.tag.to; octets = i.octets; tuple = i.tag.tuple }
 
 -- the first record with these octets among those before a mark
 abbrev pub IsFirstBefore : List BagView → Class → List ℕ → ℕ → Option ℕ → Type 0

@@ -1,41 +1,35 @@
 // The records and their octets.
-ghost use Rattle.std.specs.Prelude.{◌≡◌, ◌+◌, ◌<◌, ◌≤◌, ◌^◌, ◌-◌, [], ◌∷◌, ◌++◌, length, Some, option_copied, slice_get, vec_len, vec_capacity, OnOk, OnErr};
+ghost use Rattle.std.specs.Prelude.{◌≡◌, ◌+◌, ◌<◌, ◌≤◌, ◌^◌, ◌-◌, [], ◌∷◌, ◌++◌, length, Some, slice_get, OnOk, OnErr};
 ghost use Rattle.std.specs.Option.{option_map};
 
 use crate::BagView;
-use lte_events::Address;
+use lte_events::{Address, Texts};
 use rec_base::{Octets, Use};
 use std::alloc::{AllocError, Global};
 use std::marker::Model;
 
-// A record: where it was sent, the place and the number of its octets in the flat list, and the use
-// by which it is protected.
+// What a record is besides its octets: where it was sent, and the use by which it is protected.
 #[derive(Clone, Copy)]
 pub(crate) struct Entry {
     to: Address,
-    start: usize,
-    len: usize,
     tuple: Option<Use>,
 }
 
-// A list of records, whose octets stand in one flat list.
+// A list of records.
 #[derive(Drop)]
 pub(crate) struct Records {
-    entries: Vec<Entry>,
-    flat: Vec<u8>,
-    // for how many more records both have room
-    spare: usize,
+    texts: Texts<Entry>,
 }
 
 impl Model for Records {
-    ghost use Rattle.std.specs.Prelude.{◌+◌, ◌*◌, ◌<◌, ◌≤◌, ◌^◌, map, vec_len, vec_capacity};
+    ghost use Rattle.std.specs.Prelude.{◌+◌, ◌<◌, ◌^◌, length, map};
     ghost use Rattle.net_bag.specs.Bag as spec;
 
     ghost Value = { spec.Records };
 
-    ghost view = { λ l. record { records = map (spec.view_of l.flat.items) l.entries.items; spare = l.spare } };
+    ghost view = { λ l. record { records = map spec.view_of l.texts.items; spare = l.texts.spare } };
 
-    ghost invariant = { λ l. spec.AreWithin l.entries.items l.flat.items × (vec_len l.entries + l.spare ≤ vec_capacity l.entries) × (vec_len l.flat + l.spare * 1536 ≤ vec_capacity l.flat) × (vec_len l.entries + l.spare < 2 ^ 32) };
+    ghost invariant = { λ l. length l.texts.items + l.texts.spare < 2 ^ 32 };
 }
 
 impl Records {
@@ -45,9 +39,7 @@ impl Records {
         ensures spare { result.spare ≡ 0 }
     {
         Records {
-            entries: Vec::new(alloc),
-            flat: Vec::new(alloc),
-            spare: 0,
+            texts: Texts::new(alloc),
         }
     }
 
@@ -60,10 +52,8 @@ impl Records {
         ensures spare { self.old.spare ≤ self.new.spare }
         ensures err { OnErr result (self.new ≡ self.old) }
     {
-        if self.spare == 0 {
-            self.entries.reserve(1)?;
-            self.flat.reserve(1536)?;
-            self.spare = 1;
+        if self.texts.spare() == 0 {
+            self.texts.reserve()?;
         }
         Ok(())
     }
@@ -76,15 +66,7 @@ impl Records {
         ensures spare { self.old.spare ≡ self.new.spare + 1 }
         ensures numbered { length self.new.records < 2 ^ 32 }
     {
-        let entry = Entry {
-            to,
-            start: self.flat.len(),
-            len: octets.len(),
-            tuple,
-        };
-        append(&mut self.flat, octets);
-        self.entries.push_reserved(entry);
-        self.spare -= 1;
+        self.texts.put(Entry { to, tuple }, octets);
     }
 
     // Where a record was sent.
@@ -92,7 +74,8 @@ impl Records {
         requires { number < length self.now.records }
         ensures { option_map (λ r. r.to) (slice_get self.now.records number) ≡ Some result }
     {
-        self.entries[number].to
+        let (entry, _octets) = self.texts.at(number);
+        entry.to
     }
 
     // The octets of a record.
@@ -101,10 +84,8 @@ impl Records {
         ensures value { option_map (λ r. r.octets) (slice_get self.now.records number) ≡ Some result.now }
         ensures short { length result.now ≤ 1536 }
     {
-        let entry = self.entries[number];
-        let start = entry.start;
-        let end = start + entry.len;
-        &self.flat[start..end]
+        let (_entry, octets) = self.texts.at(number);
+        octets
     }
 
     // A record.
@@ -112,12 +93,13 @@ impl Records {
         requires { number < length self.now.records }
         ensures { slice_get self.now.records number ≡ Some result }
     {
-        let mut octets = Octets::new();
-        octets.append(self.octets(number));
+        let (entry, octets) = self.texts.at(number);
+        let mut copied = Octets::new();
+        copied.append(octets);
         BagView {
-            to: self.entries[number].to,
-            octets,
-            tuple: self.entries[number].tuple,
+            to: entry.to,
+            octets: copied,
+            tuple: entry.tuple,
         }
     }
 
@@ -126,16 +108,6 @@ impl Records {
         ensures len { result ≡ length self.now.records }
         ensures numbered { length self.now.records < 2 ^ 32 }
     {
-        self.entries.len()
+        self.texts.len()
     }
-}
-
-// Appends octets, for which there is room.
-fn append(flat: &mut Vec<u8>, octets: &[u8])
-    requires { vec_len flat.old + length octets.now ≤ vec_capacity flat.old }
-    ensures items { flat.new.items ≡ flat.old.items ++ octets.now }
-    ensures len { vec_len flat.new ≡ vec_len flat.old + length octets.now }
-    ensures capacity { vec_capacity flat.old ≤ vec_capacity flat.new }
-{
-    flat.extend_from_slice(octets).unwrap();
 }
