@@ -62,15 +62,15 @@ first_replied setup journal replies empty none = record {
 }
 
 pub next_replied : (setup : Setup) (journal : List Event) (over : Option Proof) (a : Actors) → over ≡ None → Stands over (octet_run setup journal) a (length journal) → (e : Event) (told : List (ActorIn × ActorOut)) → Tells a e told
-    → (put : Event) → put ≡ e → (items : List Event) → items ≡ journal ++ put ∷ [] → RepliedLast setup items told
-next_replied setup journal over a none st e told tells put copied items are = record { last = last; none = λ is. absurd (not_longer journal put (sym is ∙ are)) }
+    → (items : List Event) → items ≡ journal ++ e ∷ [] → RepliedLast setup items told
+next_replied setup journal over a none st e told tells items are = record { last = last; none = λ is. absurd (not_longer journal e (sym is ∙ are)) }
   where
     last : (before : List Event) (d : Event) (w : World (List ℕ) ℕ Kept) → items ≡ before ++ d ∷ [] → octet_run setup before ≡ Running w → told ≡ replies_of w d
     last before d w is runs =
-        let same = same_ends before journal d put (sym is ∙ are) in
+        let same = same_ends before journal d e (sym is ∙ are) in
         let here : octet_run setup journal ≡ Running w = ap (octet_run setup) (sym same.0) ∙ runs in
         let goes = subst (λ r. Goes r a (length journal)) here (subst (λ o. Stands o (octet_run setup journal) a (length journal)) none st) in
-        tells w goes.0 ∙ ap (replies_of w) (sym (same.1 ∙ copied))
+        tells w goes.0 ∙ ap (replies_of w) (sym same.1)
 
 -- OF THE SETUP
 

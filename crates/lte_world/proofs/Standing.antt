@@ -31,14 +31,11 @@ module _ (setup : Setup) (journal : List Event) (over : Option Proof) (ready : B
   pub event_fits : EventCan a e
   event_fits = event_can setup journal e a (length journal) is are good goes
 
-  module _ (b : Actors) (read : List Event) (same : read ≡ journal) where
+  module _ (b : Actors) (step : ℕ) (same : step ≡ length journal) where
     -- with a line
-    module _ (line : Line) (h : Happens a b e (length read) (Ok line)) (put : Event) (copied : put ≡ e) (items : List Event) (items_are : items ≡ journal ++ put ∷ []) where
+    module _ (line : Line) (h : Happens a b e step (Ok line)) (items : List Event) (journal_is : items ≡ journal ++ e ∷ []) where
       happened : Happens a b e (length journal) (Ok line)
-      happened = subst (λ l. Happens a b e (length l) (Ok line)) same h
-
-      journal_is : items ≡ journal ++ e ∷ []
-      journal_is = items_are ∙ ap (λ x. journal ++ x ∷ []) copied
+      happened = subst (λ n. Happens a b e n (Ok line)) same h
 
       pub says_line : ◌≡◌ {A = Result Line WorldFault} (Ok line) (told_of v e)
       says_line = went_says a b e (length journal) line happened (octet_run setup journal) goes (event_good setup journal e is are good) ∙ ap (λ x. told_of x e) at
@@ -65,9 +62,9 @@ module _ (setup : Setup) (journal : List Event) (over : Option Proof) (ready : B
       line_keeps spare = (is, events_are, λ t. absurd (false≢true t), stands_line)
 
     -- with a coincidence
-    module _ (p : Proof) (h : Happens a b e (length read) (Err p)) where
+    module _ (p : Proof) (h : Happens a b e step (Err p)) where
       ended : Happens a b e (length journal) (Err p)
-      ended = subst (λ l. Happens a b e (length l) (Err p)) same h
+      ended = subst (λ n. Happens a b e n (Err p)) same h
 
       pub says_chance : ◌≡◌ {A = Result Line WorldFault} (Err (WorldFault.Chance p)) (told_of v e)
       says_chance = ended_says a b e (length journal) p ended (octet_run setup journal) goes (event_good setup journal e is are good) ∙ ap (λ x. told_of x e) at

@@ -96,12 +96,12 @@ module _ (setup : Setup) (journal : List Event) (over : Option Proof) (ready : B
   pub line_step : line.step ≡ length v.journal
   line_step = step_line v.setup v.journal a set_so are_so goes e (is_event v.setup e can.can can.fits) line says_so
 
-  module _ (put : Event) (copied : put ≡ e) (items : List Event) (items_are : items ≡ journal ++ put ∷ []) (later : Bool) where
+  module _ (items : List Event) (items_are : items ≡ journal ++ e ∷ []) (later : Bool) where
     abbrev after : Whole
     after = record { setup = setup; journal = items; over = over; ready = later }
 
     grown : items ≡ v.journal ++ e ∷ []
-    grown = items_are ∙ (λ j. (view j).journal ++ copied j ∷ [])
+    grown = items_are ∙ (λ j. (view j).journal ++ e ∷ [])
 
     pub line_answers : answers_of after ≡ answers_of v ++ Ok line ∷ []
     line_answers = answers_line v.setup v.journal a set_so are_so goes e (is_event v.setup e can.can can.fits) line says_so v after refl refl (ap (λ x. x.setup) view) grown

@@ -20,7 +20,7 @@ use crate::shelf::Shelf;
 use key_terms::{Holder, Ladder, LadderFault, Proof, Row};
 use lte_events::{ActorOut, Class, Line, Who};
 use net_bag::{Bag, BagView};
-use rec_base::{Use, UserText};
+use rec_base::Use;
 use std::alloc::Global;
 use std::marker::Model;
 
@@ -230,23 +230,14 @@ fn same_sender(sender: &Option<Use>, receiver: &Use) -> bool
 pub(crate) fn line(out: &ActorOut, sent: Option<(u32, Class)>, who: Who, step: u32) -> Line
     ensures { result ≡ line_of_reply step who sent out.now }
 {
+    let opened: Result<_, _> = out.opened.clone();
     Line {
         step,
         who,
         answer: out.answer,
         sent,
-        opened: text_of(&out.opened),
+        opened: opened.unwrap(),
         note: out.note,
         alarm: out.alarm,
-    }
-}
-
-// The same text.
-fn text_of(text: &Option<UserText>) -> Option<UserText>
-    ensures { result ≡ text.now }
-{
-    match text.clone() {
-        Ok(text) => text,
-        Err(_) => None,
     }
 }

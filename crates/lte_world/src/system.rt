@@ -345,36 +345,24 @@ fn refused(answer: Answer, step: u32) -> Line
 fn copied_phone_act(act: &PhoneAct) -> PhoneAct
     ensures { result ≡ act.now }
 {
-    match act.clone() {
-        Ok(copy) => copy,
-        Err(_) => PhoneAct::GoIdle,
-    }
+    act.clone().unwrap()
 }
 
 fn copied_station_act(act: &StationAct) -> StationAct
     ensures { result ≡ act.now }
 {
-    match act.clone() {
-        Ok(copy) => copy,
-        Err(_) => StationAct::Cancel,
-    }
+    act.clone().unwrap()
 }
 
 fn copied_core_act(act: &CoreAct) -> CoreAct
     ensures { result ≡ act.now }
 {
-    match act.clone() {
-        Ok(copy) => copy,
-        Err(_) => CoreAct::StartSmc,
-    }
+    act.clone().unwrap()
 }
 
 // The same octets.
 fn copied(octets: &Octets) -> Octets
     ensures { result ≡ octets.now }
 {
-    match octets.clone() {
-        Ok(copy) => copy,
-        Err(_) => Octets::new(),
-    }
+    octets.clone().unwrap()
 }

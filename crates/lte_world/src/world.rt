@@ -15,10 +15,9 @@ ghost use Rattle.lte_world.specs.Whole.{begun, run_of, told_of, turned, journal_
 
 use crate::WorldFault;
 use crate::replies::Replies;
-use crate::shelf::Shelf;
 use crate::system::System;
 use key_terms::{Ladder, Proof};
-use lte_events::{ActorIn, ActorOut, Cells, Event, Few, Line, Setup};
+use lte_events::{ActorIn, ActorOut, Event, Events, Line, Setup};
 use rec_base::Use;
 use std::alloc::Global;
 use std::marker::Model;
@@ -32,7 +31,7 @@ use std::marker::Model;
 #[derive(Drop)]
 pub struct World {
     setup: Setup,
-    journal: Shelf<Event>,
+    journal: Events,
     system: System,
     over: Option<Proof>,
     ready: bool,
@@ -71,7 +70,7 @@ impl World {
         let system = System::new(alloc, setup)?;
         Ok(World {
             setup: copied_setup(setup),
-            journal: Shelf::new(alloc),
+            journal: Events::new(alloc),
             system,
             over: None,
             ready: false,
@@ -112,11 +111,11 @@ impl World {
         if let Some(proof) = self.over {
             return Err(WorldFault::Chance(proof));
         }
-        let step = self.journal.as_slice().len() as u32;
+        let step = self.journal.len() as u32;
         self.replies.clear();
         match self.system.happen(event, step, &mut self.replies) {
             Ok(line) => {
-                self.journal.put(copied(event));
+                self.journal.put(event);
                 Ok(line)
             }
             Err(proof) => {
@@ -141,7 +140,7 @@ impl World {
         // The setup and the events so far are in their ranges.
         ensures ranges { IsSetup self.old.setup × AllOf IsEvent self.old.journal }
     {
-        match self.journal.reserve(1) {
+        match self.journal.reserve() {
             Ok(()) => {}
             Err(_) => return Err(WorldFault::Memory),
         }
@@ -154,10 +153,10 @@ impl World {
     }
 
     /// The events that it took, in order.
-    pub fn journal(&self) -> &[Event]
-        ensures { result.now ≡ self.now.journal }
+    pub fn journal(&self) -> &Events
+        ensures { result.now.items ≡ self.now.journal }
     {
-        self.journal.as_slice()
+        &self.journal
     }
 
     /// The keys that were derived, each once, in the order of their first derivation, each with all who held it.
@@ -213,24 +212,5 @@ impl World {
 fn copied_setup(setup: &Setup) -> Setup
     ensures { result ≡ setup.now }
 {
-    match setup.clone() {
-        Ok(copy) => copy,
-        Err(_) => Setup {
-            caps: setup.caps,
-            core_priority: setup.core_priority,
-            core_first: setup.core_first,
-            stations: Few::new(),
-            cells: Cells::new(),
-        },
-    }
-}
-
-// The same event.
-fn copied(event: &Event) -> Event
-    ensures { result ≡ event.now }
-{
-    match event.clone() {
-        Ok(copy) => copy,
-        Err(_) => Event::Deliver(0),
-    }
+    setup.clone().unwrap()
 }

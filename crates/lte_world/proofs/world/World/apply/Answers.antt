@@ -18,14 +18,14 @@ happen-requires-clause-can c =
 pub invariant_of-self-in-Ok : goal.invariant_of-self-in-Ok
 invariant_of-self-in-Ok c =
     let keeps = line_keeps c.self.inside.setup c.self.inside.journal.items c.self.inside.over c.self.inside.ready c.self.inside.system (search rules) c.self.invariant.0 c.self.invariant.1 c.self.invariant.3 c.args.self.now c.self.view_is c.args.event.now c.requires
-    c.happen.new.self c.as_slice.result.now c.as_slice.ensures c.in-Ok.line (subst (Happens c.self.inside.system c.happen.new.self c.args.event.now _) c.in-Ok.is c.happen.ensures.happens) c.copied.result c.copied.ensures c.put.new.self.items c.put.ensures.items c.put.new.self.spare in (
+    c.happen.new.self c.len-step.result c.len-step.ensures c.in-Ok.line (subst (Happens c.self.inside.system c.happen.new.self c.args.event.now _) c.in-Ok.is c.happen.ensures.happens) c.put.new.self.items c.put.ensures.items c.put.new.self.spare in (
       keeps.0,
       keeps.1,
       keeps.2,
       keeps.3,
       subst (λ o. UnlessOver o (RepliedLast c.self.inside.setup c.put.new.self.items c.happen.new.told)) (sym is_none) (next_replied c.self.inside.setup c.self.inside.journal.items c.self.inside.over c.self.inside.system is_none c.self.invariant.3 c.args.event.now c.happen.new.told
-          (told_ok c.happen.result c.in-Ok.is c.happen.ensures.told) c.copied.result c.copied.ensures c.put.new.self.items c.put.ensures.items),
-      line_within c.self.inside.over c.self.inside.journal.items c.put.new.self.items c.copied.result c.self.inside.system.stores c.happen.new.self.stores is_none c.put.ensures.items c.self.invariant.5 c.happen.ensures.grows,
+          (told_ok c.happen.result c.in-Ok.is c.happen.ensures.told) c.put.new.self.items c.put.ensures.items),
+      line_within c.self.inside.over c.self.inside.journal.items c.put.new.self.items c.args.event.now c.self.inside.system.stores c.happen.new.self.stores is_none c.put.ensures.items c.self.invariant.5 c.happen.ensures.grows,
     )
   where
     is_none : c.self.inside.over ≡ None
@@ -44,58 +44,58 @@ invariant_of-self-in-Err c = (
 pub returns-in-Ok-clause-says : goal.returns-in-Ok-clause-says
 returns-in-Ok-clause-says c =
     says_line c.self.inside.setup c.self.inside.journal.items c.self.inside.over c.self.inside.ready c.self.inside.system (search rules) c.self.invariant.0 c.self.invariant.1 c.self.invariant.3 c.args.self.now c.self.view_is c.args.event.now c.requires
-    c.happen.new.self c.as_slice.result.now c.as_slice.ensures c.in-Ok.line (subst (Happens c.self.inside.system c.happen.new.self c.args.event.now _) c.in-Ok.is c.happen.ensures.happens) c.copied.result c.copied.ensures c.put.new.self.items c.put.ensures.items
+    c.happen.new.self c.len-step.result c.len-step.ensures c.in-Ok.line (subst (Happens c.self.inside.system c.happen.new.self c.args.event.now _) c.in-Ok.is c.happen.ensures.happens) c.put.new.self.items c.put.ensures.items
 
 pub returns-in-Ok-clause-run : goal.returns-in-Ok-clause-run
 returns-in-Ok-clause-run c =
     run_line c.self.inside.setup c.self.inside.journal.items c.self.inside.over c.self.inside.ready c.self.inside.system (search rules) c.self.invariant.0 c.self.invariant.1 c.self.invariant.3 c.args.self.now c.self.view_is c.args.event.now c.requires
-    c.happen.new.self c.as_slice.result.now c.as_slice.ensures c.in-Ok.line (subst (Happens c.self.inside.system c.happen.new.self c.args.event.now _) c.in-Ok.is c.happen.ensures.happens) c.copied.result c.copied.ensures c.put.new.self.items c.put.ensures.items
+    c.happen.new.self c.len-step.result c.len-step.ensures c.in-Ok.line (subst (Happens c.self.inside.system c.happen.new.self c.args.event.now _) c.in-Ok.is c.happen.ensures.happens) c.put.new.self.items c.put.ensures.items
 
 pub returns-in-Ok-clause-written : goal.returns-in-Ok-clause-written
 returns-in-Ok-clause-written c =
     written_line c.self.inside.setup c.self.inside.journal.items c.self.inside.over c.self.inside.ready c.self.inside.system (search rules) c.self.invariant.0 c.self.invariant.1 c.self.invariant.3 c.args.self.now c.self.view_is c.args.event.now c.requires
-    c.happen.new.self c.as_slice.result.now c.as_slice.ensures c.in-Ok.line (subst (Happens c.self.inside.system c.happen.new.self c.args.event.now _) c.in-Ok.is c.happen.ensures.happens) c.copied.result c.copied.ensures c.put.new.self.items c.put.ensures.items
+    c.happen.new.self c.len-step.result c.len-step.ensures c.in-Ok.line (subst (Happens c.self.inside.system c.happen.new.self c.args.event.now _) c.in-Ok.is c.happen.ensures.happens) c.put.new.self.items c.put.ensures.items
 
 pub returns-in-Err-clause-says : goal.returns-in-Err-clause-says
 returns-in-Err-clause-says c =
     says_chance c.self.inside.setup c.self.inside.journal.items c.self.inside.over c.self.inside.ready c.self.inside.system (search rules) c.self.invariant.0 c.self.invariant.1 c.self.invariant.3 c.args.self.now c.self.view_is c.args.event.now c.requires
-    c.happen.new.self c.as_slice.result.now c.as_slice.ensures c.in-Err.proof (subst (Happens c.self.inside.system c.happen.new.self c.args.event.now _) c.in-Err.is c.happen.ensures.happens)
+    c.happen.new.self c.len-step.result c.len-step.ensures c.in-Err.proof (subst (Happens c.self.inside.system c.happen.new.self c.args.event.now _) c.in-Err.is c.happen.ensures.happens)
 
 pub returns-in-Err-clause-run : goal.returns-in-Err-clause-run
 returns-in-Err-clause-run c =
     run_chance c.self.inside.setup c.self.inside.journal.items c.self.inside.over c.self.inside.ready c.self.inside.system (search rules) c.self.invariant.0 c.self.invariant.1 c.self.invariant.3 c.args.self.now c.self.view_is c.args.event.now c.requires
-    c.happen.new.self c.as_slice.result.now c.as_slice.ensures c.in-Err.proof (subst (Happens c.self.inside.system c.happen.new.self c.args.event.now _) c.in-Err.is c.happen.ensures.happens)
+    c.happen.new.self c.len-step.result c.len-step.ensures c.in-Err.proof (subst (Happens c.self.inside.system c.happen.new.self c.args.event.now _) c.in-Err.is c.happen.ensures.happens)
 
 pub returns-in-Ok-clause-step : goal.returns-in-Ok-clause-step
 returns-in-Ok-clause-step c =
     line_step c.self.inside.setup c.self.inside.journal.items c.self.inside.over c.self.inside.ready c.self.inside.system (search rules) c.self.invariant.0 c.self.invariant.1 c.self.invariant.3 c.args.self.now c.self.view_is c.args.event.now c.requires c.in-Ok.line
     (says_line c.self.inside.setup c.self.inside.journal.items c.self.inside.over c.self.inside.ready c.self.inside.system (search rules) c.self.invariant.0 c.self.invariant.1 c.self.invariant.3 c.args.self.now c.self.view_is c.args.event.now c.requires
-    c.happen.new.self c.as_slice.result.now c.as_slice.ensures c.in-Ok.line (subst (Happens c.self.inside.system c.happen.new.self c.args.event.now _) c.in-Ok.is c.happen.ensures.happens) c.copied.result c.copied.ensures c.put.new.self.items c.put.ensures.items)
+    c.happen.new.self c.len-step.result c.len-step.ensures c.in-Ok.line (subst (Happens c.self.inside.system c.happen.new.self c.args.event.now _) c.in-Ok.is c.happen.ensures.happens) c.put.new.self.items c.put.ensures.items)
 
 pub returns-in-Ok-clause-answers : goal.returns-in-Ok-clause-answers
 returns-in-Ok-clause-answers c =
     line_answers c.self.inside.setup c.self.inside.journal.items c.self.inside.over c.self.inside.ready c.self.inside.system (search rules) c.self.invariant.0 c.self.invariant.1 c.self.invariant.3 c.args.self.now c.self.view_is c.args.event.now c.requires c.in-Ok.line
     (says_line c.self.inside.setup c.self.inside.journal.items c.self.inside.over c.self.inside.ready c.self.inside.system (search rules) c.self.invariant.0 c.self.invariant.1 c.self.invariant.3 c.args.self.now c.self.view_is c.args.event.now c.requires
-    c.happen.new.self c.as_slice.result.now c.as_slice.ensures c.in-Ok.line (subst (Happens c.self.inside.system c.happen.new.self c.args.event.now _) c.in-Ok.is c.happen.ensures.happens) c.copied.result c.copied.ensures c.put.new.self.items c.put.ensures.items)
-    c.copied.result c.copied.ensures c.put.new.self.items c.put.ensures.items false
+    c.happen.new.self c.len-step.result c.len-step.ensures c.in-Ok.line (subst (Happens c.self.inside.system c.happen.new.self c.args.event.now _) c.in-Ok.is c.happen.ensures.happens) c.put.new.self.items c.put.ensures.items)
+    c.put.new.self.items c.put.ensures.items false
 
 pub returns-in-Ok-clause-commands : goal.returns-in-Ok-clause-commands
 returns-in-Ok-clause-commands c =
     line_commands c.self.inside.setup c.self.inside.journal.items c.self.inside.over c.self.inside.ready c.self.inside.system (search rules) c.self.invariant.0 c.self.invariant.1 c.self.invariant.3 c.args.self.now c.self.view_is c.args.event.now c.requires c.in-Ok.line
     (says_line c.self.inside.setup c.self.inside.journal.items c.self.inside.over c.self.inside.ready c.self.inside.system (search rules) c.self.invariant.0 c.self.invariant.1 c.self.invariant.3 c.args.self.now c.self.view_is c.args.event.now c.requires
-    c.happen.new.self c.as_slice.result.now c.as_slice.ensures c.in-Ok.line (subst (Happens c.self.inside.system c.happen.new.self c.args.event.now _) c.in-Ok.is c.happen.ensures.happens) c.copied.result c.copied.ensures c.put.new.self.items c.put.ensures.items)
-    c.copied.result c.copied.ensures c.put.new.self.items c.put.ensures.items false
+    c.happen.new.self c.len-step.result c.len-step.ensures c.in-Ok.line (subst (Happens c.self.inside.system c.happen.new.self c.args.event.now _) c.in-Ok.is c.happen.ensures.happens) c.put.new.self.items c.put.ensures.items)
+    c.put.new.self.items c.put.ensures.items false
 
 pub returns-in-Ok-clause-never : goal.returns-in-Ok-clause-never
 returns-in-Ok-clause-never c =
     line_never c.self.inside.setup c.self.inside.journal.items c.self.inside.over c.self.inside.ready c.self.inside.system (search rules) c.self.invariant.0 c.self.invariant.1 c.self.invariant.3 c.args.self.now c.self.view_is c.args.event.now c.requires c.in-Ok.line
     (says_line c.self.inside.setup c.self.inside.journal.items c.self.inside.over c.self.inside.ready c.self.inside.system (search rules) c.self.invariant.0 c.self.invariant.1 c.self.invariant.3 c.args.self.now c.self.view_is c.args.event.now c.requires
-    c.happen.new.self c.as_slice.result.now c.as_slice.ensures c.in-Ok.line (subst (Happens c.self.inside.system c.happen.new.self c.args.event.now _) c.in-Ok.is c.happen.ensures.happens) c.copied.result c.copied.ensures c.put.new.self.items c.put.ensures.items)
-    c.copied.result c.copied.ensures c.put.new.self.items c.put.ensures.items false
+    c.happen.new.self c.len-step.result c.len-step.ensures c.in-Ok.line (subst (Happens c.self.inside.system c.happen.new.self c.args.event.now _) c.in-Ok.is c.happen.ensures.happens) c.put.new.self.items c.put.ensures.items)
+    c.put.new.self.items c.put.ensures.items false
 
 pub returns-in-Ok-clause-packets : goal.returns-in-Ok-clause-packets
 returns-in-Ok-clause-packets c =
     line_packets c.self.inside.setup c.self.inside.journal.items c.self.inside.over c.self.inside.ready c.self.inside.system (search rules) c.self.invariant.0 c.self.invariant.1 c.self.invariant.3 c.args.self.now c.self.view_is c.args.event.now c.requires c.in-Ok.line
     (says_line c.self.inside.setup c.self.inside.journal.items c.self.inside.over c.self.inside.ready c.self.inside.system (search rules) c.self.invariant.0 c.self.invariant.1 c.self.invariant.3 c.args.self.now c.self.view_is c.args.event.now c.requires
-    c.happen.new.self c.as_slice.result.now c.as_slice.ensures c.in-Ok.line (subst (Happens c.self.inside.system c.happen.new.self c.args.event.now _) c.in-Ok.is c.happen.ensures.happens) c.copied.result c.copied.ensures c.put.new.self.items c.put.ensures.items)
-    c.copied.result c.copied.ensures c.put.new.self.items c.put.ensures.items false
+    c.happen.new.self c.len-step.result c.len-step.ensures c.in-Ok.line (subst (Happens c.self.inside.system c.happen.new.self c.args.event.now _) c.in-Ok.is c.happen.ensures.happens) c.put.new.self.items c.put.ensures.items)
+    c.put.new.self.items c.put.ensures.items false
