@@ -1,11 +1,13 @@
+ghost use Rattle.std.specs.Prelude.{◌≤◌, length};
+
 use crate::values::same;
 use alg_choice::{Algs, Caps, Eea, Priority};
 use annex_a_keys::Cell;
 use lte_events::{
-    ActorOut, Address, Answer, Cells, CellsFault, CoreAct, Event, Few, HoKind, PhoneAct,
+    ActorOut, Address, Answer, Cells, CellsFault, CoreAct, Event, Events, Few, HoKind, PhoneAct,
     StationAct, StationSetup,
 };
-use rec_base::{Bearer, Octets, RecFault, UserText};
+use rec_base::{Bearer, Octets, RecFault, ShortText, UserText};
 use std::process::Abort;
 
 #[test]
@@ -112,6 +114,43 @@ fn events_differ_by_who_acts_and_how(rt: HostRuntime) {
             Some(i),
         );
         same(&rt, &event.clone().unwrap(), event);
+    }
+}
+
+// A short text with these octets.
+fn short(octets: &[u8]) -> ShortText
+    requires { length octets.now ≤ 200 }
+{
+    let mut text = ShortText::new();
+    text.append(octets);
+    text
+}
+
+#[test]
+fn listed_events_are_read_back(rt: HostRuntime) {
+    let mut text = UserText::new();
+    text.append(b"hi");
+    let mut octets = Octets::new();
+    octets.append(&[7; 1536]);
+    let caps = Caps {
+        eea: 0xa0,
+        eia: 0x20,
+    };
+    let events = [
+        Event::Auth(6, [9; 32], caps),
+        Event::Phone(PhoneAct::SendUser(Bearer::Drb4, text)),
+        Event::Phone(PhoneAct::Skip(None, 70000)),
+        Event::Station(7, StationAct::SendRrc(Bearer::Srb2, short(b"rrc"))),
+        Event::Inject(Address::Phone(1, 2, Bearer::Drb1), octets),
+        Event::Station(1, StationAct::Start(HoKind::Intra, cell(&rt, 503))),
+        Event::Core(CoreAct::SendNas(short(b""))),
+        Event::Core(CoreAct::Connect(cell(&rt, 11))),
+        Event::Deliver(-1),
+    ];
+    let list = Events::of(rt.alloc(), &events).expect(&rt, "memory");
+    same(&rt, list.len(), events.len());
+    for (number, event) in events.iter().enumerate() {
+        same(&rt, &list.at(number), event);
     }
 }
 
