@@ -10,8 +10,9 @@ use Rattle.key_terms.proofs.Places.{slice_get_stays, slice_get_at_end, slice_get
 use Rattle.key_audit.specs.declared.audits.AuditRow.{AuditRow}
 use Rattle.key_audit.specs.Derives.{held_by}
 use Rattle.key_audit.specs.Exact.{can_in, from_in}
-use Rattle.key_audit.specs.Local.{held_first, local_mark, mark_of, mark_at, IsClean, AreClean, Fills, RowFits, FitBelow, Fits}
+use Rattle.key_audit.specs.Local.{held_first, local_mark, mark_of, mark_at, IsClean, AreClean, Fills, RowFits, FitBelow}
 use Rattle.key_audit.proofs.Neighbours.{above_same}
+use Rattle.key_audit.proofs.Fitting.{Fits}
 
 -- no station
 nobody : AuditRow

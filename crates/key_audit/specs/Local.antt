@@ -1,5 +1,5 @@
 -- Which station can derive which row, row by row: by the rows that a row comes from, and by who holds it.
-use Rattle.std.specs.Prelude.{◌≡◌, ℕ, zero, suc, ◌<◌, Bool, true, false, List, Option, Some, None, length, slice_get}
+use Rattle.std.specs.Prelude.{◌≡◌, ℕ, zero, suc, ◌<◌, Bool, true, false, List, Option, Some, None, slice_get}
 use Rattle.hmac_kdf.specs.declared.input.KdfInput.TheVariants.{Nh}
 use Rattle.key_terms.specs.declared.row.LadderRow.{LadderRow}
 use Rattle.key_terms.specs.declared.row.Origin.{Origin}
@@ -83,11 +83,6 @@ AllFit rows audit k = (station : ℕ) → station < 8 → RowFits rows audit k s
 -- and so does each row below k
 abbrev pub FitBelow : List LadderRow → List AuditRow → ℕ → Type 0
 FitBelow rows audit k = (j : ℕ) → j < k → AllFit rows audit j
-
--- an audit in which each does
-pub record Fits (rows : List LadderRow) (audit : List AuditRow) : Type 0 where
-  pub as_many : length audit ≡ length rows
-  pub each : FitBelow rows audit (length rows)
 
 -- these two say the same as a mark
 abbrev pub Says : Bool → ℕ → Option ℕ → Type 0
