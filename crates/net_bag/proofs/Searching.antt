@@ -15,7 +15,7 @@ use Rattle.lte_events.specs.declared.classes.Class.TheVariants.{Nas, Air, S1, X2
 use Rattle.net_bag.specs.declared.view.BagView.{BagView}
 use Rattle.lte_events.specs.Class.{class_of, same_class, told_in}
 use Rattle.net_bag.specs.Class.{class_octet, digest}
-use Rattle.net_bag.specs.Bag.{is_sent, first_sent, digest_of, IsIndexOf, IsCandidate}
+use Rattle.net_bag.specs.Bag.{is_sent, first_sent, digest_of, IsIndexOf}
 use Rattle.net_bag.specs.Chains.{IsFirstFrom}
 
 both : (a b : Bool) → (a && b) ≡ true → (a ≡ true) × (b ≡ true)
@@ -80,6 +80,13 @@ fails digests records class octets j r index lt at none = by (is_sent class octe
     by : (b : Bool) → is_sent class octets r ≡ b → b ≡ false
     by false e = refl
     by true e = absurd (none (digest_at digests records j r index lt at ∙ ap Some (digest_same class octets r e)))
+
+-- a record that may be the first with these octets: it is in the index under their value, and none before it has them
+abbrev pub IsCandidate : List (List ℕ) → List BagView → Class → List ℕ → Option ℕ → Type 0
+IsCandidate digests records class octets None =
+    (j : ℕ) (r : BagView) → j < length digests → slice_get records j ≡ Some r → is_sent class octets r ≡ false
+IsCandidate digests records class octets (Some k) =
+    (slice_get digests k ≡ Some (digest class octets)) × ((j : ℕ) (r : BagView) → j < k → slice_get records j ≡ Some r → is_sent class octets r ≡ false)
 
 -- the first of the value may be the first with the octets
 pub begins : (digests : List (List ℕ)) (records : List BagView) (class : Class) (octets : List ℕ) (o : Option ℕ) → IsIndexOf digests records → IsFirstFrom digests (digest class octets) 0 o → IsCandidate digests records class octets o

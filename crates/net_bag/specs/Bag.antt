@@ -38,10 +38,3 @@ abbrev pub IsFirstBefore : List BagView → Class → List ℕ → ℕ → Optio
 IsFirstBefore records class octets mark None =
     (j : ℕ) (r : BagView) → j < mark → slice_get records j ≡ Some r → is_sent class octets r ≡ false
 IsFirstBefore records class octets mark (Some k) = first_sent records class octets ≡ Some k
-
--- a record that may be the first with these octets: it is in the index under their value, and none before it has them
-abbrev pub IsCandidate : List (List ℕ) → List BagView → Class → List ℕ → Option ℕ → Type 0
-IsCandidate digests records class octets None =
-    (j : ℕ) (r : BagView) → j < length digests → slice_get records j ≡ Some r → is_sent class octets r ≡ false
-IsCandidate digests records class octets (Some k) =
-    (slice_get digests k ≡ Some (digest class octets)) × ((j : ℕ) (r : BagView) → j < k → slice_get records j ≡ Some r → is_sent class octets r ≡ false)

@@ -1,6 +1,5 @@
 use Rattle.std.proofs.Common.{length}
-use Rattle.net_bag.specs.Bag.{IsCandidate}
-use Rattle.net_bag.proofs.Searching.{left}
+use Rattle.net_bag.proofs.Searching.{left, IsCandidate}
 use Rattle.net_bag.proofs.search.first_indexed.Given as goal
 
 abbrev pub invariant-loop-candidate : goal.invariant-loop-candidate
