@@ -5,8 +5,15 @@ use Rattle.std.proofs.Math.Seq.{drop-append_seam, take-append_seam}
 use Rattle.rec_base.specs.BigEndian.{number_of, octets_of, field_at, number_at}
 use Rattle.rec_base.proofs.Numbers.{AreOctets, number_of-octets_of, number_of-one, length-octets_of}
 use Rattle.rec_fields.specs.Field.{◌>>=◌}
-use Rattle.rec_fields.specs.Layout.{Field, Ending, Layout, Empty, Last, Rest, Then, Values, read_by, spelled_by, FitBy, width_of, Rows, by_kind, read_rows}
+use Rattle.rec_fields.specs.Layout.{Field, Ending, Layout, Empty, Last, Rest, Then, Values, read_by, spelled_by, width_of, Rows, by_kind, read_rows}
 use Rattle.rec_fields.proofs.Fields.{bind_ok, passes, kind_takes, octet_is}
+
+-- each value is one of its field
+abbrev pub FitBy : {F : Type 0} → (l : Layout F) → Values l → Type 0
+FitBy Empty vs = Unit {0}
+FitBy (Last f) x = f.Fits x
+FitBy (Rest most) x = length x ≤ most
+FitBy (Then f l) vs = f.Fits vs.0 × FitBy l vs.1
 
 -- what stands behind octets of a width
 pub behind : (octets front rest : List ℕ) (place width : ℕ) → length front ≡ width → drop place octets ≡ front ++ rest → drop (place + width) octets ≡ rest

@@ -8,10 +8,10 @@ use Rattle.alg_choice.specs.declared.caps.Caps.{Caps}
 use Rattle.annex_a_keys.specs.Cell.{Place, IsCell}
 use Rattle.rec_fields.specs.Field.{◌>>=◌, of_size, caps_at, rest_at}
 use Rattle.rec_fields.specs.Spelled.{algs_octet, cell_octets}
-use Rattle.rec_fields.specs.Layout.{Layout, Empty, Last, Rest, Then, Values, read_by, spelled_by, FitBy, width_of}
+use Rattle.rec_fields.specs.Layout.{Layout, Empty, Last, Rest, Then, Values, read_by, spelled_by, width_of}
 use Rattle.rec_fields.specs.Record.{octet, number, cell, algorithms, capabilities, key, sized, Form, read_layout, record_by, spelled}
 use Rattle.rec_fields.proofs.Fields.{bind_ok, ok_is, size_is, size_read, ends, octets_rest, octets_front, octet_is, octet_in_takes, number_in_takes, in_range_read, algs_takes, algs_read, caps_takes, caps_read, cell_takes, cell_read, rest_takes, rest_read}
-use Rattle.rec_fields.proofs.Layouts.{IsField, AreFields, IsEnding, IsSized, IsRow, Spelled, found, again, spelled_width, behind, number_is, octet_there, field_is}
+use Rattle.rec_fields.proofs.Layouts.{IsField, AreFields, IsEnding, IsSized, IsRow, Spelled, found, again, spelled_width, behind, number_is, octet_there, field_is, FitBy}
 
 -- octets that reach to a place, and octets that end there
 abbrev pub Reach : List ℕ → ℕ → Type 0

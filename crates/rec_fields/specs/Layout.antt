@@ -1,5 +1,5 @@
 -- The grammar of a record: its fields in order. How it is read, how it is spelled, how long it is and which values it has all come of it.
-use Rattle.std.specs.Prelude.{ℕ, ◌+◌, ◌==◌, ◌≤◌, if◌then◌else◌, List, [], ◌∷◌, ◌++◌, length, Result, Err}
+use Rattle.std.specs.Prelude.{ℕ, ◌+◌, ◌==◌, if◌then◌else◌, List, [], ◌∷◌, ◌++◌, length, Result, Err}
 use Rattle.rec_base.specs.BigEndian.{number_at}
 use Rattle.rec_fields.specs.Field.{◌>>=◌}
 
@@ -46,13 +46,6 @@ spelled_by Empty vs = []
 spelled_by (Last f) x = f.spell x
 spelled_by (Rest most) x = x
 spelled_by (Then f l) vs = f.spell vs.0 ++ spelled_by l vs.1
-
--- each value is one of its field
-abbrev pub FitBy : {F : Type 0} → (l : Layout F) → Values l → Type 0
-FitBy Empty vs = Unit {0}
-FitBy (Last f) x = f.Fits x
-FitBy (Rest most) x = length x ≤ most
-FitBy (Then f l) vs = f.Fits vs.0 × FitBy l vs.1
 
 -- the octets of the fields, but for those to the end
 abbrev pub width_of : {F : Type 0} → Layout F → ℕ

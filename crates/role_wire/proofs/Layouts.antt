@@ -1,9 +1,9 @@
 -- A reader of a body by a layout: what it reads is spelled there, and what is spelled there it reads.
 use Rattle.std.proofs.Common.{◌≡◌, ℕ, List, ◌∷◌, drop, Result, Ok, refl, sym, ap, subst, ◌∙◌}
 use Rattle.rec_base.proofs.Numbers.{AreOctets}
-use Rattle.rec_fields.specs.Layout.{Layout, Values, read_by, spelled_by, FitBy}
+use Rattle.rec_fields.specs.Layout.{Layout, Values, read_by, spelled_by}
 use Rattle.rec_fields.proofs.Fields.{ok_is}
-use Rattle.rec_fields.proofs.Layouts.{AreFields, found, again}
+use Rattle.rec_fields.proofs.Layouts.{AreFields, found, again, FitBy}
 use Rattle.role_wire.specs.Field.{ending}
 use Rattle.role_wire.proofs.FieldLaws.{Anywhere, ending_is}
 
