@@ -31,7 +31,7 @@ pub mod InOctets
 pub mod Scenario
 pub mod Ordinary
 pub mod LateAnswers
-mod Turns
+mod CancelledExamples
 pub mod KeyChanges
 mod AfterChanges
 mod WideCell
