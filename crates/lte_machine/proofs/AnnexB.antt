@@ -15,9 +15,10 @@ use Rattle.key_model.proofs.TermFacts.{same_value-Decides}
 use Rattle.nas_guard.specs.Cipher.{ciphered}
 use Rattle.nas_guard.proofs.SealFacts.{ciphered-ciphered, length-mac_of}
 use Rattle.lte_machine.specs.Wire.{KeyUse, Ciphering, map_ciphering}
-use Rattle.lte_machine.specs.Ciphers.{Ciphers, AreCiphers, annex_b, under_keys, ciphered_by}
+use Rattle.lte_machine.specs.Ciphers.{Ciphers, annex_b, under_keys, ciphered_by}
 use Rattle.lte_machine.specs.Opening.{same_dir, same_uses, same_ciphering}
 use Rattle.lte_machine.proofs.Opens.{Respects}
+use Rattle.lte_machine.proofs.CipherLaws.{AreCiphers}
 
 length-ciphered : (eea : Eea) (key : List ℕ) (count bearer : ℕ) (dir : Dir) (text : List ℕ) → length (ciphered eea key count bearer dir text) ≡ length text
 unfolding ciphered

@@ -18,11 +18,12 @@ use Rattle.lte_machine.specs.CoreChoice.{CoreFront, Settled, FromNas, NasSettled
 use Rattle.lte_machine.specs.CoreKeys.{opens_by_procedure, opens_by_context, core_expects, authenticated, smc_started, smc_complete, key_changed, service_asked, nas_opened, sealed_reject, nas_sent, nas_skipped, context_set_up, path_switched, handover_asked, handover_notified, core_does_nas, core_does_record, core_does_act, core_does}
 use Rattle.lte_machine.specs.CoreRows.{CoreNasRow, NasRefused, PlainReject, SmcComplete, SmcChange, ServiceAsked, NasOpened, SealedReject, CoreRecordRow, RecordRefused, PathSwitched, HandoverAsked, HandoverOrdered, HandoverNotified, HandoverCancelled, CoreActRow, ActRefused, SmcStarted, ContextSetUp, ContextReleased, NasSent, NasSkipped, CoreRow, OfNas, OfRecord, OfAct, OfAuth}
 use Rattle.lte_machine.specs.CoreState.{Core, CorePartial, CoreContext, CoreLink, CoreInput, CoreAuth, CoreActs, CoreNasPdu, CoreRecord, map_core_partial, map_core_context, map_core_link, map_core, map_core_input}
-use Rattle.lte_machine.specs.CoreStep.{plain_core, plain_core_input, core_front_of, core_root, core_received, core_opens, core_ends, core_step, map_core_done}
-use Rattle.lte_machine.specs.Opening.{Opening, OpensNothing, OpensNas, OpensSrb, OpensDrb, Outcome, Opened, Differs, map_opening, accepted_of}
+use Rattle.lte_machine.specs.CoreStep.{plain_core, plain_core_input, core_front_of, core_root, core_received, core_opens, core_ends, core_step}
+use Rattle.lte_machine.specs.Opening.{Opening, OpensNothing, OpensNas, OpensSrb, OpensDrb, Outcome, Opened, Differs, accepted_of}
 use Rattle.lte_machine.specs.Reply.{unseen}
 use Rattle.lte_machine.specs.StationState.{map_read}
 use Rattle.lte_machine.specs.Wire.{Ciphering, map_ciphering, nas_use, ciphering_if, nas_ciphering}
+use Rattle.lte_machine.proofs.MapSteps.{map_opening, map_core_done}
 
 -- what the choice sees is the same in both readings
 

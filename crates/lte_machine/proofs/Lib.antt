@@ -11,8 +11,10 @@ pub mod PhoneActFacts
 pub mod PhoneNasFacts
 pub mod PhoneAirFacts
 pub mod PhoneGives
+pub mod CipherLaws
 pub mod Opens
 pub mod AnnexB
+pub mod MapSteps
 pub mod PhoneMap
 pub mod PhoneRefused
 pub mod StationPlain

@@ -8,7 +8,7 @@ use Rattle.key_model.specs.HandoverTable.{NumberedKey}
 use Rattle.key_model.specs.Term.{Term}
 use Rattle.s1x2_rec.specs.Fields.{Fields}
 use Rattle.lte_machine.specs.Wire.{Outgoing}
-use Rattle.lte_machine.specs.Ciphers.{Ciphers, AreCiphers, octets_of}
+use Rattle.lte_machine.specs.Ciphers.{Ciphers, octets_of}
 use Rattle.lte_machine.specs.Opening.{Opening, open_octets, open_by_uses}
 use Rattle.lte_machine.specs.Tuples.{Chance}
 use Rattle.lte_machine.specs.PhoneState.{PhoneInput, PhoneActs, PhoneNasPdu, PhoneAirPdu}
@@ -23,6 +23,7 @@ use Rattle.lte_machine.specs.Step.{attempted, arrival_attempts, attempts_at, del
 use Rattle.lte_machine.specs.Run.{RunState, Running, Stopped, turn, replay, event_report, report, after, reported}
 use Rattle.lte_machine.specs.Machines.{machine_over, opening_by_octets}
 use Rattle.lte_machine.proofs.Opens.{Respects, unsent_alike, sent_alike}
+use Rattle.lte_machine.proofs.CipherLaws.{AreCiphers}
 
 module _ (same : Term → Term → Bool) (c : Ciphers Term) (good : AreCiphers c) (respects : Respects same c) (between : Fields → Option (NumberedKey Term ℕ) → List ℕ) where
   abbrev m : Machine Term ℕ (Outgoing Term ℕ)

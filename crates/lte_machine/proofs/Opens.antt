@@ -6,11 +6,12 @@ use Rattle.std.proofs.lemmas.List.{take_at, drop_at, length-append}
 use Rattle.nas_guard.specs.Seal.{first_octet}
 use Rattle.nas_guard.specs.Open.{mac_in, sent_in}
 use Rattle.lte_machine.specs.Wire.{KeyUse, Ciphering, Outgoing, SealedNas, PlainNas, SealedRrc, UserPacket, Between, integrity_of}
-use Rattle.lte_machine.specs.Ciphers.{Ciphers, AreCiphers, ciphered_by, nas_octets, srb_octets, drb_octets, octets_of}
+use Rattle.lte_machine.specs.Ciphers.{Ciphers, ciphered_by, nas_octets, srb_octets, drb_octets, octets_of}
 use Rattle.key_model.specs.HandoverTable.{NumberedKey}
 use Rattle.s1x2_rec.specs.Fields.{Fields}
 use Rattle.lte_machine.specs.Opening.{Opening, OpensNothing, OpensNas, OpensSrb, OpensDrb, Opened, Differs, accepted_of, by_macs, decided, open_octets, open_foreign, open_by_uses, open_case, judged, same_uses, same_ciphering, nas_wanted, srb_wanted, srb_got, srb_text}
 use Rattle.lte_machine.specs.Tuples.{Tuples, tuple_chance, same_sender, tuples_unless}
+use Rattle.lte_machine.proofs.CipherLaws.{AreCiphers}
 
 -- uses and cipherings that are one by the test have one MAC and one keystream
 pub record Respects {K : Type 0} (same : K → K → Bool) (c : Ciphers K) : Type 0 where

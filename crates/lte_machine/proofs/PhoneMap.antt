@@ -9,18 +9,19 @@ use Rattle.lte_events.specs.declared.answers.Answer.{Answer}
 use Rattle.key_model.specs.Reading.{Reading, Carries}
 use Rattle.key_model.specs.Derivation.{map_derivation}
 use Rattle.key_model.specs.Use.{map_use}
-use Rattle.nh_chain.specs.Reach.{Reached, map_reached, reached_after}
+use Rattle.nh_chain.specs.Reach.{Reached, reached_after}
 use Rattle.pdcp_guard.specs.AsKeys.{as_derivations}
 use Rattle.lte_machine.specs.Bearers.{Srb, Drb, Which}
 use Rattle.lte_machine.specs.Wire.{Ciphering, map_ciphering, ciphering_if}
-use Rattle.lte_machine.specs.Opening.{Opening, OpensNothing, OpensNas, OpensSrb, OpensDrb, map_opening, Outcome, Opened, Differs, accepted_of}
+use Rattle.lte_machine.specs.Opening.{Opening, OpensNothing, OpensNas, OpensSrb, OpensDrb, Outcome, Opened, Differs, accepted_of}
 use Rattle.lte_machine.specs.Reply.{finished, unseen, Before, map_before, Came, Commanded, Changed, map_came}
 use Rattle.lte_machine.specs.PhoneState.{Partial, map_partial, NasContext, map_context, map_link, Radio, Idle, Connecting, Connected, map_radio, Phone, map_phone, PhoneInput, PhoneAuth, PhoneActs, PhoneNasPdu, PhoneAirPdu, map_phone_input}
 use Rattle.lte_machine.specs.PhoneRows.{Authenticated, NasRow, NasRefused, RejectedPlain, RejectedUnder, ContextTaken, ContextTakenConnected, NasOpened, AirRow, AirRefused, LinkSecured, HandedOver, RrcOpened, PacketOpened, ActRow, ActRefused, ServiceRequested, CompleteResent, WentIdle, PacketSent, RrcSent, NasSent, NasSkipped, BearerSkipped, PhoneRow, OfAuth, OfNas, OfAir, OfAct, KeyChanged}
 use Rattle.lte_machine.specs.PhoneChoice.{NasFront, NasSettled, AtCommand, AtMessage, AirFront, AirSettled, AtStart, AtSignalling, AtPacket, PhoneFront, Settled, FromNas, FromAir, phone_front, phone_row}
 use Rattle.lte_machine.specs.PhoneKeys.{command_expects, message_expects, nas_expects, start_expects, signalling_expects, packet_expects, air_expects, phone_expects, authenticated, rejected_under, context_taken, context_taken_connected, nas_opened, nas_does, link_secured, arrived, handed_over, rrc_opened, packet_opened, air_does, service_requested, complete_resent, packet_sent, rrc_sent, nas_sent, nas_skipped, bearer_skipped, act_does, phone_does, before_of, reached_anew, changed_unless, key_changed}
-use Rattle.lte_machine.specs.PhoneStep.{phone_root, plain_phone, plain_input, front_of, phone_opens, phone_step, map_phone_step}
-use Rattle.nh_chain.proofs.CarryFacts.{reached_after-map}
+use Rattle.lte_machine.specs.PhoneStep.{phone_root, plain_phone, plain_input, front_of, phone_opens, phone_step}
+use Rattle.nh_chain.proofs.CarryFacts.{reached_after-map, map_reached}
+use Rattle.lte_machine.proofs.MapSteps.{map_opening, map_phone_step}
 
 -- the use under which a record was accepted
 accepted_of-map : {K L : Type 0} (f : K → L) (o : Opening K) (outcome : Outcome) → option_map (map_use f) (accepted_of o outcome) ≡ accepted_of (map_opening f o) outcome

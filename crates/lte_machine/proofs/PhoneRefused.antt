@@ -8,12 +8,22 @@ use Rattle.lte_events.specs.declared.answers.Answer.TheVariants.{Done}
 use Rattle.key_model.specs.Reading.{Reading}
 use Rattle.lte_machine.specs.Bearers.{Srb, Drb, Which}
 use Rattle.lte_machine.specs.Opening.{Outcome, accepted_of}
-use Rattle.lte_machine.specs.Reply.{finished}
+use Rattle.lte_machine.specs.Reply.{Reply, finished, only}
 use Rattle.lte_machine.specs.PhoneState.{Partial, NasContext, Radio, Idle, Connecting, Connected, Phone, PhoneInput}
 use Rattle.lte_machine.specs.PhoneRows.{Authenticated, NasRow, NasRefused, RejectedPlain, RejectedUnder, ContextTaken, ContextTakenConnected, NasOpened, AirRow, AirRefused, LinkSecured, HandedOver, RrcOpened, PacketOpened, ActRow, ActRefused, ServiceRequested, CompleteResent, WentIdle, PacketSent, RrcSent, NasSent, NasSkipped, BearerSkipped, PhoneRow, OfAuth, OfNas, OfAir, OfAct, KeyChanged}
 use Rattle.lte_machine.specs.PhoneChoice.{phone_row}
-use Rattle.lte_machine.specs.PhoneKeys.{authenticated, rejected_under, context_taken, context_taken_connected, nas_opened, nas_does, link_secured, handed_over, rrc_opened, packet_opened, air_does, service_requested, complete_resent, packet_sent, rrc_sent, nas_sent, nas_skipped, bearer_skipped, act_does, phone_does, one_nas_sent, before_of, changed_unless, key_changed}
-use Rattle.lte_machine.specs.PhoneStep.{phone_root, plain_phone, front_of, phone_opens, phone_step, after_refusal, refusal_of, IsReject, Refused}
+use Rattle.lte_machine.specs.PhoneKeys.{PhoneDone, authenticated, rejected_under, context_taken, context_taken_connected, nas_opened, nas_does, link_secured, handed_over, rrc_opened, packet_opened, air_does, service_requested, complete_resent, packet_sent, rrc_sent, nas_sent, nas_skipped, bearer_skipped, act_does, phone_does, one_nas_sent, before_of, changed_unless, key_changed}
+use Rattle.lte_machine.specs.PhoneStep.{phone_root, plain_phone, front_of, phone_opens, phone_step, after_refusal, IsReject}
+
+-- an answer with the use that was accepted and the record sent, and nothing else
+abbrev pub refusal_of : {K C : Type 0} → Reply K C → Reply K C
+refusal_of reply = record (only reply.answer) { sent = reply.sent; accepted = reply.accepted }
+
+-- what a refused step leaves of the phone, and gives out
+abbrev pub Refused : {K C : Type 0} → Phone K C → PhoneDone K C → Type 0
+Refused s done =
+    done.1.answer ≢ Done
+    → (done.0 ≡ after_refusal done.1.sent s) × (done.1 ≡ refusal_of done.1) × IsReject done.1.sent
 
 module _ {K C : Type 0} (r : Reading K C) where
   -- a rejected command takes one uplink COUNT of the context in use

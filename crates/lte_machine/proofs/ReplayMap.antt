@@ -6,7 +6,7 @@ use Rattle.lte_events.specs.declared.addresses.Address.{Address}
 use Rattle.lte_events.specs.declared.events.Event.{Event}
 use Rattle.key_model.specs.Use.{map_use}
 use Rattle.lte_machine.specs.Wire.{KeyUse}
-use Rattle.lte_machine.specs.Opening.{Opening, OpensNothing, OpensNas, OpensSrb, OpensDrb, map_opening, Outcome, Opened, Differs, accepted_of, same_dir, same_uses}
+use Rattle.lte_machine.specs.Opening.{Opening, OpensNothing, OpensNas, OpensSrb, OpensDrb, Outcome, Opened, Differs, accepted_of, same_dir, same_uses}
 use Rattle.lte_machine.specs.Ladder.{Clash, ladder_of}
 use Rattle.lte_machine.specs.Tuples.{Chance, tuples_unless, same_sender, tuple_chance}
 use Rattle.lte_machine.specs.PhoneState.{PhoneInput, PhoneActs, PhoneNasPdu, PhoneAirPdu, map_phone_input}
@@ -26,6 +26,7 @@ use Rattle.lte_machine.proofs.CoreMap.{core_opens_map}
 use Rattle.lte_machine.proofs.StationMap.{station_opens_map}
 use Rattle.lte_machine.proofs.LadderMap.{ladder_of-map}
 use Rattle.lte_machine.proofs.WorldMap.{Agree, map_told, station_of_id-map, chosen-map, found-map, BackAt, BackIf, BackOf, happens-map}
+use Rattle.lte_machine.proofs.MapSteps.{map_opening}
 
 abbrev map_attempted : {K S L T : Type 0} → (K → L) → (S → T) → Attempted K S → Attempted L T
 map_attempted f z a = record { opening = map_opening f a.opening; octets = a.octets; came = option_map z a.came }

@@ -17,7 +17,7 @@ use Rattle.ho_prep.specs.declared.origins.By.{By}
 use Rattle.x2_handover.specs.declared.orders.Order.{Order}
 use Rattle.lte_machine.specs.Bearers.{Srb, Drb, Which}
 use Rattle.lte_machine.specs.Wire.{map_outgoing}
-use Rattle.lte_machine.specs.Opening.{Opening, OpensNothing, OpensNas, OpensSrb, OpensDrb, Outcome, Opened as Came, Differs, map_opening, accepted_of}
+use Rattle.lte_machine.specs.Opening.{Opening, OpensNothing, OpensNas, OpensSrb, OpensDrb, Outcome, Opened as Came, Differs, accepted_of}
 use Rattle.key_model.specs.Use.{map_use}
 use Rattle.lte_machine.specs.Reply.{Origin, finished}
 use Rattle.lte_machine.specs.StationState.{Station, Context, Attempt, OverX2, OverS1, Within, X2State, X2Open, X2Ready, X2Commanded, S1Open, S1Ready, S1Commanded, StationInput, StationActs, AirPdu, StationRecord, map_x2_state, map_attempt, map_context, map_station, map_read, map_station_input, Renewal, Renewing}
@@ -25,20 +25,12 @@ use Rattle.lte_machine.specs.StationRows.{Admitted, RecordRow, RecordRefused, Co
 use Rattle.lte_machine.specs.StationChoice.{AirFront, AirSettled, OnStarting, OnSignalling, OnUser, OnPrepared, StationFront, Settled, FromAir, station_front, station_row}
 use Rattle.lte_machine.specs.StationKeys as keys
 use Rattle.lte_machine.specs.StationRecords as record_keys
-use Rattle.lte_machine.specs.StationStep.{key_read, station_key, station_front_of, station_opens, station_row_of, station_step, map_station_done}
+use Rattle.lte_machine.specs.StationStep.{key_read, station_key, station_front_of, station_opens, station_row_of, station_step}
 use Rattle.lte_machine.proofs.StationPlain.{station_plain, input_plain}
+use Rattle.nh_chain.proofs.CarryFacts.{map_opened}
 use Rattle.ho_prep.proofs.CarryFacts.{at_air-map, without-map, drop_below-map}
 use Rattle.std.proofs.lemmas.List.{map-append}
-
--- what a handover opens with, its keys read in another way
-abbrev map_opened : {K C L D : Type 0} → (K → L) → (C → D) → Opened K C → Opened L D
-map_opened f g o = record {
-  key = map_station_key f g o.key;
-  star = map_numbered f g o.star;
-  spent = map_pair f g o.spent;
-  way = o.way;
-  made = map_derivation f o.made;
-}
+use Rattle.lte_machine.proofs.MapSteps.{map_opening, map_station_done}
 
 module _ {K C L D : Type 0} {r : Reading K C} {q : Reading L D} {f : K → L} {g : C → D} (c : Carries r q f g) where
   -- OPENING

@@ -10,7 +10,7 @@ use Rattle.key_model.specs.Chain.{ncc_of}
 use Rattle.key_model.specs.Term.{Term, Root}
 use Rattle.key_model.specs.Value.{value_of, same_value}
 use Rattle.lte_machine.specs.Wire.{Outgoing, SealedNas, PlainNas, SealedRrc, UserPacket, Between, address_of}
-use Rattle.lte_machine.specs.Ciphers.{Ciphers, AreCiphers, under_keys, octets_of}
+use Rattle.lte_machine.specs.Ciphers.{Ciphers, under_keys, octets_of}
 use Rattle.lte_machine.specs.Opening.{open_octets}
 use Rattle.lte_machine.specs.StationState.{first_station}
 use Rattle.lte_machine.specs.Carried.{map_stations, run_value, report_value}
@@ -23,6 +23,7 @@ use Rattle.lte_machine.proofs.RangeHolds.{RecordRanged, SentRanged, Ranged}
 use Rattle.lte_machine.proofs.KnownLists.{all_chosen}
 use Rattle.lte_machine.proofs.RangeWorld.{ranged_keeps, first_ranged, reads_back}
 use Rattle.lte_machine.proofs.WorldMap.{BackAt, BackIf, BackOf}
+use Rattle.lte_machine.proofs.CipherLaws.{AreCiphers}
 
 -- THE FIRST WORLD
 

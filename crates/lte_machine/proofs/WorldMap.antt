@@ -15,11 +15,11 @@ use Rattle.key_model.specs.Derivation.{Derivation, map_derivation}
 use Rattle.key_model.specs.Reading.{Carries}
 use Rattle.key_model.specs.Use.{map_use}
 use Rattle.lte_machine.specs.Wire.{Ciphering, map_ciphering, Outgoing, SealedNas, PlainNas, SealedRrc, UserPacket, Between, map_outgoing, ciphering_use}
-use Rattle.lte_machine.specs.Opening.{Opening, map_opening, Opened}
-use Rattle.lte_machine.specs.Reply.{map_note, map_made, map_tried, map_took, Reply, map_reply, only}
+use Rattle.lte_machine.specs.Opening.{Opening, Opened}
+use Rattle.lte_machine.specs.Reply.{map_note, map_made, map_tried, map_took, Reply, only}
 use Rattle.lte_machine.specs.Ladder.{RowOrigin, OfRoot, Of, map_row, ladder_of, root_row}
 use Rattle.lte_machine.specs.PhoneState.{Phone, PhoneInput, PhoneAuth, PhoneActs, PhoneNasPdu, PhoneAirPdu, map_phone, map_phone_input}
-use Rattle.lte_machine.specs.PhoneStep.{phone_step, phone_opens, phone_pdu_in, map_phone_step}
+use Rattle.lte_machine.specs.PhoneStep.{phone_step, phone_opens, phone_pdu_in}
 use Rattle.lte_machine.specs.StationState.{Station, StationInput, StationActs, AirPdu, StationRecord, OnS1, OnX2, map_station, map_station_input, map_read}
 use Rattle.lte_machine.specs.StationStep.{station_step, station_opens, station_pdu_in}
 use Rattle.lte_machine.specs.CoreState.{Core, CoreInput, CoreAuth, CoreActs, CoreNasPdu, CoreRecord, map_core, map_core_input}
@@ -31,6 +31,7 @@ use Rattle.lte_machine.proofs.PhoneMap.{phone_opens_map, phone_step_map}
 use Rattle.lte_machine.proofs.CoreMap.{core_opens_map, core_step_map}
 use Rattle.lte_machine.proofs.StationMap.{station_opens_map, station_step_map}
 use Rattle.lte_machine.proofs.LadderMap.{root_row-map, rows-map}
+use Rattle.lte_machine.proofs.MapSteps.{map_opening, map_reply, map_phone_step}
 
 -- f on keys, g on chain numbers and z on what is kept of a record carry one machine to another
 pub record Agree {K C S L D T : Type 0} (m : Machine K C S) (q : Machine L D T) (f : K → L) (g : C → D) (z : S → T) : Type 0 where

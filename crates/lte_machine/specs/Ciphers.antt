@@ -1,5 +1,5 @@
 -- The octets of what is sent, by a MAC and a ciphering (TS 24.301 9.1, TS 36.323 6.2).
-use Rattle.std.specs.Prelude.{◌≡◌, ℕ, ◌%◌, List, ◌∷◌, ◌++◌, length, Option, Some, None}
+use Rattle.std.specs.Prelude.{ℕ, ◌%◌, List, ◌∷◌, ◌++◌, Option, Some, None}
 use Rattle.key_model.specs.Use.{map_use}
 use Rattle.key_model.specs.HandoverTable.{NumberedKey}
 use Rattle.nas_guard.specs.Cipher.{ciphered, mac_of}
@@ -27,13 +27,6 @@ under_keys f c = record {
   mac = λ u text. c.mac (map_use f u) text;
   crypt = λ e text. c.crypt (map_ciphering f e) text;
 }
-
--- what a MAC and a ciphering must do: a MAC has four octets, a ciphered text has the length of the text, and ciphering
--- twice gives the text (TS 33.401 B.1.1 and B.2.1)
-pub record AreCiphers {K : Type 0} (c : Ciphers K) : Type 0 where
-  pub mac_length : (u : KeyUse K) (text : List ℕ) → length (c.mac u text) ≡ 4
-  pub crypt_length : (e : Ciphering K) (text : List ℕ) → length (c.crypt e text) ≡ length text
-  pub crypt_twice : (e : Ciphering K) (text : List ℕ) → c.crypt e (c.crypt e text) ≡ text
 
 -- a text ciphered where ciphering is on
 abbrev pub ciphered_by : {K : Type 0} → Ciphers K → Option (Ciphering K) → List ℕ → List ℕ

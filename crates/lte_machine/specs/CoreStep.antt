@@ -5,7 +5,7 @@ use Rattle.lte_machine.specs.CoreChoice.{PlainCore, PlainCoreInput, CoreFront, c
 use Rattle.lte_machine.specs.CoreKeys.{CoreDone, core_expects, core_does}
 use Rattle.lte_machine.specs.CoreState.{Core, CoreInput, CoreAuth, CoreNasPdu, CoreRecord, map_core, map_core_input}
 use Rattle.lte_machine.specs.Opening.{Opening, Outcome, accepted_of}
-use Rattle.lte_machine.specs.Reply.{finished, map_reply, unseen}
+use Rattle.lte_machine.specs.Reply.{finished, unseen}
 use Rattle.lte_machine.specs.Wire.{KeyUse}
 
 -- what the choice sees
@@ -46,7 +46,3 @@ abbrev pub core_step : {K C : Type 0} → Reading K C → Core K C → CoreInput
 core_step r s i outcome =
     core_ends (core_received i) (accepted_of (core_opens r s i) outcome)
     (core_does r (core_row (plain_core r s) (core_front_of r s i) outcome) (core_root i) s)
-
--- both, with keys and chain numbers read in another way
-abbrev pub map_core_done : {K C L D : Type 0} → (K → L) → (C → D) → CoreDone K C → CoreDone L D
-map_core_done f g done = (map_core f g done.0, map_reply f g done.1)

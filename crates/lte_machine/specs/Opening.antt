@@ -1,12 +1,12 @@
 -- How a received record is opened: by its octets, or by the uses of its sender.
-use Rattle.std.specs.Prelude.{ℕ, ◌-◌, Bool, true, false, ◌==◌, ◌&&◌, List, [], ◌++◌, length, take, drop, Option, Some, None, option_map}
+use Rattle.std.specs.Prelude.{ℕ, ◌-◌, Bool, true, false, ◌==◌, ◌&&◌, List, [], ◌++◌, length, take, drop, Option, Some, None}
 use Rattle.std.specs.Str.{bytes_eq}
 use Rattle.alg_choice.specs.Algs.{identity_of}
 use Rattle.rec_base.specs.declared.uses.Dir.{Dir}
 use Rattle.rec_base.specs.declared.uses.Dir.TheVariants.{Up, Down}
-use Rattle.key_model.specs.Use.{map_use, same_use}
+use Rattle.key_model.specs.Use.{same_use}
 use Rattle.nas_guard.specs.Open.{mac_in, covered_in, sent_in}
-use Rattle.lte_machine.specs.Wire.{KeyUse, Ciphering, map_ciphering, Outgoing, SealedNas, SealedRrc}
+use Rattle.lte_machine.specs.Wire.{KeyUse, Ciphering, Outgoing, SealedNas, SealedRrc}
 use Rattle.lte_machine.specs.Ciphers.{Ciphers, ciphered_by}
 
 -- what a receiver opens, by the uses that it expects: the integrity use, and the ciphering if it is on
@@ -21,13 +21,6 @@ pub data Opening (K : Type 0) : Type 0 where
 pub data Outcome : Type 0 where
   Opened : List ℕ → Outcome
   Differs : List ℕ → List ℕ → Outcome
-
--- the opening, its keys read in another way
-abbrev pub map_opening : {K L : Type 0} → (K → L) → Opening K → Opening L
-map_opening f OpensNothing = OpensNothing
-map_opening f (OpensNas u e) = OpensNas (map_use f u) (option_map (map_ciphering f) e)
-map_opening f (OpensSrb u e) = OpensSrb (map_use f u) (option_map (map_ciphering f) e)
-map_opening f (OpensDrb e) = OpensDrb (map_ciphering f e)
 
 -- the integrity use under which a record was accepted, also where its step then refuses it
 abbrev pub accepted_of : {K : Type 0} → Opening K → Outcome → Option (KeyUse K)

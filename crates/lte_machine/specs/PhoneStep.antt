@@ -1,12 +1,11 @@
 -- A step of the phone.
-use Rattle.std.specs.Prelude.{◌≡◌, ◌≢◌, ℕ, List, [], Option, Some, None, option_map}
+use Rattle.std.specs.Prelude.{◌≡◌, ℕ, List, [], Option, Some, None, option_map}
 use Rattle.key_model.specs.Reading.{Reading}
-use Rattle.lte_events.specs.declared.answers.Answer.TheVariants.{Done}
 use Rattle.nas_rec.specs.declared.records.NasRecord as nas
 use Rattle.nas_rec.specs.Spelling.{spelling_of as nas_spelling}
 use Rattle.lte_machine.specs.Wire.{Outgoing, SealedNas, PlainNas}
 use Rattle.lte_machine.specs.Opening.{Opening, Outcome, accepted_of}
-use Rattle.lte_machine.specs.Reply.{Reply, only, finished, map_reply, unseen}
+use Rattle.lte_machine.specs.Reply.{finished, unseen}
 use Rattle.lte_machine.specs.PhoneState.{Phone, PhoneInput, PhoneAuth, PhoneNasPdu, PhoneAirPdu, map_phone, map_phone_input}
 use Rattle.lte_machine.specs.PhoneChoice.{PlainPhone, PlainInput, PhoneFront, phone_front, phone_row}
 use Rattle.lte_machine.specs.PhoneKeys.{PhoneDone, phone_expects, phone_does, one_nas_sent, plain_reject}
@@ -42,19 +41,11 @@ phone_step r s i outcome =
     let done = phone_does r (phone_row (plain_phone r s) (front_of r s i) outcome) (phone_root i) s in
     (done.0, finished None (accepted_of (phone_opens r s i) outcome) done.1)
 
--- a step, its keys and chain numbers read in another way
-abbrev pub map_phone_step : {K C L D : Type 0} → (K → L) → (C → D) → PhoneDone K C → PhoneDone L D
-map_phone_step f g done = (map_phone f g done.0, map_reply f g done.1)
-
 -- the phone after a refusal that sent this: a SECURITY MODE REJECT under the context in use takes one uplink NAS COUNT
 -- (TS 24.301 5.4.3.5), and nothing else changes
 abbrev pub after_refusal : {K C : Type 0} → Option (Outgoing K C) → Phone K C → Phone K C
 after_refusal (Some (SealedNas dir header u e text)) s = record s { context = option_map one_nas_sent s.context }
 after_refusal other s = s
-
--- an answer with the use that was accepted and the record sent, and nothing else
-abbrev pub refusal_of : {K C : Type 0} → Reply K C → Reply K C
-refusal_of reply = record (only reply.answer) { sent = reply.sent; accepted = reply.accepted }
 
 -- nothing, or a SECURITY MODE REJECT of a cause
 abbrev pub IsReject : {K C : Type 0} → Option (Outgoing K C) → Type 0
@@ -63,9 +54,3 @@ IsReject (Some (PlainNas octets)) = (cause : ℕ) × (octets ≡ plain_reject ca
 IsReject (Some (SealedNas dir header u e text)) =
     (cause : ℕ) × (text ≡ nas_spelling (nas.TheVariants.SecurityModeReject cause))
 IsReject other = ⊥
-
--- what a refused step leaves of the phone, and gives out
-abbrev pub Refused : {K C : Type 0} → Phone K C → PhoneDone K C → Type 0
-Refused s done =
-    done.1.answer ≢ Done
-    → (done.0 ≡ after_refusal done.1.sent s) × (done.1 ≡ refusal_of done.1) × IsReject done.1.sent

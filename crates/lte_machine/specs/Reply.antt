@@ -1,14 +1,13 @@
 -- What an actor gives out in a step, and what a run tells of agreement beside it.
-use Rattle.std.specs.Prelude.{ℕ, Bool, false, List, [], map, Option, None, option_map}
+use Rattle.std.specs.Prelude.{ℕ, Bool, false, List, [], Option, None}
 use Rattle.alg_choice.specs.declared.algs.Algs.{Algs}
 use Rattle.annex_a_keys.specs.Cell.{Place}
 use Rattle.rec_base.specs.declared.ways.Way.{Way}
 use Rattle.lte_events.specs.declared.answers.Answer.{Answer}
-use Rattle.key_model.specs.Derivation.{Derivation, map_derivation}
+use Rattle.key_model.specs.Derivation.{Derivation}
 use Rattle.key_model.specs.HandoverTable.{NumberedKey}
 use Rattle.key_model.specs.HandoverLines.{map_numbered}
-use Rattle.key_model.specs.Use.{map_use}
-use Rattle.lte_machine.specs.Wire.{KeyUse, Outgoing, map_outgoing}
+use Rattle.lte_machine.specs.Wire.{KeyUse, Outgoing}
 
 -- the key of a step: its NCC, how the actor came by it, and the key itself
 pub record Note (K : Type 0) : Type 0 where
@@ -197,21 +196,6 @@ map_took f g t = record {
   number = g t.number;
   algs = t.algs;
   came = map_came f g t.came;
-}
-
-abbrev pub map_reply : {K C L D : Type 0} → (K → L) → (C → D) → Reply K C → Reply L D
-map_reply f g r = record {
-  answer = r.answer;
-  sent = option_map (map_outgoing f g) r.sent;
-  opened = r.opened;
-  derived = map (map_derivation f) r.derived;
-  received = option_map f r.received;
-  accepted = option_map (map_use f) r.accepted;
-  note = option_map (map_note f) r.note;
-  alarm = r.alarm;
-  made = option_map (map_made f g) r.made;
-  tried = option_map (map_tried f g) r.tried;
-  took = option_map (map_took f g) r.took;
 }
 
 -- keys and chain numbers out of sight: what the choice of a row may not look at

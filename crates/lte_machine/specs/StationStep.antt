@@ -5,7 +5,7 @@ use Rattle.key_model.specs.Reading.{Reading}
 use Rattle.key_model.specs.HandoverTable.{NumberedKey}
 use Rattle.s1x2_rec.specs.Content.{Content}
 use Rattle.lte_machine.specs.Opening.{Opening, Outcome, accepted_of}
-use Rattle.lte_machine.specs.Reply.{Reply, finished, map_reply, unseen}
+use Rattle.lte_machine.specs.Reply.{Reply, finished, unseen}
 use Rattle.lte_machine.specs.StationState.{Station, StationInput, StationActs, AirPdu, StationRecord, map_station, map_station_input}
 use Rattle.lte_machine.specs.StationRows.{StationRow}
 use Rattle.lte_machine.specs.StationChoice.{PlainStation, StationFront, station_front, station_row}
@@ -49,7 +49,3 @@ abbrev pub station_step : {K C : Type 0} →
 station_step r s i outcome =
     let does = station_does r (station_row_of r s i outcome) (station_key i) s in
     (does.0, finished (option_map (λ x. x.key) (station_key i)) (accepted_of (station_opens r s i) outcome) does.1)
-
--- a station with what it gives out, keys and chain numbers read in another way
-abbrev pub map_station_done : {K C L D : Type 0} → (K → L) → (C → D) → Station K C × Reply K C → Station L D × Reply L D
-map_station_done f g done = (map_station f g done.0, map_reply f g done.1)

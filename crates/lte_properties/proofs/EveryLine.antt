@@ -5,7 +5,7 @@ use Rattle.lte_events.specs.declared.setups.Setup.{Setup}
 use Rattle.key_model.specs.Term.{Term, Root}
 use Rattle.key_model.specs.Value.{value_of, same_value}
 use Rattle.lte_machine.specs.Wire.{Outgoing}
-use Rattle.lte_machine.specs.Ciphers.{Ciphers, AreCiphers, under_keys, octets_of}
+use Rattle.lte_machine.specs.Ciphers.{Ciphers, under_keys, octets_of}
 use Rattle.lte_machine.specs.Opening.{open_by_uses}
 use Rattle.lte_machine.specs.World.{World}
 use Rattle.lte_machine.specs.Machines.{sender_of, written_machine, written_in_values}
@@ -22,6 +22,7 @@ use Rattle.lte_properties.proofs.EveryRun.{way_is}
 use Rattle.lte_properties.proofs.SameKeys.{reflexive}
 use Rattle.lte_properties.proofs.Agreement.World.{Conns, WorldOk}
 use Rattle.lte_machine.proofs.EventByEvent.{each_of_first}
+use Rattle.lte_machine.proofs.CipherLaws.{AreCiphers}
 
 -- what is made and taken is told, in every run
 pub keys_are_told : (c : Ciphers (List ℕ)) (setup : Setup) (events : List Event) → KeysTold (written_machine c) (first_world setup) events

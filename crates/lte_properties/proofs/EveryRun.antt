@@ -7,7 +7,7 @@ use Rattle.key_model.specs.Term.{Term}
 use Rattle.key_model.specs.Use.{map_use}
 use Rattle.key_model.specs.Value.{value_of, same_value}
 use Rattle.lte_machine.specs.Wire.{Outgoing}
-use Rattle.lte_machine.specs.Ciphers.{Ciphers, AreCiphers, under_keys, octets_of}
+use Rattle.lte_machine.specs.Ciphers.{Ciphers, under_keys, octets_of}
 use Rattle.lte_machine.specs.Opening.{Opening, Outcome, open_octets, open_by_uses}
 use Rattle.lte_machine.specs.World.{Machine, World, happens}
 use Rattle.lte_machine.specs.Machines.{sender_of, written_machine, written_in_values}
@@ -21,7 +21,7 @@ use Rattle.lte_machine.proofs.MixedRun.{run_by_terms}
 use Rattle.lte_machine.proofs.StillRun.{goes_on, still_is_run, turns_to}
 use Rattle.lte_properties.specs.ChainHolds.{core_numbers, noted}
 use Rattle.lte_properties.specs.Chains.{AreChains, ChainsHold}
-use Rattle.lte_properties.specs.Agreement.{Agrees, AgreementHolds, NoneThere, NoneEver}
+use Rattle.lte_properties.specs.Agreement.{Agrees, NoneThere, NoneEver}
 use Rattle.lte_properties.specs.Freshness.{NoUseTwice}
 use Rattle.lte_properties.proofs.Freshness.Premises.{ValuesApart}
 use Rattle.lte_properties.specs.SharedKeys.{SharedApart}
@@ -30,13 +30,14 @@ use Rattle.lte_properties.specs.Packets.{OpensToSent}
 use Rattle.lte_properties.proofs.Opening.Opens.{by_uses_open}
 use Rattle.lte_properties.proofs.Opening.Sender.{roots_along}
 use Rattle.lte_properties.proofs.Opening.Whole.{second_case, all_reach, packets_open}
-use Rattle.lte_properties.proofs.Agreement.Whole.{agreement_over, chains_over}
+use Rattle.lte_properties.proofs.Agreement.Whole.{agreement_over, chains_over, AgreementHolds}
 use Rattle.lte_properties.proofs.Freshness.Whole.{no_use_twice_by_terms, no_value_twice_by_terms}
 use Rattle.lte_properties.proofs.KeySeparation.Ever.{sharing_holds_by}
 use Rattle.lte_properties.proofs.Agreement.Openings.{OpensByTerms}
 use Rattle.lte_properties.proofs.SameKeys.{reflexive}
 use Rattle.lte_properties.specs.SecondCase.{SecondAtStarting}
 use Rattle.lte_properties.specs.Reach.{AllReach}
+use Rattle.lte_machine.proofs.CipherLaws.{AreCiphers}
 
 -- each world on the way of a run that meets no coincidence is one of such a run
 on_the_way : {K C S : Type 0} (by_octets : Opening K → List ℕ → Outcome) (m : Machine K C S) (w : World K C S) (es : List Event) (u : World K C S)

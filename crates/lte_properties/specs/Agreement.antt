@@ -8,8 +8,6 @@ use Rattle.lte_machine.specs.PhoneState.{Link, Radio, Idle, Connecting, Connecte
 use Rattle.lte_machine.specs.StationState.{Station, Context}
 use Rattle.lte_machine.specs.Wire.{Outgoing}
 use Rattle.lte_machine.specs.World.{Machine, World, Line, happens}
-use Rattle.lte_machine.specs.Run.{first_world}
-use Rattle.lte_events.specs.declared.setups.Setup.{Setup}
 use Rattle.lte_events.specs.declared.lines.Who.{Who}
 use Rattle.rec_base.specs.declared.ways.Way.{Way}
 use Rattle.key_model.specs.Chain.{nh, ncc_of}
@@ -280,10 +278,3 @@ pub record Agrees {S : Type 0} (w : World Term ℕ S) : Type 0 where
   pub completed : CompletedTaken w
   -- a preparation is what was made for its air address
   pub preps : PrepsMade w
-
--- the four statements of a run: in the world after these events, of far commands in each world on the way, of the lines of
--- completed handovers, and of what each line tells
-abbrev pub AgreementHolds : Machine Term ℕ (Outgoing Term ℕ) → Setup → List Event → Type 0
-AgreementHolds m setup events =
-    Agrees (run m (first_world setup) events) × NoneEver m (first_world setup) events
-    × CompletedLines m (first_world setup) events × KeysTold m (first_world setup) events

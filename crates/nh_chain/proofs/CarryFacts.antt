@@ -8,8 +8,27 @@ use Rattle.key_model.specs.HandoverLines.{map_numbered, PhoneKeys, map_phone, nh
 use Rattle.key_model.specs.Derivation.{map_derivation, nh_made, star_made}
 use Rattle.key_model.proofs.HandoverFacts.{nh_after-map, key_after-map, star_line-map}
 use Rattle.nh_chain.specs.Chain.{ChainState, map_chain, begun, stepped, number_after, climbed, nhs_made}
-use Rattle.nh_chain.specs.Reach.{phone_of, way_after, base_after, handover_made, map_reached, reached_after, reached}
-use Rattle.nh_chain.specs.Station.{StationKey, map_pair, map_station_key, pair_after, restored, restored_if, base_of, way_of, map_opened, opened_from, opened}
+use Rattle.nh_chain.specs.Reach.{Reached, phone_of, way_after, base_after, handover_made, reached_after, reached}
+use Rattle.nh_chain.specs.Station.{StationKey, map_pair, map_station_key, pair_after, restored, restored_if, base_of, way_of, Opened, opened_from, opened}
+
+-- what a phone makes of a command, each key and number read in another way
+abbrev pub map_reached : {K C L D : Type 0} → (K → L) → (C → D) → Reached K C → Reached L D
+map_reached f g made = record {
+  chain = map_chain f g made.chain;
+  star = map_numbered f g made.star;
+  way = made.way;
+  made = map (map_derivation f) made.made;
+}
+
+-- what a handover opens with, each key and number read in another way
+abbrev pub map_opened : {K C L D : Type 0} → (K → L) → (C → D) → Opened K C → Opened L D
+map_opened f g made = record {
+  key = map_station_key f g made.key;
+  star = map_numbered f g made.star;
+  spent = map_pair f g made.spent;
+  way = made.way;
+  made = map_derivation f made.made;
+}
 
 module _ {K C L D : Type 0} (r : Reading K C) (q : Reading L D) (f : K → L) (g : C → D) (c : Carries r q f g) where
   pub begun-map : (root kenb : K) → map_chain f g (begun r root kenb) ≡ begun q (f root) (f kenb)

@@ -1,13 +1,13 @@
 -- What a phone makes of a handover command (TS 33.401 7.2.8.4.4).
-use Rattle.std.specs.Prelude.{ℕ, zero, suc, List, [], ◌∷◌, ◌++◌, map}
+use Rattle.std.specs.Prelude.{ℕ, zero, suc, List, [], ◌∷◌, ◌++◌}
 use Rattle.annex_a_keys.specs.Cell.{Place}
 use Rattle.rec_base.specs.declared.ways.Way.{Way}
 use Rattle.rec_base.specs.declared.ways.Way.TheVariants.{Horizontal, Vertical}
 use Rattle.key_model.specs.Reading.{Reading}
 use Rattle.key_model.specs.HandoverTable.{NumberedKey}
-use Rattle.key_model.specs.HandoverLines.{map_numbered, PhoneKeys, nh_after, steps_to, key_after}
-use Rattle.key_model.specs.Derivation.{Derivation, map_derivation, star_made}
-use Rattle.nh_chain.specs.Chain.{ChainState, map_chain, climbed, nhs_made}
+use Rattle.key_model.specs.HandoverLines.{PhoneKeys, nh_after, steps_to, key_after}
+use Rattle.key_model.specs.Derivation.{Derivation, star_made}
+use Rattle.nh_chain.specs.Chain.{ChainState, climbed, nhs_made}
 
 -- the keys of a phone with this chain and this active KeNB
 abbrev pub phone_of : {K C : Type 0} → ChainState K C → K → PhoneKeys K C
@@ -35,15 +35,6 @@ pub record Reached (K C : Type 0) : Type 0 where
   pub star : NumberedKey K C
   pub way : Way
   pub made : List (Derivation K)
-
--- the same, each key and number read in another way
-abbrev pub map_reached : {K C L D : Type 0} → (K → L) → (C → D) → Reached K C → Reached L D
-map_reached f g made = record {
-  chain = map_chain f g made.chain;
-  star = map_numbered f g made.star;
-  way = made.way;
-  made = map (map_derivation f) made.made;
-}
 
 -- after so many NH steps
 abbrev pub reached_after : {K C : Type 0} → Reading K C → ChainState K C → K → ℕ → Place → Reached K C

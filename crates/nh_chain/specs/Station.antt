@@ -6,7 +6,7 @@ use Rattle.rec_base.specs.declared.ways.Way.TheVariants.{Horizontal, Vertical}
 use Rattle.key_model.specs.Reading.{Reading}
 use Rattle.key_model.specs.HandoverTable.{NumberedKey}
 use Rattle.key_model.specs.HandoverLines.{map_numbered, star_line}
-use Rattle.key_model.specs.Derivation.{Derivation, map_derivation, star_made}
+use Rattle.key_model.specs.Derivation.{Derivation, star_made}
 
 -- the active KeNB and its number, and an unused pair of NH and its number
 pub record StationKey (K C : Type 0) : Type 0 where
@@ -66,16 +66,6 @@ pub record Opened (K C : Type 0) : Type 0 where
   pub spent : Option (NumberedKey K C)
   pub way : Way
   pub made : Derivation K
-
--- the same, each key and number read in another way
-abbrev pub map_opened : {K C L D : Type 0} → (K → L) → (C → D) → Opened K C → Opened L D
-map_opened f g made = record {
-  key = map_station_key f g made.key;
-  star = map_numbered f g made.star;
-  spent = map_pair f g made.spent;
-  way = made.way;
-  made = map_derivation f made.made;
-}
 
 -- a handover of a base key to a cell
 abbrev pub opened_from : {K C : Type 0} → Reading K C → StationKey K C → NumberedKey K C → Place → Opened K C

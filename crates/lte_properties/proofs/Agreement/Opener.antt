@@ -16,7 +16,7 @@ use Rattle.lte_machine.specs.Wire.{KeyUse, Ciphering, Outgoing, SealedNas, Plain
 use Rattle.lte_events.specs.declared.answers.Answer.{Answer}
 use Rattle.lte_events.specs.declared.answers.Answer.TheVariants.{Short, BadHeader}
 use Rattle.lte_machine.specs.CoreChoice.{core_takes, core_header}
-use Rattle.lte_machine.specs.Ciphers.{Ciphers, AreCiphers, nas_octets, srb_octets, octets_of}
+use Rattle.lte_machine.specs.Ciphers.{Ciphers, nas_octets, srb_octets, octets_of}
 use Rattle.lte_machine.specs.Opening.{Opening, OpensNothing, OpensNas, OpensSrb, OpensDrb, Outcome, Opened, Differs, open_octets, open_foreign, same_dir, same_uses, same_ciphering, judged, open_case, open_by_uses}
 use Rattle.lte_machine.specs.World.{World}
 use Rattle.lte_machine.specs.Step.{attempted}
@@ -24,6 +24,7 @@ use Rattle.lte_properties.specs.ChainHolds.{machine_by}
 use Rattle.lte_properties.proofs.Agreement.Openings.{IsHonest, Honest, OpensByTerms}
 use Rattle.lte_properties.proofs.Agreement.PhoneWalk.{by_test}
 use Rattle.lte_properties.proofs.Agreement.World.{PlainReads, HeaderReads, OctetsTell}
+use Rattle.lte_machine.proofs.CipherLaws.{AreCiphers}
 
 one_dir : (a b : Dir) → same_dir a b ≡ true → a ≡ b
 one_dir Up Up e = refl

@@ -7,7 +7,7 @@ use Rattle.key_model.specs.Term.{Term, Root, same_term}
 use Rattle.key_model.specs.HandoverTable.{NumberedKey}
 use Rattle.s1x2_rec.specs.Fields.{Fields}
 use Rattle.lte_machine.specs.Wire.{KeyUse, Outgoing}
-use Rattle.lte_machine.specs.Ciphers.{Ciphers, AreCiphers, octets_of}
+use Rattle.lte_machine.specs.Ciphers.{Ciphers, octets_of}
 use Rattle.lte_machine.specs.Opening.{Opening, Outcome, open_by_uses}
 use Rattle.lte_machine.specs.Ranges.{IsSetup, IsEvent}
 use Rattle.lte_machine.specs.PhoneState.{Radio, Idle, Connecting, Connected}
@@ -17,7 +17,7 @@ use Rattle.lte_machine.specs.Machines.{machine_over, sender_of}
 use Rattle.lte_machine.specs.Run.{first_world}
 use Rattle.lte_properties.specs.ChainBelow.{AllOf}
 use Rattle.lte_properties.specs.ChainHolds.{machine_by, run, noted, core_numbers, Holds}
-use Rattle.lte_properties.specs.Agreement.{NoneEver, CompletedLines, AgreementHolds}
+use Rattle.lte_properties.specs.Agreement.{Agrees, NoneEver, CompletedLines, KeysTold}
 use Rattle.lte_properties.proofs.Agreement.Openings.{Honest, Calm, Along, OpensByTerms}
 use Rattle.lte_properties.proofs.ChainNumbers.World.{happens_holds, run_holds, first_holds}
 use Rattle.lte_properties.proofs.Freshness.PhoneUses.{RadioInOrder, PhoneFresh}
@@ -41,6 +41,14 @@ use Rattle.lte_properties.specs.Chains.{ChainsHold}
 use Rattle.lte_properties.proofs.Agreement.Noted.{keys_told}
 use Rattle.lte_properties.proofs.Agreement.Calm.{NewKenb, calm_at}
 use Rattle.lte_properties.proofs.Agreement.Opener.{honest, octets_tell}
+use Rattle.lte_machine.proofs.CipherLaws.{AreCiphers}
+
+-- the four statements of a run: in the world after these events, of far commands in each world on the way, of the lines of
+-- completed handovers, and of what each line tells
+abbrev pub AgreementHolds : Machine Term ℕ (Outgoing Term ℕ) → Setup → List Event → Type 0
+AgreementHolds m setup events =
+    Agrees (run m (first_world setup) events) × NoneEver m (first_world setup) events
+    × CompletedLines m (first_world setup) events × KeysTold m (first_world setup) events
 
 -- WHAT OTHER INVARIANTS SAY
 

@@ -16,10 +16,11 @@ use Rattle.pdcp_guard.specs.Drb.{drb_count, drb_first_octet, drb_second_octet}
 use Rattle.lte_events.specs.declared.answers.Answer.{Answer}
 use Rattle.lte_events.specs.declared.answers.Answer.TheVariants.{BadHeader}
 use Rattle.lte_machine.specs.Wire.{KeyUse, Ciphering}
-use Rattle.lte_machine.specs.Ciphers.{Ciphers, AreCiphers, ciphered_by, nas_octets, srb_octets, drb_octets}
+use Rattle.lte_machine.specs.Ciphers.{Ciphers, ciphered_by, nas_octets, srb_octets, drb_octets}
 use Rattle.lte_machine.specs.PhoneChoice.{header_for_phone, is_for_phone}
 use Rattle.lte_machine.specs.CoreChoice.{core_header, core_takes}
 use Rattle.lte_properties.specs.Packets.{InWindow}
+use Rattle.lte_machine.proofs.CipherLaws.{AreCiphers}
 
 -- a COUNT in the window is the least with its lowest part
 least_of : (next count w : ℕ) → 0 < w → InWindow next count w → least next (count % w) w ≡ count

@@ -20,7 +20,7 @@ use Rattle.pdcp_guard.specs.AsKeys.{AsKeys}
 use Rattle.s1x2_rec.specs.Fields.{Fields}
 use Rattle.lte_machine.specs.Bearers.{Srb, Drb, of_srb, of_drb}
 use Rattle.lte_machine.specs.Wire.{KeyUse, Ciphering, ciphering_by, nas_use, srb_use, drb_use, Outgoing, SealedNas, PlainNas, SealedRrc, UserPacket, Between}
-use Rattle.lte_machine.specs.Ciphers.{Ciphers, AreCiphers, octets_of, nas_octets, srb_octets, drb_octets}
+use Rattle.lte_machine.specs.Ciphers.{Ciphers, octets_of, nas_octets, srb_octets, drb_octets}
 use Rattle.lte_machine.specs.Opening.{Opening, OpensNas, OpensSrb, OpensDrb, Outcome, Opened}
 use Rattle.lte_machine.specs.PhoneState.{NasContext, Link, Radio, Idle, Connecting, Connected}
 use Rattle.lte_machine.specs.StationState.{Station, Context, AirPdu}
@@ -35,6 +35,7 @@ use Rattle.lte_properties.proofs.Opening.Opens.{OpensBack}
 use Rattle.lte_properties.proofs.Opening.Counts.{estimated, nas_parts, header_down, header_up, srb_counted, drb_counted}
 use Rattle.lte_properties.proofs.Opening.Ready.{ConnectedAt, HasActive, ActiveAt, PhoneUses, CoreUses, InSrb, InDrb, InSrbOf, InDrbOf, InNas, ReadyFor, ready_for}
 use Rattle.lte_properties.proofs.Opening.Steps.{phone_nas_opens, phone_rrc_opens, phone_packet_opens, station_rrc_opens, station_packet_opens, core_nas_opens}
+use Rattle.lte_machine.proofs.CipherLaws.{AreCiphers}
 
 abbrev W : Type 0
 W = World Term ℕ (Outgoing Term ℕ)

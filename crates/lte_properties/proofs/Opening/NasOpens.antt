@@ -18,7 +18,7 @@ use Rattle.nas_rec.specs.Spelling.{spelling_of}
 use Rattle.nas_rec.specs.Reading.{read_nas}
 use Rattle.nas_rec.proofs.Laws.{spelled_is_read}
 use Rattle.lte_machine.specs.Wire.{KeyUse, Ciphering, Outgoing, SealedNas, PlainNas, SealedRrc, UserPacket, Between}
-use Rattle.lte_machine.specs.Ciphers.{Ciphers, AreCiphers, ciphered_by, nas_octets}
+use Rattle.lte_machine.specs.Ciphers.{Ciphers, ciphered_by, nas_octets}
 use Rattle.lte_machine.specs.Opening.{Outcome, Opened}
 use Rattle.lte_machine.specs.PhoneState.{Partial, Phone}
 use Rattle.lte_machine.specs.PhoneRows as phone
@@ -35,6 +35,7 @@ use Rattle.lte_properties.proofs.Opening.Openings.{SealedUnder, SenderIs}
 use Rattle.lte_properties.proofs.Opening.Counts.{nas_parts, header_down, header_other}
 use Rattle.lte_properties.proofs.Opening.Nas.{Choices, RootHas, SealedSo, SealedOk}
 use Rattle.lte_properties.proofs.Opening.NasRows.{TakenNeeds, NasNeeds}
+use Rattle.lte_machine.proofs.CipherLaws.{AreCiphers}
 
 -- a key that a step derives is known after it
 known_last : (t : Term) (rows : List (RowOrigin Term)) (ds : List (Derivation Term)) → Member t (map (λ d. d.out) ds) → Member t (keys_of (rows ++ map Of ds))

@@ -11,7 +11,7 @@ use Rattle.key_model.specs.Term.{Term, Root}
 use Rattle.ho_prep.specs.Prep.{at_air}
 use Rattle.s1x2_rec.specs.Fields.{Fields}
 use Rattle.lte_machine.specs.Bearers.{which}
-use Rattle.lte_machine.specs.Ciphers.{Ciphers, AreCiphers, octets_of}
+use Rattle.lte_machine.specs.Ciphers.{Ciphers, octets_of}
 use Rattle.lte_machine.specs.Opening.{Opening, Outcome, CipheredElse}
 use Rattle.lte_machine.specs.PhoneChoice.{unciphered_text}
 use Rattle.lte_machine.specs.StationState.{Station, Context, AirPdu}
@@ -40,6 +40,7 @@ use Rattle.lte_properties.proofs.Opening.SecondAir.{Starts, phone_air_never, sta
 use Rattle.lte_properties.proofs.Opening.SecondNas as second_nas
 use Rattle.lte_properties.proofs.Opening.SecondNas.{phone_nas_never, core_nas_never}
 use Rattle.lte_properties.proofs.Opening.World.{PacketsOk}
+use Rattle.lte_machine.proofs.CipherLaws.{AreCiphers}
 
 module _ (same : Term → Term → Bool) (sender : Option (Outgoing Term ℕ) → Option (KeyUse Term)) (opener : Opening Term → List ℕ → Option (Outgoing Term ℕ) → Outcome) (c : Ciphers Term) (good : AreCiphers c) (between : Fields → Option (NumberedKey Term ℕ) → List ℕ) (cells : List Site)
     (g : Choices) (k : Conns) (w : TheWorld) (ok : WorldOk cells k w) (packets : PacketsOk g k w) (heard : AllHeard w) (new : NewKenb w.took w.phone.radio) where

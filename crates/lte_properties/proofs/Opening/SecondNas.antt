@@ -13,7 +13,7 @@ use Rattle.key_model.specs.Term.{Term, Alg, same_term}
 use Rattle.nas_guard.specs.Keys.{Keys}
 use Rattle.nas_guard.specs.Seal.{is_ciphered}
 use Rattle.s1x2_rec.specs.Fields.{Fields}
-use Rattle.lte_machine.specs.Ciphers.{Ciphers, AreCiphers, nas_octets}
+use Rattle.lte_machine.specs.Ciphers.{Ciphers, nas_octets}
 use Rattle.lte_machine.specs.CoreChoice as core_choice
 use Rattle.lte_machine.specs.CoreChoice.{core_header}
 use Rattle.lte_machine.specs.CoreKeys as core_keys
@@ -32,6 +32,7 @@ use Rattle.lte_properties.proofs.Agreement.Opener.{one_use, one_ciphering, plain
 use Rattle.lte_properties.proofs.Agreement.PhoneWalk.{by_test}
 use Rattle.lte_properties.proofs.Opening.Nas.{Choices, RootHas, PhoneContextOk, CoreContextOk, ProcedureOk, PhoneOk, CoreOk, ciphered_for, SealedOk, one_choice}
 use Rattle.lte_properties.proofs.Opening.NasOpens.{CameDown}
+use Rattle.lte_machine.proofs.CipherLaws.{AreCiphers}
 
 -- the second case does not come
 abbrev pub Never : Opening Term → Option (Outgoing Term ℕ) → Type 0

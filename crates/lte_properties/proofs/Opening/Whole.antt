@@ -13,7 +13,7 @@ use Rattle.key_model.specs.HandoverTable.{NumberedKey}
 use Rattle.key_model.specs.Reading.{Reading, term_reading_by}
 use Rattle.s1x2_rec.specs.Fields.{Fields}
 use Rattle.lte_machine.specs.Wire.{KeyUse, Outgoing, SealedNas, PlainNas, SealedRrc, UserPacket, Between, address_of}
-use Rattle.lte_machine.specs.Ciphers.{Ciphers, AreCiphers, octets_of}
+use Rattle.lte_machine.specs.Ciphers.{Ciphers, octets_of}
 use Rattle.lte_machine.specs.Opening.{Opening, Outcome}
 use Rattle.lte_machine.specs.Ranges.{IsEvent, IsSetup}
 use Rattle.lte_machine.specs.Ranges as ranges
@@ -64,6 +64,7 @@ use Rattle.lte_machine.specs.Ranges.{HasId}
 use Rattle.lte_properties.specs.Reach.{AllReach}
 use Rattle.lte_properties.proofs.Named.Reaches.{sites, first_named}
 use Rattle.lte_properties.proofs.Named.World.{run_named, addresses_named}
+use Rattle.lte_machine.proofs.CipherLaws.{AreCiphers}
 
 module _ (same : Term → Term → Bool) (sender : Option (Outgoing Term ℕ) → Option (KeyUse Term)) (opener : Opening Term → List ℕ → Option (Outgoing Term ℕ) → Outcome) (c : Ciphers Term) (good : AreCiphers c) (between : Fields → Option (NumberedKey Term ℕ) → List ℕ) (cells : List Site) where
   abbrev q : Reading Term ℕ

@@ -15,7 +15,7 @@ use Rattle.key_model.specs.HandoverTable.{NumberedKey}
 use Rattle.key_model.specs.Reading.{Reading, term_reading_by}
 use Rattle.s1x2_rec.specs.Fields.{Fields}
 use Rattle.lte_machine.specs.Wire.{KeyUse, Outgoing, SealedNas, PlainNas, SealedRrc, UserPacket, Between}
-use Rattle.lte_machine.specs.Ciphers.{Ciphers, AreCiphers, octets_of}
+use Rattle.lte_machine.specs.Ciphers.{Ciphers, octets_of}
 use Rattle.lte_machine.specs.Opening.{Opening, Outcome}
 use Rattle.lte_machine.specs.Ladder.{Of}
 use Rattle.lte_machine.specs.Reply.{Reply}
@@ -43,6 +43,7 @@ use Rattle.lte_properties.proofs.Agreement.World.{TheWorld, Conns, ghost, WorldO
 use Rattle.lte_properties.proofs.Opening.Nas.{Choices, PhoneOk, CoreOk, SentOk, OutOk, More, phone_more, core_more, sent_more}
 use Rattle.lte_properties.proofs.Opening.NasRows.{RowNeeds, CoreRowNeeds, NoAuth, phone_goes, core_goes}
 use Rattle.lte_properties.proofs.Opening.Air.{AirOk, FromStation, StationNeeds, FromPhone, PhoneNeeds, air_later, radio_keys, context_keys, station_sends, phone_sends}
+use Rattle.lte_machine.proofs.CipherLaws.{AreCiphers}
 
 -- what is known of packets in a world: the NAS keys of core and phone, and how each record that was sent is sealed
 pub record PacketsOk (g : Choices) (k : Conns) (w : TheWorld) : Type 0 where
