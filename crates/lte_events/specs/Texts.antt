@@ -1,5 +1,6 @@
 -- Items, each of which has octets, and all octets in one flat list.
 use Rattle.std.specs.Prelude.{◌≡◌, ℕ, ◌+◌, ◌≤◌, List, Some, length, take, drop, slice_get}
+use Rattle.rec_base.specs.Lengths.{longest_record}
 use Rattle.lte_events.specs.declared.texts.Piece.{Piece}
 
 -- what an item is, and its octets
@@ -18,4 +19,4 @@ item_of flat p = record { tag = p.tag; octets = take p.len (drop p.start flat) }
 
 -- each item lies within the flat list, and is no longer than it can be
 abbrev pub AreWithin : {T : Type 0} → List (Piece T) → List ℕ → Type 0
-AreWithin pieces flat = (k : ℕ) (p : Piece _) → slice_get pieces k ≡ Some p → (p.start + p.len ≤ length flat) × (p.len ≤ 1536)
+AreWithin pieces flat = (k : ℕ) (p : Piece _) → slice_get pieces k ≡ Some p → (p.start + p.len ≤ length flat) × (p.len ≤ longest_record)

@@ -1,7 +1,9 @@
 // Items, each of which has octets. The octets of all of them stand in one flat list, so that an item takes
 // no more room than its own octets need.
+ghost use Rattle.rec_base.specs.Lengths.{longest_record};
 ghost use Rattle.std.specs.Prelude.{◌≡◌, ◌+◌, ◌<◌, ◌≤◌, [], ◌∷◌, ◌++◌, length, Some, slice_get, vec_len, vec_capacity, OnOk, OnErr};
 
+use rec_base::Octets;
 use std::alloc::{AllocError, Global};
 use std::marker::Model;
 
@@ -26,12 +28,13 @@ pub struct Texts<T> {
 impl<T> Model for Texts<T> {
     ghost use Rattle.std.specs.Prelude.{◌+◌, ◌*◌, ◌≤◌, map, vec_len, vec_capacity};
     ghost use Rattle.lte_events.specs.Texts as spec;
+    ghost use Rattle.rec_base.specs.Lengths.{longest_record};
 
     ghost Value = { spec.Texts T };
 
     ghost view = { λ l. record { items = map (spec.item_of l.flat.items) l.pieces.items; spare = l.spare } };
 
-    ghost invariant = { λ l. spec.AreWithin l.pieces.items l.flat.items × (vec_len l.pieces + l.spare ≤ vec_capacity l.pieces) × (vec_len l.flat + l.spare * 1536 ≤ vec_capacity l.flat) };
+    ghost invariant = { λ l. spec.AreWithin l.pieces.items l.flat.items × (vec_len l.pieces + l.spare ≤ vec_capacity l.pieces) × (vec_len l.flat + l.spare * longest_record ≤ vec_capacity l.flat) };
 }
 
 impl<T> Texts<T> {
@@ -60,7 +63,7 @@ impl<T: Copy> Texts<T> {
     {
         if self.spare == 0 {
             self.pieces.reserve(1)?;
-            self.flat.reserve(1536)?;
+            self.flat.reserve(Octets::capacity())?;
             self.spare = 1;
         }
         Ok(())
@@ -69,7 +72,7 @@ impl<T: Copy> Texts<T> {
     /// Puts an item at the end.
     pub fn put(&mut self, tag: T, octets: &[u8])
         requires room { 0 < self.old.spare }
-        requires within { length octets.now ≤ 1536 }
+        requires within { length octets.now ≤ longest_record }
         ensures items { self.new.items ≡ self.old.items ++ record { tag = tag; octets = octets.now } ∷ [] }
         ensures spare { self.old.spare ≡ self.new.spare + 1 }
     {
@@ -87,7 +90,7 @@ impl<T: Copy> Texts<T> {
     pub fn at(&self, number: usize) -> (T, &[u8])
         requires { number < length self.now.items }
         ensures value { slice_get self.now.items number ≡ Some (record { tag = result.0; octets = result.1.now }) }
-        ensures within { length result.1.now ≤ 1536 }
+        ensures within { length result.1.now ≤ longest_record }
     {
         let piece = self.pieces[number];
         let start = piece.start;

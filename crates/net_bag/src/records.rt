@@ -1,6 +1,7 @@
 // The records and their octets.
 ghost use Rattle.std.specs.Prelude.{◌≡◌, ◌+◌, ◌<◌, ◌≤◌, ◌^◌, ◌-◌, [], ◌∷◌, ◌++◌, length, Some, slice_get, OnOk, OnErr};
 ghost use Rattle.std.specs.Option.{option_map};
+ghost use Rattle.rec_base.specs.Lengths.{longest_record};
 
 use crate::BagView;
 use lte_events::{Address, Texts};
@@ -61,7 +62,7 @@ impl Records {
     // Puts a record at the end.
     pub fn put(&mut self, to: Address, octets: &[u8], tuple: Option<Use>)
         requires room { 0 < self.old.spare }
-        requires short { length octets.now ≤ 1536 }
+        requires short { length octets.now ≤ longest_record }
         ensures records { self.new.records ≡ self.old.records ++ record { to = to; octets = octets.now; tuple = tuple } ∷ [] }
         ensures spare { self.old.spare ≡ self.new.spare + 1 }
         ensures numbered { length self.new.records < 2 ^ 32 }
@@ -82,7 +83,7 @@ impl Records {
     pub fn octets(&self, number: usize) -> &[u8]
         requires { number < length self.now.records }
         ensures value { option_map (λ r. r.octets) (slice_get self.now.records number) ≡ Some result.now }
-        ensures short { length result.now ≤ 1536 }
+        ensures short { length result.now ≤ longest_record }
     {
         let (_entry, octets) = self.texts.at(number);
         octets
