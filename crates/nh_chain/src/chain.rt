@@ -54,6 +54,13 @@ impl Chain {
         }
     }
 
+    // Whether it is a chain of this KASME.
+    pub(crate) fn is_of(&self, root: &Kasme) -> bool
+        ensures { result ≡ octet_reading.same root.now self.now.root }
+    {
+        *root == self.root
+    }
+
     // The NCC of the present key, 0 to 7.
     pub(crate) fn ncc(&self) -> u8
         ensures value { result ≡ self.now.number }

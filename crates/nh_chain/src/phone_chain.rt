@@ -87,6 +87,13 @@ impl PhoneChain {
         (star, way, made)
     }
 
+    /// Whether it is a chain of this KASME.
+    pub fn is_of(&self, root: &Kasme) -> bool
+        ensures { result ≡ octet_reading.same root.now self.now.root }
+    {
+        self.chain.is_of(root)
+    }
+
     /// The NCC of the present key, 0 to 7.
     pub fn ncc(&self) -> u8
         ensures value { result ≡ self.now.number }

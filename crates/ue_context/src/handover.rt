@@ -106,13 +106,12 @@ impl Link {
         let Some(root) = nas.root() else {
             return out.only(Answer::Done);
         };
-        if root == self.root {
+        if self.chain.is_of(&root) {
             return out.only(Answer::NoTrigger);
         }
         let (kenb, first) = root.kenb(0);
         let (star, second) = kenb.star(cell);
         self.chain = PhoneChain::begin(&root, &kenb);
-        self.root = root;
         self.arrive(
             star,
             Way::Initial,

@@ -1,17 +1,15 @@
-use annex_a_keys::{Kasme, Kenb};
+use annex_a_keys::Kenb;
 use nh_chain::PhoneChain;
 use pdcp_guard::AsKeys;
 use radio_bearers::Bearers;
 use std::marker::Model;
 
-// A connection: the station and the air address there, the KASME of its chain, the chain, the key of the
-// present cell, the keys of the access stratum, the bearers, and whether it came by a handover or a key
-// change.
+// A connection: the station and the air address there, the chain, the key of the present cell, the keys of
+// the access stratum, the bearers, and whether it came by a handover or a key change.
 #[derive(Drop)]
 pub(crate) struct Link {
     pub(crate) station: u8,
     pub(crate) air: u32,
-    pub(crate) root: Kasme,
     pub(crate) chain: PhoneChain,
     pub(crate) kenb: Kenb,
     pub(crate) keys: AsKeys,
@@ -20,7 +18,7 @@ pub(crate) struct Link {
 }
 
 impl Model for Link {
-    ghost use Rattle.std.specs.Prelude.{◌≡◌, List, ℕ};
+    ghost use Rattle.std.specs.Prelude.{List, ℕ};
     ghost use Rattle.lte_machine.specs.PhoneState.{Link as Connection};
 
     ghost Value = { Connection (List ℕ) ℕ };
@@ -34,6 +32,4 @@ impl Model for Link {
       bearers = l.bearers;
       by_handover = l.by_handover;
     } };
-
-    ghost invariant = { λ l. l.root ≡ l.chain.root };
 }

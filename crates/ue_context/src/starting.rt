@@ -105,7 +105,6 @@ impl Waiting {
         let mut link = Link {
             station,
             air,
-            root: self.root,
             chain: PhoneChain::begin(&self.root, &self.kenb),
             kenb: self.kenb,
             keys,
