@@ -103,7 +103,7 @@ impl Link {
         requires { IsSrb bearer }
         ensures { (n : NasPart) → (linked n self.new, out.new) ≡ phone_call (linked n self.old) (Act (SendRrc bearer text.now)) }
     {
-        let message = RrcRecord::RrcData(copied(text)).write();
+        let message = RrcRecord::RrcData(text.clone().unwrap()).write();
         if !self.signal(bearer, true, message.as_slice(), out) {
             out.only(Answer::CountSpent);
         }
@@ -114,13 +114,4 @@ impl Link {
     {
         self.bearers.skip(bearer, n);
     }
-}
-
-// The same text.
-fn copied(text: &ShortText) -> ShortText
-    ensures { result ≡ text.now }
-{
-    let mut copy = ShortText::new();
-    copy.append(text.as_slice());
-    copy
 }
