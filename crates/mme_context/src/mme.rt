@@ -99,8 +99,5 @@ impl Core {
 fn copied(cells: &Cells) -> Cells
     ensures { result ≡ cells.now }
 {
-    match cells.clone() {
-        Ok(copy) => copy,
-        Err(_) => Cells::new(),
-    }
+    cells.clone().unwrap()
 }
