@@ -34,10 +34,7 @@ fn seed_at(setup: &Setup, peer: u8) -> RoleSetup
 fn copied(cells: &Cells) -> Cells
     ensures { result ≡ cells.now }
 {
-    match cells.clone() {
-        Ok(copy) => copy,
-        Err(_) => Cells::new(),
-    }
+    cells.clone().unwrap()
 }
 
 /// Sets up all peers of a setup, in order, to the first whose reply is not the wanted one: `Differs`.
