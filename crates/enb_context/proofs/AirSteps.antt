@@ -30,10 +30,10 @@ use Rattle.lte_machine.specs.StationState.{Station, Context, AirPdu, map_preps, 
 use Rattle.lte_machine.specs.StationRows.{AirRow, AirRefused, PacketOpened}
 use Rattle.lte_machine.specs.StationChoice.{AirFront, air_front_by, prepared_front, AirSettled, OnSignalling, OnStarting, OnPrepared, OnUser, counted, air_front, air_row, rrc_row, starting_row, prepared_row, user_text}
 use Rattle.lte_machine.specs.StationKeys.{air_expects}
-use Rattle.radio_bearers.specs.Bearers.{srb_of, drb_of, outcome_of, is_first}
+use Rattle.radio_bearers.specs.Bearers.{srb_of, drb_of, is_first}
 use Rattle.enb_context.specs.Preps.{IsElsewhere}
 use Rattle.enb_context.specs.Step.{answered, serving, seen_plain, by_air, from_phone}
-use Rattle.radio_bearers.proofs.Sealing.{srb_opened_is, drb_opened_is}
+use Rattle.radio_bearers.proofs.Sealing.{srb_opened_is, drb_opened_is, outcome_of}
 
 -- what a front leads to
 abbrev pub by_front : Station (List ℕ) ℕ → List ℕ → AirFront → Station (List ℕ) ℕ × ActorOut

@@ -1,17 +1,19 @@
 -- The PDUs of the code below are those of the written machine.
-use Rattle.std.proofs.Common.{◌≡◌, ℕ, ◌≤◌, Bool, true, false, cond, List, [], ◌∷◌, length, take, Ok, Err, refl, arith}
+use Rattle.std.proofs.Common.{◌≡◌, ℕ, ◌≤◌, Bool, true, false, cond, List, [], ◌∷◌, length, take, Result, Ok, Err, refl, arith}
 use Rattle.std.specs.Prelude.{slice_index}
 use Rattle.rec_base.specs.declared.bearers.Bearer.{Bearer}
 use Rattle.rec_base.specs.declared.bearers.Bearer.TheVariants.{Srb1, Srb2, Drb1, Drb2, Drb3, Drb4}
 use Rattle.rec_base.specs.declared.uses.Dir.{Dir}
+use Rattle.pdcp_guard.specs.declared.pdus.PdcpOpened.{PdcpOpened}
+use Rattle.pdcp_guard.specs.declared.pdus.PdcpFault.{PdcpFault}
 use Rattle.pdcp_guard.specs.declared.pdus.PdcpFault.TheVariants.{MacFails}
 use Rattle.pdcp_guard.specs.AsKeys.{AsKeys}
 use Rattle.pdcp_guard.specs.Srb.{IsSrb, srb_sealed, srb_ciphered, srb_opened_at}
 use Rattle.pdcp_guard.specs.Drb.{IsDrb, drb_sealed, drb_ciphered, drb_opened_at}
 use Rattle.lte_machine.specs.Ciphers.{annex_b, srb_octets, drb_octets}
-use Rattle.lte_machine.specs.Opening.{Opened, OpensSrb, OpensDrb, open_octets, by_macs}
+use Rattle.lte_machine.specs.Opening.{Outcome, Opened, Differs, OpensSrb, OpensDrb, open_octets, by_macs}
 use Rattle.lte_machine.specs.Wire.{ciphering_if, srb_use, srb_ciphering, drb_ciphering}
-use Rattle.radio_bearers.specs.Bearers.{srb_of, drb_of, outcome_of}
+use Rattle.radio_bearers.specs.Bearers.{srb_of, drb_of}
 
 -- a PDU of an SRB, ciphered or not
 pub srb_sealed_is : (keys : AsKeys (List ℕ)) (cipher : Bool) (bearer : Bearer) (count : ℕ) (dir : Dir) (text : List ℕ) → IsSrb bearer
@@ -40,6 +42,12 @@ drb_sealed_is keys Srb2 count dir text h = absurd h
 first_taken : (pdu : List ℕ) → 1 ≤ length pdu → take 1 pdu ≡ slice_index pdu 0 ∷ []
 first_taken [] h = absurd (omega arith)
 first_taken (x ∷ xs) h = refl
+
+-- the outcome of an opening at a COUNT
+abbrev pub outcome_of : Result PdcpOpened PdcpFault → Outcome
+outcome_of (Ok o) = Opened o.text
+outcome_of (Err (MacFails count wanted got)) = Differs wanted got
+outcome_of (Err other) = Opened []
 
 by_test : (b : Bool) (count : ℕ) (wanted got text : List ℕ) → by_macs b wanted got text ≡ outcome_of (cond b (Ok (record { count = count; text = text })) (Err (MacFails count wanted got)))
 by_test true count wanted got text = refl

@@ -1,12 +1,8 @@
 -- A bearer as one of the two kinds, and what an SRB opens to.
-use Rattle.std.specs.Prelude.{Bool, true, false, [], Result, Ok, Err}
+use Rattle.std.specs.Prelude.{Bool, true, false}
 use Rattle.rec_base.specs.declared.bearers.Bearer.{Bearer}
 use Rattle.rec_base.specs.declared.bearers.Bearer.TheVariants.{Srb2, Drb2, Drb3, Drb4}
-use Rattle.pdcp_guard.specs.declared.pdus.PdcpOpened.{PdcpOpened}
-use Rattle.pdcp_guard.specs.declared.pdus.PdcpFault.{PdcpFault}
-use Rattle.pdcp_guard.specs.declared.pdus.PdcpFault.TheVariants.{MacFails}
 use Rattle.lte_machine.specs.Bearers.{Which, OnSrb, Srb, Signalling1, Signalling2, Drb, User1, User2, User3, User4}
-use Rattle.lte_machine.specs.Opening.{Outcome, Opened, Differs}
 
 -- the signalling bearer, where it is one
 abbrev pub srb_of : Bearer → Srb
@@ -19,12 +15,6 @@ drb_of Drb2 = User2
 drb_of Drb3 = User3
 drb_of Drb4 = User4
 drb_of other = User1
-
--- the outcome of an opening at a COUNT
-abbrev pub outcome_of : Result PdcpOpened PdcpFault → Outcome
-outcome_of (Ok o) = Opened o.text
-outcome_of (Err (MacFails count wanted got)) = Differs wanted got
-outcome_of (Err other) = Opened []
 
 -- whether a bearer is SRB1
 abbrev pub is_first : Which → Bool

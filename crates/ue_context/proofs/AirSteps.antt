@@ -27,8 +27,8 @@ use Rattle.lte_machine.specs.Refusals.{of_pdcp}
 use Rattle.lte_machine.specs.Reply.{unseen}
 use Rattle.lte_machine.specs.Wire.{KeyUse, srb_ciphering, drb_ciphering}
 use Rattle.nas_smc.specs.PhoneNas.{NasPart}
-use Rattle.radio_bearers.specs.Bearers.{srb_of, drb_of, outcome_of}
-use Rattle.radio_bearers.proofs.Sealing.{srb_opened_is, drb_opened_is}
+use Rattle.radio_bearers.specs.Bearers.{srb_of, drb_of}
+use Rattle.radio_bearers.proofs.Sealing.{srb_opened_is, drb_opened_is, outcome_of}
 use Rattle.ue_context.specs.Parts.{linked}
 use Rattle.ue_context.specs.Step.{by_air, to_phone}
 

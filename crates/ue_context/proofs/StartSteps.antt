@@ -26,8 +26,7 @@ use Rattle.lte_machine.specs.PhoneRows.{AirRefused}
 use Rattle.lte_machine.specs.PhoneState.{Phone, Waiting}
 use Rattle.lte_machine.specs.Refusals.{of_pdcp}
 use Rattle.nas_smc.specs.PhoneNas.{NasPart}
-use Rattle.radio_bearers.specs.Bearers.{outcome_of}
-use Rattle.radio_bearers.proofs.Sealing.{srb_opened_is}
+use Rattle.radio_bearers.proofs.Sealing.{srb_opened_is, outcome_of}
 use Rattle.ue_context.specs.Parts.{waiting}
 use Rattle.ue_context.specs.Step.{by_air, to_phone}
 use Rattle.ue_context.proofs.AirSteps.{fronted, long_enough}
