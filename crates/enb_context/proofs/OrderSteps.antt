@@ -1,15 +1,21 @@
 -- The steps of a command and of a cancel, by the state of the attempt.
 use Rattle.std.proofs.Common.{◌≡◌, ℕ, Bool, true, false, List, Some, None, refl, ap, sym, ◌∙◌}
 use Rattle.std.specs.Prelude.{Option, IsSome}
-use Rattle.lte_events.specs.declared.answers.Answer.TheVariants.{NotReady, CountSpent}
+use Rattle.lte_events.specs.declared.answers.Answer.TheVariants.{Done, NotReady, CountSpent, CommandSent}
 use Rattle.lte_events.specs.declared.replies.ActorOut.{ActorOut}
 use Rattle.lte_events.specs.Reply.{reply_of}
 use Rattle.rrc_rec.specs.declared.records.RrcRecord.{RrcRecord}
+use Rattle.s1x2_rec.specs.Fields.{X2Cancel, HandoverCancel}
+use Rattle.ho_prep.specs.Prep.{without}
 use Rattle.lte_events.specs.declared.acts.StationAct.TheVariants.{Command, Cancel}
 use Rattle.lte_machine.specs.Bearers.{is_spent}
+use Rattle.lte_machine.specs.StationKeys.{given_up}
+use Rattle.lte_machine.specs.StationRecords.{to_core, to_station}
 use Rattle.lte_machine.specs.StationState.{Station, Context, Attempt, OverX2, OverS1, Within, Renewing, X2Open, X2Ready, X2Commanded, S1Open, S1Ready, S1Commanded, StationActs}
-use Rattle.enb_context.specs.Orders.{ordered, commanded_by, cancels_of, cancelled_by}
-use Rattle.enb_context.specs.Step.{answered, serving, serving_at}
+use Rattle.enb_context.specs.Orders.{ordered, commanded_by, cancels_of}
+use Rattle.enb_context.specs.declared.attempt.Cancel.{Cancel as GivenUp}
+use Rattle.enb_context.specs.declared.attempt.Cancel as cancels
+use Rattle.enb_context.specs.Step.{answered, serving, serving_at, sending}
 
 pub command_is : (s : Station (List ℕ) ℕ) (id : ℕ) (c : Context (List ℕ) ℕ) (a : Attempt (List ℕ) ℕ) (b : Bool)
     → c.attempt ≡ Some a → is_spent c.bearers.srb1 ≡ b
@@ -31,6 +37,16 @@ command_is s id c (Within (X2Commanded x)) true e h = rw (e, h) refl
 command_is s id c (Within (X2Commanded x)) false e h = rw (e, h) refl
 command_is s id c (Renewing x) true e h = rw (e, h) refl
 command_is s id c (Renewing x) false e h = rw (e, h) refl
+
+-- the step of a cancel
+abbrev pub cancelled_by : Station (List ℕ) ℕ → Context (List ℕ) ℕ → Option GivenUp → Station (List ℕ) ℕ × ActorOut
+cancelled_by s c None = (s, reply_of CommandSent)
+cancelled_by s c (Some (cancels.TheVariants.OverX2 number station)) =
+    (serving s (given_up c), sending (to_station station (X2Cancel c.conn s.id number)))
+cancelled_by s c (Some (cancels.TheVariants.OverS1 number cell)) =
+    (serving s (given_up c), sending (to_core (HandoverCancel c.conn s.id number cell)))
+cancelled_by s c (Some (cancels.TheVariants.Within number)) =
+    (record (serving s (given_up c)) { preps = without s.id number s.preps }, reply_of Done)
 
 pub cancel_is : (s : Station (List ℕ) ℕ) (c : Context (List ℕ) ℕ) (a : Attempt (List ℕ) ℕ)
     → c.attempt ≡ Some a → answered (serving s c) (StationActs Cancel) ≡ cancelled_by (serving s c) c (cancels_of a)

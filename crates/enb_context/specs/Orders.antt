@@ -1,7 +1,7 @@
 -- What an attempt orders the phone, and how it is given up.
 use Rattle.std.specs.Prelude.{ℕ, ◌≤◌, ◌<◌, ◌^◌, Bool, true, false, List, Option, None, Some, option_map}
 use Rattle.annex_a_keys.specs.Cell.{IsCell}
-use Rattle.lte_events.specs.declared.answers.Answer.TheVariants.{Done, CountSpent, NotReady, CommandSent}
+use Rattle.lte_events.specs.declared.answers.Answer.TheVariants.{CountSpent, NotReady}
 use Rattle.lte_events.specs.declared.replies.ActorOut.{ActorOut}
 use Rattle.lte_events.specs.Reply.{reply_of}
 use Rattle.key_model.specs.Reading.{octet_reading}
@@ -11,15 +11,12 @@ use Rattle.s1_handover.specs.Attempt.{s1_order, s1_sent}
 use Rattle.rrc_rec.specs.declared.records.RrcRecord.{RrcRecord}
 use Rattle.rrc_rec.specs.declared.records.RrcRecord.TheVariants.{Reconfiguration, KeyChange}
 use Rattle.rrc_rec.specs.Spelling.{spelling_of}
-use Rattle.s1x2_rec.specs.Fields.{X2Cancel, HandoverCancel}
-use Rattle.ho_prep.specs.Prep.{without}
 use Rattle.lte_machine.specs.Bearers.{Signalling1, srb_sent}
-use Rattle.lte_machine.specs.StationKeys.{given_up}
-use Rattle.lte_machine.specs.StationRecords.{signalling_sent, to_core, to_station}
+use Rattle.lte_machine.specs.StationRecords.{signalling_sent}
 use Rattle.lte_machine.specs.StationState.{Station, Context, Attempt, OverX2, OverS1, Within, Renewing, X2State, X2Open, X2Ready, X2Commanded, S1State, S1Open, S1Ready, S1Commanded}
 use Rattle.enb_context.specs.declared.attempt.Cancel.{Cancel}
 use Rattle.enb_context.specs.declared.attempt.Cancel as cancels
-use Rattle.enb_context.specs.Step.{serving, serving_at, sending}
+use Rattle.enb_context.specs.Step.{serving_at, sending}
 
 -- the attempt after its command, and the order; none while it is open
 abbrev pub x2_ordered : X2State (List ℕ) ℕ → Option (X2State (List ℕ) ℕ × Order)
@@ -67,16 +64,6 @@ cancels_of (OverX2 state) = x2_cancels cancels.TheVariants.OverX2 state
 cancels_of (OverS1 state) = s1_cancels state
 cancels_of (Within state) = x2_cancels (λ number station. cancels.TheVariants.Within number) state
 cancels_of (Renewing a) = None
-
--- the step of a cancel
-abbrev pub cancelled_by : Station (List ℕ) ℕ → Context (List ℕ) ℕ → Option Cancel → Station (List ℕ) ℕ × ActorOut
-cancelled_by s c None = (s, reply_of CommandSent)
-cancelled_by s c (Some (cancels.TheVariants.OverX2 number station)) =
-    (serving s (given_up c), sending (to_station station (X2Cancel c.conn s.id number)))
-cancelled_by s c (Some (cancels.TheVariants.OverS1 number cell)) =
-    (serving s (given_up c), sending (to_core (HandoverCancel c.conn s.id number cell)))
-cancelled_by s c (Some (cancels.TheVariants.Within number)) =
-    (record (serving s (given_up c)) { preps = without s.id number s.preps }, reply_of Done)
 
 -- the ranges of what is told
 abbrev pub IsCancel : Cancel → Type 0

@@ -9,8 +9,8 @@ use Rattle.lte_machine.specs.Ciphers.{annex_b}
 use Rattle.lte_machine.specs.Opening.{open_octets}
 use Rattle.lte_machine.specs.Reply.{only, finished}
 use Rattle.lte_machine.specs.Wire.{Outgoing, KeyUse, srb_use}
-use Rattle.lte_machine.specs.StationRows.{ActRow, AirRow}
-use Rattle.lte_machine.specs.StationKeys.{act_does, air_does}
+use Rattle.lte_machine.specs.StationRows.{AirRow}
+use Rattle.lte_machine.specs.StationKeys.{air_does}
 use Rattle.pdcp_guard.specs.AsKeys.{AsKeys}
 use Rattle.rec_base.specs.declared.bearers.Bearer.{Bearer}
 use Rattle.rec_base.specs.declared.uses.Dir.TheVariants.{Up}
@@ -46,10 +46,6 @@ seen_plain s = plain_station octet_reading s
 -- a reply that sends this and nothing else
 abbrev pub sending : Outgoing (List ℕ) ℕ → ActorOut
 sending x = actor_out (record (only {C = ℕ} Done) { sent = Some x })
-
--- the step of a row by an act, and of one by a PDU that was accepted under this use
-abbrev pub by_act : Station (List ℕ) ℕ → ActRow → Station (List ℕ) ℕ × ActorOut
-by_act s row = let d = act_does octet_reading row s in (d.0, actor_out (finished None None d.1))
 
 abbrev pub by_air : Station (List ℕ) ℕ → Option (KeyUse (List ℕ)) → AirRow → Station (List ℕ) ℕ × ActorOut
 by_air s accepted row = let d = air_does octet_reading row s in (d.0, actor_out (finished None accepted d.1))
