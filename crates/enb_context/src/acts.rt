@@ -122,18 +122,9 @@ impl Context {
         if self.starting {
             return out.only(Answer::NotActive);
         }
-        let message = RrcRecord::RrcData(copied(text)).write();
+        let message = RrcRecord::RrcData(text.clone().unwrap()).write();
         if !self.signal(id, bearer, true, message.as_slice(), out) {
             out.only(Answer::CountSpent);
         }
     }
-}
-
-// The same text.
-fn copied(text: &ShortText) -> ShortText
-    ensures { result ≡ text.now }
-{
-    let mut copy = ShortText::new();
-    copy.append(text.as_slice());
-    copy
 }

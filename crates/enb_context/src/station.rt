@@ -57,7 +57,7 @@ impl Station {
     {
         Station {
             id,
-            cells: copied(cells),
+            cells: cells.clone().unwrap(),
             priority,
             next: u64::from(first),
             last: 0,
@@ -102,15 +102,5 @@ impl Station {
             Some(context) => Some(context.key.kenb().octets()),
             None => None,
         }
-    }
-}
-
-// The same cells.
-fn copied(cells: &Cells) -> Cells
-    ensures { result ≡ cells.now }
-{
-    match cells.clone() {
-        Ok(copy) => copy,
-        Err(_) => Cells::new(),
     }
 }
