@@ -15,7 +15,7 @@ use Rattle.run_report.specs.Ready.{ReadyBy}
 use Rattle.run_report.proofs.Partly.{followed, Follows}
 use Rattle.fleet_report.specs.Events.{ends_it, event_report, IsOfPhone, Takes}
 use Rattle.fleet_report.specs.Lines.{output_text, answer_output, texts}
-use Rattle.fleet_report.specs.Report.{report_from, ends_from, fleet_report_of, left_of}
+use Rattle.fleet_report.specs.Report.{report_from, ends_from, fleet_report_of}
 use Rattle.fleet_report.proofs.Shown.{answers_are}
 use Rattle.fleet_report.proofs.Telling.{events_left, none_left, event_more}
 
@@ -36,6 +36,10 @@ all_in_range setup phones (x ∷ xs) of_phones can fit = (
   (of_phones 0 x (omega arith), event_fits setup x.1 (fit 0 x (omega arith)) (can 0 x (omega arith))),
   all_in_range setup phones xs (λ k d low. of_phones (suc k) d (omega (arith, low))) (λ k d low. can (suc k) d (omega (arith, low))) (λ k d low. fit (suc k) d (omega (arith, low))),
 )
+
+-- what is left of the report behind the first i events, as the fleet is then
+unfoldable pub left_of : Fleeted → List (ℕ × Event) → ℕ → Report
+left_of v events i = report_from v.setup (owns_in v) i (drop i events)
 
 module _ (v : Fleeted) (events : List (ℕ × Event)) (i : ℕ) (x : ℕ × Event) (none : v.over ≡ None) (count : length v.journal ≡ i) (low : i < length events) (is : x ≡ get_or events i x) where
   -- what comes behind the event

@@ -1,13 +1,12 @@
 -- The report of a fleet: a line for each event up to the first coincidence, and where there is none, the end of each phone's own
 -- report, phone after phone.
-use Rattle.std.specs.Prelude.{ℕ, suc, ◌+◌, Bool, true, false, List, [], ◌∷◌, ◌++◌, length, drop, Result, Ok, Err}
+use Rattle.std.specs.Prelude.{ℕ, suc, ◌+◌, Bool, true, false, List, [], ◌∷◌, ◌++◌, length, Result, Ok, Err}
 use Rattle.lte_events.specs.declared.events.Event.{Event}
 use Rattle.lte_events.specs.declared.setups.Setup.{Setup}
 use Rattle.run_report.specs.Report.{Report}
 use Rattle.fleet_world.specs.declared.faults.FleetFault.{FleetFault}
 use Rattle.fleet_world.specs.declared.lines.FleetLine.{FleetLine}
 use Rattle.fleet_world.specs.Answers.{answer, own_at, owns_after, no_events}
-use Rattle.fleet_world.specs.Fleets.{Fleeted, owns_in}
 use Rattle.fleet_world.specs.Phones.{phone_run}
 use Rattle.fleet_report.specs.Lines.{Output, texts, answer_output, end_outputs}
 
@@ -40,7 +39,3 @@ report_from setup owns step events =
 -- the report of the written machine's runs of each phone's own events, printed in values
 unfoldable pub fleet_report_of : Setup → ℕ → List (ℕ × Event) → Report
 fleet_report_of setup phones events = report_from setup (no_events phones) 0 events
-
--- what is left of the report behind the first i events, as the fleet is then
-unfoldable pub left_of : Fleeted → List (ℕ × Event) → ℕ → Report
-left_of v events i = report_from v.setup (owns_in v) i (drop i events)

@@ -1,5 +1,5 @@
 -- The worlds of a fleet: their ladders, and what a step of one of them does.
-use Rattle.std.specs.Prelude.{◌≡◌, ◌≢◌, ℕ, ◌<◌, List, [], ◌∷◌, ◌++◌, length, map, Option, Some, None, Result, Ok, Err, true, false, slice_get, slice_set}
+use Rattle.std.specs.Prelude.{◌≡◌, ℕ, List, [], ◌∷◌, ◌++◌, length, map, Option, Some, None, Result, Ok, Err, true, false, slice_get, slice_set}
 use Rattle.lte_events.specs.declared.events.Event.{Event}
 use Rattle.lte_events.specs.declared.lines.Line.{Line}
 use Rattle.key_terms.specs.declared.row.LadderRow.{LadderRow}
@@ -32,11 +32,6 @@ taken_in worlds p other = None
 -- the world with room for one event
 abbrev pub with_room : Whole → Whole
 with_room v = record v { ready = true }
-
--- its line alone
-abbrev pub line_of : Result (ℕ × Line) WorldFault → Result Line WorldFault
-line_of (Ok r) = Ok r.1
-line_of (Err f) = Err f
 
 -- a world takes an event: what it answers, with the number of the rows before it
 abbrev pub Takes : Whole → Whole → Event → Result (ℕ × Line) WorldFault → Type 0

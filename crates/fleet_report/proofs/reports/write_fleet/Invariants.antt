@@ -1,7 +1,8 @@
 use Rattle.std.proofs.Common.{◌≡◌, None, length}
-use Rattle.fleet_report.specs.Report.{fleet_report_of, left_of}
+use Rattle.fleet_report.specs.Report.{fleet_report_of}
 use Rattle.run_report.proofs.Partly.{ReportPartly}
 use Rattle.fleet_report.proofs.reports.write_fleet.Given as goal
+use Rattle.fleet_report.proofs.Looping.{left_of}
 
 abbrev pub invariant-loop-step : goal.invariant-loop-step
 invariant-loop-step g l = record {
