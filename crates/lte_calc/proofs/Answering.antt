@@ -1,22 +1,20 @@
 -- The output, line after line.
-use Rattle.std.proofs.Common.{◌≡◌, ◌≢◌, ℕ, zero, suc, ◌+◌, ◌<◌, ◌≤◌, ◌⊎◌, ◌&&◌, ltb, Bool, true, false, cond, Option, Some, None, List, [], ◌∷◌, ◌++◌, length, take, refl, sym, ap, subst, ◌∙◌, append_assoc, append-nil, arith, inl, inr}
+use Rattle.std.proofs.Common.{◌≡◌, ◌≢◌, ℕ, zero, suc, ◌+◌, ◌<◌, ◌≤◌, ◌&&◌, Bool, true, false, cond, List, [], ◌∷◌, ◌++◌, length, take, refl, sym, ap, subst, ◌∙◌, append_assoc, append-nil, arith}
 use Rattle.std.proofs.lemmas.Bool.{lt-ltb, le-ltb, or_parts}
 use Rattle.std.proofs.lemmas.List.Folds.{list_all-append}
 use Rattle.std.proofs.Math.Bool.{and-true, and_assoc}
 use Rattle.std.proofs.Math.Seq.{take-length}
-use Rattle.std.specs.Io.KnownBytes.{IsAtEnd, prepend_known}
-use Rattle.edge_io.proofs.Known.{grows_twice, proper_prefix_on, nothing_out}
+use Rattle.edge_io.proofs.Known.{grows_twice, nothing_out}
 use Rattle.edge_io.specs.Told.{Told}
-use Rattle.edge_io.specs.Cause.{Rose}
-use Rattle.edge_io.specs.Octets.{Gives, Grows, GrowsByProperPrefix}
-use Rattle.calc_text.specs.Answer.{Answer, answer_to}
-use Rattle.text_lines.specs.Lines.{is_feed, has_feed, lines_of, ended, last_line}
-use Rattle.text_lines.proofs.Ended.{AreWhole, ended_append, lines_first, lines_last, long_first}
+use Rattle.edge_io.specs.Octets.{Grows}
+use Rattle.calc_text.specs.Answer.{answer_to}
+use Rattle.text_lines.specs.Lines.{is_feed, has_feed, ended, last_line}
+use Rattle.text_lines.proofs.Ended.{AreWhole, ended_append}
 use Rattle.lte_calc.specs.declared.status.Status.{Status}
-use Rattle.lte_calc.specs.declared.status.Status.TheVariants.{Done, Memory, BadWords, Refused, ReadFault, WriteFault, TooLong}
-use Rattle.lte_calc.specs.Output.{most_octets, Output, at_least_refused, with_answer, output_of}
-use Rattle.lte_calc.specs.Run.{IsLine, AreLines, BeginTooLong, IsNext, AllAnswered, CutIn, RunAt, Run, RunIsComplete}
-use Rattle.lte_calc.specs.Lines.{ends_of, all_good, LineAt, AnsweredUpTo, StoppedAt, StoppedIn, LastAt}
+use Rattle.lte_calc.specs.declared.status.Status.TheVariants.{Done, Memory, WriteFault, TooLong}
+use Rattle.lte_calc.specs.Output.{most_octets, at_least_refused, with_answer, output_of}
+use Rattle.lte_calc.specs.Run.{IsLine, AreLines, BeginTooLong}
+use Rattle.lte_calc.specs.Lines.{ends_of, all_good, LineAt, AnsweredUpTo, StoppedIn, LastAt}
 
 -- lines, and lines behind them
 pub are_append : (xs ys : List (List ℕ)) → AreLines xs → AreLines ys → AreLines (xs ++ ys)

@@ -1,5 +1,5 @@
-use Rattle.std.proofs.Common.{◌≡◌, ◌<◌, length, List, [], sym, subst, rules, arith}
-use Rattle.lte_calc.specs.Lines.{LineAt, LastAt, ends_of}
+use Rattle.std.proofs.Common.{◌≡◌, ◌<◌, length, sym, subst, rules}
+use Rattle.lte_calc.specs.Lines.{LastAt, ends_of}
 use Rattle.lte_calc.proofs.Answering.{empty_is, last_none, last_done, last_ended}
 use Rattle.lte_calc.proofs.lines.answer_last.Goals as goal
 

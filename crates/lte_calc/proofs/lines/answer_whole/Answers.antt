@@ -1,4 +1,4 @@
-use Rattle.std.proofs.Common.{◌≡◌, ◌<◌, ◌≤◌, length, take, sym, ◌∙◌, rules, arith}
+use Rattle.std.proofs.Common.{◌<◌, ◌≤◌, length, take, sym, ◌∙◌, rules, arith}
 use Rattle.std.proofs.lemmas.List.{length-take}
 use Rattle.text_lines.proofs.Ended.{cut_at_feed, no_feed}
 use Rattle.lte_calc.specs.Output.{most_octets}

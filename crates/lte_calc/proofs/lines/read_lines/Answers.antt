@@ -1,6 +1,5 @@
-use Rattle.std.proofs.Common.{length-append, length-take, ◌≡◌, ◌+◌, ◌≤◌, false, List, [], ◌++◌, length, take, refl, sym, ap, subst, ◌∙◌, append-nil, rules, arith}
+use Rattle.std.proofs.Common.{length-append, length-take, ◌≡◌, ◌+◌, ◌≤◌, [], ◌++◌, length, take, refl, sym, ap, subst, append-nil, rules, arith}
 use Rattle.edge_io.specs.Told.{HasEnded}
-use Rattle.edge_io.specs.Octets.{Gives}
 use Rattle.lte_calc.specs.Output.{most_octets}
 use Rattle.lte_calc.specs.Run.{IsLine, Came}
 use Rattle.lte_calc.specs.Lines.{AnsweredUpTo, StoppedIn, LastAt}
