@@ -1,5 +1,6 @@
 -- A system to which the events of a list happen.
-use Rattle.std.proofs.Common.{◌≡◌, sym, ap, subst, ◌∙◌, arith, ℕ, suc, ◌+◌, ◌<◌, false, List, [], ◌∷◌, length, drop, get_or, length-append}
+use Rattle.std.proofs.Common.{◌≡◌, sym, ap, subst, ◌∙◌, arith, ℕ, suc, ◌+◌, ◌<◌, false, List, [], ◌∷◌, Some, length, drop, get_or, slice_get, length-append}
+use Rattle.std.proofs.lemmas.Option.{get_or_from_slice_get}
 use Rattle.std.proofs.Math.Seq.{drop-cons}
 use Rattle.lte_events.specs.Conditions.{CanHappen, EventFits}
 use Rattle.lte_events.specs.declared.events.Event.{Event}
@@ -33,6 +34,10 @@ one_taken {v} e took plain takes = record {
   count = ap length takes.journal ∙ length-append v.journal (e ∷ []) ∙ ap (λ n. n + 1) took.count;
   goes = subst GoesOn (sym takes.run) (still_goes (run_of v) e plain);
 }
+
+-- the event at i, as a list of events gives it
+pub item_at : (events : List Event) (i : ℕ) (e : Event) → slice_get events i ≡ Some e → e ≡ get_or events i e
+item_at events i e is = sym (get_or_from_slice_get events i e e is)
 
 -- the events that are left begin with the one at i
 pub left_at : (events : List Event) (i : ℕ) (e : Event) → i < length events → e ≡ get_or events i e → drop i events ≡ e ∷ drop (suc i) events

@@ -7,7 +7,7 @@ ghost use Rattle.run_report.specs.Events.{told_of};
 ghost use Rattle.run_report.specs.Ready.{CanTake, Ready, Takes};
 
 use key_terms::Proof;
-use lte_events::{Event, Line};
+use lte_events::{Event, Events, Line};
 use lte_world::{World, WorldFault};
 use report_text::Tally;
 
@@ -24,16 +24,17 @@ pub enum Course {
 /// counts their lines. `Memory` where memory runs out.
 pub fn run_through(
     world: &mut World,
-    events: &[Event],
+    events: &Events,
     tally: &mut Tally,
 ) -> Result<Course, WorldFault>
     requires begun { world.old ≡ begun world.old.setup }
-    requires ready { Ready world.old.setup events.now }
+    requires ready { Ready world.old.setup events.now.items }
     requires none { tally.old ≡ tally_of [] }
-    ensures { IfOk result (ComesOut world.old.setup events.now tally.new (run_of world.new)) }
+    ensures { IfOk result (ComesOut world.old.setup events.now.items tally.new (run_of world.new)) }
 {
-    for event in events {
-        match happen(world, event) {
+    for number in 0..events.len() {
+        let event = events.at(number);
+        match happen(world, &event) {
             Ok(line) => tally.count(&line),
             Err(WorldFault::Chance(proof)) => {
                 let step = world.journal().len() as u32;

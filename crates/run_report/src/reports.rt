@@ -12,7 +12,7 @@ use crate::courses::happen;
 use edge_io::{Sink, write_all};
 use hmac_kdf::KdfInput;
 use key_terms::Proof;
-use lte_events::{Event, Setup};
+use lte_events::{Event, Events, Setup};
 use lte_world::{World, WorldFault};
 use report_text::{chance, end, ladder_text, line};
 use std::alloc::Global;
@@ -24,19 +24,20 @@ use std::alloc::Global;
 pub fn write_run<W: Sink>(
     alloc: Global,
     setup: &Setup,
-    events: &[Event],
+    events: &Events,
     out: &mut W,
 ) -> Result<bool, Unwritten>
     requires out_ready { IsTrue (W.told out.old).ready }
-    requires ready { Ready setup.now events.now }
-    ensures { WritesReport (report_of setup.now events.now) result (W.told out.old) (W.told out.new) }
+    requires ready { Ready setup.now events.now.items }
+    ensures { WritesReport (report_of setup.now events.now.items) result (W.told out.old) (W.told out.new) }
 {
     let mut world = match World::new(alloc, setup) {
         Ok(world) => world,
         Err(_) => return Err(Unwritten::Memory),
     };
-    for event in events {
-        match write_event(alloc, &mut world, event, out) {
+    for number in 0..events.len() {
+        let event = events.at(number);
+        match write_event(alloc, &mut world, &event, out) {
             Ok(false) => {}
             Ok(true) => return Ok(true),
             Err(fault) => return Err(fault),

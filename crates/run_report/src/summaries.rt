@@ -9,7 +9,7 @@ use crate::Unwritten;
 use crate::courses::{Course, run_through};
 use crate::reports::{write_chance, write_text};
 use edge_io::Sink;
-use lte_events::{Event, Setup};
+use lte_events::{Events, Setup};
 use lte_world::World;
 use report_text::{Figure, Tally, summary_line};
 use std::alloc::Global;
@@ -20,12 +20,12 @@ use std::alloc::Global;
 pub fn write_summary<W: Sink>(
     alloc: Global,
     setup: &Setup,
-    events: &[Event],
+    events: &Events,
     out: &mut W,
 ) -> Result<bool, Unwritten>
     requires out_ready { IsTrue (W.told out.old).ready }
-    requires ready { Ready setup.now events.now }
-    ensures { WritesReport (summary_of setup.now events.now) result (W.told out.old) (W.told out.new) }
+    requires ready { Ready setup.now events.now.items }
+    ensures { WritesReport (summary_of setup.now events.now.items) result (W.told out.old) (W.told out.new) }
 {
     let mut world = match World::new(alloc, setup) {
         Ok(world) => world,
@@ -38,13 +38,13 @@ pub fn write_summary<W: Sink>(
 fn summarise<W: Sink>(
     alloc: Global,
     world: &mut World,
-    events: &[Event],
+    events: &Events,
     out: &mut W,
 ) -> Result<bool, Unwritten>
     requires out_ready { IsTrue (W.told out.old).ready }
     requires begun { world.old ≡ begun world.old.setup }
-    requires ready { Ready world.old.setup events.now }
-    ensures { WritesReport (summary_of world.old.setup events.now) result (W.told out.old) (W.told out.new) }
+    requires ready { Ready world.old.setup events.now.items }
+    ensures { WritesReport (summary_of world.old.setup events.now.items) result (W.told out.old) (W.told out.new) }
 {
     let mut tally = Tally::new();
     match run_through(world, events, &mut tally) {

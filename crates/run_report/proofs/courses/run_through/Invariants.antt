@@ -3,8 +3,8 @@ use Rattle.run_report.proofs.Counting.{CountedTo}
 use Rattle.run_report.proofs.Taking.{Took}
 use Rattle.run_report.proofs.courses.run_through.Given as goal
 
-abbrev pub invariant-loop-event : goal.invariant-loop-event
-invariant-loop-event l = record {
-  took : Took l.initial.world.setup l.event-index l.world;
-  counted : CountedTo l.initial.world.setup l.events l.event-index (run_of l.world) l.tally;
+abbrev pub invariant-loop-number : goal.invariant-loop-number
+invariant-loop-number l = record {
+  took : Took l.initial.world.setup l.number l.world;
+  counted : CountedTo l.initial.world.setup l.events.items l.number (run_of l.world) l.tally;
 }

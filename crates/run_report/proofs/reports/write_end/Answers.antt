@@ -10,7 +10,7 @@ use Rattle.run_report.proofs.Ends.{end_ends, ladder_is}
 use Rattle.run_report.proofs.reports.write_end.Goals as goal
 
 pub overflow_cast-events : goal.overflow_cast-events
-overflow_cast-events g c = let same = ap length c.journal.ensures in omega (arith, same, c.requires.few)
+overflow_cast-events g c = let same = ap length c.journal.ensures in omega (arith, c.len-events.ensures, same, c.requires.few)
 
 pub write_text-requires-clause-lines : goal.write_text-requires-clause-lines
 write_text-requires-clause-lines g c = text_is _ _ _ c.end.ensures (is_lines _ (end_ends _ _ _))

@@ -30,10 +30,10 @@ pub returns-in-Ok-write_chance-clause-report : goal.returns-in-Ok-write_chance-c
 returns-in-Ok-write_chance-clause-report g c =
     let told = told_of (run_of c.args.world.now) c.args.event.now in
     let tells = subst (λ f. Tells told (Err f)) c.in-Err-Chance.field-0-is c.in-Err-Chance.ensures.tells in
-    one_piece (ap (λ journal. told_report (length journal) told) (sym c.journal.ensures) ∙ a_chance told c.in-Err-Chance.proof (length c.journal.result.now) tells) c.in-Ok-write_chance.ensures
+    one_piece (ap (λ step. told_report step told) (sym (c.len-step.ensures ∙ ap length c.journal.ensures)) ∙ a_chance told c.in-Err-Chance.proof c.len-step.result tells) c.in-Ok-write_chance.ensures
 
 pub returns-in-Err-write_chance-clause-report : goal.returns-in-Err-write_chance-clause-report
 returns-in-Err-write_chance-clause-report g c =
     let told = told_of (run_of c.args.world.now) c.args.event.now in
     let tells = subst (λ f. Tells told (Err f)) c.in-Err-Chance.field-0-is c.in-Err-Chance.ensures.tells in
-    one_cut (ap (λ journal. told_report (length journal) told) (sym c.journal.ensures) ∙ a_chance told c.in-Err-Chance.proof (length c.journal.result.now) tells) c.requires.out_ready c.in-Err-write_chance.ensures
+    one_cut (ap (λ step. told_report step told) (sym (c.len-step.ensures ∙ ap length c.journal.ensures)) ∙ a_chance told c.in-Err-Chance.proof c.len-step.result tells) c.requires.out_ready c.in-Err-write_chance.ensures

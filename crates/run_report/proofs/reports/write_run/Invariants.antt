@@ -6,8 +6,8 @@ use Rattle.run_report.proofs.Taking.{Took}
 use Rattle.run_report.proofs.Telling.{report_from}
 use Rattle.run_report.proofs.reports.write_run.Given as goal
 
-abbrev pub invariant-loop-event : goal.invariant-loop-event
-invariant-loop-event g l = record {
-  took : Took l.fn.setup l.event-index l.world;
-  report : ReportPartly (report_of l.fn.setup l.events) (report_from (length l.events) l.event-index (run_of l.world) (drop l.event-index l.events)) (g.W.Edge.told l.initial.out) (g.W.Edge.told l.out);
+abbrev pub invariant-loop-number : goal.invariant-loop-number
+invariant-loop-number g l = record {
+  took : Took l.fn.setup l.number l.world;
+  report : ReportPartly (report_of l.fn.setup l.events.items) (report_from (length l.events.items) l.number (run_of l.world) (drop l.number l.events.items)) (g.W.Edge.told l.initial.out) (g.W.Edge.told l.out);
 }
