@@ -13,7 +13,7 @@ use crate::lines::write_checked;
 use edge_io::Sink;
 use key_audit::{audit_of, check};
 use key_terms::Ladder;
-use lte_events::{Event, Setup};
+use lte_events::{Events, Setup};
 use lte_world::World;
 use report_text::Tally;
 use run_report::{Course, Unwritten, run_through, write_chance};
@@ -27,19 +27,19 @@ use std::alloc::Global;
 pub fn write_audit<W: Sink>(
     alloc: Global,
     setup: &Setup,
-    events: &[Event],
+    events: &Events,
     out: &mut W,
 ) -> Result<bool, Unwritten>
     requires out_ready { IsTrue (W.told out.old).ready }
-    requires ready { Ready setup.now events.now }
-    ensures report { WritesReport (audit_report_of setup.now events.now) result (W.told out.old) (W.told out.new) }
+    requires ready { Ready setup.now events.now.items }
+    ensures report { WritesReport (audit_report_of setup.now events.now.items) result (W.told out.old) (W.told out.new) }
     // What the stations of a set held lets them derive a key of the run exactly where one of them can by itself.
-    ensures alone { EachAlone setup.now events.now }
+    ensures alone { EachAlone setup.now events.now.items }
     // And the audit that was written is exact.
-    ensures exact { result ≡ Ok false → AuditIsExact setup.now events.now }
+    ensures exact { result ≡ Ok false → AuditIsExact setup.now events.now.items }
     // It is that of the written run: a mark stands at a row and a station exactly where the key of the row in that run is derivable
     // from what the station held in it.
-    ensures of_run { result ≡ Ok false → AuditIsOfRun setup.now events.now }
+    ensures of_run { result ≡ Ok false → AuditIsOfRun setup.now events.now.items }
 {
     let mut world = match World::new(alloc, setup) {
         Ok(world) => world,
@@ -52,15 +52,15 @@ pub fn write_audit<W: Sink>(
 fn audit_run<W: Sink>(
     alloc: Global,
     world: &mut World,
-    events: &[Event],
+    events: &Events,
     out: &mut W,
 ) -> Result<bool, Unwritten>
     requires out_ready { IsTrue (W.told out.old).ready }
     requires begun { world.old ≡ begun world.old.setup }
-    requires ready { Ready world.old.setup events.now }
-    ensures report { WritesReport (audit_report_of world.old.setup events.now) result (W.told out.old) (W.told out.new) }
-    ensures exact { result ≡ Ok false → AuditIsExact world.old.setup events.now }
-    ensures of_run { result ≡ Ok false → AuditIsOfRun world.old.setup events.now }
+    requires ready { Ready world.old.setup events.now.items }
+    ensures report { WritesReport (audit_report_of world.old.setup events.now.items) result (W.told out.old) (W.told out.new) }
+    ensures exact { result ≡ Ok false → AuditIsExact world.old.setup events.now.items }
+    ensures of_run { result ≡ Ok false → AuditIsOfRun world.old.setup events.now.items }
 {
     let mut tally = Tally::new();
     match run_through(world, events, &mut tally) {

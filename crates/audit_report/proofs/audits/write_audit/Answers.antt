@@ -7,4 +7,4 @@ pub audit_run-requires-clause-begun : goal.audit_run-requires-clause-begun
 audit_run-requires-clause-begun g c = c.in-Ok.ensures.begins ∙ ap begun (sym (ap (λ v. v.setup) c.in-Ok.ensures.begins))
 
 pub audit_run-requires-clause-ready : goal.audit_run-requires-clause-ready
-audit_run-requires-clause-ready g c = subst (λ s. Ready s c.args.events.now) (sym (ap (λ v. v.setup) c.in-Ok.ensures.begins)) c.requires.ready
+audit_run-requires-clause-ready g c = subst (λ s. Ready s c.args.events.now.items) (sym (ap (λ v. v.setup) c.in-Ok.ensures.begins)) c.requires.ready
