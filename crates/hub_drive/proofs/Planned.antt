@@ -1,6 +1,8 @@
 -- A plan, event by event.
+use Rattle.std.specs.List.{slice_get}
 use Rattle.std.specs.Option.{option_map}
 use Rattle.std.proofs.Common.{◌≡◌, ℕ, zero, suc, map, All, Some, None, IfSome, ◌+◌, ◌<◌, ◌≤◌, Bool, true, false, Option, List, [], ◌∷◌, ◌++◌, length, drop, get_or, Result, Ok, Err, refl, ap, sym, subst, ◌∙◌, append_assoc, drop_of_length-le, arith}
+use Rattle.std.proofs.lemmas.Option.{get_or_from_slice_get, slice_get_within}
 use Rattle.std.proofs.Math.Seq.{drop-cons}
 use Rattle.edge_io.specs.Octets.{Grows}
 use Rattle.edge_io.specs.Peers.{PeersTold}
@@ -15,10 +17,7 @@ use Rattle.lte_events.specs.declared.setups.StationSetup.{StationSetup}
 use Rattle.role_wire.specs.Ranges.{IsSetup}
 use Rattle.role_wire.specs.declared.frames.RoleSetup.{RoleSetup}
 use Rattle.role_wire.specs.declared.frames.RoleSetup.TheVariants as first
-use Rattle.run_report.specs.declared.unwritten.Unwritten.{Unwritten}
-use Rattle.run_report.specs.declared.unwritten.Unwritten.TheVariants as unwritten
 use Rattle.run_report.specs.Report.{end_of}
-use Rattle.run_report.specs.Written.{Written}
 use Rattle.lte_events.specs.declared.events.Event.{Event}
 use Rattle.lte_events.specs.declared.setups.Setup.{Setup}
 use Rattle.lte_machine.specs.Machines.{Kept}
@@ -36,7 +35,7 @@ use Rattle.peer_calls.specs.Outside.{Outside, outside, AllDone, AllRun, HasStart
 use Rattle.peer_calls.specs.Peerwise.{roles_started}
 use Rattle.peer_calls.specs.Went.{CutAt}
 use Rattle.hub_drive.specs.Plan.{event_plan, replies_at, turned, unless_ended, followed, events_plan, plan_of}
-use Rattle.hub_drive.proofs.Event.{fails_by_chance, writing_done, writing_cut}
+use Rattle.hub_drive.proofs.Event.{fails_by_chance, writing_done}
 
 -- some of a plan is done, and this is to do
 pub record PlanGoing (whole rest : Plan) (first now : Outside) : Type 0 where
@@ -198,24 +197,14 @@ end_done A setup events i n run first now peers past number grown done =
     let Q : ℕ → Type 0 = λ k. Grows first.written now.written (end_of k run) in
     subst P (sym (drop_of_length-le events past)) (writing_done (end_of i run) first now peers (subst Q number grown), refl)
 
-pub end_unwritten : (A : Type 0) (setup : Setup) (events : List Event) (i n : ℕ) (run : RunState (List ℕ) ℕ Kept) (fault : Unwritten) (out : DriveFault) (first now : Told) (peers : Option PeersTold) → length events ≤ i → n ≡ i
-    → (fault ≡ unwritten.Memory → out ≡ Memory) → (fault ≡ unwritten.WriteFault → out ≡ WriteFault) → Written {A = Unit {0}} (end_of n run) (Err fault) first now
-    → PlanWent {A = A} (events_plan setup i run (drop i events)) (Err out) (outside first.written peers) (outside now.written peers)
-end_unwritten A setup events i n run fault out first now peers past number memory write written =
-    let P : List Event → Type 0 = λ es. PlanWent {A = A} (events_plan setup i run es) (Err out) (outside first.written peers) (outside now.written peers) in
-    let Q : ℕ → Type 0 = λ k. Written {A = Unit {0}} (end_of k run) (Err fault) first now in
-    subst P (sym (drop_of_length-le events past))
-    (err_went A (events_plan setup i run []) out (outside first.written peers) (outside now.written peers)
-    (writing_cut (Unit {0}) fault out (end_of i run) first now peers memory write (subst Q number written)))
-
 -- EVENTS
 
 -- what is left begins with the event at its place
-pub event_left : (setup : Setup) (run : RunState (List ℕ) ℕ Kept) (events : List Event) (i n : ℕ) (e : Event) → i < length events → e ≡ get_or events i e → n ≡ i
+pub event_left : (setup : Setup) (run : RunState (List ℕ) ℕ Kept) (events : List Event) (i n : ℕ) (e : Event) → slice_get events i ≡ Some e → n ≡ i
     → events_plan setup i run (drop i events) ≡ followed (event_plan setup n (told_of run e) (replies_at run e)) (events_plan setup (i + 1) (turned run e) (drop (i + 1) events))
-event_left setup run events i n e within is number =
+event_left setup run events i n e at number =
     let more : suc i ≡ i + 1 = omega arith in
-    ap (events_plan setup i run) (drop-cons events i e within ∙ ap (λ d. d ∷ drop (suc i) events) (sym is))
+    ap (events_plan setup i run) (drop-cons events i e (slice_get_within events i e at) ∙ ap (λ d. d ∷ drop (suc i) events) (get_or_from_slice_get events i e e at))
     ∙ ap (λ k. followed (event_plan setup i (told_of run e) (replies_at run e)) (events_plan setup k (turned run e) (drop k events))) more
     ∙ ap (λ k. followed (event_plan setup k (told_of run e) (replies_at run e)) (events_plan setup (i + 1) (turned run e) (drop (i + 1) events))) (sym number)
 

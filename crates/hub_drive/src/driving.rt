@@ -15,7 +15,7 @@ ghost use Rattle.hub_drive.specs.Plan.{events_plan, plan_of};
 
 use crate::happening::{fault_of, happen};
 use edge_io::{Peers, Sink};
-use lte_events::{Event, Setup};
+use lte_events::{Events, Setup};
 use lte_world::World;
 use peer_calls::{DriveFault, set_up_all, start_all, stop_all};
 use run_report::write_end;
@@ -31,33 +31,33 @@ use std::alloc::Global;
 pub fn drive<P: Peers, W: Sink>(
     alloc: Global,
     setup: &Setup,
-    events: &[Event],
+    events: &Events,
     peers: &mut P,
     out: &mut W,
 ) -> Result<(), DriveFault>
-    requires ready { Ready setup.now events.now }
+    requires ready { Ready setup.now events.now.items }
     requires cells { 1 ≤ length setup.now.cells }
     requires none { IfSome (P.told peers.old) (λ t. t.roles ≡ []) }
     requires out_ready { IsTrue (W.told out.old).ready }
 
     // What was done of the plan, by the answer; and then the stops.
-    ensures driven { Driven (plan_of setup.now events.now) result
+    ensures driven { Driven (plan_of setup.now events.now.items) result
         (outside (W.told out.old).written (P.told peers.old)) (outside (W.told out.new).written (P.told peers.new)) }
 
     // What is written is the report of the run: all of it, or a prefix where the answer is a fault. Where the output failed,
     // something was still to be written.
-    ensures report { OnOk result (Grows (W.told out.old).written (W.told out.new).written (report_of setup.now events.now).text) }
-    ensures no_coincidence { OnOk result ((report_of setup.now events.now).coincides ≡ false) }
+    ensures report { OnOk result (Grows (W.told out.old).written (W.told out.new).written (report_of setup.now events.now.items).text) }
+    ensures no_coincidence { OnOk result ((report_of setup.now events.now.items).coincides ≡ false) }
     ensures coincidence { result ≡ Err DriveFault.Chance →
-        Grows (W.told out.old).written (W.told out.new).written (report_of setup.now events.now).text × ((report_of setup.now events.now).coincides ≡ true) }
-    ensures prefix { OnErr result (GrowsByPrefix (W.told out.old).written (W.told out.new).written (report_of setup.now events.now).text) }
-    ensures short { result ≡ Err DriveFault.WriteFault → GrowsByProperPrefix (W.told out.old).written (W.told out.new).written (report_of setup.now events.now).text }
+        Grows (W.told out.old).written (W.told out.new).written (report_of setup.now events.now.items).text × ((report_of setup.now events.now.items).coincides ≡ true) }
+    ensures prefix { OnErr result (GrowsByPrefix (W.told out.old).written (W.told out.new).written (report_of setup.now events.now.items).text) }
+    ensures short { result ≡ Err DriveFault.WriteFault → GrowsByProperPrefix (W.told out.old).written (W.told out.new).written (report_of setup.now events.now.items).text }
 
     // The roles that were started, and what each peer was sent and gave.
-    ensures made { OnOk result (WhereTold (Made (calls (plan_of setup.now events.now).acts)) (P.told peers.old) (P.told peers.new)) }
-    ensures made_to_chance { result ≡ Err DriveFault.Chance → WhereTold (Made (calls (plan_of setup.now events.now).acts)) (P.told peers.old) (P.told peers.new) }
+    ensures made { OnOk result (WhereTold (Made (calls (plan_of setup.now events.now.items).acts)) (P.told peers.old) (P.told peers.new)) }
+    ensures made_to_chance { result ≡ Err DriveFault.Chance → WhereTold (Made (calls (plan_of setup.now events.now.items).acts)) (P.told peers.old) (P.told peers.new) }
     // The call that failed is the next one of the plan.
-    ensures failed { result ≡ Err DriveFault.PeerFault → WhereTold (FailedNext (calls (plan_of setup.now events.now).acts)) (P.told peers.old) (P.told peers.new) }
+    ensures failed { result ≡ Err DriveFault.PeerFault → WhereTold (FailedNext (calls (plan_of setup.now events.now.items).acts)) (P.told peers.old) (P.told peers.new) }
     ensures stopped { IfSome (P.told peers.new) AllStopped }
 
     // The cause of each fault. With every other answer there was none.
@@ -68,8 +68,8 @@ pub fn drive<P: Peers, W: Sink>(
     ensures out { UsedAsSink (W.told out.old) (W.told out.new) }
 
     // Where each peer gives the local replies, no step is a coincidence and nothing fails, all is done.
-    ensures complete { IfSome (P.told peers.old) (λ t. GivesAll (calls (plan_of setup.now events.now).acts) t
-        → (report_of setup.now events.now).coincides ≡ false
+    ensures complete { IfSome (P.told peers.old) (λ t. GivesAll (calls (plan_of setup.now events.now.items).acts) t
+        → (report_of setup.now events.now.items).coincides ≡ false
         → (Rose (P.faults peers.old) (P.faults peers.new) → ⊥)
         → (Rose (W.told out.old).write_faults (W.told out.new).write_faults → ⊥)
         → (result ≡ Ok tt) ⊎ (result ≡ Err DriveFault.Memory)) }
@@ -81,15 +81,15 @@ pub fn drive<P: Peers, W: Sink>(
 fn drive_plan<P: Peers, W: Sink>(
     alloc: Global,
     setup: &Setup,
-    events: &[Event],
+    events: &Events,
     peers: &mut P,
     out: &mut W,
 ) -> Result<(), DriveFault>
-    requires ready { Ready setup.now events.now }
+    requires ready { Ready setup.now events.now.items }
     requires cells { 1 ≤ length setup.now.cells }
     requires none { IfSome (P.told peers.old) (λ t. t.roles ≡ []) }
     requires out_ready { IsTrue (W.told out.old).ready }
-    ensures driven { Driven (plan_of setup.now events.now) result
+    ensures driven { Driven (plan_of setup.now events.now.items) result
         (outside (W.told out.old).written (P.told peers.old)) (outside (W.told out.new).written (P.told peers.new)) }
     ensures peer_cause { IsErrOf result DriveFault.PeerFault → Rose (P.faults peers.old) (P.faults peers.new) }
     ensures write_cause { IsErrOf result DriveFault.WriteFault → Rose (W.told out.old).write_faults (W.told out.new).write_faults }
@@ -110,18 +110,18 @@ fn drive_plan<P: Peers, W: Sink>(
 fn play<P: Peers, W: Sink>(
     alloc: Global,
     setup: &Setup,
-    events: &[Event],
+    events: &Events,
     world: &mut World,
     peers: &mut P,
     out: &mut W,
 ) -> (u8, Result<(), DriveFault>)
-    requires ready { Ready setup.now events.now }
+    requires ready { Ready setup.now events.now.items }
     requires cells { 1 ≤ length setup.now.cells }
     requires none { IfSome (P.told peers.old) (λ t. t.roles ≡ []) }
     requires out_ready { IsTrue (W.told out.old).ready }
     requires begun { world.old ≡ begun setup.now }
     requires run { run_of world.old ≡ Running (first_world setup.now) }
-    ensures went { PlanWent (plan_of setup.now events.now) result.1
+    ensures went { PlanWent (plan_of setup.now events.now.items) result.1
         (outside (W.told out.old).written (P.told peers.old)) (outside (W.told out.new).written (P.told peers.new)) }
     ensures running { AllRun result.0 (P.told peers.new) }
     ensures count { HasStarted result.0 (P.told peers.new) }
@@ -147,17 +147,17 @@ fn play<P: Peers, W: Sink>(
 fn run_all<P: Peers, W: Sink>(
     alloc: Global,
     setup: &Setup,
-    events: &[Event],
+    events: &Events,
     world: &mut World,
     peers: &mut P,
     out: &mut W,
 ) -> Result<(), DriveFault>
-    requires ready { Ready setup.now events.now }
+    requires ready { Ready setup.now events.now.items }
     requires running { AllRun (length (roles_of setup.now)) (P.told peers.old) }
     requires out_ready { IsTrue (W.told out.old).ready }
     requires begun { world.old ≡ begun setup.now }
     requires run { run_of world.old ≡ Running (first_world setup.now) }
-    ensures went { PlanWent (events_plan setup.now 0 (Running (first_world setup.now)) events.now) result
+    ensures went { PlanWent (events_plan setup.now 0 (Running (first_world setup.now)) events.now.items) result
         (outside (W.told out.old).written (P.told peers.old)) (outside (W.told out.new).written (P.told peers.new)) }
     ensures peer_cause { IsErrOf result DriveFault.PeerFault → Rose (P.faults peers.old) (P.faults peers.new) }
     ensures write_cause { IsErrOf result DriveFault.WriteFault → Rose (W.told out.old).write_faults (W.told out.new).write_faults }
@@ -165,8 +165,9 @@ fn run_all<P: Peers, W: Sink>(
     ensures no_write_fault { result ≢ Err DriveFault.WriteFault → NoFault (W.told out.old) (W.told out.new) }
     ensures out { UsedAsSink (W.told out.old) (W.told out.new) }
 {
-    for event in events {
-        match happen(alloc, setup, world, event, peers, out) {
+    for number in 0..events.len() {
+        let event = events.at(number);
+        match happen(alloc, setup, world, &event, peers, out) {
             Ok(()) => {}
             Err(fault) => return Err(fault),
         }

@@ -8,9 +8,9 @@ use Rattle.hub_drive.proofs.driving.drive.Goals as goal
 
 pub returns : goal.returns
 returns g c =
-    let plan : Plan = plan_of c.args.setup.now c.args.events.now in
-    let r : Report = report_of c.args.setup.now c.args.events.now in
-    let is : Reports plan r = plan_report c.args.setup.now c.args.events.now c.requires.ready in
+    let plan : Plan = plan_of c.args.setup.now c.args.events.now.items in
+    let r : Report = report_of c.args.setup.now c.args.events.now.items in
+    let is : Reports plan r = plan_report c.args.setup.now c.args.events.now.items c.requires.ready in
     let all = c.drive_plan.ensures in
     record {
       driven = all.driven;

@@ -18,7 +18,7 @@ returns-in-Err-clause-went g c =
     let x : Outside = outside written (g.P.Peers.told c.args.peers.now) in
     let y : Outside = outside written (g.P.Peers.told c.start_all-count.new.peers) in
     let P : Result (Unit {0}) DriveFault → Type 0 = λ r. Went (starts (roles_of c.args.setup.now)) r x y in
-    starts_cut (Unit {0}) c.args.setup.now c.args.events.now c.in-Err.fault x y (subst P c.in-Err.is (c.start_all-count.ensures.went written))
+    starts_cut (Unit {0}) c.args.setup.now c.args.events.now.items c.in-Err.fault x y (subst P c.in-Err.is (c.start_all-count.ensures.went written))
 
 pub returns-in-Err-clause-write_cause : goal.returns-in-Err-clause-write_cause
 returns-in-Err-clause-write_cause g c = λ is.
@@ -36,7 +36,7 @@ returns-in-Err-set_up_all-clause-went g c =
     let z : Outside = outside written (g.P.Peers.told c.set_up_all.new.peers) in
     let P : Result (Unit {0}) DriveFault → Type 0 = λ r. Went (starts (roles_of c.args.setup.now)) r x y in
     let did : AllDone (starts (roles_of c.args.setup.now)) x y = subst P c.in-Ok.is (c.start_all-count.ensures.went written) in
-    set_ups_cut (Unit {0}) c.args.setup.now c.args.events.now c.in-Err-set_up_all.fault x y z did (c.in-Err-set_up_all.ensures.went written)
+    set_ups_cut (Unit {0}) c.args.setup.now c.args.events.now.items c.in-Err-set_up_all.fault x y z did (c.in-Err-set_up_all.ensures.went written)
 
 pub returns-in-Err-set_up_all-clause-running : goal.returns-in-Err-set_up_all-clause-running
 returns-in-Err-set_up_all-clause-running g c =
@@ -67,18 +67,18 @@ returns-clause-went g c =
     let o : Outside = outside (g.W.Edge.told c.run_all.new.out).written (g.P.Peers.told c.run_all.new.peers) in
     let P : Result (Unit {0}) DriveFault → Type 0 = λ r. Went (starts (roles_of c.args.setup.now)) r x y in
     let did : AllDone (starts (roles_of c.args.setup.now)) x y = subst P c.in-Ok.is (c.start_all-count.ensures.went written) in
-    whole_went c.args.setup.now c.args.events.now c.run_all.result x y z o did (c.in-Ok-set_up_all.ensures.went written) c.run_all.ensures.went
+    whole_went c.args.setup.now c.args.events.now.items c.run_all.result x y z o did (c.in-Ok-set_up_all.ensures.went written) c.run_all.ensures.went
 
 pub returns-clause-running : goal.returns-clause-running
 returns-clause-running g c =
-    plan_runs (events_plan c.args.setup.now 0 (Running (first_world c.args.setup.now)) c.args.events.now) _ c.run_all.result
+    plan_runs (events_plan c.args.setup.now 0 (Running (first_world c.args.setup.now)) c.args.events.now.items) _ c.run_all.result
     (outside (g.W.Edge.told c.args.out.now).written (g.P.Peers.told c.set_up_all.new.peers)) (outside (g.W.Edge.told c.run_all.new.out).written (g.P.Peers.told c.run_all.new.peers))
     (all_run_did _ (calls (set_ups 0 (seeds_of c.args.setup.now))) _ _ c.start_all-count.ensures.running (c.in-Ok-set_up_all.ensures.went None).did)
     c.run_all.ensures.went
 
 pub returns-clause-count : goal.returns-clause-count
 returns-clause-count g c =
-    events_count c.args.setup.now c.args.events.now _ (Running (first_world c.args.setup.now)) c.run_all.result
+    events_count c.args.setup.now c.args.events.now.items _ (Running (first_world c.args.setup.now)) c.run_all.result
     (outside (g.W.Edge.told c.args.out.now).written (g.P.Peers.told c.set_up_all.new.peers)) (outside (g.W.Edge.told c.run_all.new.out).written (g.P.Peers.told c.run_all.new.peers))
     (started_did _ (calls (set_ups 0 (seeds_of c.args.setup.now))) _ _ (set_ups_start 0 (seeds_of c.args.setup.now)) c.start_all-count.ensures.count (c.in-Ok-set_up_all.ensures.went None).did)
     c.run_all.ensures.went

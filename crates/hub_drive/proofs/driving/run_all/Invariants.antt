@@ -10,11 +10,11 @@ use Rattle.hub_drive.proofs.Planned.{PlanGoing}
 use Rattle.hub_drive.specs.Plan.{events_plan}
 use Rattle.hub_drive.proofs.driving.run_all.Given as goal
 
-abbrev pub invariant-loop-event : goal.invariant-loop-event
-invariant-loop-event g l = record {
-  plan : PlanGoing (events_plan l.fn.setup 0 (Running (first_world l.fn.setup)) l.events) (events_plan l.fn.setup l.event-index (run_of l.world) (drop l.event-index l.events))
+abbrev pub invariant-loop-number : goal.invariant-loop-number
+invariant-loop-number g l = record {
+  plan : PlanGoing (events_plan l.fn.setup 0 (Running (first_world l.fn.setup)) l.events.items) (events_plan l.fn.setup l.number (run_of l.world) (drop l.number l.events.items))
       (outside (g.W.Edge.told l.initial.out).written (g.P.Peers.told l.initial.peers)) (outside (g.W.Edge.told l.out).written (g.P.Peers.told l.peers));
-  took : Took l.fn.setup l.event-index l.world;
+  took : Took l.fn.setup l.number l.world;
   running : AllRun (length (roles_of l.fn.setup)) (g.P.Peers.told l.peers);
   no_peer_fault : g.P.Peers.faults l.peers ≡ g.P.Peers.faults l.initial.peers;
   no_fault : NoFault (g.W.Edge.told l.initial.out) (g.W.Edge.told l.out);
