@@ -11,7 +11,7 @@ ghost use Rattle.lte_world.specs.Whole.{CanBegin};
 use crate::meeting::{crossing, taken};
 use crate::worlds::{take, worlds_of};
 use crate::{FleetFault, FleetLine};
-use lte_events::{Cells, Event, Few, Setup};
+use lte_events::{Event, Setup};
 use lte_world::{World, WorldFault};
 use std::alloc::Global;
 use std::marker::Model;
@@ -138,24 +138,12 @@ impl Fleet {
 fn copied_setup(setup: &Setup) -> Setup
     ensures { result ≡ setup.now }
 {
-    match setup.clone() {
-        Ok(copy) => copy,
-        Err(_) => Setup {
-            caps: setup.caps,
-            core_priority: setup.core_priority,
-            core_first: setup.core_first,
-            stations: Few::new(),
-            cells: Cells::new(),
-        },
-    }
+    setup.clone().unwrap()
 }
 
 // The same event.
 fn copied(event: &Event) -> Event
     ensures { result ≡ event.now }
 {
-    match event.clone() {
-        Ok(copy) => copy,
-        Err(_) => Event::Deliver(0),
-    }
+    event.clone().unwrap()
 }
