@@ -1,6 +1,8 @@
 -- The report, event by event.
-use Rattle.std.proofs.Common.{◌≡◌, refl, sym, ap, ◌∙◌, ℕ, suc, ◌+◌, ◌<◌, ◌≤◌, false, Result, Ok, Err, List, [], ◌∷◌, ◌++◌, length, drop, take, get_or, drop_of_length-le, add-one, arith}
+use Rattle.std.proofs.Common.{◌≡◌, refl, sym, ap, ◌∙◌, ℕ, suc, ◌+◌, ◌<◌, ◌≤◌, false, Some, Result, Ok, Err, List, [], ◌∷◌, ◌++◌, length, drop, take, get_or, drop_of_length-le, add-one, arith}
+use Rattle.std.specs.List.{slice_get}
 use Rattle.std.proofs.lemmas.List.{length-take-le}
+use Rattle.std.proofs.lemmas.Option.{slice_get_within}
 use Rattle.std.proofs.Math.Seq.{take-suc, take-length}
 use Rattle.lte_events.specs.declared.events.Event.{Event}
 use Rattle.lte_events.specs.declared.setups.Setup.{Setup}
@@ -8,7 +10,7 @@ use Rattle.lte_world.specs.declared.faults.WorldFault.{WorldFault}
 use Rattle.lte_world.specs.Whole.{Whole, run_of}
 use Rattle.run_report.specs.Report.{Report, end_of}
 use Rattle.run_report.proofs.Partly.{followed, Follows}
-use Rattle.run_report.proofs.Taking.{left_at}
+use Rattle.run_report.proofs.Taking.{item_at, left_at}
 use Rattle.core_relocation.specs.declared.lines.TwoLine.{TwoLine}
 use Rattle.core_relocation.specs.Report.{answer_report, two_report_of, two_told_from}
 use Rattle.core_relocation.specs.Run.{TwoState, answers, heard_of, next_answer, next_state, run_after, two_state}
@@ -34,9 +36,15 @@ module _ (setup : Setup) (core_of : List ℕ) (events : List Event) where
   -- two cores that took the first so many events
   module _ (v : TwoWhole) (set : v.world.setup ≡ setup) (same : v.cores.core_of ≡ core_of) (i : ℕ) (taken : v.events ≡ take i events) where
     -- one more
-    module _ (e : Event) (within : i < length events) (at : e ≡ get_or events i e) where
+    module _ (e : Event) (at : slice_get events i ≡ Some e) where
+      within : i < length events
+      within = slice_get_within events i e at
+
+      item : e ≡ get_or events i e
+      item = item_at events i e at
+
       next_taken : take (i + 1) events ≡ take i events ++ e ∷ []
-      next_taken = ap (λ k. take k events) (add-one i) ∙ take-suc events i e within ∙ ap (λ x. take i events ++ x ∷ []) (sym at)
+      next_taken = ap (λ k. take k events) (add-one i) ∙ take-suc events i e within ∙ ap (λ x. take i events ++ x ∷ []) (sym item)
 
       pub follows : Follows (rest_at i) (answer_report (length v.events) (next_answer v.world.setup v.cores.core_of (state_written v) e)) (rest_at (i + 1))
       follows =
@@ -46,7 +54,7 @@ module _ (setup : Setup) (core_of : List ℕ) (events : List Event) where
           let state : next_state setup core_of s e ≡ two_state setup core_of (take (i + 1) events) = sym (ap (two_state setup core_of) next_taken ∙ state_more setup core_of (take i events) e) in
           let next = sym (add-one i) in
           record {
-            is = ap (λ es. two_told_from i (answers setup core_of s es) the_end) (left_at events i e within at)
+            is = ap (λ es. two_told_from i (answers setup core_of s es) the_end) (left_at events i e within item)
                 ∙ one_more i (next_answer setup core_of s e) (answers setup core_of (next_state setup core_of s e) (drop (suc i) events)) the_end
                 ∙ (λ j. followed (answer_report (sym number j) (sym told j)) (two_told_from (next j) (answers setup core_of (state j) (drop (next j) events)) the_end));
           }

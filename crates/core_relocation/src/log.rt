@@ -3,7 +3,7 @@ ghost use Rattle.std.specs.Prelude.{◌≡◌, ◌<◌, [], ◌∷◌, ◌++◌,
 ghost use Rattle.core_relocation.specs.Holder.{sent_by, station_in};
 
 use crate::senders::{Sender, station_in};
-use lte_events::{Event, Line};
+use lte_events::{Event, Events, Line};
 use std::alloc::{AllocError, Global};
 use std::marker::Model;
 
@@ -11,7 +11,7 @@ use std::marker::Model;
 // there is room.
 #[derive(Drop)]
 pub(crate) struct Log {
-    events: Vec<Event>,
+    events: Events,
     senders: Vec<Sender>,
 }
 
@@ -24,7 +24,7 @@ impl Model for Log {
     ghost view = { λ l. record {
       events = l.events.items;
       senders = l.senders.items;
-      event_room = vec_capacity l.events - vec_len l.events;
+      event_room = l.events.spare;
       sender_room = vec_capacity l.senders - vec_len l.senders;
     } };
 }
@@ -36,7 +36,7 @@ impl Log {
         ensures senders { result.senders ≡ [] }
     {
         Log {
-            events: Vec::new(alloc),
+            events: Events::new(alloc),
             senders: Vec::new(alloc),
         }
     }
@@ -48,7 +48,7 @@ impl Log {
         ensures event_room { OnOk result (0 < self.new.event_room) }
         ensures sender_room { OnOk result (0 < self.new.sender_room) }
     {
-        self.events.reserve(1)?;
+        self.events.reserve()?;
         self.senders.reserve(1)
     }
 
@@ -58,7 +58,7 @@ impl Log {
         ensures events { self.new.events ≡ self.old.events ++ event.now ∷ [] }
         ensures senders { self.new.senders ≡ self.old.senders }
     {
-        self.events.push_reserved(copied(event));
+        self.events.put(event);
     }
 
     // Puts the sender at the end that a line tells, if it tells one.
@@ -77,10 +77,10 @@ impl Log {
     }
 
     // The events, in order.
-    pub fn events(&self) -> &[Event]
-        ensures { result.now ≡ self.now.events }
+    pub fn events(&self) -> &Events
+        ensures { result.now.items ≡ self.now.events }
     {
-        self.events.as_slice()
+        &self.events
     }
 
     // The station of which an event delivers a record on S1 to a core, if it does.
@@ -89,15 +89,5 @@ impl Log {
         ensures { result ≡ station_in self.now.senders event.now }
     {
         station_in(self.senders.as_slice(), event)
-    }
-}
-
-// The same event.
-fn copied(event: &Event) -> Event
-    ensures { result ≡ event.now }
-{
-    match event.clone() {
-        Ok(copy) => copy,
-        Err(_) => Event::Deliver(0),
     }
 }

@@ -9,7 +9,7 @@ ghost use Rattle.core_relocation.specs.Whole.{CanTake, StillRuns, Takes, state_w
 use crate::texts::two_text;
 use crate::two::Two;
 use edge_io::Sink;
-use lte_events::{Event, Setup};
+use lte_events::{Event, Events, Setup};
 use lte_world::WorldFault;
 use run_report::{Unwritten, write_chance, write_end, write_text};
 use std::alloc::Global;
@@ -22,20 +22,21 @@ pub fn write_two<W: Sink>(
     alloc: Global,
     setup: &Setup,
     core_of: &[u8; 8],
-    events: &[Event],
+    events: &Events,
     out: &mut W,
 ) -> Result<bool, Unwritten>
     requires out_ready { IsTrue (W.told out.old).ready }
-    requires ready { Ready setup.now events.now }
+    requires ready { Ready setup.now events.now.items }
     requires two { All (λ core. core ≤ 1) core_of.now }
-    ensures { WritesReport (two_report_of setup.now core_of.now events.now) result (W.told out.old) (W.told out.new) }
+    ensures { WritesReport (two_report_of setup.now core_of.now events.now.items) result (W.told out.old) (W.told out.new) }
 {
     let mut two = match Two::new(alloc, setup, core_of) {
         Ok(two) => two,
         Err(_) => return Err(Unwritten::Memory),
     };
-    for event in events {
-        match write_answer(alloc, &mut two, event, out) {
+    for number in 0..events.len() {
+        let event = events.at(number);
+        match write_answer(alloc, &mut two, &event, out) {
             Ok(false) => {}
             Ok(true) => return Ok(true),
             Err(fault) => return Err(fault),

@@ -9,7 +9,7 @@ use crate::cores::{Cores, Held};
 use crate::lines::{TwoLine, acted};
 use crate::log::Log;
 use crate::taken::taken;
-use lte_events::{Cells, Event, Setup};
+use lte_events::{Cells, Event, Events, Setup};
 use lte_world::{World, WorldFault};
 use std::alloc::Global;
 use std::marker::Model;
@@ -121,8 +121,8 @@ impl Two {
     }
 
     /// The events that were answered by a line, in their order.
-    pub fn events(&self) -> &[Event]
-        ensures { result.now ≡ self.now.events }
+    pub fn events(&self) -> &Events
+        ensures { result.now.items ≡ self.now.events }
     {
         self.log.events()
     }
@@ -144,8 +144,5 @@ impl Two {
 fn copied(cells: &Cells) -> Cells
     ensures { result ≡ cells.now }
 {
-    match cells.clone() {
-        Ok(copy) => copy,
-        Err(_) => Cells::new(),
-    }
+    cells.clone().unwrap()
 }

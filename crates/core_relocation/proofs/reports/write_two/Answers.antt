@@ -3,9 +3,9 @@ use Rattle.run_report.proofs.Partly.{none_reported, more_reported, coincidence_r
 use Rattle.core_relocation.proofs.SoFar.{whole_is, follows, taken_more, ends}
 use Rattle.core_relocation.proofs.reports.write_two.Goals as goal
 
-pub loop-event-init : goal.loop-event-init
-loop-event-init g c = record {
-  report = none_reported (g.W.Edge.told c.args.out.now) c.requires.out_ready (whole_is c.args.setup.now c.args.core_of.now c.args.events.now);
+pub loop-number-init : goal.loop-number-init
+loop-number-init g c = record {
+  report = none_reported (g.W.Edge.told c.args.out.now) c.requires.out_ready (whole_is c.args.setup.now c.args.core_of.now c.args.events.now.items);
   events = c.in-Ok.ensures.events;
   setup = c.in-Ok.ensures.setup;
   core_of = c.in-Ok.ensures.core_of;
@@ -13,17 +13,17 @@ loop-event-init g c = record {
 }
 
 pub write_answer-requires-clause-out_ready : goal.write_answer-requires-clause-out_ready
-write_answer-requires-clause-out_ready g c = c.loop-event.invariant.report.text.used.ready
+write_answer-requires-clause-out_ready g c = c.loop-number.invariant.report.text.used.ready
 
-pub loop-event-preserved : goal.loop-event-preserved
-loop-event-preserved g c =
-    let so_far = c.loop-event.invariant in
+pub loop-number-preserved : goal.loop-number-preserved
+loop-number-preserved g c =
+    let so_far = c.loop-number.invariant in
     let flag : c.in-Ok-false.field-0 ≡ false = search (rules, c.in-Ok-false.field-0-test) in
     let takes = c.write_answer.ensures.takes (c.in-Ok-false.is ∙ ap Ok flag) in
     record {
       report = more_reported so_far.report
-          (follows c.args.setup.now c.args.core_of.now c.args.events.now c.loop-event.two so_far.setup so_far.core_of c.loop-event.event-index so_far.events c.event-item.result c.loop-event-test.true c.event-item.is) flag c.in-Ok-false.ensures.report;
-      events = taken_more c.args.setup.now c.args.core_of.now c.args.events.now c.loop-event.two so_far.setup so_far.core_of c.loop-event.event-index so_far.events c.event-item.result c.loop-event-test.true c.event-item.is _ takes.events;
+          (follows c.args.setup.now c.args.core_of.now c.args.events.now.items c.loop-number.two so_far.setup so_far.core_of c.loop-number.number so_far.events c.at-event.result c.at-event.ensures) flag c.in-Ok-false.ensures.report;
+      events = taken_more c.args.setup.now c.args.core_of.now c.args.events.now.items c.loop-number.two so_far.setup so_far.core_of c.loop-number.number so_far.events c.at-event.result c.at-event.ensures _ takes.events;
       setup = takes.setup ∙ so_far.setup;
       core_of = takes.core_of ∙ so_far.core_of;
       runs = takes.runs;
@@ -31,30 +31,30 @@ loop-event-preserved g c =
 
 pub returns-in-Ok-true : goal.returns-in-Ok-true
 returns-in-Ok-true g c =
-    let so_far = c.loop-event.invariant in
+    let so_far = c.loop-number.invariant in
     let flag : c.in-Ok-true.field-0 ≡ true = search (rules, c.in-Ok-true.field-0-test) in
     coincidence_reported so_far.report
-    (follows c.args.setup.now c.args.core_of.now c.args.events.now c.loop-event.two so_far.setup so_far.core_of c.loop-event.event-index so_far.events c.event-item.result c.loop-event-test.true c.event-item.is) flag c.in-Ok-true.ensures.report
+    (follows c.args.setup.now c.args.core_of.now c.args.events.now.items c.loop-number.two so_far.setup so_far.core_of c.loop-number.number so_far.events c.at-event.result c.at-event.ensures) flag c.in-Ok-true.ensures.report
 
 pub returns-in-Err-write_answer : goal.returns-in-Err-write_answer
 returns-in-Err-write_answer g c =
-    let so_far = c.loop-event.invariant in
+    let so_far = c.loop-number.invariant in
     cut_reported so_far.report
-    (follows c.args.setup.now c.args.core_of.now c.args.events.now c.loop-event.two so_far.setup so_far.core_of c.loop-event.event-index so_far.events c.event-item.result c.loop-event-test.true c.event-item.is) c.in-Err-write_answer.ensures.report
+    (follows c.args.setup.now c.args.core_of.now c.args.events.now.items c.loop-number.two so_far.setup so_far.core_of c.loop-number.number so_far.events c.at-event.result c.at-event.ensures) c.in-Err-write_answer.ensures.report
 
 pub write_end-requires-clause-out_ready : goal.write_end-requires-clause-out_ready
-write_end-requires-clause-out_ready g c = c.loop-event.invariant.report.text.used.ready
+write_end-requires-clause-out_ready g c = c.loop-number.invariant.report.text.used.ready
 
 pub returns-in-Ok-write_end : goal.returns-in-Ok-write_end
 returns-in-Ok-write_end g c =
-    let so_far = c.loop-event.invariant in
+    let so_far = c.loop-number.invariant in
     end_reported so_far.report
-    (ends c.args.setup.now c.args.core_of.now c.args.events.now c.loop-event.two so_far.setup so_far.core_of c.loop-event.event-index so_far.events c.world.result.now c.world.ensures.value (c.world.ensures.journal so_far.runs) (c.world.ensures.run so_far.runs) (search rules) (search rules))
+    (ends c.args.setup.now c.args.core_of.now c.args.events.now.items c.loop-number.two so_far.setup so_far.core_of c.loop-number.number so_far.events c.world.result.now c.world.ensures.value (c.world.ensures.journal so_far.runs) (c.world.ensures.run so_far.runs) (search rules) (search rules))
     c.in-Ok-write_end.ensures
 
 pub returns : goal.returns
 returns g c =
-    let so_far = c.loop-event.invariant in
+    let so_far = c.loop-number.invariant in
     end_cut so_far.report
-    (ends c.args.setup.now c.args.core_of.now c.args.events.now c.loop-event.two so_far.setup so_far.core_of c.loop-event.event-index so_far.events c.world.result.now c.world.ensures.value (c.world.ensures.journal so_far.runs) (c.world.ensures.run so_far.runs) (search rules) (search rules))
+    (ends c.args.setup.now c.args.core_of.now c.args.events.now.items c.loop-number.two so_far.setup so_far.core_of c.loop-number.number so_far.events c.world.result.now c.world.ensures.value (c.world.ensures.journal so_far.runs) (c.world.ensures.run so_far.runs) (search rules) (search rules))
     c.in-Err-write_end.ensures

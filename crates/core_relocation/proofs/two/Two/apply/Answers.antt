@@ -42,7 +42,7 @@ returns-clause-state c =
 
 pub returns-clause-written : goal.returns-clause-written
 returns-clause-written c runs not =
-    let told : Result TwoLine WorldFault = Ok (TwoLine.By (record c.in_ok-line.line { step = length c.events.result.now }) c.acted-by.result) in
+    let told : Result TwoLine WorldFault = Ok (TwoLine.By (record c.in_ok-line.line { step = c.len.result }) c.acted-by.result) in
     let says : told ≡ answer_in c.args.self.now.cores (state_of c.args.self.now) (run_of c.args.self.now.world) (told_of c.args.self.now.world c.args.event.now) c.args.event.now = search rules in
     says ∙ in_written (record { world = c.self.inside.world; cores = c.self.inside.cores; events = c.self.inside.log.events; senders = c.self.inside.log.senders }) c.args.self.now c.self.view_is c.self.invariant c.args.event.now (event_fits c.args.self.now.world.setup c.args.event.now c.requires.fits c.requires.can) runs
 
