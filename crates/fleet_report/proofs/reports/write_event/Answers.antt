@@ -47,13 +47,13 @@ returns-in-Err-clause-report g c =
     let e = c.args.event.now in
     let p = c.args.phone in
     let steps = ap length c.journal.ensures.journal in
-    let own = ap length (c.journal-2.ensures ∙ ap (λ (w : Whole). w.journal) (c.world.ensures.own c.requires.goes_on)) in
+    let own = c.len-own.ensures ∙ ap length (c.journal-2.ensures ∙ ap (λ (w : Whole). w.journal) (c.world.ensures.own c.requires.goes_on)) in
     let before = g.W.Edge.told c.args.out.now in
     let after = g.W.Edge.told c.write_fault.new.out in
-    let written = fault_reported v p e c.in-Err.fault (length c.journal.result.now) (length c.journal-2.result.now) c.write_fault.result before after
+    let written = fault_reported v p e c.in-Err.fault (length c.journal.result.now) c.len-own.result c.write_fault.result before after
     c.in-Err.ensures.says c.write_fault.ensures.report (λ is. let m = c.write_fault.ensures.memory is in (m.0, ap g.W.Edge.told m.1)) c.requires.out_ready in
     subst (λ n. WritesReport (record { text = output_text (answer_output (length v.journal) n (answer_of v p e)); coincides = ends_it (answer_of v p e) }) c.write_fault.result before after) own
-    (subst (λ n. WritesReport (record { text = output_text (answer_output n (length c.journal-2.result.now) (answer_of v p e)); coincides = ends_it (answer_of v p e) }) c.write_fault.result before after) steps written)
+    (subst (λ n. WritesReport (record { text = output_text (answer_output n c.len-own.result (answer_of v p e)); coincides = ends_it (answer_of v p e) }) c.write_fault.result before after) steps written)
 
 pub returns-in-Err-clause-takes : goal.returns-in-Err-clause-takes
 returns-in-Err-clause-takes g c is = never_false _ c.write_fault.result c.write_fault.ensures.ends is
