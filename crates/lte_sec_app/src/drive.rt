@@ -16,7 +16,7 @@ use crate::scenario::unless_refused;
 use crate::status::Status;
 use edge_io::{Peers, Sink, Source, write_all};
 use hub_drive::DriveFault;
-use lte_events::{Event, Setup};
+use lte_events::{Events, Setup};
 use role_wire::Frame;
 use scenario_file::read;
 use std::alloc::{AllocError, Global};
@@ -82,7 +82,7 @@ fn drive_text<P: Peers, W: Sink>(alloc: Global, octets: &[u8], peers: &mut P, ou
 fn drive_scenario<P: Peers, W: Sink>(
     alloc: Global,
     setup: &Setup,
-    events: &[Event],
+    events: &Events,
     peers: &mut P,
     out: &mut W,
 ) -> Status
@@ -91,11 +91,11 @@ fn drive_scenario<P: Peers, W: Sink>(
     requires can_start { CanStart setup.now }
     requires setup_fits { SetupFits setup.now }
     requires cells { 1 ≤ length setup.now.cells }
-    requires can_happen { All (CanHappen setup.now) events.now }
-    requires events_fit { All EventFits events.now }
-    requires few { length events.now ≤ 200000 }
-    ensures at { ScenarioAt setup.now events.now result (W.told out.old) (W.told out.new) (P.told peers.old) (P.told peers.new) }
-    ensures complete { AllGoes setup.now events.now result (W.told out.old) (W.told out.new) (P.told peers.old) (P.faults peers.old) (P.faults peers.new) }
+    requires can_happen { All (CanHappen setup.now) events.now.items }
+    requires events_fit { All EventFits events.now.items }
+    requires few { length events.now.items ≤ 200000 }
+    ensures at { ScenarioAt setup.now events.now.items result (W.told out.old) (W.told out.new) (P.told peers.old) (P.told peers.new) }
+    ensures complete { AllGoes setup.now events.now.items result (W.told out.old) (W.told out.new) (P.told peers.old) (P.faults peers.old) (P.faults peers.new) }
     ensures stopped { IfSome (P.told peers.new) AllStopped }
     ensures peer_cause { result ≡ Status.PeerFault → Rose (P.faults peers.old) (P.faults peers.new) }
     ensures write_cause { result ≡ Status.WriteFault → Rose (W.told out.old).write_faults (W.told out.new).write_faults }

@@ -8,7 +8,7 @@ use crate::relocations::Told::{By, Else, NotHere};
 use crate::values::{same, same_at};
 use core_relocation::{Two, TwoLine, write_two};
 use edge_io::MemSink;
-use lte_events::{Answer, Event, Setup};
+use lte_events::{Answer, Event, Events, Setup};
 use lte_world::WorldFault;
 use scenario_file::read;
 use std::alloc::{AllocError, Global};
@@ -243,13 +243,14 @@ fn row_of(rt: &impl Abort, case: &Case, step: usize) -> Row {
 }
 
 // Takes the events, and compares what is told of each and where the context is then.
-fn follow(rt: &impl Abort, two: &mut Two, events: &[Event], case: &Case)
-    requires can { All (CanHappen two.old.world.setup) events.now }
-    requires fit { All EventFits events.now }
+fn follow(rt: &impl Abort, two: &mut Two, events: &Events, case: &Case)
+    requires can { All (CanHappen two.old.world.setup) events.now.items }
+    requires fit { All EventFits events.now.items }
 {
-    for event in events {
+    for number in 0..events.len() {
+        let event = events.at(number);
         let step = two.events().len();
-        let line = happen(rt, two, event);
+        let line = happen(rt, two, &event);
         let row = row_of(rt, case, step);
         same_at(rt, case.shown, told_of(&line), Some(row.0));
         same_at(rt, case.shown, two.holder(), row.1);

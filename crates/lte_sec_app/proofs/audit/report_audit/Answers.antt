@@ -1,10 +1,6 @@
-use Rattle.std.proofs.Common.{◌≡◌, false, Ok, refl, subst, sym, rules}
-use Rattle.std.specs.Prelude.{IfOk}
+use Rattle.std.proofs.Common.{refl, subst, sym, rules}
 use Rattle.std.proofs.lemmas.Result.{IfOk-at_ok}
-use Rattle.audit_report.specs.Alone.{EachAlone}
 use Rattle.audit_report.specs.AuditReport.{audit_report_of}
-use Rattle.audit_report.specs.Audited.{AuditIsExact}
-use Rattle.audit_report.specs.OfRun.{AuditIsOfRun}
 use Rattle.scenario_file.specs.Reading.{reading_of}
 use Rattle.lte_sec_app.specs.Audit.{output_of, HasAudit}
 use Rattle.lte_sec_app.specs.Run.{WhereRun}
@@ -19,15 +15,10 @@ returns-in-Ok-clause-holds g c =
     let read = c.read.ensures in
     let setup = c.in-Ok.scenario.setup in
     let events = c.in-Ok.scenario.events.items in
-    let written = c.write_audit.result in
-    let same : c.deref.result.now ≡ events = search rules in
     subst (WhereRun (HasAudit c.args.octets.now)) (sym c.status_of.ensures)
     (audited c.args.octets.now setup events (IfOk-at_ok _ is read.scenario)
     (headline_of setup events (IfOk-at_ok _ is read.can_start) (IfOk-at_ok _ is read.setup_fits) (IfOk-at_ok _ is read.can_happen) (IfOk-at_ok _ is read.events_fit))
-    (subst (EachAlone setup) same c.write_audit.ensures.alone)
-    written
-    (subst (λ es. written ≡ Ok false → AuditIsExact setup es × AuditIsOfRun setup es) same (λ ok. (c.write_audit.ensures.exact ok, c.write_audit.ensures.of_run ok)))
-    (subst (λ es. IfOk written (λ coincides. coincides ≡ (audit_report_of setup es).coincides)) same c.write_audit.ensures.report.coincidence))
+    c.write_audit.ensures.alone c.write_audit.result (λ ok. (c.write_audit.ensures.exact ok, c.write_audit.ensures.of_run ok)) c.write_audit.ensures.report.coincidence)
 
 pub returns-in-Err-clause-text : goal.returns-in-Err-clause-text
 returns-in-Err-clause-text g c =
