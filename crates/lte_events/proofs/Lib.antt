@@ -1,2 +1,3 @@
 pub mod FlatTexts
 pub mod SiteFacts
+pub mod Paired

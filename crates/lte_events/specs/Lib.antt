@@ -6,3 +6,4 @@ pub mod Listed
 pub mod Texts
 pub mod Joined
 pub mod Class
+pub mod FleetListed
