@@ -1,7 +1,7 @@
 // What a scenario keeps of its steps.
-ghost use Rattle.std.specs.Prelude.{◌≡◌, ◌<◌, [], ◌∷◌, ◌++◌, length, IfOk, OnOk};
+ghost use Rattle.std.specs.Prelude.{◌≡◌, ◌<◌, [], ◌∷◌, ◌++◌, length, OnOk};
 
-use lte_events::{Event, Events};
+use lte_events::{Event, Events, FleetEvents};
 use std::alloc::{AllocError, Global};
 
 // What a step says: which phone it happens to, and what happens.
@@ -30,9 +30,8 @@ pub(crate) trait Kept: Drop {
 
     ghost is_of: { ℕ → Self.Item → Type 0 };
 
-    // Nothing yet, of so many steps.
-    fn new(alloc: Global, count: usize) -> Result<Self, AllocError>
-        ensures { IfOk result (λ steps. items steps ≡ []) };
+    fn new(alloc: Global) -> Self
+        ensures { items result ≡ [] };
 
     fn len(&self) -> usize
         ensures { result ≡ length (items self.now) };
@@ -54,8 +53,8 @@ impl Kept for Events {
 
     ghost is_of = { λ _ _. Unit {0} };
 
-    fn new(alloc: Global, _count: usize) -> Result<Events, AllocError> {
-        Ok(Events::new(alloc))
+    fn new(alloc: Global) -> Events {
+        Events::new(alloc)
     }
 
     fn len(&self) -> usize {
@@ -67,10 +66,10 @@ impl Kept for Events {
     }
 }
 
-impl Kept for Vec<(u16, Event)> {
+impl Kept for FleetEvents {
     type Item = (u16, Event);
 
-    ghost items = { λ steps. steps.items };
+    ghost items = { λ events. events.items };
 
     ghost kept = { λ step. (step.phone, step.event) };
 
@@ -78,8 +77,8 @@ impl Kept for Vec<(u16, Event)> {
 
     ghost is_of = { λ phones step. step.0 < phones };
 
-    fn new(alloc: Global, count: usize) -> Result<Vec<(u16, Event)>, AllocError> {
-        Vec::with_capacity(alloc, count)
+    fn new(alloc: Global) -> FleetEvents {
+        FleetEvents::new(alloc)
     }
 
     fn len(&self) -> usize {
@@ -87,7 +86,6 @@ impl Kept for Vec<(u16, Event)> {
     }
 
     fn keep(&mut self, step: &Step) -> Result<(), AllocError> {
-        self.push((step.phone, step.event.clone().unwrap()))?;
-        Ok(())
+        self.push(step.phone, &step.event)
     }
 }

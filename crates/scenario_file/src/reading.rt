@@ -5,7 +5,7 @@ ghost use Rattle.scenario_file.specs.Reading.{reading_of, fleet_reading_of, two_
 use crate::ScenarioFault;
 use crate::systems::System;
 use crate::whole::{Whole, read_as};
-use lte_events::{Event, Events, Setup};
+use lte_events::{Events, FleetEvents, Setup};
 use std::alloc::Global;
 
 /// What a system starts with, and what then happens to it.
@@ -25,7 +25,7 @@ pub struct FleetScenario {
     /// How many phones there are, 1 to 256.
     pub phones: u16,
     /// The events, each with the phone that it happens to, in their order, at most 200,000.
-    pub events: Vec<(u16, Event)>,
+    pub events: FleetEvents,
 }
 
 /// What a system of two cores starts with, and what then happens to it.
@@ -73,7 +73,7 @@ pub fn read_fleet(alloc: Global, octets: &[u8]) -> Result<FleetScenario, Scenari
     ensures phones { IfOk result (λ s. (1 ≤ s.phones) × (s.phones ≤ 256)) }
     ensures phones_stand { IfOk result (λ s. All (λ step. step.0 < s.phones) s.events.items) }
 {
-    let whole: Whole<Vec<(u16, Event)>> = read_as(alloc, octets, System::Fleet)?;
+    let whole: Whole<FleetEvents> = read_as(alloc, octets, System::Fleet)?;
     let phones = whole.start.phones;
     Ok(FleetScenario {
         setup: whole.start.setup,

@@ -148,7 +148,7 @@ fn kept_steps<E: Kept>(
     ensures stand { IfOk result (λ es. All (E.is_of start.now.phones) (E.items es)) }
     ensures few { IfOk result (λ es. length (E.items es) ≤ 200000) }
 {
-    let mut steps = E::new(alloc, values.len())?;
+    let mut steps = E::new(alloc);
     for value in values {
         match step_at(value, system, start, steps.len() as u32) {
             Ok(step) => steps.keep(&step)?,

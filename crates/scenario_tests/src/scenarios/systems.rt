@@ -1,5 +1,5 @@
 use super::*;
-use lte_events::{CoreAct, PhoneAct};
+use lte_events::{CoreAct, FleetEvents, PhoneAct};
 use scenario_file::Field::{Fleet, Phones};
 use scenario_file::{read_fleet, read_two};
 
@@ -8,6 +8,15 @@ const FLEET: &str = "fleet={phones=2}\n";
 // The fault of a text for a fleet, or `None` where it is a scenario.
 fn fleet_fault_of(alloc: Global, text: &str) -> Option<ScenarioFault> {
     read_fleet(alloc, text.as_bytes()).err()
+}
+
+// An event of a fleet by its number, with its phone, if there are so many.
+fn fleet_event_at(events: &FleetEvents, number: usize) -> Option<(u16, Event)> {
+    if number < events.len() {
+        Some(events.at(number))
+    } else {
+        None
+    }
 }
 
 // The fault of a text for two cores, or `None` where it is a scenario.
@@ -89,11 +98,19 @@ fn a_fleet_is_what_its_tables_say(rt: HostRuntime) -> Result<(), Fail> {
     let scenario = read_fleet(rt.alloc(), text.as_str().as_bytes())?;
     same(&rt, scenario.phones, 256);
     same(&rt, scenario.setup.stations.as_slice().len(), 1);
-    let events = [
+    let wanted = [
         (255, Event::Phone(PhoneAct::GoIdle)),
         (0, Event::Core(CoreAct::StartSmc)),
     ];
-    same(&rt, scenario.events.as_slice(), events.as_slice());
+    same(&rt, scenario.events.len(), 2);
+    for (number, step) in wanted.into_iter().enumerate() {
+        same_at(
+            &rt,
+            number,
+            fleet_event_at(&scenario.events, number),
+            Some(step),
+        );
+    }
     Ok(())
 }
 
