@@ -13,7 +13,7 @@ use crate::lines::{fault_text, phone_text, told_text};
 use edge_io::Sink;
 use fleet_world::{Fleet, FleetFault};
 use key_terms::{Ladder, Row};
-use lte_events::{Event, Setup};
+use lte_events::{Event, FleetEvents, Setup};
 use lte_world::World;
 use report_text::{TextMemory, end, row_line};
 use run_report::{Unwritten, has_counts, write_text};
@@ -27,21 +27,22 @@ pub fn write_fleet<W: Sink>(
     alloc: Global,
     setup: &Setup,
     phones: u16,
-    events: &[(u16, Event)],
+    events: &FleetEvents,
     out: &mut W,
 ) -> Result<bool, Unwritten>
     requires out_ready { IsTrue (W.told out.old).ready }
-    requires ready { ReadyBy (λ x. x.1) setup.now events.now }
+    requires ready { ReadyBy (λ x. x.1) setup.now events.now.items }
     requires some { 1 ≤ phones }
     requires phones { phones ≤ most_phones }
-    requires of_phones { All (IsOfPhone phones) events.now }
-    ensures { WritesReport (fleet_report_of setup.now phones events.now) result (W.told out.old) (W.told out.new) }
+    requires of_phones { All (IsOfPhone phones) events.now.items }
+    ensures { WritesReport (fleet_report_of setup.now phones events.now.items) result (W.told out.old) (W.told out.new) }
 {
     let mut fleet = match Fleet::new(alloc, setup, phones) {
         Ok(fleet) => fleet,
         Err(_) => return Err(Unwritten::Memory),
     };
-    for step in events {
+    for number in 0..events.len() {
+        let step = events.at(number);
         match write_event(alloc, &mut fleet, step.0, &step.1, out) {
             Ok(false) => {}
             Ok(true) => return Ok(true),

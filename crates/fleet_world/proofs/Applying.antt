@@ -22,10 +22,6 @@ use Rattle.fleet_world.specs.Worlds.{Goes, ladders_in, others_in, taken_in, Take
 use Rattle.fleet_world.proofs.Standing.{go, taken_is, can_take, answer_taken, stands_taken, answer_chance, go_after, few_after, low_after, crossing_is, answer_of_line, answer_cross, stands_line, new_is}
 use Rattle.fleet_world.proofs.Taking.{stands_of}
 
--- the journal, one event longer
-pub joined : (j k journal : List (ℕ × Event)) (p : ℕ) (d e : Event) → j ≡ k ++ (p, d) ∷ [] → k ≡ journal → d ≡ e → j ≡ journal ++ (p, e) ∷ []
-joined j k journal p d e a b c = a ∙ (λ i. b i ++ (p, c i) ∷ [])
-
 -- what stands at a place, put there again
 same_put : {A : Type 0} (xs : List A) (k : ℕ) (x : A) → slice_get xs k ≡ Some x → set xs k x ≡ xs
 same_put [] k x at = refl

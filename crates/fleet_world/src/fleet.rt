@@ -11,7 +11,7 @@ ghost use Rattle.lte_world.specs.Whole.{CanBegin};
 use crate::meeting::{crossing, taken};
 use crate::worlds::{take, worlds_of};
 use crate::{FleetFault, FleetLine};
-use lte_events::{Event, Setup};
+use lte_events::{Event, FleetEvents, Setup};
 use lte_world::{World, WorldFault};
 use std::alloc::Global;
 use std::marker::Model;
@@ -25,7 +25,7 @@ use std::marker::Model;
 pub struct Fleet {
     setup: Setup,
     worlds: Vec<World>,
-    journal: Vec<(u16, Event)>,
+    journal: FleetEvents,
     over: Option<FleetFault>,
 }
 
@@ -52,7 +52,7 @@ impl Fleet {
             Ok(worlds) => Ok(Fleet {
                 setup: copied_setup(setup),
                 worlds,
-                journal: Vec::new(alloc),
+                journal: FleetEvents::new(alloc),
                 over: None,
             }),
             Err(fault) => Err(fault),
@@ -79,18 +79,18 @@ impl Fleet {
         if let Some(fault) = self.over {
             return Err(fault);
         }
-        match self.journal.reserve(1) {
+        match self.journal.reserve() {
             Ok(()) => {}
             Err(_) => return Err(FleetFault::Memory),
         }
         if let Some(other) = taken(self.worlds.as_slice(), phone, event) {
-            self.journal.push_reserved((phone, copied(event)));
+            self.journal.put(phone, event);
             return Ok(FleetLine::Taken(other));
         }
         match take(&mut self.worlds, phone as usize, event) {
             Ok((rows, line)) => match crossing(self.worlds.as_slice(), phone, rows) {
                 None => {
-                    self.journal.push_reserved((phone, copied(event)));
+                    self.journal.put(phone, event);
                     Ok(FleetLine::Of(phone, line))
                 }
                 Some(fault) => {
@@ -112,13 +112,13 @@ impl Fleet {
     /// If no coincidence ended the fleet, no phone sees another: each phone's lines are those of the run of its
     /// own events, no use of a key repeats, and no key from a phone's root can be derived from what stations hold
     /// for the other phones.
-    pub fn journal(&self) -> &[(u16, Event)]
-        ensures journal { result.now ≡ self.now.journal }
-        ensures isolation { self.now.over ≡ None → LinesAreOwn self.now.setup (length self.now.worlds) result.now }
+    pub fn journal(&self) -> &FleetEvents
+        ensures journal { result.now.items ≡ self.now.journal }
+        ensures isolation { self.now.over ≡ None → LinesAreOwn self.now.setup (length self.now.worlds) result.now.items }
         ensures freshness { self.now.over ≡ None → NoUseTwice self.now.setup (owns_in self.now) }
         ensures separation { self.now.over ≡ None → PhonesSeparate self.now.setup (owns_in self.now) }
     {
-        self.journal.as_slice()
+        &self.journal
     }
 
     /// The world of a phone. Where no coincidence ended the fleet, it is that of the phone's own events, and the
@@ -139,11 +139,4 @@ fn copied_setup(setup: &Setup) -> Setup
     ensures { result ≡ setup.now }
 {
     setup.clone().unwrap()
-}
-
-// The same event.
-fn copied(event: &Event) -> Event
-    ensures { result ≡ event.now }
-{
-    event.clone().unwrap()
 }

@@ -1,5 +1,6 @@
-use Rattle.std.proofs.Common.{◌≡◌, ◌+◌, ap, subst, ◌∙◌, false, true, Ok, length, length-append, rules, arith}
+use Rattle.std.proofs.Common.{◌≡◌, ◌≤◌, ◌+◌, ap, sym, subst, ◌∙◌, false, true, Ok, length, length-append, rules, arith}
 use Rattle.std.proofs.lemmas.List.{length-replicate}
+use Rattle.std.proofs.lemmas.Option.{slice_get_within, get_or_from_slice_get}
 use Rattle.fleet_world.specs.Fleets.{Fleeted}
 use Rattle.fleet_report.specs.Report.{fleet_report_of}
 use Rattle.fleet_report.proofs.Looping.{can_take, event_next, behind_is, end_is, first_is}
@@ -7,38 +8,38 @@ use Rattle.run_report.proofs.Partly.{ReportPartly, none_reported, more_reported,
 use Rattle.fleet_report.proofs.reports.write_fleet.Goals as goal
 
 pub write_event-requires-clause-out_ready : goal.write_event-requires-clause-out_ready
-write_event-requires-clause-out_ready g c = c.loop-step.invariant.report.text.used.ready
+write_event-requires-clause-out_ready g c = c.loop-number.invariant.report.text.used.ready
 
 pub write_event-requires-clause-can : goal.write_event-requires-clause-can
 write_event-requires-clause-can g c =
-    let so_far = c.loop-step.invariant in
-    can_take c.args.setup.now c.loop-step.fleet c.args.phones c.args.events.now c.loop-step.step-index c.step-item.result so_far.setup so_far.phones so_far.count c.loop-step-test.true c.step-item.is c.requires.ready c.requires.of_phones
+    let so_far = c.loop-number.invariant in
+    can_take c.args.setup.now c.loop-number.fleet c.args.phones c.args.events.now.items c.loop-number.number c.at-step.result so_far.setup so_far.phones so_far.count (slice_get_within c.args.events.now.items c.loop-number.number c.at-step.result c.at-step.ensures) (sym (get_or_from_slice_get c.args.events.now.items c.loop-number.number c.at-step.result c.at-step.result c.at-step.ensures)) c.requires.ready c.requires.of_phones
 
-pub loop-step-init : goal.loop-step-init
-loop-step-init g c =
+pub loop-number-init : goal.loop-number-init
+loop-number-init g c =
     let begins = c.in-Ok.ensures.begins in
     record {
-      report = none_reported (g.W.Edge.told c.args.out.now) c.requires.out_ready (first_is c.args.setup.now c.args.phones c.in-Ok.fleet c.args.events.now begins);
+      report = none_reported (g.W.Edge.told c.args.out.now) c.requires.out_ready (first_is c.args.setup.now c.args.phones c.in-Ok.fleet c.args.events.now.items begins);
       setup = ap (λ (v : Fleeted). v.setup) begins;
       over = ap (λ (v : Fleeted). v.over) begins;
       count = ap (λ (v : Fleeted). length v.journal) begins;
       phones = ap (λ (v : Fleeted). length v.worlds) begins ∙ length-replicate c.args.phones _;
     }
 
-pub loop-step-preserved : goal.loop-step-preserved
-loop-step-preserved g c =
-    let so_far = c.loop-step.invariant in
-    let events = c.args.events.now in
-    let i = c.loop-step.step-index in
-    let v = c.loop-step.fleet in
-    let x = c.step-item.result in
+pub loop-number-preserved : goal.loop-number-preserved
+loop-number-preserved g c =
+    let so_far = c.loop-number.invariant in
+    let events = c.args.events.now.items in
+    let i = c.loop-number.number in
+    let v = c.loop-number.fleet in
+    let x = c.at-step.result in
     let flag : c.in-Ok-false.field-0 ≡ false = search (rules, c.in-Ok-false.field-0-test) in
     let takes = c.write_event.ensures.takes (c.in-Ok-false.is ∙ ap Ok flag) in
-    let next = event_next v events i x so_far.over so_far.count c.loop-step-test.true c.step-item.is in
+    let next = event_next v events i x so_far.over so_far.count (slice_get_within c.args.events.now.items c.loop-number.number c.at-step.result c.at-step.ensures) (sym (get_or_from_slice_get c.args.events.now.items c.loop-number.number c.at-step.result c.at-step.result c.at-step.ensures)) in
     let more = more_reported so_far.report next flag c.in-Ok-false.ensures.report in
     record {
       report = subst (λ r. ReportPartly (fleet_report_of c.args.setup.now c.args.phones events) r (g.W.Edge.told c.args.out.now) (g.W.Edge.told c.write_event.new.out))
-          (behind_is v events i x so_far.over so_far.count c.loop-step-test.true c.step-item.is c.write_event.new.fleet takes) more;
+          (behind_is v events i x so_far.over so_far.count (slice_get_within c.args.events.now.items c.loop-number.number c.at-step.result c.at-step.ensures) (sym (get_or_from_slice_get c.args.events.now.items c.loop-number.number c.at-step.result c.at-step.result c.at-step.ensures)) c.write_event.new.fleet takes) more;
       setup = takes.setup ∙ so_far.setup;
       over = takes.over;
       count = ap length takes.journal ∙ length-append v.journal _ ∙ ap (λ n. n + 1) so_far.count;
@@ -47,25 +48,29 @@ loop-step-preserved g c =
 
 pub returns-in-Ok-true : goal.returns-in-Ok-true
 returns-in-Ok-true g c =
-    let so_far = c.loop-step.invariant in
+    let so_far = c.loop-number.invariant in
     let flag : c.in-Ok-true.field-0 ≡ true = search (rules, c.in-Ok-true.field-0-test) in
-    let next = event_next c.loop-step.fleet c.args.events.now c.loop-step.step-index c.step-item.result so_far.over so_far.count c.loop-step-test.true c.step-item.is in
+    let next = event_next c.loop-number.fleet c.args.events.now.items c.loop-number.number c.at-step.result so_far.over so_far.count (slice_get_within c.args.events.now.items c.loop-number.number c.at-step.result c.at-step.ensures) (sym (get_or_from_slice_get c.args.events.now.items c.loop-number.number c.at-step.result c.at-step.result c.at-step.ensures)) in
     coincidence_reported so_far.report next flag c.in-Ok-true.ensures.report
 
 pub returns-in-Err-write_event : goal.returns-in-Err-write_event
 returns-in-Err-write_event g c =
-    let so_far = c.loop-step.invariant in
-    let next = event_next c.loop-step.fleet c.args.events.now c.loop-step.step-index c.step-item.result so_far.over so_far.count c.loop-step-test.true c.step-item.is in
+    let so_far = c.loop-number.invariant in
+    let next = event_next c.loop-number.fleet c.args.events.now.items c.loop-number.number c.at-step.result so_far.over so_far.count (slice_get_within c.args.events.now.items c.loop-number.number c.at-step.result c.at-step.ensures) (sym (get_or_from_slice_get c.args.events.now.items c.loop-number.number c.at-step.result c.at-step.result c.at-step.ensures)) in
     cut_reported so_far.report next c.in-Err-write_event.ensures.report
 
 pub write_ends-requires-clause-out_ready : goal.write_ends-requires-clause-out_ready
-write_ends-requires-clause-out_ready g c = c.loop-step.invariant.report.text.used.ready
+write_ends-requires-clause-out_ready g c = c.loop-number.invariant.report.text.used.ready
 
 pub write_ends-requires-clause-few : goal.write_ends-requires-clause-few
-write_ends-requires-clause-few g c = let so_far = c.loop-step.invariant in omega (arith, so_far.count, c.requires.ready.few)
+write_ends-requires-clause-few g c = let so_far = c.loop-number.invariant in omega (arith, so_far.count, c.requires.ready.few)
 
 pub returns-in-Ok-write_ends : goal.returns-in-Ok-write_ends
-returns-in-Ok-write_ends g c = end_reported c.loop-step.invariant.report (end_is c.loop-step.fleet c.args.events.now c.loop-step.step-index c.loop-step-test.false) c.in-Ok-write_ends.ensures
+returns-in-Ok-write_ends g c =
+    let past : length c.args.events.now.items ≤ c.loop-number.number = omega (arith, c.loop-number-test.false, c.len-number-end.ensures) in
+    end_reported c.loop-number.invariant.report (end_is c.loop-number.fleet c.args.events.now.items c.loop-number.number past) c.in-Ok-write_ends.ensures
 
 pub returns : goal.returns
-returns g c = end_cut c.loop-step.invariant.report (end_is c.loop-step.fleet c.args.events.now c.loop-step.step-index c.loop-step-test.false) c.in-Err-write_ends.ensures
+returns g c =
+    let past : length c.args.events.now.items ≤ c.loop-number.number = omega (arith, c.loop-number-test.false, c.len-number-end.ensures) in
+    end_cut c.loop-number.invariant.report (end_is c.loop-number.fleet c.args.events.now.items c.loop-number.number past) c.in-Err-write_ends.ensures

@@ -4,11 +4,11 @@ use Rattle.run_report.proofs.Partly.{ReportPartly}
 use Rattle.fleet_report.proofs.reports.write_fleet.Given as goal
 use Rattle.fleet_report.proofs.Looping.{left_of}
 
-abbrev pub invariant-loop-step : goal.invariant-loop-step
-invariant-loop-step g l = record {
-  report : ReportPartly (fleet_report_of l.fn.setup l.fn.phones l.events) (left_of l.fleet l.events l.step-index) (g.W.Edge.told l.initial.out) (g.W.Edge.told l.out);
+abbrev pub invariant-loop-number : goal.invariant-loop-number
+invariant-loop-number g l = record {
+  report : ReportPartly (fleet_report_of l.fn.setup l.fn.phones l.events.items) (left_of l.fleet l.events.items l.number) (g.W.Edge.told l.initial.out) (g.W.Edge.told l.out);
   setup : l.fleet.setup ≡ l.fn.setup;
   over : l.fleet.over ≡ None;
-  count : length l.fleet.journal ≡ l.step-index;
+  count : length l.fleet.journal ≡ l.number;
   phones : length l.fleet.worlds ≡ l.fn.phones;
 }

@@ -1,8 +1,8 @@
-use Rattle.std.proofs.Common.{◌≡◌, ◌≤◌, ◌<◌, Err, sym, ap, subst, ◌∙◌, length}
+use Rattle.std.proofs.Common.{◌≡◌, ◌≤◌, ◌<◌, Err, sym, ap, subst, ◌∙◌, length, ◌++◌, ◌∷◌, []}
 use Rattle.lte_machine.specs.Ranges.{AllOf}
 use Rattle.fleet_world.specs.Fleets.{most_phones}
 use Rattle.fleet_world.specs.Worlds.{Goes, TakesAt, taken_in}
-use Rattle.fleet_world.proofs.Applying.{Found, joined, goes, few, low, can_take_at, says_taken, keeps_taken, leaves_taken, says_chance, leaves_chance, same_worlds, goes_then, few_then, low_then, says_line, keeps_line, leaves_line, says_cross, leaves_cross, keeps_memory, memory_is, leaves_memory}
+use Rattle.fleet_world.proofs.Applying.{Found, goes, few, low, can_take_at, says_taken, keeps_taken, leaves_taken, says_chance, leaves_chance, same_worlds, goes_then, few_then, low_then, says_line, keeps_line, leaves_line, says_cross, leaves_cross, keeps_memory, memory_is, leaves_memory}
 use Rattle.fleet_world.proofs.fleet.Fleet.apply.Goals as goal
 
 pub taken-requires-clause-goes : goal.taken-requires-clause-goes
@@ -19,8 +19,7 @@ pub invariant_of-self-in-Some-taken : goal.invariant_of-self-in-Some-taken
 invariant_of-self-in-Some-taken c =
     let i = c.self.inside in
     let taken = ap (λ ws. taken_in ws c.args.phone c.args.event.now) (sym c.as_slice.ensures.value) ∙ sym c.taken.ensures ∙ c.in-Some-taken.is in
-    keeps_taken i.over i.setup i.worlds.items i.journal.items c.args.self.now c.self.view_is c.in_default.is c.self.invariant c.args.phone c.args.event.now c.requires c.in-Some-taken.other taken c.push_reserved.new.self.items
-    (joined c.push_reserved.new.self.items c.reserve.new.self.items i.journal.items c.args.phone c.copied.result c.args.event.now c.push_reserved.ensures.items c.reserve.ensures.items c.copied.ensures)
+    keeps_taken i.over i.setup i.worlds.items i.journal.items c.args.self.now c.self.view_is c.in_default.is c.self.invariant c.args.phone c.args.event.now c.requires c.in-Some-taken.other taken c.put.new.self.items (c.put.ensures ∙ ap (λ journal. journal ++ (c.args.phone, c.args.event.now) ∷ []) c.reserve.ensures.items)
 
 pub returns-in-Some-taken-clause-says : goal.returns-in-Some-taken-clause-says
 returns-in-Some-taken-clause-says c differs =
@@ -71,8 +70,7 @@ invariant_of-self-in-None c =
     let untaken = ap (λ ws. taken_in ws c.args.phone c.args.event.now) (sym c.as_slice.ensures.value) ∙ sym c.taken.ensures ∙ c.in_default-taken.is in
     let took = subst (TakesAt i.worlds.items c.take.new.worlds.items c.args.phone c.args.event.now) c.in-Ok-take.is c.take.ensures in
     let found = subst (Found c.args.phone c.in-Ok-take.rows c.crossing.result) c.as_slice-in-Ok-take.ensures.value c.crossing.ensures in
-    keeps_line i.over i.setup i.worlds.items i.journal.items c.args.self.now c.self.view_is c.in_default.is c.self.invariant c.args.phone c.args.event.now c.requires untaken c.take.new.worlds.items (c.in-Ok-take.rows, c.in-Ok-take.line) took c.crossing.result found c.in-None.is c.push_reserved-in-None.new.self.items
-    (joined c.push_reserved-in-None.new.self.items c.reserve.new.self.items i.journal.items c.args.phone c.copied-in-None.result c.args.event.now c.push_reserved-in-None.ensures.items c.reserve.ensures.items c.copied-in-None.ensures)
+    keeps_line i.over i.setup i.worlds.items i.journal.items c.args.self.now c.self.view_is c.in_default.is c.self.invariant c.args.phone c.args.event.now c.requires untaken c.take.new.worlds.items (c.in-Ok-take.rows, c.in-Ok-take.line) took c.crossing.result found c.in-None.is c.put-in-None.new.self.items (c.put-in-None.ensures ∙ ap (λ journal. journal ++ (c.args.phone, c.args.event.now) ∷ []) c.reserve.ensures.items)
 
 pub returns-in-None-clause-says : goal.returns-in-None-clause-says
 returns-in-None-clause-says c differs =
