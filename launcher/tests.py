@@ -1,5 +1,6 @@
 """Tests of the launcher's scripts: python3 launcher/tests.py. They run the built program by ./lte_sec."""
 import concurrent.futures
+import json
 import pathlib
 import re
 import subprocess
@@ -15,7 +16,6 @@ import document  # noqa: E402
 import fields  # noqa: E402
 import ladder  # noqa: E402
 import scenario  # noqa: E402
-import verdict  # noqa: E402
 
 EXAMPLES = TOP / "examples"
 SETUP = 'phone = { caps = "a020" }\nstation = [{ id = 0, cells = [[10, 100]] }, { id = 1, cells = [[11, 101]] }]\n'
@@ -158,34 +158,9 @@ class Verdicts(unittest.TestCase):
         ran = launched("verdict", EXAMPLES / "fleet" / "two-phones.out")
         self.assertEqual((3, b"lte_sec: this is not a report of run: it is one of fleet; sed -n 's/^0 //p' gives that of phone 0\n"), (ran.returncode, ran.stderr))
 
-    def test_only_these_of_the_kept_runs_differ(self):
-        differ = set()
-        for file in [*EXAMPLES.glob("run/*.out"), *EXAMPLES.glob("worked/*.out"), *EXAMPLES.glob("two/*.out")]:
-            if file.stem in ("coincidence", "no-scenario"):
-                self.assertRaises(verdict.NoReport, verdict.judged, file.read_text())
-            else:
-                status, _ = verdict.judged(file.read_text())
-                self.assertIn(status, (0, 1), file)
-                differ |= {file.stem} if status else set()
-        self.assertEqual({"eight-ahead", "eight-preparations", "key-change-overtaken"}, differ)
-
-    def test_each_handover_and_key_change_is_told(self):
-        for name, lines in (
-            ("run/ordinary", ["steps 11 to 15: phone and station 1 have one key", "steps 20 to 24: phone and station 0 have one key", "all agree"]),
-            ("run/eight-preparations", ["steps 52 to 56: phone and station 1 have different keys; 8 steps ahead", "keys differ"]),
-            ("run/two-preparations", ["steps 12 to 17: phone and station 1 have one key", "all agree"]),
-            ("run/wrong-ksi", ["no handover and no key change", "all agree"]),
-            ("worked/within-a-station", ["steps 8 to 11: phone and station 0 have one key", "all agree"]),
-            ("worked/key-change-overtaken", ["steps 12 to 16: phone and station 0 have different keys; of different KASMEs", "keys differ"]),
-        ):
-            self.assertEqual(lines, verdict.judged((EXAMPLES / f"{name}.out").read_text())[1], name)
-
-    def test_other_texts_are_no_reports(self):
-        scenario_text = (EXAMPLES / "run" / "ordinary.toml").read_text()
-        self.assertRaisesRegex(verdict.NoReport, "it is a scenario", verdict.judged, scenario_text)
-        ordinary = (EXAMPLES / "run" / "ordinary.out").read_text()
-        for text in ("", "end 0 0\n", ordinary[:500], ordinary.replace("\n5 station", "\n7 station"), ordinary[:-200], ordinary.replace("row 5", "row 6")):
-            self.assertRaises(verdict.NoReport, verdict.judged, text)
+    def test_a_document_is_printed_for_machines(self):
+        ran = launched("verdict", "--json", EXAMPLES / "run" / "cancelled-s1.out")
+        self.assertEqual((0, ["not commanded", "one key", "one key, not completed"]), (ran.returncode, [item["outcome"] for item in json.loads(ran.stdout)["items"]]))
 
 
 if __name__ == "__main__":

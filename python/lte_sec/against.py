@@ -13,7 +13,7 @@ import socket
 import sys
 from typing import BinaryIO, NoReturn
 
-from .frames import differences
+from .records import differences
 
 SECONDS = 10
 

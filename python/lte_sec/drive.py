@@ -16,7 +16,7 @@ import sys
 import threading
 from typing import BinaryIO
 
-from lte_sec import frames
+from lte_sec import frames, records
 
 OPTIONS = {"--phone": "LTE_SEC_PHONE", "--station": "LTE_SEC_STATION", "--core": "LTE_SEC_CORE"}
 TOLD = re.compile(rb"lte_sec: (phone|core|station [0-7]): its reply differs\n")
@@ -103,7 +103,7 @@ def told_of(line: bytes, whose: bytes, rest: bytes) -> list[str]:
     if len(got) == 2:
         got += rest[:int.from_bytes(got, "big")]
     place = "setup" if form[1] == b"setup" else f"step {form[1].decode()}"
-    return [f"{place}, {whose.decode()}: {told}" for told in frames.differences(wanted, got)]
+    return [f"{place}, {whose.decode()}: {told}" for told in records.differences(wanted, got)]
 
 
 def main() -> int:

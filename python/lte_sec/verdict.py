@@ -1,0 +1,336 @@
+"""What became of each handover and key change of a report of `run`: `./lte_sec verdict [--json] < REPORT`.
+
+All is read from the report: the notes of its steps, and the rows of its ladder, in which a KeNB* has its cell. Status 0 where all
+keys agree, 1 where keys differ, 3 where the report does not tell, where nothing was set up, and where the text is no report of `run`.
+"""
+from __future__ import annotations
+
+import dataclasses
+import enum
+import json
+import re
+import sys
+from collections.abc import Iterator
+
+STEP = re.compile(r"(\d+) (both|phone|core(?: [01])?|world|station ([0-7])) (\w+)(.*)")
+SENT = re.compile(r" sent=\d+:(\w+)")
+NOTE = re.compile(r" ncc=\d way=(\w+) key=([0-9a-f]{64})")
+ROW = re.compile(r"row (\d+) (\w+)(?:\((\d+),?([\d,]*)\))? ([0-9a-f]{64}) \S+")
+VERSION = 1  # of the document that --json prints
+
+
+class NoReport(Exception):
+    """Why the text is not a report of `run`."""
+
+
+class Outcome(enum.Enum):
+    """What became of a handover or a key change; the value is how it is told."""
+
+    AGREED = "one key"
+    NOT_COMPLETED = "one key, not completed"
+    DIFFER = "different keys"
+    NOT_TOLD = "not told by the report"
+    NOT_PREPARED = "not prepared"
+    NOT_COMMANDED = "not commanded"
+    NOT_OBEYED = "not obeyed"
+    NOT_TAKEN = "not commanded, or not obeyed"
+
+
+NOT_MADE = (Outcome.NOT_PREPARED, Outcome.NOT_COMMANDED, Outcome.NOT_OBEYED, Outcome.NOT_TAKEN)
+
+
+@dataclasses.dataclass(frozen=True)
+class Row:
+    """A row of the ladder: its place, its form, the rows of its root and of the key above it, the step of its chain that it comes from,
+    and its cell if it has one."""
+
+    place: int
+    form: str
+    root: int
+    above: int
+    chain: int
+    cell: str
+
+
+@dataclasses.dataclass(frozen=True)
+class Step:
+    """A line of the report: who answered, the class of the record sent, and of a key that was come by or told the way and the octets."""
+
+    number: int
+    station: int | None  # None for phone, core and world
+    who: str
+    is_done: bool
+    sent: str | None
+    way: str | None
+    key: str
+
+
+@dataclasses.dataclass
+class Report:
+    steps: list[Step]
+    rows: dict[str, Row]
+
+    def notes(self) -> list[Step]:
+        """The steps at which an actor came by a key, or tells it."""
+        return [step for step in self.steps if step.way]
+
+    def row(self, step: Step) -> Row:
+        return self.rows[step.key]
+
+
+def rows_of(lines: list[str]) -> dict[str, Row]:
+    """The rows by their keys."""
+    rows: list[Row] = []
+    keys: dict[str, Row] = {}
+    for line in lines:
+        found = ROW.fullmatch(line)
+        if not found or int(found[1]) != len(rows):
+            raise NoReport(f"'{line[:40]}' is not a row of its ladder of keys")
+        _, form, parent, more, key = found.groups()
+        above = rows[int(parent)] if parent else None
+        root = above.root if above else len(rows)
+        chain = rows[int(more)].chain + 1 if form == "nh" else above.chain if above and form == "star" else 0
+        rows.append(Row(len(rows), form, root, int(parent or len(rows)), chain, more if form == "star" else ""))
+        keys[key] = rows[-1]
+    return keys
+
+
+def step_of(number: int, line: str) -> Step:
+    """The line of the step of this number."""
+    found = STEP.fullmatch(line)
+    if not found or int(found[1]) != number:
+        raise NoReport(f"line {number + 1} is not a line of step {number}")
+    sent, note = SENT.search(found[5]), NOTE.search(found[5])
+    station = int(found[3]) if found[3] else None
+    return Step(number, station, found[2], found[4] == "done", sent[1] if sent else None, note[1] if note else None, note[2] if note else "")
+
+
+def read(text: str) -> Report:
+    """A report; a reason if the text is not one."""
+    lines = text.splitlines()
+    if lines and re.match(r"\d+ 0 (both|phone|core|world|station)", lines[0]):
+        raise NoReport("it is one of fleet; sed -n 's/^0 //p' gives that of phone 0")
+    if re.search(r"^(phone *=|\[phone\])", text, re.MULTILINE):
+        raise NoReport("it is a scenario; ./lte_sec run writes its report")
+    end = next((place for place, line in enumerate(lines) if re.fullmatch(r"end \d+ \d+ \d+", line)), None)
+    if end is None:
+        raise NoReport("it has no line `end`: it is cut, or ends at a coincidence or at a reply that differs")
+    report = Report([step_of(number, line) for number, line in enumerate(lines[:end])], rows_of(lines[end + 1:]))
+    if any(note.key not in report.rows for note in report.notes()):
+        raise NoReport("a key of its steps is not in its rows")
+    return report
+
+
+def is_prepared(report: Report, note: Step) -> bool:
+    """Whether a station came by the key of a cell of its own, at which the phone is to arrive: of another station's record
+    (given over X2, derived over S1), for a handover within itself, or at a key change."""
+    if note.station is None or report.row(note).form != "star":
+        return False
+    ways = {"x2": ["given"], "s1": ["vertical"], "air": ["given"], None: ["horizontal", "vertical"]}
+    return note.way in ways.get(note.sent, [])
+
+
+def is_asked(note: Step) -> bool:
+    """Whether a station derived the key of another's cell, to ask it over X2 for a handover."""
+    return note.station is not None and note.sent == "x2" and note.way in ("horizontal", "vertical")
+
+
+@dataclasses.dataclass
+class Obeyed:
+    """A handover or key change that the phone obeyed: its key, and the steps at which stations prepared its cell and completed it."""
+
+    phone: Step
+    prepared: list[Step]
+    completed: Step | None = None
+
+    def target(self) -> Step | None:
+        """The step at which the target came by its key: the last before the phone's, for a station has one attempt at a time. None where
+        the report does not tell it: where that one has another key, and one before has the phone's."""
+        same = [note for note in self.prepared if note.key == self.phone.key]
+        if self.completed:
+            return same[-1]
+        return self.prepared[-1] if self.prepared and (not same or same[-1] is self.prepared[-1]) else None
+
+
+def obeyed(report: Report) -> list[Obeyed]:
+    """Each handover and key change that the phone obeyed."""
+    found: list[Obeyed] = []
+    prepared: dict[int, list[Step]] = {}
+    for note in report.notes():
+        row = report.row(note)
+        if note.who == "phone" and row.form == "star":
+            at = [it for notes in prepared.values() for it in notes if report.row(it).cell == row.cell]
+            found.append(Obeyed(note, at))
+        elif note.station is None:
+            continue
+        elif is_prepared(report, note):
+            prepared.setdefault(note.station, []).append(note)
+        elif note.way == "completed":
+            last = found[-1] if found else None
+            if last and not last.completed and note.key == last.phone.key and any((it.station, it.key) == (note.station, note.key) for it in last.prepared):
+                last.completed = note
+            prepared[note.station] = []
+        elif note.way == "given":
+            prepared[note.station] = []
+    return found
+
+
+@dataclasses.dataclass(frozen=True)
+class Item:
+    """What became of one handover or key change: its first and last step, the target, the cell, and how far apart the keys are."""
+
+    kind: str
+    first: int
+    last: int
+    station: int | None
+    cell: str
+    outcome: Outcome
+    more: str = ""
+
+    def __str__(self) -> str:
+        steps = f"step {self.first}" if self.first == self.last else f"steps {self.first} to {self.last}"
+        if self.kind == SET_UP:
+            return f"{steps}: {self.kind}: no station took its key"
+        if self.outcome in NOT_MADE:
+            to = f"cell {self.cell}" if self.station is None else f"station {self.station}, cell {self.cell}"
+            return f"{steps}: {self.kind} {'in' if self.kind == KEY_CHANGE else 'to'} {to}: {self.outcome.value}"
+        if self.outcome == Outcome.NOT_TOLD:
+            return f"{steps}: phone and target: not told by the report, for {self.more}"
+        return f"{steps}: phone and station {self.station} have {self.outcome.value}{self.more and '; '}{self.more}"
+
+
+KEY_CHANGE, SET_UP = "key change", "connection or key change"
+KINDS = {"x2": "handover over X2", "s1": "handover over S1", "air": KEY_CHANGE, None: "handover within the station"}
+
+
+def ahead(report: Report, phone: str, target: str) -> str:
+    """How far apart in the chain two keys are."""
+    ours, theirs = report.rows[phone], report.rows[target]
+    if ours.root != theirs.root:
+        return "of different KASMEs"
+    steps = theirs.chain - ours.chain
+    count = f"{abs(steps)} step{'' if abs(steps) == 1 else 's'}"
+    return f"{count} ahead" if steps > 0 else f"{count} behind" if steps < 0 else "no step apart"
+
+
+def of_obeyed(report: Report, made: Obeyed) -> Item:
+    """Whether phone and target have one key."""
+    target, phone = made.target(), made.phone
+    cell = report.row(phone).cell
+    if target is None:
+        why = "several keys were prepared for its cell" if made.prepared else "no station prepared its cell"
+        return Item("handover or key change", phone.number, phone.number, None, cell, Outcome.NOT_TOLD, why)
+    last = max(phone.number, made.completed.number if made.completed else 0)
+    place = (KINDS[target.sent], target.number, last, target.station, cell)
+    if target.key != phone.key:
+        return Item(*place, Outcome.DIFFER, ahead(report, phone.key, target.key))
+    return Item(*place, Outcome.AGREED if made.completed else Outcome.NOT_COMPLETED)
+
+
+def until(report: Report, begun: Step) -> Iterator[Step]:
+    """The steps after one at which an attempt began, up to the next attempt of that station, or of any at a key of another station."""
+    for step in report.steps[begun.number + 1:]:
+        if step.station == begun.station and step.way and (is_asked(step) or is_prepared(report, step)):
+            return
+        yield step
+
+
+def of_begun(report: Report, begun: Step, prepared: Step | None) -> Item:
+    """What became of an attempt that the phone did not obey: begun where a source derived the key, or else where a target did."""
+    cell, kind = report.row(begun).cell, KINDS[begun.sent]
+    if prepared is None:
+        return Item(kind, begun.number, begun.number, None, cell, Outcome.NOT_PREPARED)
+    place = (kind, begun.number, prepared.number, prepared.station, cell)
+    if kind == KEY_CHANGE:
+        return Item(*place, Outcome.NOT_OBEYED)
+    after = [step for step in until(report, begun) if step.number > prepared.number]
+    sources = [step for step in after if (step.station != prepared.station if begun.sent == "s1" else step.station == begun.station)]
+    is_silent = not any(step.station is not None and step.sent == "air" and not step.way for step in sources)
+    return Item(*place, Outcome.NOT_COMMANDED if is_silent else Outcome.NOT_TAKEN)
+
+
+def attempts(report: Report) -> list[tuple[Step, Step | None]]:
+    """Each handover and key change that began: the step at which its key was derived, and that at which its target had it."""
+    found: list[tuple[Step, Step | None]] = []
+    for note in report.notes():
+        if is_asked(note):
+            found.append((note, None))
+        elif is_prepared(report, note):
+            places = [place for place, (begun, to) in enumerate(found) if is_asked(begun) and to is None and begun.key == note.key]
+            if note.sent == "x2" and places:
+                found[places[-1]] = (found[places[-1]][0], note)
+            else:
+                found.append((note, note))
+    return found
+
+
+def not_taken(report: Report) -> list[Item]:
+    """Each connection or key change of the core whose KeNB no station took."""
+    taken = {place for note in report.notes() if note.station is not None for row in [report.row(note)] for place in (row.place, row.above)}
+    begun = [note for note in report.notes() if note.who.startswith("core") and note.way == "initial"]
+    return [Item(SET_UP, note.number, note.number, None, "", Outcome.NOT_PREPARED) for note in begun if report.row(note).place not in taken]
+
+
+def items(report: Report) -> list[Item]:
+    """What became of each handover and key change, in the order of its first step."""
+    made = obeyed(report)
+    targets = [target for it in made if (target := it.target())]
+    found = [of_obeyed(report, it) for it in made] + not_taken(report)
+    unclear = [note for it in made if it.target() is None for note in it.prepared]
+    for begun, prepared in attempts(report):
+        if prepared not in targets and prepared not in unclear or prepared is None:
+            found.append(of_begun(report, begun, prepared))
+    return sorted(found, key=lambda item: (item.first, item.last))
+
+
+def connected(report: Report) -> bool | None:
+    """Whether the phone has the KeNB of a station at each connection; None where none was set up."""
+    phone = [note.key for note in report.notes() if note.who == "phone" and report.row(note).form == "kenb"]
+    stations = {note.key for note in report.notes() if note.station is not None and report.row(note).form == "kenb"}
+    return stations.issuperset(phone) if phone else None
+
+
+@dataclasses.dataclass(frozen=True)
+class Verdict:
+    """All that is told of a report: each handover and key change, the last line, and the status."""
+
+    items: list[Item]
+    last: str
+    status: int
+
+    def lines(self) -> list[str]:
+        return [*map(str, self.items), *([] if self.items else ["no handover and no key change"]), self.last]
+
+    def document(self) -> dict[str, object]:
+        """The document that --json prints."""
+        told = [dataclasses.asdict(item) | {"outcome": item.outcome.value, "cell": [int(part) for part in item.cell.split(",") if part]} for item in self.items]
+        return {"version": VERSION, "items": told, "verdict": self.last, "status": self.status}
+
+
+def judged(text: str) -> Verdict:
+    """What is told of the text of a report."""
+    report = read(text)
+    found, is_set_up = items(report), connected(report)
+    outcomes = [item.outcome for item in found]
+    if Outcome.DIFFER in outcomes or is_set_up is False:
+        return Verdict(found, "keys differ", 1)
+    if Outcome.NOT_TOLD in outcomes:
+        return Verdict(found, "not all is told", 3)
+    if is_set_up is None:
+        return Verdict(found, "nothing to judge", 3)
+    count = sum(outcome in NOT_MADE for outcome in outcomes)
+    return Verdict(found, f"all agree; {count} of {len(found)} not made" if count else "all agree", 0)
+
+
+def main(words: list[str]) -> int:
+    try:
+        verdict = judged(sys.stdin.buffer.read().decode())
+    except (NoReport, UnicodeDecodeError) as wrong:
+        print(f"lte_sec: this is not a report of run: {wrong}", file=sys.stderr)
+        return 3
+    print(json.dumps(verdict.document(), indent=1)) if words == ["--json"] else print(*verdict.lines(), sep="\n")
+    return verdict.status
+
+
+if __name__ == "__main__":
+    sys.exit(main(sys.argv[1:]))
