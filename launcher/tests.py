@@ -12,6 +12,7 @@ import unittest
 sys.dont_write_bytecode = True
 HERE = pathlib.Path(__file__).resolve().parent
 TOP = HERE.parent
+import calc  # noqa: E402
 import document  # noqa: E402
 import fields  # noqa: E402
 import ladder  # noqa: E402
@@ -98,6 +99,52 @@ class Texts(unittest.TestCase):
         text = b"root " + b"0" * 64 + b"\n" + b"".join(b"kenb 0 %d\n" % count for count in range(4096))
         self.assertEqual("refused line 4097", ladder.first_fault(text).line)
         self.assertIsNone(ladder.first_fault(text[:text.rindex(b"kenb")]))
+
+
+class Lines(unittest.TestCase):
+    """What is wrong with the lines of calc."""
+
+    def test_each_bad_line_has_a_reason_and_no_other(self):
+        found = calc.faults((EXAMPLES / "calc" / "bad.txt").read_bytes())
+        answers = (EXAMPLES / "calc" / "bad.out").read_text().splitlines()
+        self.assertEqual([answer for answer in answers if answer.startswith("bad ")], [f"bad {bad.what}" for _, _, bad in found])
+        for name in ("keys", "pdus", "vectors"):
+            self.assertEqual([], calc.faults((EXAMPLES / "calc" / f"{name}.txt").read_bytes()), name)
+
+    def test_the_table_is_that_of_the_page(self):
+        page = (TOP / "docs" / "CALC.md").read_text()
+        rows = re.findall(r"^\| `([\w-]+)` \| ([a-z0-9 -]+) \|", page.split("| field | is |")[0], re.MULTILINE)
+        self.assertEqual({word: names for word, (names, _) in calc.LINES.items()}, dict(rows))
+
+    def test_reasons_are_said_for_a_file_and_a_pipe(self):
+        text = b"# keys\nkenb 00 0\nkenb " + b"0" * 64 + b" 01\n"
+        said = "lte_sec: line 2: kasme has 2 digits; it must have 64\nlte_sec: line 3: count is '01'; it must be 0 to 16777215, in decimal without sign or leading zero\n"
+        with tempfile.NamedTemporaryFile() as file:
+            file.write(text)
+            file.flush()
+            for ran in (launched("calc", given=text), launched("calc", file.name)):
+                self.assertEqual((3, b"bad kasme\nbad count\n", said), (ran.returncode, ran.stdout, ran.stderr.decode()))
+
+    def test_an_answer_comes_before_the_next_line_is_given(self):
+        with subprocess.Popen([TOP / "lte_sec", "calc"], stdin=subprocess.PIPE, stdout=subprocess.PIPE, stderr=subprocess.PIPE) as process:
+            for _ in range(3):
+                process.stdin.write(b"kenb 00 0\n")
+                process.stdin.flush()
+                self.assertEqual(b"bad kasme\n", process.stdout.readline())
+            process.stdin.close()
+            self.assertEqual(3, len(process.stderr.read().splitlines()))
+
+    def test_a_mac_that_fails_is_a_status_where_it_is_asked_for(self):
+        key = "000102030405060708090a0b0c0d0e0f101112131415161718191a1b1c1d1e1f"
+        right, wrong = f"nas {key} 2 0 uplink 270a76966105e7a452c4b5\n".encode(), f"nas {key} 2 0 uplink 270a76966005e7a452c4b5\n".encode()
+        for words, text, status, said in (
+            (["--strict"], right, 0, b""),
+            (["--strict"], right + wrong + wrong, 1, b"lte_sec: status 1: 2 lines with a MAC that fails\n"),
+            (["--strict"], wrong + b"kenb 0 0\n", 3, b"lte_sec: line 2: kasme has 1 digit; it must have 64\n"),
+            ([], wrong, 0, b""),
+        ):
+            ran = launched("calc", *words, given=text)
+            self.assertEqual((status, said), (ran.returncode, ran.stderr), text)
 
 
 class Page(unittest.TestCase):

@@ -1,6 +1,6 @@
 """Makes the wheel that `pip install ./python` installs: the package and the library beside it. It needs no network.
 
-The library is the one that `./lte_sec library` leaves in library/built, or what LTE_SEC_LIBRARY names.
+The library is the one that `./lte_sec library` leaves in library/built, or the file that LTE_SEC_LIBRARY names.
 """
 from __future__ import annotations
 
@@ -31,7 +31,7 @@ def _record(name: str, content: bytes) -> str:
 def build_wheel(wheel_directory: str, config_settings: object = None, metadata_directory: str | None = None) -> str:
     """Writes the wheel into a folder, and answers its name."""
     if not LIBRARY.is_file():
-        sys.exit(f"{LIBRARY} is not built: run ./lte_sec library")
+        sys.exit(f"{LIBRARY} is not built: run ./lte_sec library; if it is elsewhere, name it, as LTE_SEC_LIBRARY=FOLDER/liblte_sec.so pip install ./python")
     project = _project()
     stem, tag = f"{project['name']}-{project['version']}", f"py3-none-linux_{platform.machine()}"
     about = f"{stem}.dist-info"
