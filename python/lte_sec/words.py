@@ -1,6 +1,7 @@
-"""The words of the launcher that read traces: check-trace, explain, wireshark, repeats."""
+"""The words of the launcher on traces: check-trace, explain, wireshark, repeats; and vectors."""
 from __future__ import annotations
 
+import json
 import sys
 from collections.abc import Callable
 from pathlib import Path
@@ -13,6 +14,7 @@ from .repeats import first_repeat
 from .report import NOTE, status
 from .terms import Derivations, TraceError, kasmes_of
 from .trace import Trace
+from .vectors import MOST, SEEDS, USUAL, document
 from .reading import check
 from .wireshark import rows
 
@@ -20,6 +22,7 @@ USAGE = {
     "check-trace": "check-trace [--plain] [--cells FILE] CAPTURE.. KASME..   judges each key and NAS message of a capture",
     "explain": "explain [--cells FILE] [--cell PCI,EARFCN].. [--counts N] [--depth N] [--keys FILE] KASME..   says which derivation each key of a text is",
     "wireshark": "wireshark [--cells FILE] CAPTURE.. KASME..   prints the PDCP keys of a capture as Wireshark's table",
+    "vectors": "vectors [--seed N] [--count N]   prints test vectors",
     "repeats": "repeats [FILE]   tells the first key, bearer, direction and COUNT that come twice",
 }
 READ, BAD_WORDS = 2, 2
@@ -118,6 +121,17 @@ def repeats(words: list[str]) -> int:
     return 1 if found else 0
 
 
+def vectors(words: list[str]) -> int:
+    given = Words(words, ("--seed", "--count"))
+    if given.files or given.kasmes:
+        raise TraceError("vectors takes --seed N and --count N")
+    seed, count = given.options.get("--seed", ["1"])[-1], given.number("--count", USUAL, MOST)
+    if not seed.isdigit() or int(seed) >= SEEDS:
+        raise TraceError(f"--seed is 0 to {SEEDS - 1}: {seed}")
+    print(json.dumps(document(int(seed), count), indent=1))
+    return 0
+
+
 def opened(file: Path) -> list[str]:
     try:
         return file.read_text(encoding="utf-8", errors="replace").splitlines()
@@ -125,7 +139,7 @@ def opened(file: Path) -> list[str]:
         raise TraceError(f"{file} cannot be read: {fault.strerror}") from None
 
 
-COMMANDS: dict[str, Callable[[list[str]], int]] = {"check-trace": check_trace, "explain": explain, "wireshark": wireshark, "repeats": repeats}
+COMMANDS: dict[str, Callable[[list[str]], int]] = {"check-trace": check_trace, "explain": explain, "wireshark": wireshark, "repeats": repeats, "vectors": vectors}
 
 
 def main(words: list[str]) -> int:
