@@ -73,15 +73,15 @@ def draw_from(picture, row, x, y, number):
     return max(bottom, at)
 
 
-def draw(text):
-    """The picture of a report, and why there is none."""
+def draw(text, name):
+    """The picture of a report, under a name, and why there is none."""
     report = text.splitlines()
     if not any(line.startswith("row ") for line in report):
         return None, "it has no rows of keys"
-    return picture_of(report), None
+    return picture_of(report, name), None
 
 
-def picture_of(report):
+def picture_of(report, name):
     rows, picture = rows_of(report), Picture()
     numbers = {}
     for row in rows.values():
@@ -89,7 +89,7 @@ def picture_of(report):
             numbers[row.number] = 0
         elif row.word == "nh":
             numbers[row.number] = numbers.get(int(row.values[1]), 0) + 1
-    picture.text(20, 26, "The ladder of keys", 16, weight="bold")
+    picture.text(20, 26, name, 16, weight="bold")
     picture.text(20, 45, "Each key stands right of or below the key it is derived from; dashed: the SYNC-input of an NH (TS 33.401 A.3 to A.7).", 11, colour="#52606d")
     picture.text(20, 60, "Its first and last four octets, and who has held it: P phone, C core, S0 .. stations.", 11, colour="#52606d")
     y = 80
@@ -113,4 +113,4 @@ def picture_of(report):
                 x = 20 + STEP - 14
                 picture.line([(20 + STEP, places[sync.number] + 40), (x, places[sync.number] + 40), (x, places[row.number] + 40), (20 + STEP, places[row.number] + 40)], dashed=True)
         y = max(below, at) + 10
-    return picture.svg("The ladder of keys")
+    return picture.svg(name)

@@ -9,6 +9,8 @@ from .picture import INK, MONO, PALE, RED, Picture
 
 KEY_FILLS = ["#cfe3ff", "#ffe8c7", "#cdeed6", "#f6d5e6", "#e3d9f7", "#f3f0b5", "#c9eef0", "#f5cfc5", "#d9e8c4", "#d7dbe0"]
 
+KINDS = {"kenb": "KeNB", "star": "KeNB*", "nh": "NH"}
+ROW = re.compile(r"row (\d+) (\w+)(?:\([\d,]*\))? ([0-9a-f]{64}) ")
 LINE = re.compile(r"(?P<step>\d+) (?P<who>both|phone|core(?: \d)?|world|station \d) (?P<answer>\w+)(?P<rest>.*)")
 
 # What is sent, by who sends it and what made it: an act, or the message that came.
@@ -111,8 +113,14 @@ def said(event):
 LANE = 262  # the distance between lanes
 
 
-def draw(text, scenario):
-    """The picture of a report of this scenario, and why there is none."""
+def names_of(report):
+    """Of each key of the ladder its kind and its row."""
+    rows = [ROW.match(line) for line in report if line.startswith("row ")]
+    return {row[3]: f"{KINDS.get(row[2], row[2])} {row[1]}" for row in rows if row}
+
+
+def draw(text, scenario, name):
+    """The picture of a report of this scenario, under its name, and why there is none."""
     report = text.splitlines()
     if not report or not LINE.match(report[0]):
         return None, "it has no steps"
@@ -120,19 +128,20 @@ def draw(text, scenario):
     steps = len(scenario.get("step", []))
     if ends and int(ends[0]) != steps:
         return None, f"it has {ends[0]} steps, and the scenario {steps}"
-    return picture_of(report, scenario), None
+    return picture_of(report, scenario, name), None
 
 
-def picture_of(report, scenario):
+def picture_of(report, scenario, name):
+    names = names_of(report)
     steps, records = steps_of(report, scenario)
     cores = sorted({line.who for line, *_ in steps if line.who.startswith("core")}) or ["core"]
     lanes = ["phone", *(f"station {s['id']}" for s in sorted(scenario["station"], key=lambda s: s["id"])), *cores]
-    x_of = {lane: 110 + LANE * place for place, lane in enumerate(lanes)}
+    x_of = {lane: 150 + LANE * place for place, lane in enumerate(lanes)}
     picture, fills, y = Picture(), {}, 78
     delivered = {came[0] for _, _, came, _ in steps if came}
-    picture.text(20, 26, "The messages", 16, weight="bold")
+    picture.text(20, 26, name, 16, weight="bold")
     picture.text(20, 45, "Each arrow is a delivery, at its step, with the number of the record. A key that an actor comes by or tells stands on its line,", 11, colour="#52606d")
-    picture.text(20, 60, "with NCC and way; one colour is one key.", 11, colour="#52606d")
+    picture.text(20, 60, "with its kind, its row of the ladder, NCC and way. One number is one key.", 11, colour="#52606d")
     begin, later = y, []
     y += 44
     for number, (line, event, came, sent) in enumerate(steps):
@@ -156,7 +165,8 @@ def picture_of(report, scenario):
             later.append(("opened", at[0], below, f"opens to {line.text or 'an empty text'}"))
         if line.note:
             fill = fills.setdefault(line.note[0], KEY_FILLS[len(fills) % len(KEY_FILLS)])
-            later.append(("key", at[0], below + 4, line.note, fill))
+            key, way, ncc = line.note
+            later.append(("key", at[0], below + 4, (f"{names.get(key, '')} {key[:8]}..".strip(), way, ncc), fill))
             below += 24
         if sent and sent[0] not in delivered:
             below += 16
@@ -172,7 +182,7 @@ def picture_of(report, scenario):
         if " coincidence " in text:
             picture.text(20, y + 16, text.split(" coincidence ")[0] + " coincidence: the run ends here", 12, colour=RED, weight="bold")
     picture.reach(x_of[lanes[-1]] + 150, y)
-    return picture.svg("The messages")
+    return picture.svg(name)
 
 
 def draw_item(picture, what, *values):
@@ -190,9 +200,9 @@ def draw_item(picture, what, *values):
             picture.text((source + target) / 2, y - 5, words, 11, anchor="middle")
     elif what == "key":
         x, y, (key, way, ncc), fill = values
-        picture.box(x - 96, y, 192, 18, fill)
-        picture.text(x - 90, y + 13, f"{key[:8]}..", 10.5, MONO)
-        picture.text(x + 90, y + 13, f"NCC {ncc}, {way}", 10.5, anchor="end")
+        picture.box(x - 116, y, 232, 18, fill)
+        picture.text(x - 110, y + 13, key, 10.5, MONO)
+        picture.text(x + 110, y + 13, f"NCC {ncc}, {way}", 10.5, anchor="end")
     else:
         x, y, words = values
         colour = {"refusal": RED, "lost": PALE, "act": INK, "opened": INK}[what]
