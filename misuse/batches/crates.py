@@ -4,12 +4,16 @@ import functools
 import os
 import pathlib
 import shutil
+import signal
 import subprocess
 import tempfile
 
 from batches.edits import Texts
 
 PARTS = ("src", "specs", "proofs")
+
+# The checks that run, by their ids.
+RUNNING: set[int] = set()
 
 
 class Unfit(Exception):
@@ -104,14 +108,14 @@ def words_of(crate: Crate) -> list[str]:
 
 def build_libraries(crate: Crate) -> None:
     """Sees to the libraries below a crate. Right after `rt ci` all stand there as it built them, with no stamp of a session's check and newer
-    than the files that they were built from; else rt builds those that changed."""
+    than the files that they were built from. Else rt builds those that changed, and begins with what checks of the crate kept on this machine."""
     stamped = any((it.folder / "out/rlib/stamp").exists() for it in crate.below)
     if not stamped and all(it.library.is_dir() and is_newer(it) for it in crate.below):
         return
-    for it in crate.named:
-        ran = subprocess.run(["rt", "lib"], cwd=it.folder, stdin=subprocess.DEVNULL, stdout=subprocess.PIPE, stderr=subprocess.STDOUT)
-        if ran.returncode:
-            raise Unfit(f"{it.name} is not proved, so nothing above it can be tried: run rt check in its folder")
+    ran = subprocess.run(["rt", "check", "--only", ""], cwd=crate.folder, stdin=subprocess.DEVNULL, capture_output=True, text=True)
+    if ran.returncode:
+        last = (ran.stdout.strip() or ran.stderr.strip()).split("\n")[-1]
+        raise Unfit(f"nothing can be tried over {crate.name} as it stands: run rt check in its folder. It said: {last}")
 
 
 def is_newer(crate: Crate) -> bool:
@@ -143,10 +147,19 @@ def check(crate: Crate, texts: Texts, only: list[str]) -> Ran:
             words += ["--incremental", f"{room}/kept"]
         with open(f"{room}/said", "wb+") as said:
             ran = subprocess.Popen(words, cwd=f"{room}/copy", stdin=subprocess.DEVNULL, stdout=said, stderr=subprocess.STDOUT)
+            RUNNING.add(ran.pid)
             _, status, used = os.wait4(ran.pid, 0)
+            RUNNING.discard(ran.pid)
             ran.returncode = os.waitstatus_to_exitcode(status)
             said.seek(0)
             return Ran(ran.returncode, said.read().decode("utf-8", "replace"), used.ru_utime + used.ru_stime)
+
+
+def end_all(number: int, _frame: object) -> None:
+    """Ends the checks that run, and then the command, at a signal that ends it."""
+    for process in list(RUNNING):
+        os.kill(process, signal.SIGKILL)
+    os._exit(128 + number)
 
 
 def copy_kept(kept: pathlib.Path, to: pathlib.Path) -> None:

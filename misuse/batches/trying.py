@@ -134,4 +134,5 @@ def number_of_lanes() -> int:
         return int(named)
     with open("/proc/meminfo", encoding="utf-8") as lines:
         free = next((int(it.split()[1]) for it in lines if it.startswith("MemAvailable:")), MEMORY)
-    return max(1, min(len(os.sched_getaffinity(0)), free // MEMORY))
+    processors = len(os.sched_getaffinity(0))
+    return max(1, processors if processors * MEMORY <= free else free // MEMORY)
