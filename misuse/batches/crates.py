@@ -12,8 +12,8 @@ from batches.edits import Texts
 
 PARTS = ("src", "specs", "proofs")
 
-# The checks that run, by their ids.
-RUNNING: set[int] = set()
+# The checks that run, by their ids, with the folder of each.
+RUNNING: dict[int, str] = {}
 
 
 class Unfit(Exception):
@@ -147,9 +147,9 @@ def check(crate: Crate, texts: Texts, only: list[str]) -> Ran:
             words += ["--incremental", f"{room}/kept"]
         with open(f"{room}/said", "wb+") as said:
             ran = subprocess.Popen(words, cwd=f"{room}/copy", stdin=subprocess.DEVNULL, stdout=said, stderr=subprocess.STDOUT)
-            RUNNING.add(ran.pid)
+            RUNNING[ran.pid] = room
             _, status, used = os.wait4(ran.pid, 0)
-            RUNNING.discard(ran.pid)
+            del RUNNING[ran.pid]
             ran.returncode = os.waitstatus_to_exitcode(status)
             said.seek(0)
             return Ran(ran.returncode, said.read().decode("utf-8", "replace"), used.ru_utime + used.ru_stime)
@@ -157,8 +157,9 @@ def check(crate: Crate, texts: Texts, only: list[str]) -> Ran:
 
 def end_all(number: int, _frame: object) -> None:
     """Ends the checks that run, and then the command, at a signal that ends it."""
-    for process in list(RUNNING):
+    for process, room in list(RUNNING.items()):
         os.kill(process, signal.SIGKILL)
+        shutil.rmtree(room, ignore_errors=True)
     os._exit(128 + number)
 
 
