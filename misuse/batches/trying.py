@@ -31,15 +31,16 @@ class Tried:
 class Trying:
     """The edits of one crate while they are tried."""
 
-    def __init__(self, crate: Crate) -> None:
+    def __init__(self, crate: Crate, kept: Kept) -> None:
+        self.kept = kept
         self.texts: Texts = crate.texts()
         self.done = Tried(crate, {})
 
-    def all(self, edits: list[Edit], kept: Kept) -> Tried:
+    def all(self, edits: list[Edit]) -> Tried:
         """Tries the edits that no earlier run refused."""
         crate, placed = self.done.crate, []
         for edit in edits:
-            known = kept.find(crate, edit)
+            known = self.kept.find(crate, edit)
             if known:
                 self.done.found[edit] = known
                 continue
@@ -50,8 +51,6 @@ class Trying:
         self.done.tried = len(placed)
         for batch in plan.batches(placed, self.texts):
             self.batch(batch)
-        for it in placed:
-            kept.keep(crate, it.edit, self.done.found[it.edit])
         return self.done
 
     def batch(self, batch: plan.Batch) -> None:
@@ -65,6 +64,7 @@ class Trying:
             if verdict.kind in (Kind.PROVED, Kind.UNCLEAR) and not it.is_alone:
                 verdict = self.by_itself(it)
             self.done.found[it.edit] = verdict
+            self.kept.keep(self.done.crate, it.edit, verdict)
 
     def retry(self, batch: plan.Batch, why: Verdict) -> None:
         """Tries the halves of a batch that the prover never read, down to the edit that is in the way."""
@@ -104,7 +104,7 @@ def try_all(edits: dict[Crate, list[Edit]], kept: Kept, tell: "Tell") -> list[Tr
             if not all(kept.find(crate, it) for it in of_it):
                 with libraries:
                     build_libraries(crate)
-            tried = Trying(crate).all(of_it, kept)
+            tried = Trying(crate, kept).all(of_it)
             tell(tried)
             return tried
 
