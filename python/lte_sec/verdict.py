@@ -328,7 +328,10 @@ def main(words: list[str]) -> int:
     except (NoReport, UnicodeDecodeError) as wrong:
         print(f"lte_sec: this is not a report of run: {wrong}", file=sys.stderr)
         return 3
-    print(json.dumps(verdict.document(), indent=1)) if words == ["--json"] else print(*verdict.lines(), sep="\n")
+    try:
+        print(json.dumps(verdict.document(), indent=1) if words == ["--json"] else "\n".join(verdict.lines()), flush=True)
+    except BrokenPipeError:  # whoever read what is printed has read enough
+        sys.stderr.close()
     return verdict.status
 
 
