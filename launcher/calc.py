@@ -24,7 +24,7 @@ def of_hex(word: str) -> str | None:
     """Why a word is no octets."""
     other = next((letter for letter in word if letter not in "0123456789abcdefABCDEF"), None)
     if word[:2] in ("0x", "0X"):
-        return "begins with 0x; it must be hex digits alone"
+        return "begins with 0x"
     return None if other is None else f"has {other!r}, which is not a hex digit"
 
 
