@@ -2,7 +2,7 @@
 import math
 import re
 
-from .picture import PALE, Picture
+from lte_sec.picture import PALE, Picture
 
 CRATE, LANE_OF_LINES, ROW, TESTS = 122, 15, 56, "Tests"  # the width of a crate's place and of a line's, the height of a row
 BANDS = ["#f3f0b5", "#cfe3ff", "#c9eef0", "#cdeed6", "#e3d9f7", "#f6d5e6", "#ffe8c7", "#d9e8c4", "#f5cfc5", "#e4e7eb"]

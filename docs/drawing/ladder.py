@@ -2,7 +2,7 @@
 
 The chain runs down (KeNB, and each NH with the key above it as SYNC-input, dashed), and to the right the keys of cells.
 """
-from .picture import MONO, Picture
+from lte_sec.picture import MONO, Picture
 
 FILLS = {"root": "#e4e7eb", "kenb": "#cfe3ff", "nh": "#cdeed6", "star": "#ffe8c7"}
 NAMES = {"1": "NAS encryption", "2": "NAS integrity", "3": "RRC encryption", "4": "RRC integrity", "5": "user plane encryption"}

@@ -5,42 +5,13 @@ what made its sender send it.
 """
 import re
 
-from .picture import INK, MONO, PALE, RED, Picture
+from lte_sec.messages import LINE, Line, Names
+from lte_sec.picture import INK, MONO, PALE, RED, Picture
 
 KEY_FILLS = ["#cfe3ff", "#ffe8c7", "#cdeed6", "#f6d5e6", "#e3d9f7", "#f3f0b5", "#c9eef0", "#f5cfc5", "#d9e8c4", "#d7dbe0"]
 
 KINDS = {"kenb": "KeNB", "star": "KeNB*", "nh": "NH"}
 ROW = re.compile(r"row (\d+) (\w+)(?:\([\d,]*\))? ([0-9a-f]{64}) ")
-LINE = re.compile(r"(?P<step>\d+) (?P<who>both|phone|core(?: \d)?|world|station \d) (?P<answer>\w+)(?P<rest>.*)")
-
-# What is sent, by who sends it and what made it: an act, or the message that came.
-SENT = {
-    ("core", "smc"): "NAS Security Mode Command",
-    ("core", "connect"): "Initial Context Setup Request",
-    ("core", "release"): "UE Context Release Command",
-    ("core", "nas"): "NAS text",
-    ("core", "NAS Security Mode Complete"): "UE Context Modification Request",
-    ("core", "Path Switch Request"): "Path Switch Request Acknowledge",
-    ("core", "Handover Required"): "Handover Request",
-    ("core", "Handover Request Acknowledge"): "Handover Command",
-    ("core", "Handover Notify"): "UE Context Release Command",
-    ("core", "Handover Cancel"): "Handover Cancel",
-    ("phone", "service"): "Service Request",
-    ("phone", "nas"): "NAS text",
-    ("phone", "resend"): "RRC Reconfiguration Complete",
-    ("phone", "NAS Security Mode Command"): "NAS Security Mode Complete",
-    ("phone", "RRC Security Mode Command"): "RRC Security Mode Complete",
-    ("phone", "RRC Reconfiguration"): "RRC Reconfiguration Complete",
-    ("station", "x2"): "X2 Handover Request",
-    ("station", "s1"): "Handover Required",
-    ("station", "command"): "RRC Reconfiguration",
-    ("station", "ask"): "Path Switch Request",
-    ("station", "Initial Context Setup Request"): "RRC Security Mode Command",
-    ("station", "UE Context Modification Request"): "RRC Reconfiguration",
-    ("station", "X2 Handover Request"): "X2 Handover Request Acknowledge",
-    ("station", "Handover Request"): "Handover Request Acknowledge",
-    ("station", "Path Switch Request Acknowledge"): "X2 UE Context Release",
-}
 DOES = {
     "smc": "starts NAS security", "connect": "sets up a connection", "release": "releases the connection", "service": "asks for service",
     "resend": "sends its Complete again", "idle": "leaves the connection", "x2": "opens a handover over X2", "s1": "opens a handover over S1",
@@ -48,49 +19,21 @@ DOES = {
 }
 
 
-class Line:
-    def __init__(self, text):
-        match = LINE.match(text)
-        self.who, self.answer, rest = match["who"], match["answer"], match["rest"]
-        values = dict(part.split("=", 1) for part in rest.split() if "=" in part)
-        sent = values.get("sent", "").split(":")
-        self.sent, self.kind = (int(sent[0]), sent[1]) if len(sent) == 2 else (None, None)
-        self.note = (values["key"], values["way"], values["ncc"]) if "key" in values else None
-        self.text = values.get("text")
-        self.alarm = rest.endswith(" alarm")
-
-
-def name_of(line, cause, origins):
-    """What a step sends, by who took the step and what brought it."""
-    who = line.who.split()[0]
-    if cause in ("user", "rrc"):
-        return "user packet" if cause == "user" else "RRC text"
-    if cause == "cancel":
-        return "X2 Handover Cancel" if line.kind == "x2" else "Handover Cancel"
-    if who == "phone" and cause == "NAS Security Mode Command" and line.answer != "done":
-        return "NAS Security Mode Reject"
-    if who == "station" and cause == "RRC Reconfiguration Complete":
-        return "Handover Notify" if origins.get((line.who, line.note and line.note[0])) == "Handover Request" else "Path Switch Request"
-    return SENT.get((who, cause), "record")
-
-
 def steps_of(report, scenario):
     """Of each step its line, its event, what came in it (record, sender, name) and what it sent (record, name)."""
-    records, origins, steps = [], {}, []
+    records, names, steps = [], Names(), []
     for event, text in zip(scenario.get("step", []), report):
         if not LINE.match(text):
             break
-        line, came, sent = Line(text), None, None
+        line, came, sent = Line.read(text), None, None
         cause = event["do"]
         if cause == "deliver":
             at = event["record"] if event["record"] >= 0 else len(records) + event["record"]
             if 0 <= at < len(records):
                 came = (at, *records[at])
                 cause = came[2]
-        if line.note:
-            origins.setdefault((line.who, line.note[0]), cause)
+        name = names.of(line, cause)
         if line.sent is not None:
-            name = name_of(line, cause, origins)
             records.append((line.who, name))
             sent = (line.sent, name)
         steps.append((line, event, came, sent))
@@ -164,8 +107,8 @@ def picture_of(report, scenario, name):
             below += 14
             later.append(("opened", at[0], below, f"opens to {line.text or 'an empty text'}"))
         if line.note:
-            fill = fills.setdefault(line.note[0], KEY_FILLS[len(fills) % len(KEY_FILLS)])
-            key, way, ncc = line.note
+            fill = fills.setdefault(line.note.key, KEY_FILLS[len(fills) % len(KEY_FILLS)])
+            key, way, ncc = line.note.key, line.note.way, line.note.ncc
             later.append(("key", at[0], below + 4, (f"{names.get(key, '')} {key[:8]}..".strip(), way, ncc), fill))
             below += 24
         if sent and sent[0] not in delivered:

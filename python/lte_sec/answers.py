@@ -1,0 +1,184 @@
+"""The answer of `what-if`: gathered, written as JSON and read again, merged of parts, and told as a table."""
+from __future__ import annotations
+
+from collections import Counter
+from collections.abc import Iterable, Iterator
+from dataclasses import dataclass, field
+from itertools import groupby
+from typing import Any
+
+from .outcomes import GOES_ON, RANK, limit
+from .study import Variant
+from .variants import KINDS, Fault
+
+MANY = {1: "variant", 2: "pair", 3: "triple"}
+LINK = "docs/SCENARIOS.md#where-a-product-does-more"
+
+
+class NoParts(Exception):
+    """Why files are not the parts of one answer."""
+
+
+@dataclass
+class Answer:
+    """What was tried of a scenario: how, its messages, the variants of one fault, those of more that bring something new, and counts."""
+
+    tried: dict[str, Any]
+    messages: dict[str, str]
+    singles: list[Variant] = field(default_factory=list)
+    together: list[Variant] = field(default_factory=list)
+    counts: dict[int, Counter[str]] = field(default_factory=dict)
+    part: tuple[int, int] | None = None
+    whole: bool = True
+
+    def take(self, variants: Iterable[Variant]) -> None:
+        for variant in variants:
+            self.singles.append(variant)
+            self.counts.setdefault(1, Counter())[variant.worst] += 1
+
+    def sort(self) -> None:
+        self.singles.sort(key=order)
+        self.together.sort(key=order)
+
+    def worst(self) -> str | None:
+        """The worst outcome of all, or None where nothing was tried."""
+        words = [word for counts in self.counts.values() for word in counts]
+        return max(words, key=RANK.__getitem__) if words else None
+
+
+def order(variant: Variant) -> tuple[int, list[tuple[int, int, int]]]:
+    """Variants stand by the number of their faults, and then by message, kind and place."""
+    return len(variant.faults), [(int(fault.item), KINDS.index(fault.kind), int(fault.after or 0)) for fault in variant.faults]
+
+
+# As JSON
+
+def to_json(answer: Answer) -> dict[str, Any]:
+    return {
+        "tried": answer.tried,
+        "part": f"{answer.part[0]}/{answer.part[1]}" if answer.part else None,
+        "whole": answer.whole,
+        "messages": [{"step": int(step), "message": message} for step, message in answer.messages.items()],
+        "variants": [variant_json(variant, answer.messages) for variant in [*answer.singles, *answer.together]],
+        "counts": {str(faults): {word: counts[word] for word in RANK if counts[word]} for faults, counts in sorted(answer.counts.items())},
+    }
+
+
+def variant_json(variant: Variant, messages: dict[str, str]) -> dict[str, Any]:
+    faults = [
+        {"kind": fault.kind, "step": int(fault.item), "message": messages[fault.item]} | ({"after": int(fault.after)} if fault.after else {})
+        for fault in variant.faults
+    ]
+    outcomes = [{"is": word, "what": what, "limit": limit(variant, word, messages)} for word, what in variant.outcomes.items()]
+    return {"faults": faults, "outcomes": outcomes, "answers": variant.answers}
+
+
+def from_json(it: dict[str, Any]) -> Answer:
+    part = it["part"]
+    numbers = part.split("/") if part else []
+    answer = Answer(it["tried"], {str(each["step"]): each["message"] for each in it["messages"]}, whole=it["whole"])
+    answer.part = (int(numbers[0]), int(numbers[1])) if numbers else None
+    for each in it["variants"]:
+        faults = tuple(Fault(one["kind"], str(one["step"]), str(one["after"]) if "after" in one else None) for one in each["faults"])
+        variant = Variant(faults, {one["is"]: one["what"] for one in each["outcomes"]}, each["answers"])
+        (answer.singles if len(faults) == 1 else answer.together).append(variant)
+    answer.counts = {int(faults): Counter(counts) for faults, counts in it["counts"].items()}
+    return answer
+
+
+def merged(parts: list[Answer]) -> Answer:
+    """The whole of which these are the parts."""
+    first = parts[0]
+    if any((part.tried, part.messages) != (first.tried, first.messages) for part in parts):
+        raise NoParts("they are of different scenarios or options")
+    if not all(part.whole for part in parts):
+        raise NoParts("one was interrupted")
+    number = first.part[1] if first.part else 1
+    have = sorted(part.part or (1, 1) for part in parts)
+    if have != [(each, number) for each in range(1, number + 1)]:
+        raise NoParts(f"the parts are {', '.join(f'{each}/{of}' for each, of in have)}, and each of 1/{number} to {number}/{number} is wanted once")
+    whole = Answer(first.tried, first.messages)
+    for part in parts:
+        whole.singles += part.singles
+        whole.together += part.together
+        for faults, counts in part.counts.items():
+            whole.counts.setdefault(faults, Counter()).update(counts)
+    whole.sort()
+    return whole
+
+
+# As a table
+
+def table(answer: Answer) -> Iterator[str]:
+    """The lines: a table of messages and faults, each outcome worse than `goes on`, and the counts."""
+    kinds: list[str] = [kind for kind in KINDS if kind in answer.tried["kinds"]]
+    cells = {place: list(variants) for place, variants in groupby(answer.singles, lambda it: (it.faults[0].item, it.faults[0].kind))}
+    width = max([len("message"), *map(len, answer.messages.values())])
+    yield f"{'step':>4} {'message':<{width}}" + "".join(f"  {kind:<20}" for kind in kinds).rstrip()
+    for step, message in answer.messages.items():
+        yield f"{step:>4} {message:<{width}}" + "".join(f"  {cell(cells.get((step, kind), [])):<20}" for kind in kinds).rstrip()
+    told = [*tellings(answer.singles, answer.messages), *tellings(answer.together, answer.messages)]
+    if told:
+        yield ""
+        yield from told
+    yield ""
+    if any(" (here; " in line for line in told):
+        yield f"here: a limit of this profile and not of LTE, see {LINK}"
+    yield "; ".join(counted(faults, answer) for faults in sorted(answer.counts)) or "no variant"
+
+
+def cell(variants: list[Variant]) -> str:
+    """The worst outcome of a message and a kind of fault, and at how many of its places it comes."""
+    if not variants:
+        return "-"
+    worst = max((variant.worst for variant in variants), key=lambda word: RANK[word])
+    at = sum(variant.worst == worst for variant in variants)
+    return worst if at == len(variants) else f"{worst} {at}/{len(variants)}"
+
+
+def tellings(variants: list[Variant], messages: dict[str, str]) -> Iterator[str]:
+    """A line for variants that differ only in a place."""
+    bad = [variant for variant in variants if RANK[variant.worst] > RANK[GOES_ON]]
+    groups: dict[tuple[object, ...], list[Variant]] = {}
+    for variant in bad:
+        last = variant.faults[-1]
+        key = (variant.faults[:-1], last.kind, last.item, tuple(variant.outcomes.items()), tuple(variant.answers))
+        groups.setdefault(key, []).append(variant)
+    for group in groups.values():
+        first = group[0]
+        faults = [*(of_fault(fault, messages) for fault in first.faults[:-1]), of_faults([variant.faults[-1] for variant in group], messages)]
+        outcomes = "; ".join(outcome(first, word, messages) for word in first.outcomes)
+        yield f"{' and '.join(faults)}: {outcomes}" + (f", from {', '.join(first.answers)}" if first.answers else "")
+
+
+def outcome(variant: Variant, word: str, messages: dict[str, str]) -> str:
+    """An outcome with its limit and what it is about."""
+    here, what = limit(variant, word, messages), variant.outcomes[word]
+    return word + (f" (here; {here})" if here else "") + (f" [{what}]" if what else "")
+
+
+def of_fault(fault: Fault, messages: dict[str, str]) -> str:
+    return of_faults([fault], messages)
+
+
+def of_faults(faults: list[Fault], messages: dict[str, str]) -> str:
+    """Faults of one message and kind, in words."""
+    first = faults[0]
+    after = f" after {', '.join(str(fault.after) for fault in faults)}" if first.after is not None else ""
+    return f"{first.item} {messages[first.item]} {first.kind}{after}"
+
+
+def counted(faults: int, answer: Answer) -> str:
+    """How many variants of so many faults there are, and how many have which worst outcome."""
+    counts = answer.counts[faults]
+    number = sum(counts.values())
+    what = f"{number:,} {MANY[faults]}{'' if number == 1 else 's'}" + (f" of {len(answer.messages)} messages" if faults == 1 else "")
+    words = [f"{counts[word]:,} {word}" for word in reversed(RANK) if counts[word]]
+    new = sum(len(variant.faults) == faults for variant in answer.together)
+    more = f", {new:,} of which bring{'s' if new == 1 else ''} something new" if faults > 1 else ""
+    return f"{what}{more}: {', '.join(words)}"
+
+
+def line(variant: Variant) -> str:
+    """A variant in a line of its own."""
+    return f"{' + '.join(map(str, variant.faults))}: {', '.join(variant.outcomes)}"

@@ -1,0 +1,101 @@
+"""The lines of a report of `run`, and the messages that its steps send.
+
+A report does not say what a record is, so a message has its name, in words of S1AP, X2AP, RRC and NAS, by what made its sender
+send it.
+"""
+from __future__ import annotations
+
+import re
+from dataclasses import dataclass
+
+LINE = re.compile(r"(\d+) (both|phone|core(?: \d)?|world|station \d) (\w+)(.*)")
+SENT = re.compile(r" sent=(\d+):(\w+)")
+NOTE = re.compile(r" ncc=(\d) way=(\w+) key=([0-9a-f]{64})")
+TEXT = re.compile(r" text=([0-9a-f]*)")
+
+# What is sent, by who sends it and what made it: an act, or the message that came.
+NAMES = {
+    ("core", "smc"): "NAS Security Mode Command",
+    ("core", "connect"): "Initial Context Setup Request",
+    ("core", "release"): "UE Context Release Command",
+    ("core", "nas"): "NAS text",
+    ("core", "NAS Security Mode Complete"): "UE Context Modification Request",
+    ("core", "Path Switch Request"): "Path Switch Request Acknowledge",
+    ("core", "Handover Required"): "Handover Request",
+    ("core", "Handover Request Acknowledge"): "Handover Command",
+    ("core", "Handover Notify"): "UE Context Release Command",
+    ("core", "Handover Cancel"): "Handover Cancel",
+    ("phone", "service"): "Service Request",
+    ("phone", "nas"): "NAS text",
+    ("phone", "resend"): "RRC Reconfiguration Complete",
+    ("phone", "NAS Security Mode Command"): "NAS Security Mode Complete",
+    ("phone", "RRC Security Mode Command"): "RRC Security Mode Complete",
+    ("phone", "RRC Reconfiguration"): "RRC Reconfiguration Complete",
+    ("station", "x2"): "X2 Handover Request",
+    ("station", "s1"): "Handover Required",
+    ("station", "command"): "RRC Reconfiguration",
+    ("station", "ask"): "Path Switch Request",
+    ("station", "Initial Context Setup Request"): "RRC Security Mode Command",
+    ("station", "UE Context Modification Request"): "RRC Reconfiguration",
+    ("station", "X2 Handover Request"): "X2 Handover Request Acknowledge",
+    ("station", "Handover Request"): "Handover Request Acknowledge",
+    ("station", "Path Switch Request Acknowledge"): "X2 UE Context Release",
+}
+
+
+@dataclass(frozen=True, slots=True)
+class Note:
+    """A key that an actor came by, or tells: its octets, how it was come by, and its NCC."""
+
+    key: str
+    way: str
+    ncc: str
+
+
+@dataclass(frozen=True, slots=True)
+class Line:
+    """A line of a report: who took the step, the answer, the record sent and its kind, the note and the text."""
+
+    who: str
+    answer: str
+    sent: int | None
+    kind: str
+    note: Note | None
+    text: str | None
+    alarm: bool
+
+    @classmethod
+    def read(cls, line: str) -> Line | None:
+        """The line of a step, or None where it is another one."""
+        found = LINE.match(line)
+        if not found:
+            return None
+        _, who, answer, rest = found.groups()
+        sent, note, text = SENT.search(rest), NOTE.search(rest), TEXT.search(rest)
+        return cls(
+            who, answer, int(sent[1]) if sent else None, sent[2] if sent else "", Note(note[3], note[2], note[1]) if note else None,
+            text[1] if text else None, rest.endswith(" alarm"),
+        )
+
+
+class Names:
+    """The names of what the steps of a run send, told step by step."""
+
+    def __init__(self) -> None:
+        self.origins: dict[tuple[str, str], str] = {}
+
+    def of(self, line: Line, cause: str) -> str:
+        """What a step sends, by its line and by what brought it: an act, or the name of the message that came."""
+        if line.note:
+            self.origins.setdefault((line.who, line.note.key), cause)
+        who = line.who.split()[0]
+        if cause in ("user", "rrc"):
+            return "user packet" if cause == "user" else "RRC text"
+        if cause == "cancel":
+            return "X2 Handover Cancel" if line.kind == "x2" else "Handover Cancel"
+        if who == "phone" and cause == "NAS Security Mode Command" and line.answer != "done":
+            return "NAS Security Mode Reject"
+        if who == "station" and cause == "RRC Reconfiguration Complete":
+            origin = self.origins.get((line.who, line.note.key)) if line.note else None
+            return "Handover Notify" if origin == "Handover Request" else "Path Switch Request"
+        return NAMES.get((who, cause), "record")

@@ -1,0 +1,78 @@
+"""What is tried behind each variant, to see what became of phone, stations and core.
+
+In this order: a packet up, a packet down from each station, a NAS text up and one down; the serving station cancels an open handover,
+as its timer would; a handover over X2 to another station with its path switch, or within the station where there is no other;
+the phone leaves its connection, asks for service, is given a connection, and sends a packet.
+"""
+from __future__ import annotations
+
+from .courses import Course, Item, Runs, act, delivery
+from .scenarios import Scenario, Step
+
+UP, DOWN, NAS_UP, NAS_DOWN, AGAIN = "7570", "646f776e", "6e6173207570", "6e617320646f776e", "616761696e"  # up, down, nas up, nas down, again
+PROBE = "probe "
+HANDOVER = ("begin", "request", "acknowledge", "command", "reconfiguration", "complete", "switch", "switched", "release")
+WITHIN = ("begin", "command", "reconfiguration", "complete")
+
+
+def named(name: str) -> str:
+    return PROBE + name
+
+
+class Chain:
+    """Items of the probe, in order."""
+
+    def __init__(self) -> None:
+        self.items: list[Item] = []
+
+    def act(self, name: str, step: Step, *deliveries: str) -> None:
+        """An act, and the deliveries of what it sends, of what comes of that, and so on."""
+        self.items.append(act(named(name), step))
+        of = named(name)
+        for each in deliveries:
+            self.items.append(delivery(named(each), of))
+            of = named(each)
+
+
+def probe(scenario: Scenario, serving: int) -> list[Item]:
+    """The items of the probe, where this station serves the phone."""
+    chain, stations = Chain(), scenario.stations
+    chain.act("up", {"do": "user", "from": "phone", "bearer": "drb1", "text": UP}, "up arrives")
+    for station in stations:
+        step = {"do": "user", "from": "station", "station": station, "bearer": "drb1", "text": DOWN}
+        chain.act(f"down {station}", step, f"down {station} arrives")
+    chain.act("nas up", {"do": "nas", "from": "phone", "text": NAS_UP}, "nas up arrives")
+    chain.act("nas down", {"do": "nas", "from": "core", "text": NAS_DOWN}, "nas down arrives")
+    chain.act("cancel", {"do": "cancel", "station": serving}, "cancel arrives", "cancel goes on")
+    other = next((station for station in stations if station != serving), None)
+    if other is None:
+        chain.act("begin", {"do": "intra", "station": serving, "cell": stations[serving]})
+        chain.act("command", {"do": "command", "station": serving}, "reconfiguration", "complete")
+    else:
+        chain.act("begin", {"do": "x2", "station": serving, "cell": stations[other]}, "request", "acknowledge")
+        chain.act("command", {"do": "command", "station": serving}, "reconfiguration", "complete", "switch", "switched", "release")
+    chain.act("idle", {"do": "idle"})
+    chain.act("service", {"do": "service"}, "service arrives")
+    chain.act("connect", {"do": "connect", "cell": stations[serving]}, "setup", "security", "secure")
+    chain.act("again", {"do": "user", "from": "phone", "bearer": "drb1", "text": AGAIN}, "again arrives")
+    return chain.items
+
+
+def serving_of(course: Course) -> int | None:
+    """The station to which the phone's packet went."""
+    line = course.lines.get(named("up arrives"))
+    return int(line.who[8:]) if line and line.who.startswith("station") else None
+
+
+def probed(runs: Runs, scenario: Scenario, items: list[Item], usual: dict[str, bool], guess: dict[str, bool], serving: int) -> tuple[Course, int]:
+    """The course of the items and the probe behind them, and the station that serves the phone, by a guess of which it is."""
+    count = 0
+    for _ in scenario.stations:
+        course = runs.course([*items, *probe(scenario, serving)], usual, guess)
+        count += course.runs
+        found = serving_of(course)
+        if found is None or found == serving:
+            break
+        serving, guess = found, course.sends()
+    course.runs = count
+    return course, serving

@@ -1,0 +1,36 @@
+"""A variant saved as a scenario that `run` takes."""
+from __future__ import annotations
+
+from pathlib import Path
+
+from .courses import Course
+from .probe import PROBE
+from .scenarios import setup_text
+from .study import Study, Variant, shown
+
+LABEL = {True: "the probe", False: ""}
+
+
+def save(folder: Path, study: Study, variant: Variant, course: Course) -> Path:
+    """Writes a variant and its probe."""
+    folder.mkdir(parents=True, exist_ok=True)
+    name = "_".join(str(fault).replace(" ", "-") for fault in variant.faults)
+    file = folder / f"{name}.toml"
+    file.write_text("\n".join(lines(study, variant, course)) + "\n", encoding="utf-8")
+    return file
+
+
+def lines(study: Study, variant: Variant, course: Course) -> list[str]:
+    """The lines: what was changed and what came of it, the setup, and each step with the step of the scenario."""
+    messages = study.original.messages
+    faults = " and ".join(f"{fault} ({messages[fault.item]})" for fault in variant.faults)
+    head = [f"# {faults}: {', '.join(variant.outcomes)}.", *(f"# {word}: {what}" for word, what in variant.outcomes.items() if what)]
+    steps = [f"  {table}, # {comment(item.name)}" for item, table in zip(course.items, course.steps)]
+    return [*head, setup_text(study.scenario.setup).rstrip(), "step = [", *steps, "]"]
+
+
+def comment(name: str) -> str:
+    extra = name.count("+")
+    plain = name.rstrip("+")
+    what = plain if plain.startswith(PROBE) else shown(plain)
+    return "the answer to " * extra + what

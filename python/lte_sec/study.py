@@ -1,0 +1,174 @@
+"""The variants of one scenario, each run with the probe behind it and judged."""
+from __future__ import annotations
+
+from collections.abc import Iterator
+from dataclasses import dataclass, field
+
+from .courses import Course, Item, Runs, act
+from .outcomes import Comparison, Standing
+from .probe import PROBE, probe, probed
+from .scenarios import Scenario, setup_text
+from .variants import KINDS, Fault, Faults, Original, matters, moved, own_guess
+
+USER = "user packet"
+HANDOVERS = ("x2", "s1", "intra")
+MOST_ANSWERS = 3
+
+
+@dataclass(frozen=True)
+class Choice:
+    """Which variants are tried: the kinds of faults, whether user packets are messages, and whether a handover is begun by the station
+    that serves."""
+
+    kinds: tuple[str, ...] = KINDS
+    packets: bool = False
+    follow: bool = False
+
+
+@dataclass(slots=True)
+class Variant:
+    """A variant: its faults, its outcomes with what they are about, the worst first, and the answers that lead to them."""
+
+    faults: tuple[Fault, ...]
+    outcomes: dict[str, str]
+    answers: list[str]
+    runs: int = 0
+    sends: dict[str, bool] = field(default_factory=dict)
+    serving: int = 0
+
+    @property
+    def worst(self) -> str:
+        return next(iter(self.outcomes))
+
+
+class Study:
+    """A scenario with its own probe, to which its variants are compared."""
+
+    def __init__(self, program: str, scenario: Scenario, choice: Choice):
+        self.scenario, self.choice = scenario, choice
+        self.runs = Runs(program, setup_text(scenario.setup))
+        self.original = Original(scenario, self.runs)
+        self.faults = Faults(self.original)
+        first = next(iter(scenario.stations))
+        behind = probe(scenario, first)
+        sources = {item.of for item in behind}
+        usual = self.original.usual() | {item.name: item.name in sources for item in behind}
+        self.course, self.serving = probed(self.runs, scenario, self.original.items, usual, {}, first)
+        self.usual = usual | self.course.sends()
+        self.standing = Standing(scenario, self.course, self.serving)
+
+    def messages(self) -> list[str]:
+        """The deliveries that a fault may happen to."""
+        names = self.original.messages
+        return [name for name in names if self.choice.packets or names[name] != USER]
+
+    def chains(self) -> list[tuple[str, str]]:
+        """Each message with each kind of fault."""
+        return [(item, kind) for item in self.messages() for kind in self.choice.kinds]
+
+    def single(self, item: str, kind: str) -> Iterator[tuple[Variant, Course]]:
+        """The variants of one fault of this kind: for `late` and `twice` those places where the order matters."""
+        if kind in ("lost", "again"):
+            tried = self.tried((Fault(kind, item),))
+            if tried:
+                yield tried
+            return
+        last: tuple[Variant, Course] | None = None
+        for fault, names, passed in self.places(item, kind):
+            if passed and not matters(last[1] if last else self.course, names, passed):
+                continue
+            tried = self.tried((fault,), last[0] if last else None)
+            if tried:
+                yield tried
+                last = tried
+
+    def places(self, item: str, kind: str) -> Iterator[tuple[Fault, set[str], Item | None]]:
+        """The places of a late or repeated message, each with what moves there and the item that is passed, as seen from the place before."""
+        items = self.original.items
+        at = next(place for place, it in enumerate(items) if it.name == item)
+        if kind == "twice":
+            yield Fault(kind, item, item), set(), None
+        for to in range(at + 1, len(items)):
+            names = {item + "'"} if kind == "twice" else moved(items, at, to)
+            if items[to].name not in names:
+                yield Fault(kind, item, items[to].name), names, items[to]
+
+    def tried(self, faults: tuple[Fault, ...], near: Variant | None = None) -> tuple[Variant, Course] | None:
+        """The variant with these faults and its course, by a guess from one that is near; None where the faults do not go together."""
+        items = self.faults.put_all(faults)
+        if items is None:
+            return None
+        guess = own_guess(items, self.usual)
+        if near:
+            guess |= {name: sends for name, sends in near.sends.items() if name in guess or name.startswith(PROBE) or name[-1] == "+"}
+        before = self.runs.count
+        course, serving = self.followed(items, guess, near.serving if near else self.serving)
+        standing = Standing(self.scenario, course, serving)
+        own = own_items(items, self.faults.of) | {fault.item for fault in faults if fault.kind == "lost"}
+        outcomes = Comparison(self.standing, standing, own).outcomes()
+        sends = {name: sends for name, sends in course.sends().items() if sends != self.usual.get(name, False)}
+        return Variant(faults, outcomes, self.answers(course), self.runs.count - before, sends, serving), course
+
+    def followed(self, items: list[Item], guess: dict[str, bool], serving: int) -> tuple[Course, int]:
+        """The course of the items, in which, if so chosen, a handover that its station cannot begin is begun by the one that serves."""
+        done: set[str] = set()
+        while True:
+            course, serving = probed(self.runs, self.scenario, items, self.usual, guess, serving)
+            change = self.to_follow(course, done) if self.choice.follow and not course.ended else None
+            if change is None:
+                return course, serving
+            name, station = change
+            done.add(name)
+            items, guess = [self.led(item, name, station) for item in items], course.sends()
+
+    def led(self, item: Item, name: str, station: int) -> Item:
+        """The item, by this station if it is the beginning or the command of this handover."""
+        begin = item
+        while begin.cause is not None and begin.cause in self.faults.of:
+            begin = self.faults.of[begin.cause]
+        ours = item.of is None and begin.name == name and item.do in (*HANDOVERS, "command")
+        return act(item.name, {**item.step, "station": station}, item.cause) if ours else item
+
+    def to_follow(self, course: Course, done: set[str]) -> tuple[str, int] | None:
+        """The first handover that is refused here and not in the scenario while another station serves, and that station."""
+        standing = Standing(self.scenario, course, self.serving)
+        serving: int | None = None
+        for item in course.items:
+            line = course.lines[item.name]
+            if item.name.startswith(PROBE):
+                break
+            if line.who == "phone" and line.note:
+                serving = standing.station_of(line.note.key, item)
+            elif item.do == "idle" and line.answer == "done":
+                serving = None
+            elif item.do in HANDOVERS and item.name not in done and line.answer != "done" and self.original.lines[item.name].answer == "done":
+                target = self.scenario.cells.get((item.step["cell"][0], item.step["cell"][1]))
+                if serving is not None and serving not in (item.step["station"], target):
+                    return item.name, serving
+        return None
+
+    def answers(self, course: Course) -> list[str]:
+        """The first answers that are refusals here and not in the scenario."""
+        found = []
+        for item in course.items:
+            if item.name.startswith(PROBE) or item.name not in course.lines:
+                break
+            line, before = course.lines[item.name], self.original.lines.get(item.name)
+            if line.answer != "done" and (before is None or before.answer != line.answer):
+                found.append(f"{line.who} {line.answer} at {shown(item.name)}")
+        return found[:MOST_ANSWERS] + ([".."] if len(found) > MOST_ANSWERS else [])
+
+
+def own_items(items: list[Item], of: dict[str, Item]) -> set[str]:
+    """The items that faults have put in."""
+    return {item.name for item in items if item.name not in of}
+
+
+def shown(name: str) -> str:
+    """An item in words."""
+    if name.endswith("+"):
+        return f"the answer to {shown(name[:-1])}"
+    step = name.rstrip("'").rstrip("abcd")
+    if step == name:
+        return f"step {step}"
+    return f"the copy of step {step}" if name.rstrip("'") == step else f"the repeat of step {step}"
