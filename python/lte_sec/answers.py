@@ -172,7 +172,7 @@ def counted(faults: int, answer: Answer) -> str:
     """How many variants of so many faults there are, and how many have which worst outcome."""
     counts = answer.counts[faults]
     number = sum(counts.values())
-    what = f"{number:,} {MANY[faults]}{'' if number == 1 else 's'}" + (f" of {len(answer.messages)} messages" if faults == 1 else "")
+    what = f"{number:,} {MANY[faults]}{'' if number == 1 else 's'}" + (f" of {len(answer.messages)} message{'' if len(answer.messages) == 1 else 's'}" if faults == 1 else "")
     words = [f"{counts[word]:,} {word}" for word in reversed(RANK) if counts[word]]
     new = sum(len(variant.faults) == faults for variant in answer.together)
     more = f", {new:,} of which bring{'s' if new == 1 else ''} something new" if faults > 1 else ""

@@ -172,10 +172,11 @@ class Comparison:
         if refused:
             yield "no handover", said(here, refused[0])
         if here.passes and here.view != here.serving and usual.view == usual.serving:
-            yield "misrouted", f"the core has the phone at {at(here.view)}, and station {here.serving} serves it"
+            yield "misrouted", f"the core has {at(here.view)}, the phone station {here.serving}"
         if any(before and not now for before, now in zip(usual.nas, here.nas)) or (usual.again and here.again is not True):
-            parts = [name for name, before, now in zip(("up", "down"), usual.nas, here.nas) if before and not now]
-            yield "NAS apart", " and ".join([*(f"no text {part}" for part in parts), *(["no packet after a Service Request"] if usual.again and here.again is not True else [])])
+            for name, before, now in zip(("no NAS text up", "no NAS text down", "no service"), [*usual.nas, usual.again], [*here.nas, here.again]):
+                if before and not now:
+                    yield "NAS apart", name
         if len(here.different) > len(usual.different):
             yield "keys differ", here.different[-1]
 

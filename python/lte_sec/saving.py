@@ -8,12 +8,9 @@ from .probe import PROBE
 from .scenarios import setup_text
 from .study import Study, Variant, shown
 
-LABEL = {True: "the probe", False: ""}
-
 
 def save(folder: Path, study: Study, variant: Variant, course: Course) -> Path:
     """Writes a variant and its probe."""
-    folder.mkdir(parents=True, exist_ok=True)
     name = "_".join(str(fault).replace(" ", "-") for fault in variant.faults)
     file = folder / f"{name}.toml"
     file.write_text("\n".join(lines(study, variant, course)) + "\n", encoding="utf-8")

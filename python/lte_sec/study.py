@@ -4,7 +4,7 @@ from __future__ import annotations
 from collections.abc import Iterator
 from dataclasses import dataclass, field
 
-from .courses import Course, Item, Runs, act
+from .courses import Course, Item, Runs, act, delivery
 from .outcomes import Comparison, Standing
 from .probe import PROBE, probe, probed
 from .scenarios import Scenario, setup_text
@@ -75,12 +75,17 @@ class Study:
             return
         last: tuple[Variant, Course] | None = None
         for fault, names, passed in self.places(item, kind):
-            if passed and not matters(last[1] if last else self.course, names, passed):
+            if passed and not self.matters(last[1] if last else self.course, names, passed):
                 continue
             tried = self.tried((fault,), last[0] if last else None)
             if tried:
                 yield tried
                 last = tried
+
+    def matters(self, course: Course, names: set[str], passed: Item) -> bool:
+        """Whether it matters that this item is passed. Which station begins a handover, if that is to be the one that serves, depends on
+        the phone."""
+        return self.choice.follow and passed.do in HANDOVERS or matters(course, names, passed)
 
     def places(self, item: str, kind: str) -> Iterator[tuple[Fault, set[str], Item | None]]:
         """The places of a late or repeated message, each with what moves there and the item that is passed, as seen from the place before."""
@@ -110,27 +115,35 @@ class Study:
         return Variant(faults, outcomes, self.answers(course), self.runs.count - before, sends, serving), course
 
     def followed(self, items: list[Item], guess: dict[str, bool], serving: int) -> tuple[Course, int]:
-        """The course of the items, in which, if so chosen, a handover that its station cannot begin is begun by the one that serves."""
-        done: set[str] = set()
+        """The course of the items, in which, if so chosen, a handover that its station cannot begin is begun by the one that serves, which
+        cancels an open one first."""
+        done: set[tuple[str, int, bool]] = set()
         while True:
             course, serving = probed(self.runs, self.scenario, items, self.usual, guess, serving)
-            change = self.to_follow(course, done) if self.choice.follow and not course.ended else None
-            if change is None:
+            change = self.to_follow(course) if self.choice.follow and not course.ended else None
+            if change is None or change in done:
                 return course, serving
-            name, station = change
-            done.add(name)
-            items, guess = [self.led(item, name, station) for item in items], course.sends()
+            done.add(change)
+            items, guess = self.led(items, *change), course.sends()
 
-    def led(self, item: Item, name: str, station: int) -> Item:
-        """The item, by this station if it is the beginning or the command of this handover."""
+    def led(self, items: list[Item], name: str, station: int, cancels: bool) -> list[Item]:
+        """The items, in which this station begins and commands this handover, or cancels an open one before it."""
+        if cancels:
+            at = next(place for place, item in enumerate(items) if item.name == name)
+            first, second, third = (f"{name}{letter}'" for letter in "efg")
+            return [*items[:at], act(first, {"do": "cancel", "station": station}), delivery(second, first), delivery(third, second), *items[at:]]
+        return [act(item.name, {**item.step, "station": station}, item.cause) if self.is_of(item, name) else item for item in items]
+
+    def is_of(self, item: Item, name: str) -> bool:
+        """Whether an item is the beginning or the command of a handover."""
         begin = item
         while begin.cause is not None and begin.cause in self.faults.of:
             begin = self.faults.of[begin.cause]
-        ours = item.of is None and begin.name == name and item.do in (*HANDOVERS, "command")
-        return act(item.name, {**item.step, "station": station}, item.cause) if ours else item
+        return item.of is None and begin.name == name and item.do in (*HANDOVERS, "command")
 
-    def to_follow(self, course: Course, done: set[str]) -> tuple[str, int] | None:
-        """The first handover that is refused here and not in the scenario while another station serves, and that station."""
+    def to_follow(self, course: Course) -> tuple[str, int, bool] | None:
+        """The first handover that is refused here and not in the scenario while another station serves, and that station; or while the
+        serving one has another open."""
         standing = Standing(self.scenario, course, self.serving)
         serving: int | None = None
         for item in course.items:
@@ -141,10 +154,12 @@ class Study:
                 serving = standing.station_of(line.note.key, item)
             elif item.do == "idle" and line.answer == "done":
                 serving = None
-            elif item.do in HANDOVERS and item.name not in done and line.answer != "done" and self.original.lines[item.name].answer == "done":
+            elif serving is not None and item.do in HANDOVERS and line.answer != "done" and self.original.lines[item.name].answer == "done":
                 target = self.scenario.cells.get((item.step["cell"][0], item.step["cell"][1]))
-                if serving is not None and serving not in (item.step["station"], target):
-                    return item.name, serving
+                if serving not in (item.step["station"], target):
+                    return item.name, serving, False
+                if serving == item.step["station"] and line.answer == "AttemptOpen" and f"{item.name}e'" not in course.lines:
+                    return item.name, serving, True
         return None
 
     def answers(self, course: Course) -> list[str]:
@@ -168,7 +183,8 @@ def shown(name: str) -> str:
     """An item in words."""
     if name.endswith("+"):
         return f"the answer to {shown(name[:-1])}"
-    step = name.rstrip("'").rstrip("abcd")
+    plain = name.rstrip("'")
+    step = plain.rstrip("abcdefg")
     if step == name:
         return f"step {step}"
-    return f"the copy of step {step}" if name.rstrip("'") == step else f"the repeat of step {step}"
+    return f"the cancel before step {step}" if plain[-1] in "efg" else f"the {'copy' if plain == step else 'repeat'} of step {step}"

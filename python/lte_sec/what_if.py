@@ -74,8 +74,21 @@ class Words:
         if text is None:
             return None
         first, slash, parts = text.partition("/")
-        of = number(parts, "--part I/N", 10**6)
-        return number(first, "--part I/N", of), of
+        of = number(parts, "N of --part I/N", 10**6)
+        return number(first, "I of --part I/N", of), of
+
+    def folder(self) -> Path | None:
+        """The folder for variants, which is made where it is not there."""
+        if "--save" not in self.values:
+            return None
+        folder = Path(self.values["--save"])
+        try:
+            folder.mkdir(parents=True, exist_ok=True)
+        except OSError as fault:
+            raise Wrong(f"the folder {folder} cannot be made: {fault.strerror}") from None
+        if not os.access(folder, os.W_OK):
+            raise Wrong(f"the folder {folder} cannot be written")
+        return folder
 
 
 def number(text: str, name: str, most: int) -> int:
@@ -115,8 +128,7 @@ def tried(program: str, words: Words) -> tuple[Answer | None, int]:
     """The answer for a scenario, and a status where there is none."""
     choice = Choice(words.kinds(), "--packets" in words.flags, "--follow" in words.flags)
     jobs = words.number("--jobs", len(os.sched_getaffinity(0)), MOST_JOBS)
-    folder = Path(words.values["--save"]) if "--save" in words.values else None
-    share = Share(jobs, words.part(), words.number("--faults", 1, MOST_FAULTS), folder, "--lines" in words.flags)
+    share = Share(jobs, words.part(), words.number("--faults", 1, MOST_FAULTS), words.folder(), "--lines" in words.flags)
     octets, status = scenario_of(program, words)
     if status:
         return None, status
@@ -130,7 +142,7 @@ def tried(program: str, words: Words) -> tuple[Answer | None, int]:
 
 
 def merged_of(words: Words) -> Answer:
-    if not words.files:
+    if not words.files or "--lines" in words.flags:
         raise Wrong("--merge takes the files that --json wrote of each part")
     parts = []
     for file in words.files:
@@ -152,6 +164,7 @@ def tell(answer: Answer, words: Words) -> int:
         print(json.dumps(to_json(answer), indent=1))
     elif "--lines" not in words.flags:
         print(*table(answer), sep="\n")
+    sys.stdout.flush()
     if not answer.whole:
         print("lte_sec: status 130: interrupted; this is what there is", file=sys.stderr)
         return STOPPED

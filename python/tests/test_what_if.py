@@ -1,0 +1,299 @@
+"""What-if: variants, their courses and outcomes, against the proved program."""
+from __future__ import annotations
+
+import json
+import signal
+import subprocess
+import tempfile
+import time
+import tomllib
+import unittest
+import xml.dom.minidom
+from collections.abc import Iterator
+from pathlib import Path
+
+from lte_sec import scenarios
+from lte_sec.answers import from_json, merged, to_json
+from lte_sec.courses import Course, Item, act, delivery
+from lte_sec.messages import Line
+from lte_sec.outcomes import RANK, WORDS, Comparison, Standing, signature
+from lte_sec.probe import PROBE
+from lte_sec.saving import save
+from lte_sec.scenarios import text
+from lte_sec.study import Choice, Study, Variant
+from lte_sec.variants import Fault
+
+TOP = Path(__file__).resolve().parents[2]
+EXAMPLES = TOP / "examples"
+PROGRAM = ""
+# Of each outcome a scenario with a variant that has it as its worst.
+SHOWN = {
+    "same": "run/ordinary", "better": "run/key-change", "goes on": "run/ordinary", "context left": "what-if/two-path-switches", "packet lost": "run/ordinary",
+    "weaker key": "run/ordinary", "not made": "run/ordinary", "no handover": "run/ordinary", "misrouted": "what-if/two-path-switches",
+    "NAS apart": "what-if/two-path-switches", "COUNTs apart": "worked/user-window", "cut off": "run/ordinary", "stuck": "run/ordinary",
+    "keys differ": "run/seven-ahead", "coincidence": "worked/sent-again",
+}
+
+
+def setUpModule() -> None:
+    global PROGRAM
+    PROGRAM = subprocess.run([TOP / "lte_sec", "--program"], capture_output=True, text=True, check=True).stdout.split()[1]
+
+
+def study(name: str, choice: Choice = Choice()) -> Study:
+    return Study(PROGRAM, scenarios.read((EXAMPLES / f"{name}.toml").read_bytes()), choice)
+
+
+def singles(of: Study) -> Iterator[tuple[Variant, Course]]:
+    for chain in of.chains():
+        yield from of.single(*chain)
+
+
+def launched(*words: object, given: bytes = b"") -> subprocess.CompletedProcess[bytes]:
+    return subprocess.run([TOP / "lte_sec", "what-if", *map(str, words)], input=given, capture_output=True)
+
+
+class Scenarios(unittest.TestCase):
+    def test_a_setup_is_written_as_it_was_read(self) -> None:
+        setup = tomllib.loads('phone = { caps = "a020" }\nnew = { deep = [{ "a b" = "c\\"d" }] }\n[core]\nfirst_ncc = 2\n[[station]]\nid = 0\ncells = [[1, 2]]\nheard = true\n')
+        self.assertEqual(tomllib.loads(scenarios.setup_text(setup)), setup)
+
+    def test_a_scenario_is_run_as_it_stands(self) -> None:
+        for name in ("run/ordinary", "run/key-change", "worked/no-record", "what-if/ten-handovers"):
+            whole = study(name)
+            given = subprocess.run([PROGRAM, "run"], input=(EXAMPLES / f"{name}.toml").read_bytes(), capture_output=True).stdout.decode()
+            steps = given.splitlines()[: len(whole.original.items)]
+            self.assertEqual(whole.course.report.splitlines()[: len(steps)], steps)
+
+
+class Places(unittest.TestCase):
+    def test_a_place_that_is_left_out_is_as_the_one_before(self) -> None:
+        skipped = 0
+        for name in ("run/ordinary", "run/lost-answer", "what-if/release-and-service"):
+            whole = study(name)
+            for item, kind in whole.chains():
+                if kind in ("late", "twice"):
+                    skipped += self.left_out(whole, item, kind)
+        self.assertGreater(skipped, 500)
+
+    def left_out(self, whole: Study, item: str, kind: str) -> int:
+        count, last = 0, (None, whole.course)
+        for fault, names, passed in whole.places(item, kind):
+            tried = whole.tried((fault,))
+            assert tried
+            if passed and not whole.matters(last[1], names, passed):
+                count += 1
+                self.assertEqual(told(tried[1]), told(last[1]), f"{fault}")
+            last = tried
+        return count
+
+    def test_places_of_ordinary(self) -> None:
+        whole = study("run/ordinary")
+        self.assertEqual([str(it[0].faults[0].after) for it in whole.single("18", "late")], ["20", "24", "25"])
+        self.assertEqual([str(fault) for fault, _, _ in whole.places("24", "twice")], ["twice 24 after 24", "twice 24 after 25", "twice 24 after 26"])
+
+
+def told(course: Course) -> dict[str, object]:
+    return {name: signature(line) for name, line in course.lines.items()}
+
+
+class Faults(unittest.TestCase):
+    def names(self, fault: Fault) -> list[str]:
+        whole = study("run/ordinary")
+        items = whole.faults.put_all((fault,))
+        assert items
+        return [item.name for item in items]
+
+    def test_what_a_late_message_makes_happen_moves_with_it(self) -> None:
+        names = self.names(Fault("late", "12", "20"))
+        self.assertEqual(names[names.index("20") + 1 :][:8], ["12", "13", "14", "15", "16", "17", "18", "21"])
+        names = self.names(Fault("late", "3", "8"))
+        self.assertEqual(names[names.index("8") + 1 :][:3], ["3", "4", "5"])
+
+    def test_a_message_is_sent_again_by_its_senders_act(self) -> None:
+        whole = study("run/ordinary")
+        for item, acts in (("14", ["command"]), ("15", ["resend"]), ("16", ["ask"]), ("17", ["ask", "deliver"]), ("12", ["cancel", "deliver", "x2", "deliver"])):
+            items = whole.faults.put_all((Fault("again", item),))
+            assert items
+            at = next(place for place, it in enumerate(items) if it.name == item)
+            self.assertEqual([it.do for it in items[at - len(acts) : at]], acts)
+        self.assertIsNone(whole.faults.put_all((Fault("again", "2"),)))
+
+    def test_pairs_that_do_not_go_together(self) -> None:
+        whole = study("run/ordinary")
+        self.assertIsNone(whole.tried((Fault("lost", "14"), Fault("twice", "14", "14"))))
+        self.assertIsNone(whole.tried((Fault("lost", "14"), Fault("late", "12", "14"))))
+        self.assertIsNotNone(whole.tried((Fault("twice", "14", "14"), Fault("lost", "16"))))
+
+    def test_what_nobody_expects_is_delivered_at_once(self) -> None:
+        tried = study("what-if/re-authentication").tried((Fault("twice", "2", "13"),))
+        assert tried
+        self.assertEqual(signature(tried[1].lines["2'+"]), ("core", "done", None, None))
+        self.assertIn("phone WrongKsi at the copy of step 2", tried[0].answers)
+
+
+class Courses(unittest.TestCase):
+    def test_any_first_guess_comes_to_one_course(self) -> None:
+        whole = study("run/key-change")
+        items = [item for item in whole.original.items if item.name not in ("3", "12")]
+        right = whole.runs.course(items, whole.usual, {})
+        for sends in (False, True):
+            wrong = whole.runs.course(items, whole.usual, {item.name: sends for item in items})
+            self.assertEqual(wrong.report, right.report)
+
+    def test_a_record_that_is_not_sent_falls_away(self) -> None:
+        whole = study("run/ordinary")
+        items: list[Item] = [act("a", {"do": "smc"}), delivery("b", "a"), act("c", {"do": "idle"})]
+        course = whole.runs.course(items, {"a": True}, {})
+        self.assertEqual([item.name for item in course.items], ["a", "c"])
+
+
+class Outcomes(unittest.TestCase):
+    def test_a_variant_of_each_outcome_is_saved_and_run(self) -> None:
+        for word, name in SHOWN.items():
+            whole = study(name, Choice(packets=word == "COUNTs apart"))
+            variant, course = next(it for it in singles(whole) if it[0].worst == word)
+            with self.subTest(word=word), tempfile.TemporaryDirectory() as room:
+                file = save(Path(room), whole, variant, course)
+                ran = subprocess.run([PROGRAM, "run"], input=file.read_bytes(), capture_output=True, text=False)
+                self.assertEqual((ran.returncode, ran.stdout.decode()), (7 if word == "coincidence" else 0, course.report))
+                self.assertIn(f": {word}", file.read_text().splitlines()[0])
+
+    def test_the_words_are_those_of_the_page(self) -> None:
+        page = (TOP / "docs" / "WHATIF.md").read_text()
+        rows = [line.split("|")[1].strip(" `") for line in page.split("## Outcomes")[1].split("\n## ")[0].splitlines() if line.startswith("| `")]
+        self.assertEqual(tuple(rows), WORDS)
+
+    def test_who_can_derive_the_phones_key_is_as_audit_has_it(self) -> None:
+        whole = study("what-if/two-path-switches", Choice(("lost", "again")))
+        for variant, course in singles(whole):
+            standing = Standing(whole.scenario, course, variant.serving)
+            key = standing.phone_key()
+            given = text(whole.runs.setup, course.steps).encode()
+            audit = subprocess.run([PROGRAM, "audit"], input=given, capture_output=True, text=False).stdout.decode()
+            rows = {line.split()[1]: line.split()[3] for line in audit.splitlines() if line.startswith("row ")}
+            if key:
+                self.assertEqual(standing.reach(), set(rows[str(standing.by_key[key])].split(",")) - {"-"}, str(variant.faults))
+
+    def test_the_cores_view_is_as_a_release_has_it(self) -> None:
+        whole = study("what-if/attach-and-handovers", Choice(("lost", "late")))
+        tried = 0
+        for variant, course in singles(whole):
+            places = [place for place, item in enumerate(course.items) if item.name == PROBE + "up"]
+            steps = [*course.steps[: places[0]], '{ do = "release" }', '{ do = "deliver", record = -1 }']
+            lines = [Line.read(line) for line in whole.runs.run(steps).splitlines()[places[0] : places[0] + 2]]
+            view = Standing(whole.scenario, course, variant.serving).view
+            if lines[0] and lines[1] and lines[0].answer == "done" and lines[0].sent is not None:
+                self.assertEqual(f"station {view}", lines[1].who, str(variant.faults))
+                tried += 1
+            else:
+                self.assertIsNone(view, str(variant.faults))
+        self.assertGreater(tried, 100)
+
+    def test_a_scenario_is_the_same_as_itself(self) -> None:
+        for name in ("run/ordinary", "what-if/release-and-service"):
+            whole = study(name)
+            self.assertEqual(Comparison(whole.standing, whole.standing, set()).outcomes(), {"same": ""})
+
+    def test_findings(self) -> None:
+        """What a person found in the reports, by hand."""
+        for name, faults, word, choice in (
+            ("what-if/two-path-switches", (Fault("late", "14", "23"),), "misrouted", Choice()),
+            ("what-if/two-path-switches", (Fault("lost", "32"),), "no handover", Choice()),
+            ("what-if/re-authentication", (Fault("twice", "2", "13"),), "NAS apart", Choice()),
+            ("run/ordinary", (Fault("lost", "16"),), "weaker key", Choice()),
+            ("what-if/ten-handovers", (Fault("lost", "11"),), "not made", Choice(follow=True)),
+        ):
+            tried = study(name, choice).tried(faults)
+            assert tried
+            self.assertEqual(tried[0].worst, word, str(faults))
+
+    def test_a_handover_is_begun_by_the_station_that_serves(self) -> None:
+        tried = study("what-if/ten-handovers", Choice(follow=True)).tried((Fault("lost", "11"),))
+        plain = study("what-if/ten-handovers").tried((Fault("lost", "11"),))
+        assert tried and plain
+        self.assertEqual(tried[0].outcomes["not made"], "handover of step 14")
+        self.assertIn("23", plain[0].outcomes["not made"])
+
+
+class Answers(unittest.TestCase):
+    def test_parts_are_merged_to_the_whole(self) -> None:
+        scenario, words = EXAMPLES / "run/ordinary.toml", ["--faults", "2", "--kinds", "lost,again", "--json"]
+        with tempfile.TemporaryDirectory() as room:
+            files = [Path(room) / str(number) for number in range(1, 5)]
+            calls = []
+            for number, file in enumerate(files, 1):
+                with file.open("wb") as out:
+                    calls.append(subprocess.Popen([TOP / "lte_sec", "what-if", *words, "--jobs", "1", "--part", f"{number}/4", scenario], stdout=out, stderr=subprocess.DEVNULL))
+            self.assertEqual([call.wait() for call in calls], [0] * 4)
+            whole = launched(*words, scenario)
+            self.assertEqual(launched("--merge", "--json", *files).stdout, whole.stdout)
+            self.assertEqual(launched("--merge", *files).stdout, launched(*words[:-1], scenario).stdout)
+            some = launched("--merge", *files[:3])
+            self.assertEqual((some.returncode, some.stderr.count(b"\n")), (2, 1), some.stderr)
+        answer = from_json(json.loads(whole.stdout))
+        self.assertEqual(to_json(merged([answer])), json.loads(whole.stdout))
+
+    def test_lines_of_parts_are_those_of_the_whole(self) -> None:
+        scenario = EXAMPLES / "run/two-preparations.toml"
+        lines = [line for number in (1, 2, 3) for line in launched("--lines", "--part", f"{number}/3", scenario).stdout.splitlines()]
+        self.assertEqual(sorted(lines), sorted(launched("--lines", scenario).stdout.splitlines()))
+        self.assertIn(b"late 2 after 8: ", b"\n".join(launched("--lines", EXAMPLES / "run/ordinary.toml").stdout.splitlines()))
+
+    def test_a_triple_is_told_if_no_pair_brings_its_outcome(self) -> None:
+        ran = launched("--faults", "3", "--kinds", "again", EXAMPLES / "run/two-preparations.toml")
+        self.assertEqual(ran.returncode, 0, ran.stderr)
+        self.assertIn("triple", ran.stdout.decode().splitlines()[-1])
+
+    def test_interrupted_it_tells_what_it_has(self) -> None:
+        call = subprocess.Popen(
+            [TOP / "lte_sec", "what-if", "--faults", "2", EXAMPLES / "what-if/ten-handovers.toml"], stdout=subprocess.PIPE, stderr=subprocess.PIPE, text=True, start_new_session=True
+        )
+        time.sleep(4)
+        call.send_signal(signal.SIGINT)
+        out, err = call.communicate(timeout=60)
+        self.assertEqual(call.returncode, 130)
+        self.assertIn("status 130: interrupted", err)
+        self.assertTrue(out.startswith("step message"), out[:80])
+        self.assertNotIn("Traceback", err)
+
+    def test_statuses(self) -> None:
+        for status, words in (
+            (0, ["run/ordinary.toml"]), (1, ["--bad", "cut off", "run/ordinary.toml"]), (1, ["--bad", "cut-off", "run/ordinary.toml"]),
+            (1, ["--kinds", "again", "run/seven-ahead.toml"]), (0, ["--bad", "coincidence", "--kinds", "again", "run/seven-ahead.toml"]), (3, ["ladder/first.txt"]), (3, ["fleet/two-phones.toml"]),
+            (7, ["run/coincidence.toml"]), (0, ["worked/repeated-root.toml"]),
+        ):
+            ran = launched(*words[:-1], EXAMPLES / words[-1])
+            self.assertEqual(ran.returncode, status, f"{words} {ran.stderr!r}")
+            self.assertNotIn(b"Traceback", ran.stderr)
+
+    def test_what_is_wrong_is_told_in_one_line(self) -> None:
+        ordinary = EXAMPLES / "run/ordinary.toml"
+        for words, line in (
+            (["--faults", "4", ordinary], "--faults is 1 to 3, and not '4'"), (["--kinds", "lost,early", ordinary], "and not 'early'"), (["--bad", "x", ordinary], "--bad takes an outcome"),
+            (["--part", "2", ordinary], "--part I/N"), (["--part", "3/2", ordinary], "I of --part I/N is 1 to 2"), (["--jobs", "0", ordinary], "--jobs is 1 to"), (["--what", ordinary], "there is no option --what"),
+            (["nowhere"], "nowhere cannot be read"), ([ordinary, ordinary], "takes one SCENARIO"), (["--merge"], "--merge takes the files"), (["--merge", ordinary], "is not what --json writes"),
+            (["--picture", "/nowhere/x", ordinary], "cannot be written"), (["--save", ordinary, ordinary], "cannot be made"), (["--kinds"], "--kinds wants a value"),
+        ):
+            ran = launched(*words)
+            said = [each for each in ran.stderr.decode().splitlines() if " runs in " not in each]
+            self.assertEqual((ran.returncode, ran.stdout, len(said)), (2, b"", 1), f"{words} {ran.stderr!r}")
+            self.assertIn(line, said[0])
+
+    def test_a_scenario_may_come_on_standard_input(self) -> None:
+        octets = (EXAMPLES / "run/wrong-ksi.toml").read_bytes()
+        self.assertEqual(launched(given=octets).stdout, launched(EXAMPLES / "run/wrong-ksi.toml").stdout)
+
+    def test_the_picture_is_svg(self) -> None:
+        with tempfile.TemporaryDirectory() as room:
+            file = Path(room) / "matrix.svg"
+            launched("--picture", file, EXAMPLES / "run/ordinary.toml")
+            letters = [node.firstChild.data for node in xml.dom.minidom.parse(str(file)).getElementsByTagName("text") if node.firstChild]
+        self.assertTrue({"lost", "late", "twice", "again", "s", "x", "Path Switch Request"} <= set(letters))
+
+    def test_the_outcomes_have_an_order(self) -> None:
+        self.assertEqual(sorted(WORDS, key=lambda word: RANK[word]), list(WORDS))
+
+
+if __name__ == "__main__":
+    unittest.main()
