@@ -175,6 +175,9 @@ def tell(answer: Answer, words: Words) -> int:
 def answered(program: str, given: list[str]) -> int:
     words = Words.read(given)
     words.bad()
+    picture = Path(words.values.get("--picture", "."))
+    if not os.access(picture if picture.exists() else picture.parent, os.W_OK):
+        raise Wrong(f"{picture} cannot be written")
     if "--merge" in words.flags:
         return tell(merged_of(words), words)
     answer, status = tried(program, words)

@@ -9,7 +9,7 @@ import time
 import tomllib
 import unittest
 import xml.dom.minidom
-from collections.abc import Iterator
+from functools import lru_cache
 from pathlib import Path
 
 from lte_sec import scenarios
@@ -26,12 +26,16 @@ from lte_sec.variants import Fault
 TOP = Path(__file__).resolve().parents[2]
 EXAMPLES = TOP / "examples"
 PROGRAM = ""
-# Of each outcome a scenario with a variant that has it as its worst.
+# Of each outcome a scenario and a kind of fault with a variant that has it as its worst.
 SHOWN = {
-    "same": "run/ordinary", "better": "run/key-change", "goes on": "run/ordinary", "context left": "what-if/two-path-switches", "packet lost": "run/ordinary",
-    "weaker key": "run/ordinary", "not made": "run/ordinary", "no handover": "run/ordinary", "misrouted": "what-if/two-path-switches",
-    "NAS apart": "what-if/two-path-switches", "COUNTs apart": "worked/user-window", "cut off": "run/ordinary", "stuck": "run/ordinary",
-    "keys differ": "run/seven-ahead", "coincidence": "worked/sent-again",
+    ("run/ordinary", "lost"): ("weaker key", "not made", "no handover", "cut off", "stuck"),
+    ("run/ordinary", "late"): ("goes on", "packet lost"),
+    ("run/ordinary", "twice"): ("same",),
+    ("run/key-change", "lost"): ("better",),
+    ("what-if/two-path-switches", "lost"): ("context left", "misrouted", "NAS apart"),
+    ("worked/user-window", "twice"): ("COUNTs apart",),
+    ("run/seven-ahead", "again"): ("keys differ",),
+    ("worked/sent-again", "late"): ("coincidence",),
 }
 
 
@@ -40,13 +44,14 @@ def setUpModule() -> None:
     PROGRAM = subprocess.run([TOP / "lte_sec", "--program"], capture_output=True, text=True, check=True).stdout.split()[1]
 
 
+@lru_cache(maxsize=None)
 def study(name: str, choice: Choice = Choice()) -> Study:
     return Study(PROGRAM, scenarios.read((EXAMPLES / f"{name}.toml").read_bytes()), choice)
 
 
-def singles(of: Study) -> Iterator[tuple[Variant, Course]]:
-    for chain in of.chains():
-        yield from of.single(*chain)
+@lru_cache(maxsize=None)
+def singles(of: Study) -> list[tuple[Variant, Course]]:
+    return [it for chain in of.chains() for it in of.single(*chain)]
 
 
 def launched(*words: object, given: bytes = b"") -> subprocess.CompletedProcess[bytes]:
@@ -77,9 +82,10 @@ class Places(unittest.TestCase):
         self.assertGreater(skipped, 500)
 
     def left_out(self, whole: Study, item: str, kind: str) -> int:
-        count, last = 0, (None, whole.course)
+        count = 0
+        last: tuple[Variant | None, Course] = (None, whole.course)
         for fault, names, passed in whole.places(item, kind):
-            tried = whole.tried((fault,))
+            tried = whole.tried((fault,), last[0])
             assert tried
             if passed and not whole.matters(last[1], names, passed):
                 count += 1
@@ -150,18 +156,24 @@ class Courses(unittest.TestCase):
 
 class Outcomes(unittest.TestCase):
     def test_a_variant_of_each_outcome_is_saved_and_run(self) -> None:
-        for word, name in SHOWN.items():
-            whole = study(name, Choice(packets=word == "COUNTs apart"))
-            variant, course = next(it for it in singles(whole) if it[0].worst == word)
-            with self.subTest(word=word), tempfile.TemporaryDirectory() as room:
-                file = save(Path(room), whole, variant, course)
-                ran = subprocess.run([PROGRAM, "run"], input=file.read_bytes(), capture_output=True, text=False)
-                self.assertEqual((ran.returncode, ran.stdout.decode()), (7 if word == "coincidence" else 0, course.report))
-                self.assertIn(f": {word}", file.read_text().splitlines()[0])
+        self.assertEqual({word for words in SHOWN.values() for word in words}, set(WORDS))
+        for (name, kind), words in SHOWN.items():
+            whole = study(name, Choice((kind,), packets="COUNTs apart" in words))
+            found = singles(whole)
+            for word in words:
+                with self.subTest(word=word):
+                    self.saved(whole, *next(each for each in found if each[0].worst == word))
+
+    def saved(self, whole: Study, variant: Variant, course: Course) -> None:
+        with tempfile.TemporaryDirectory() as room:
+            file = save(Path(room), whole, variant, course)
+            ran = subprocess.run([PROGRAM, "run"], input=file.read_bytes(), capture_output=True)
+            self.assertEqual((ran.returncode, ran.stdout.decode()), (7 if variant.worst == "coincidence" else 0, course.report))
+            self.assertIn(f": {variant.worst}", file.read_text().splitlines()[0])
 
     def test_the_words_are_those_of_the_page(self) -> None:
         page = (TOP / "docs" / "WHATIF.md").read_text()
-        rows = [line.split("|")[1].strip(" `") for line in page.split("## Outcomes")[1].split("\n## ")[0].splitlines() if line.startswith("| `")]
+        rows = [line.split("|")[1].strip(" `") for line in page.split("\n## Outcomes")[1].split("**Limits")[0].splitlines() if line.startswith("| `")]
         self.assertEqual(tuple(rows), WORDS)
 
     def test_who_can_derive_the_phones_key_is_as_audit_has_it(self) -> None:
@@ -269,12 +281,13 @@ class Answers(unittest.TestCase):
 
     def test_what_is_wrong_is_told_in_one_line(self) -> None:
         ordinary = EXAMPLES / "run/ordinary.toml"
-        for words, line in (
+        wrong: list[tuple[list[object], str]] = [
             (["--faults", "4", ordinary], "--faults is 1 to 3, and not '4'"), (["--kinds", "lost,early", ordinary], "and not 'early'"), (["--bad", "x", ordinary], "--bad takes an outcome"),
             (["--part", "2", ordinary], "--part I/N"), (["--part", "3/2", ordinary], "I of --part I/N is 1 to 2"), (["--jobs", "0", ordinary], "--jobs is 1 to"), (["--what", ordinary], "there is no option --what"),
             (["nowhere"], "nowhere cannot be read"), ([ordinary, ordinary], "takes one SCENARIO"), (["--merge"], "--merge takes the files"), (["--merge", ordinary], "is not what --json writes"),
             (["--picture", "/nowhere/x", ordinary], "cannot be written"), (["--save", ordinary, ordinary], "cannot be made"), (["--kinds"], "--kinds wants a value"),
-        ):
+        ]
+        for words, line in wrong:
             ran = launched(*words)
             said = [each for each in ran.stderr.decode().splitlines() if " runs in " not in each]
             self.assertEqual((ran.returncode, ran.stdout, len(said)), (2, b"", 1), f"{words} {ran.stderr!r}")
