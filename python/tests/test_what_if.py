@@ -1,6 +1,8 @@
 """What-if: variants, their courses and outcomes, against the proved program."""
 from __future__ import annotations
 
+import contextlib
+import io
 import json
 import signal
 import subprocess
@@ -12,7 +14,7 @@ import xml.dom.minidom
 from functools import lru_cache
 from pathlib import Path
 
-from lte_sec import scenarios
+from lte_sec import scenarios, what_if
 from lte_sec.answers import from_json, merged, to_json
 from lte_sec.courses import Course, Item, act, delivery
 from lte_sec.messages import Line
@@ -56,6 +58,14 @@ def singles(of: Study) -> list[tuple[Variant, Course]]:
 
 def launched(*words: object, given: bytes = b"") -> subprocess.CompletedProcess[bytes]:
     return subprocess.run([TOP / "lte_sec", "what-if", *map(str, words)], input=given, capture_output=True)
+
+
+def called(*words: object) -> tuple[int, str, str]:
+    """The status, the output and what is said of a call in this process."""
+    out, err = io.StringIO(), io.StringIO()
+    with contextlib.redirect_stdout(out), contextlib.redirect_stderr(err):
+        status = what_if.main([PROGRAM, *map(str, words)])
+    return status, out.getvalue(), err.getvalue()
 
 
 class Scenarios(unittest.TestCase):
@@ -248,14 +258,14 @@ class Answers(unittest.TestCase):
 
     def test_lines_of_parts_are_those_of_the_whole(self) -> None:
         scenario = EXAMPLES / "run/two-preparations.toml"
-        lines = [line for number in (1, 2, 3) for line in launched("--lines", "--part", f"{number}/3", scenario).stdout.splitlines()]
-        self.assertEqual(sorted(lines), sorted(launched("--lines", scenario).stdout.splitlines()))
-        self.assertIn(b"late 2 after 8: ", b"\n".join(launched("--lines", EXAMPLES / "run/ordinary.toml").stdout.splitlines()))
+        lines = [line for number in (1, 2, 3) for line in called("--lines", "--part", f"{number}/3", scenario)[1].splitlines()]
+        self.assertEqual(sorted(lines), sorted(called("--lines", "--jobs", "1", scenario)[1].splitlines()))
+        self.assertIn("lost 2: stuck, NAS apart, no handover, not made", lines)
 
     def test_a_triple_is_told_if_no_pair_brings_its_outcome(self) -> None:
-        ran = launched("--faults", "3", "--kinds", "again", EXAMPLES / "run/two-preparations.toml")
-        self.assertEqual(ran.returncode, 0, ran.stderr)
-        self.assertIn("triple", ran.stdout.decode().splitlines()[-1])
+        status, out, err = called("--faults", "3", "--kinds", "again", EXAMPLES / "run/two-preparations.toml")
+        self.assertEqual(status, 0, err)
+        self.assertIn("triple", out.splitlines()[-1])
 
     def test_interrupted_it_tells_what_it_has(self) -> None:
         call = subprocess.Popen(
@@ -288,10 +298,9 @@ class Answers(unittest.TestCase):
             (["--picture", "/nowhere/x", ordinary], "cannot be written"), (["--save", ordinary, ordinary], "cannot be made"), (["--kinds"], "--kinds wants a value"),
         ]
         for words, line in wrong:
-            ran = launched(*words)
-            said = [each for each in ran.stderr.decode().splitlines() if " runs in " not in each]
-            self.assertEqual((ran.returncode, ran.stdout, len(said)), (2, b"", 1), f"{words} {ran.stderr!r}")
-            self.assertIn(line, said[0])
+            status, out, err = called(*words)
+            self.assertEqual((status, out, err.count("\n")), (2, "", 1), f"{words} {err}")
+            self.assertIn(line, err)
 
     def test_a_scenario_may_come_on_standard_input(self) -> None:
         octets = (EXAMPLES / "run/wrong-ksi.toml").read_bytes()
