@@ -22,12 +22,12 @@ def lines(study: Study, variant: Variant, course: Course) -> list[str]:
     messages = study.original.messages
     faults = " and ".join(f"{fault} ({messages[fault.item]})" for fault in variant.faults)
     head = [f"# {faults}: {', '.join(variant.outcomes)}.", *(f"# {word}: {what}" for word, what in variant.outcomes.items() if what)]
-    steps = [f"  {table}, # {comment(item.name)}" for item, table in zip(course.items, course.steps)]
+    steps = [f"  {table}, # {comment(item.name, messages)}" for item, table in zip(course.items, course.steps)]
     return [*head, setup_text(study.scenario.setup).rstrip(), "step = [", *steps, "]"]
 
 
-def comment(name: str) -> str:
-    extra = name.count("+")
-    plain = name.rstrip("+")
-    what = plain if plain.startswith(PROBE) else shown(plain)
-    return "the answer to " * extra + what
+def comment(name: str, messages: dict[str, str]) -> str:
+    """What a step is: its item, and the message that the scenario's brings."""
+    if name.startswith(PROBE):
+        return name.replace("+", ", what it sent")
+    return shown(name) + (f": {messages[name]}" if name in messages else "")
