@@ -12,7 +12,7 @@ from .messages import Line, Names
 from .probe import named
 from .scenarios import Scenario
 from .variants import Fault
-from .verdicts import different
+from .verdict import Outcome, connected, items, read
 
 # From the best to the worst.
 WORDS = (
@@ -120,6 +120,13 @@ class Standing:
                 is_star = self.rows[self.by_key[line.note.key]].form == "star"
                 found[item.name] = "connection" if not is_star else "key change" if line.note.way == "initial" else "handover"
         return found
+
+
+def different(report: str) -> list[str]:
+    """What `verdict` says of keys that differ: at handovers and key changes, and at a connection."""
+    told = read(report)
+    found = [str(item) for item in items(told) if item.outcome is Outcome.DIFFER]
+    return [*found, *(["phone and station have different keys of a connection"] if connected(told) is False else [])]
 
 
 def rows_of(report: str) -> tuple[list[Row], dict[str, int]]:
