@@ -137,28 +137,36 @@ def cell(variants: list[Variant]) -> str:
 
 
 def tellings(variants: list[Variant], messages: dict[str, str]) -> Iterator[str]:
-    """A line for variants that differ only in a place."""
+    """A line for variants that differ only in places, if they are worse than `goes on`."""
     bad = [variant for variant in variants if RANK[variant.worst] > RANK[GOES_ON]]
-    groups: dict[tuple[object, ...], list[Variant]] = {}
-    for variant in bad:
-        last = variant.faults[-1]
-        key = (variant.faults[:-1], last.kind, last.item, tuple(variant.outcomes.items()), tuple(variant.answers))
-        groups.setdefault(key, []).append(variant)
-    for group in groups.values():
-        first = group[0]
-        faults = [*(of_fault(fault, messages) for fault in first.faults[:-1]), of_faults([variant.faults[-1] for variant in group], messages)]
+    told: list[tuple[Variant, list[list[Fault]]]] = [(variant, [[fault] for fault in variant.faults]) for variant in bad]
+    for at in reversed(range(max((len(variant.faults) for variant in bad), default=0))):
+        told = together(told, at)
+    for first, faults in told:
         outcomes = "; ".join(outcome(first, word, messages) for word in first.outcomes)
-        yield f"{' and '.join(faults)}: {outcomes}" + (f", from {', '.join(first.answers)}" if first.answers else "")
+        yield f"{' and '.join(of_faults(each, messages) for each in faults)}: {outcomes}" + (f", from {', '.join(first.answers)}" if first.answers else "")
+
+
+def together(told: list[tuple[Variant, list[list[Fault]]]], at: int) -> list[tuple[Variant, list[list[Fault]]]]:
+    """What is told, with the places of one of the faults in one line where all else is the same."""
+    groups: dict[tuple[object, ...], tuple[Variant, list[list[Fault]]]] = {}
+    for variant, faults in told:
+        if at >= len(faults):
+            groups[variant.faults] = variant, faults
+            continue
+        others = tuple(tuple(each) for each in [*faults[:at], *faults[at + 1 :]])
+        key = (others, faults[at][0].item, faults[at][0].kind, tuple(variant.outcomes.items()), tuple(variant.answers))
+        if key in groups:
+            groups[key][1][at].extend(faults[at])
+        else:
+            groups[key] = variant, faults
+    return list(groups.values())
 
 
 def outcome(variant: Variant, word: str, messages: dict[str, str]) -> str:
     """An outcome with its limit and what it is about."""
     here, what = limit(variant, word, messages), variant.outcomes[word]
     return word + (f" (here; {here})" if here else "") + (f" [{what}]" if what else "")
-
-
-def of_fault(fault: Fault, messages: dict[str, str]) -> str:
-    return of_faults([fault], messages)
 
 
 def of_faults(faults: list[Fault], messages: dict[str, str]) -> str:

@@ -108,11 +108,19 @@ class Study:
             guess |= {name: sends for name, sends in near.sends.items() if name in guess or name.startswith(PROBE) or name[-1] == "+"}
         before = self.runs.count
         course, serving = self.followed(items, guess, near.serving if near else self.serving)
+        if not all(self.is_sent(fault, course) for fault in faults if fault.kind == "again"):
+            return None
         standing = Standing(self.scenario, course, serving)
         own = own_items(items, self.faults.of) | {fault.item for fault in faults if fault.kind == "lost"}
         outcomes = Comparison(self.standing, standing, own).outcomes()
         sends = {name: sends for name, sends in course.sends().items() if sends != self.usual.get(name, False)}
         return Variant(faults, outcomes, self.answers(course), self.runs.count - before, sends, serving), course
+
+    def is_sent(self, fault: Fault, course: Course) -> bool:
+        """Whether the message of a fault is sent, by the actor that sends it in the scenario."""
+        source = self.faults.of[fault.item].of or ""
+        line = course.lines.get(source)
+        return line is not None and line.sent is not None and line.who == self.original.lines[source].who
 
     def followed(self, items: list[Item], guess: dict[str, bool], serving: int) -> tuple[Course, int]:
         """The course of the items, in which, if so chosen, a handover that its station cannot begin is begun by the one that serves, which
