@@ -6,6 +6,7 @@ course. A delivery of what was not sent falls away. What is sent where the scena
 """
 from __future__ import annotations
 
+import os
 import subprocess
 from collections.abc import Mapping
 from dataclasses import dataclass
@@ -83,15 +84,29 @@ class Runs:
 
     def __init__(self, program: str, setup: str):
         self.program, self.setup, self.count = program, setup, 0
+        self.files: dict[int, tuple[int, int]] = {}
 
     def run(self, steps: list[str]) -> str:
         """The report of these steps."""
         self.count += 1
-        given = text(self.setup, steps).encode()
-        ran = subprocess.run([self.program, "run"], input=given, stdout=subprocess.PIPE, stderr=subprocess.DEVNULL)
-        if ran.returncode not in (0, 7):
-            raise ProgramFails(f"the program ends with status {ran.returncode} for a variant: {ran.stdout[:80].decode(errors='replace').strip()}")
-        return ran.stdout.decode()
+        status, octets = self.ran(text(self.setup, steps).encode())
+        if status not in (0, 7):
+            raise ProgramFails(f"the program ends with status {status} for a variant: {octets[:80].decode(errors='replace').strip()}")
+        return octets.decode()
+
+    def ran(self, given: bytes) -> tuple[int, bytes]:
+        """The status of a run, and what it writes. The program writes line by line, and a pipe would wake this process at each, so both texts
+        are in files; each process has its own."""
+        process = os.getpid()
+        if process not in self.files:
+            self.files[process] = os.memfd_create("scenario"), os.memfd_create("report")
+        scenario, report = self.files[process]
+        for file in (scenario, report):
+            os.ftruncate(file, 0)
+            os.lseek(file, 0, os.SEEK_SET)
+        os.pwrite(scenario, given, 0)
+        status = subprocess.run([self.program, "run"], stdin=scenario, stdout=report, stderr=subprocess.DEVNULL).returncode
+        return status, os.pread(report, os.fstat(report).st_size, 0)
 
     def course(self, items: list[Item], usual: Mapping[str, bool], guess: Mapping[str, bool]) -> Course:
         """The course of these items, where the scenario's own send as `usual` says, by a first guess."""

@@ -265,10 +265,10 @@ class Judged(Protocol):
 
 def limit(variant: Judged, word: str, messages: dict[str, str]) -> str | None:
     """What a product does where an outcome is a limit of this profile and not of LTE."""
-    what, first = variant.outcomes[word], messages[variant.faults[0].item]
+    what = variant.outcomes[word]
     if word == "cut off":
-        return "a phone re-establishes"
-    if word in ("stuck", "NAS apart") and first.startswith("NAS Security Mode"):
+        return "a phone asks again at its timer" if "NotConnected" in what else "a phone re-establishes"
+    if word in ("stuck", "NAS apart") and any(fault.kind == "lost" and messages[fault.item].startswith("NAS Security Mode") for fault in variant.faults):
         return "the core sends its command again at T3460"
     if word == "no handover" and "AttemptOpen" in what:
         return "a timer of the source ends the attempt"

@@ -64,15 +64,22 @@ def serving_of(course: Course) -> int | None:
     return int(line.who[8:]) if line and line.who.startswith("station") else None
 
 
-def probed(runs: Runs, scenario: Scenario, items: list[Item], usual: dict[str, bool], guess: dict[str, bool], serving: int) -> tuple[Course, int]:
-    """The course of the items and the probe behind them, and the station that serves the phone, by a guess of which it is."""
-    count = 0
-    for _ in scenario.stations:
-        course = runs.course([*items, *probe(scenario, serving)], usual, guess)
-        count += course.runs
-        found = serving_of(course)
-        if found is None or found == serving:
-            break
-        serving, guess = found, course.sends()
-    course.runs = count
-    return course, serving
+class Prober:
+    """Runs items with the probe behind them."""
+
+    def __init__(self, runs: Runs, scenario: Scenario):
+        self.runs, self.scenario = runs, scenario
+        self.probes = {station: probe(scenario, station) for station in scenario.stations}
+
+    def probed(self, items: list[Item], usual: dict[str, bool], guess: dict[str, bool], serving: int) -> tuple[Course, int]:
+        """The course of the items and the probe, and the station that serves the phone, by a guess of which it is."""
+        count = 0
+        for _ in self.probes:
+            course = self.runs.course([*items, *self.probes[serving]], usual, guess)
+            count += course.runs
+            found = serving_of(course)
+            if found is None or found == serving:
+                break
+            serving, guess = found, course.sends()
+        course.runs = count
+        return course, serving

@@ -6,7 +6,7 @@ from dataclasses import dataclass, field
 
 from .courses import Course, Item, Runs, act, delivery
 from .outcomes import Comparison, Standing
-from .probe import PROBE, probe, probed
+from .probe import PROBE, Prober
 from .scenarios import Scenario, setup_text
 from .variants import KINDS, Fault, Faults, Original, matters, moved, own_guess
 
@@ -49,11 +49,11 @@ class Study:
         self.runs = Runs(program, setup_text(scenario.setup))
         self.original = Original(scenario, self.runs)
         self.faults = Faults(self.original)
-        first = next(iter(scenario.stations))
-        behind = probe(scenario, first)
+        self.prober = Prober(self.runs, scenario)
+        first, behind = next(iter(self.prober.probes.items()))
         sources = {item.of for item in behind}
         usual = self.original.usual() | {item.name: item.name in sources for item in behind}
-        self.course, self.serving = probed(self.runs, scenario, self.original.items, usual, {}, first)
+        self.course, self.serving = self.prober.probed(self.original.items, usual, {}, first)
         self.usual = usual | self.course.sends()
         self.standing = Standing(scenario, self.course, self.serving)
 
@@ -127,7 +127,7 @@ class Study:
         cancels an open one first."""
         done: set[tuple[str, int, bool]] = set()
         while True:
-            course, serving = probed(self.runs, self.scenario, items, self.usual, guess, serving)
+            course, serving = self.prober.probed(items, self.usual, guess, serving)
             change = self.to_follow(course) if self.choice.follow and not course.ended else None
             if change is None or change in done:
                 return course, serving
