@@ -128,7 +128,7 @@ def tried(program: str, words: Words) -> tuple[Answer | None, int]:
     """The answer for a scenario, and a status where there is none."""
     choice = Choice(words.kinds(), "--packets" in words.flags, "--follow" in words.flags)
     jobs = words.number("--jobs", len(os.sched_getaffinity(0)), MOST_JOBS)
-    share = Share(jobs, words.part(), words.number("--faults", 1, MOST_FAULTS), words.folder(), "--lines" in words.flags)
+    share = Share(jobs, words.part(), words.number("--faults", 1, MOST_FAULTS), words.folder(), "--lines" in words.flags and "--json" not in words.flags)
     octets, status = scenario_of(program, words)
     if status:
         return None, status
