@@ -12,6 +12,7 @@ from .study import Variant
 from .variants import KINDS, Fault
 
 MANY = {1: "variant", 2: "pair", 3: "triple"}
+VERSION = 1  # of the document that --json prints
 LINK = "docs/SCENARIOS.md#where-a-product-does-more"
 
 
@@ -55,6 +56,7 @@ def order(variant: Variant) -> tuple[int, list[tuple[int, int, int]]]:
 
 def to_json(answer: Answer) -> dict[str, Any]:
     return {
+        "version": VERSION,
         "tried": answer.tried,
         "part": f"{answer.part[0]}/{answer.part[1]}" if answer.part else None,
         "whole": answer.whole,

