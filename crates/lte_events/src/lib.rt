@@ -29,6 +29,6 @@ pub use inputs::{ActorIn, CoreIn, PhoneIn, StationIn};
 pub use lines::{Line, Who};
 pub use listed::Events;
 pub use replies::{ActorOut, KeyNote, Record};
-pub use setups::{Setup, StationSetup};
+pub use setups::{FirstNcc, Setup, StationSetup};
 pub use sites::{Cells, CellsFault};
 pub use texts::Texts;

@@ -28,6 +28,15 @@ impl Default for StationSetup {
     }
 }
 
+/// The NCC of the first pair of NH and NCC that a core sends for a chain (TS 33.401 7.2.8.1.1).
+#[derive(Clone, Copy, Debug, PartialEq, Eq)]
+pub enum FirstNcc {
+    /// 1, this project's own rule: each NH is derived as it is sent.
+    One,
+    /// 2, as the standard has it: the NH of NCC 1 is derived as the chain begins, and kept.
+    Two,
+}
+
 /// What a system of one phone, its stations and one core starts with.
 #[derive(Clone, Debug, PartialEq, Eq, Drop)]
 pub struct Setup {
@@ -37,6 +46,8 @@ pub struct Setup {
     pub core_priority: Priority,
     /// The first connection number that the core draws, at least 1.
     pub core_first: u32,
+    /// The NCC of the first pair that the core sends for a chain.
+    pub core_first_ncc: FirstNcc,
     /// The stations, at most 8.
     pub stations: Few<StationSetup, 8>,
     /// The cells of all stations.
