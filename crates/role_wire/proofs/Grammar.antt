@@ -148,7 +148,10 @@ setup_are Role.Phone = (row setup_octets (SetupOf Role.Phone) 0x00 RoleSetup.Pho
 setup_are (Role.Station id) =
     (row setup_octets (SetupOf (Role.Station id)) 0x00 (λ f. RoleSetup.Station f.0 f.1 f.2) first_form (λ f. refl) (λ f h. (((h.0, h.1), h.2), tt)), tt)
 setup_are Role.Core =
-    (row setup_octets (SetupOf Role.Core) 0x00 (λ f. RoleSetup.Core f.0 f.1 f.2) first_form (λ f. refl) (λ f h. (((h.0, h.1), h.2), tt)), tt)
+    let P : RoleSetup → Type 0 = SetupOf Role.Core in (
+      row setup_octets P 0x00 (λ f. RoleSetup.Core f.0 f.1 f.2) first_form (λ f. refl) (λ f h. (((h.0, h.1), h.2), tt)),
+      (row setup_octets P 0x06 (λ f. RoleSetup.StandardCore f.0 f.1 f.2) first_form (λ f. refl) (λ f h. (((h.0, h.1), h.2), tt)), tt),
+    )
 
 abbrev FrameFound : Role → Bool → List ℕ → FrameIn → Type 0
 FrameFound role first octets frame = (octets ≡ body_spelling frame) × IsFrame role first frame
@@ -240,10 +243,14 @@ setup_again (Role.Station id) (RoleSetup.Station order first cells) of h =
     read_on (setup_rows (Role.Station id)) 0x00 _ ∙ ap (λ r. r >>= λ f. Ok (RoleSetup.Station f.0 f.1 f.2)) (first_form.again 0x00 (order, first, cells) (h.0.0, h.0.1, h.1))
 setup_again Role.Core (RoleSetup.Core order first cells) of h =
     read_on (setup_rows Role.Core) 0x00 _ ∙ ap (λ r. r >>= λ f. Ok (RoleSetup.Core f.0 f.1 f.2)) (first_form.again 0x00 (order, first, cells) (h.0.0, h.0.1, h.1))
+setup_again Role.Core (RoleSetup.StandardCore order first cells) of h =
+    read_on (setup_rows Role.Core) 0x06 _ ∙ ap (λ r. r >>= λ f. Ok (RoleSetup.StandardCore f.0 f.1 f.2)) (first_form.again 0x06 (order, first, cells) (h.0.0, h.0.1, h.1))
 setup_again Role.Phone (RoleSetup.Station order first cells) of h = absurd of
 setup_again Role.Phone (RoleSetup.Core order first cells) of h = absurd of
+setup_again Role.Phone (RoleSetup.StandardCore order first cells) of h = absurd of
 setup_again (Role.Station id) (RoleSetup.Phone caps) of h = absurd of
 setup_again (Role.Station id) (RoleSetup.Core order first cells) of h = absurd of
+setup_again (Role.Station id) (RoleSetup.StandardCore order first cells) of h = absurd of
 setup_again Role.Core (RoleSetup.Phone caps) of h = absurd of
 setup_again Role.Core (RoleSetup.Station order first cells) of h = absurd of
 

@@ -89,6 +89,7 @@ setup_size : (x : RoleSetup) → SetupSized x → IsSize (setup_octets x)
 setup_size (RoleSetup.Phone caps) h = (omega arith, omega arith)
 setup_size (RoleSetup.Station order first cells) h = first_size 0x00 order first cells h
 setup_size (RoleSetup.Core order first cells) h = first_size 0x00 order first cells h
+setup_size (RoleSetup.StandardCore order first cells) h = first_size 0x06 order first cells h
 
 body_size : (frame : FrameIn) → IsSized frame → IsSize (body_spelling frame)
 unfolding body_spelling

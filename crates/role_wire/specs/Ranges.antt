@@ -23,6 +23,7 @@ abbrev pub IsSetup : RoleSetup → Type 0
 IsSetup (RoleSetup.Phone caps) = Unit {0}
 IsSetup (RoleSetup.Station order first cells) = (1 ≤ first) × (1 ≤ length cells)
 IsSetup (RoleSetup.Core order first cells) = (1 ≤ first) × (1 ≤ length cells)
+IsSetup (RoleSetup.StandardCore order first cells) = (1 ≤ first) × (1 ≤ length cells)
 
 abbrev pub IsPhoneAct : PhoneAct → Type 0
 IsPhoneAct (PhoneAct.SendUser bearer text) = is_drb bearer ≡ true
@@ -81,6 +82,7 @@ abbrev pub SetupSized : RoleSetup → Type 0
 SetupSized (RoleSetup.Phone caps) = (caps.eea < 256) × (caps.eia < 256)
 SetupSized (RoleSetup.Station order first cells) = IsFirst order first cells
 SetupSized (RoleSetup.Core order first cells) = IsFirst order first cells
+SetupSized (RoleSetup.StandardCore order first cells) = IsFirst order first cells
 
 abbrev pub PhoneActSized : PhoneAct → Type 0
 PhoneActSized (PhoneAct.SendUser bearer text) = length text ≤ 1500
@@ -134,6 +136,7 @@ abbrev pub IsOf : Role → Bool → FrameIn → Type 0
 IsOf Role.Phone true (Setup (RoleSetup.Phone caps)) = Unit {0}
 IsOf (Role.Station id) true (Setup (RoleSetup.Station order first cells)) = Unit {0}
 IsOf Role.Core true (Setup (RoleSetup.Core order first cells)) = Unit {0}
+IsOf Role.Core true (Setup (RoleSetup.StandardCore order first cells)) = Unit {0}
 IsOf Role.Phone false (Input (ActorIn.Phone input)) = Unit {0}
 IsOf (Role.Station id) false (Input (ActorIn.Station named input)) = named ≡ id
 IsOf Role.Core false (Input (ActorIn.Core input)) = Unit {0}

@@ -83,7 +83,10 @@ core_rows =
 abbrev pub setup_rows : Role → Rows ℕ RoleSetup
 setup_rows Role.Phone = (0x00, λ octets. caps_of octets >>= λ caps. Ok (RoleSetup.Phone caps)) ∷ []
 setup_rows (Role.Station id) = (0x00, λ octets. first_of octets >>= λ f. Ok (RoleSetup.Station f.0 f.1 f.2)) ∷ []
-setup_rows Role.Core = (0x00, λ octets. first_of octets >>= λ f. Ok (RoleSetup.Core f.0 f.1 f.2)) ∷ []
+setup_rows Role.Core =
+    (0x00, λ octets. first_of octets >>= λ f. Ok (RoleSetup.Core f.0 f.1 f.2))
+    ∷ (0x06, λ octets. first_of octets >>= λ f. Ok (RoleSetup.StandardCore f.0 f.1 f.2))
+    ∷ []
 
 -- an input of the actor of a role; a station's number is that of the role
 abbrev pub input_of : Role → List ℕ → Result ActorIn ℕ

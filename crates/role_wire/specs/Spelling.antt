@@ -34,6 +34,7 @@ abbrev pub setup_octets : RoleSetup → List ℕ
 setup_octets (RoleSetup.Phone caps) = 0x00 ∷ spelled_by caps_body caps
 setup_octets (RoleSetup.Station order first cells) = 0x00 ∷ first_octets order first cells
 setup_octets (RoleSetup.Core order first cells) = 0x00 ∷ first_octets order first cells
+setup_octets (RoleSetup.StandardCore order first cells) = 0x06 ∷ first_octets order first cells
 
 abbrev pub phone_act_octets : PhoneAct → List ℕ
 phone_act_octets PhoneAct.ServiceRequest = 0x10 ∷ []

@@ -27,8 +27,10 @@ pub enum RoleSetup {
     /// A station: the encryption algorithms that it may choose, the first number that it draws, at
     /// least 1, and the cells of all stations, at least one.
     Station(Priority, u32, Cells),
-    /// The core: the same.
+    /// The core: the same. The first pair of NH and NCC that it sends for a chain has NCC 1.
     Core(Priority, u32, Cells),
+    /// A core whose first pair has NCC 2 (TS 33.401 7.2.8.1.1): the same.
+    StandardCore(Priority, u32, Cells),
 }
 
 /// Why a frame is not read.

@@ -48,19 +48,24 @@ fn setup(role: Role, octets: &[u8]) -> Result<RoleSetup, u16>
     ensures value { result ≡ body_by (setup_rows role) octets.now }
     ensures some { OnOk result (0 < length octets.now) }
 {
-    if octets.is_empty() || u8_at(octets, 0) != 0x00 {
+    if octets.is_empty() {
         return Err(0);
     }
-    match role {
-        Role::Phone => Ok(RoleSetup::Phone(caps(octets)?)),
-        Role::Station(_) => {
+    match (role, u8_at(octets, 0)) {
+        (Role::Phone, 0x00) => Ok(RoleSetup::Phone(caps(octets)?)),
+        (Role::Station(_), 0x00) => {
             let (priority, number, cells) = first(octets)?;
             Ok(RoleSetup::Station(priority, number, cells))
         }
-        Role::Core => {
+        (Role::Core, 0x00) => {
             let (priority, number, cells) = first(octets)?;
             Ok(RoleSetup::Core(priority, number, cells))
         }
+        (Role::Core, 0x06) => {
+            let (priority, number, cells) = first(octets)?;
+            Ok(RoleSetup::StandardCore(priority, number, cells))
+        }
+        _ => Err(0),
     }
 }
 

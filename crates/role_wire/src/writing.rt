@@ -248,30 +248,31 @@ fn setup_body(setup: &RoleSetup) -> Body
 {
     match setup {
         RoleSetup::Phone(caps) => list_of(&[0x00, caps.eea, caps.eia]),
-        RoleSetup::Station(order, first, cells) => first_body(order, *first, cells),
-        RoleSetup::Core(order, first, cells) => first_body(order, *first, cells),
+        RoleSetup::Station(order, first, cells) => first_body(0x00, order, *first, cells),
+        RoleSetup::Core(order, first, cells) => first_body(0x00, order, *first, cells),
+        RoleSetup::StandardCore(order, first, cells) => first_body(0x06, order, *first, cells),
     }
 }
 
-// The Setup of a station or the core.
-fn first_body(order: &Priority, first: u32, cells: &Cells) -> Body
-    ensures { result ≡ 0x00 ∷ first_octets order.now first cells.now }
+// The Setup of a station or the core, of this kind.
+fn first_body(kind: u8, order: &Priority, first: u32, cells: &Cells) -> Body
+    ensures { result ≡ kind ∷ first_octets order.now first cells.now }
 {
-    let mut out = order_body(order);
+    let mut out = order_body(kind, order);
     put_u32(&mut out, first);
     put_cells(&mut out, cells);
     out
 }
 
 // The kind of a Setup, and a priority behind its count.
-fn order_body(order: &Priority) -> Body
-    ensures octets { result ≡ 0x00 ∷ length order.now ∷ map identity_of order.now }
+fn order_body(kind: u8, order: &Priority) -> Body
+    ensures octets { result ≡ kind ∷ length order.now ∷ map identity_of order.now }
     ensures count { length result ≤ 4 }
 {
     let first = order.first().identity();
     match order.second() {
-        None => list_of(&[0x00, 1, first]),
-        Some(second) => list_of(&[0x00, 2, first, second.identity()]),
+        None => list_of(&[kind, 1, first]),
+        Some(second) => list_of(&[kind, 2, first, second.identity()]),
     }
 }
 

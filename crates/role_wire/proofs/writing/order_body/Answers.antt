@@ -7,5 +7,5 @@ pub returns-in-Some-clause-octets : goal.returns-in-Some-clause-octets
 returns-in-Some-clause-octets c =
     let is = two_is c.args.order.now c.first.result c.in-Some.second c.first.ensures c.in-Some.ensures.value c.second.ensures.no_third in
     c.list_of-in-Some.ensures
-    ∙ (λ j. 0 ∷ 2 ∷ c.identity-first.ensures j ∷ c.identity.ensures j ∷ [])
-    ∙ ap (λ order. 0 ∷ length order ∷ map identity_of order) (sym is)
+    ∙ (λ j. c.args.kind ∷ 2 ∷ c.identity-first.ensures j ∷ c.identity.ensures j ∷ [])
+    ∙ ap (λ order. c.args.kind ∷ length order ∷ map identity_of order) (sym is)
