@@ -14,11 +14,13 @@ use Rattle.toml.specs.Data.{Items, no_items, item, Members, as_table}
 use Rattle.alg_choice.specs.declared.caps.Caps.{Caps}
 use Rattle.annex_a_keys.specs.Cell.{Place, IsCell}
 use Rattle.lte_events.specs.Site.{Site, is_site}
+use Rattle.lte_events.specs.declared.setups.FirstNcc.TheVariants.{One}
 use Rattle.lte_events.specs.declared.setups.StationSetup.{StationSetup}
 use Rattle.lte_events.specs.Conditions.{has_station, IsStation, CanStart, AreCaps, SetupFits}
-use Rattle.scenario_file.specs.declared.fields.Field.TheVariants.{Caps as CapsField, Phone, Core, Station, Step, First, Priority, Id, Cells, Fleet, Phones}
+use Rattle.scenario_file.specs.declared.fields.Field.TheVariants.{Caps as CapsField, Phone, Core, Station, Step, First, FirstNcc, Priority, Id, Cells, Fleet, Phones}
 use Rattle.scenario_file.specs.declared.faults.Refusal.{Refusal}
 use Rattle.scenario_file.specs.declared.faults.Refusal.TheVariants.{Missing, Wrong}
+use Rattle.scenario_file.specs.declared.setup.CoreStart.{CoreStart}
 use Rattle.scenario_file.specs.declared.setup.Network.{Network}
 use Rattle.scenario_file.specs.declared.setup.Numbers.{Numbers}
 use Rattle.scenario_file.specs.declared.setup.Start.{Start}
@@ -26,7 +28,7 @@ use Rattle.scenario_file.specs.declared.systems.System.{System}
 use Rattle.scenario_file.specs.declared.systems.System.TheVariants as system
 use Rattle.scenario_file.specs.Systems.{more_at_top, more_of_station}
 use Rattle.scenario_file.specs.Keys.{only_in}
-use Rattle.scenario_file.specs.Values.{or_default, number_in, first_in, priority_in, array_in, table_in, tables_in, cell_of, count_of}
+use Rattle.scenario_file.specs.Values.{or_default, number_in, first_in, first_ncc_in, priority_in, array_in, table_in, tables_in, cell_of, count_of}
 use Rattle.scenario_file.specs.Setup.{usual_priority, phones_in, phones_of, phone_of, numbers_in, core_in, core_of, id_in, with_site, sites_from, cells_in, core_number_in, with_station, station_from, stations_from, no_stations, network_of, start_of}
 use Rattle.scenario_file.proofs.FirstFault.{then_ok, then_some, ok_or_ok, ok_same, not_read, default_ok, number_in_range}
 use Rattle.scenario_file.proofs.Ranges.{caps_fit, cell_of_place}
@@ -48,15 +50,18 @@ numbers_good table numbers =
     let least : IsFirst first = default_ok IsFirst 1 first_in First table first (omega arith, omega arith) (λ n given. first_good table n given) read in
     subst (λ (n : Numbers). IsFirst n.first) (ok_same _ _ numbers refl whole) least) more)
 
-core_in_good : (document : Members) (core : Numbers) → core_in Core document ≡ Ok core → IsFirst core.first
+core_in_good : (document : Members) (core : CoreStart) → core_in Core document ≡ Ok core → IsFirst core.numbers.first
 unfolding core_in
 core_in_good document core =
-    then_ok (IsFirst core.first) (table_in Core document) _ core (λ table e more.
-    then_ok (IsFirst core.first) (only_in (Priority ∷ First ∷ []) table) _ core (λ known e read. numbers_good table core read) more)
+    then_ok (IsFirst core.numbers.first) (table_in Core document) _ core (λ table e1.
+    then_ok (IsFirst core.numbers.first) (only_in (Priority ∷ First ∷ FirstNcc ∷ []) table) _ core (λ known e2.
+    then_ok (IsFirst core.numbers.first) (numbers_in table) _ core (λ numbers read_numbers.
+    then_ok (IsFirst core.numbers.first) (or_default One first_ncc_in FirstNcc table) _ core (λ first_ncc e3 whole.
+    subst (λ (c : CoreStart). IsFirst c.numbers.first) (ok_same _ _ core refl whole) (numbers_good table numbers read_numbers)))))
 
-core_good : (document : Members) (core : Numbers) → core_of document ≡ Ok core → IsFirst core.first
+core_good : (document : Members) (core : CoreStart) → core_of document ≡ Ok core → IsFirst core.numbers.first
 unfolding core_of
-core_good document core = default_ok (λ (n : Numbers). IsFirst n.first) _ core_in Core document core (omega arith, omega arith) (core_in_good document)
+core_good document core = default_ok (λ (c : CoreStart). IsFirst c.numbers.first) _ core_in Core document core (omega arith, omega arith) (core_in_good document)
 
 -- the core of each of eight stations, 0 or 1
 abbrev AreCores : List ℕ → Type 0
@@ -297,9 +302,9 @@ record GoodStart (start : Start) : Type 0 where
   phones : AreSome start.phones
   cores : AreCores start.core_of
 
-of_parts : (phones : ℕ) (caps : Caps) (core : Numbers) (network : Network) → AreSome phones → AreCaps caps → IsFirst core.first → WholeNetwork network
+of_parts : (phones : ℕ) (caps : Caps) (core : CoreStart) (network : Network) → AreSome phones → AreCaps caps → IsFirst core.numbers.first → WholeNetwork network
     → GoodStart (record {
-      setup = record { caps = caps; core_priority = core.priority; core_first = core.first; stations = network.stations; cells = network.cells };
+      setup = record { caps = caps; core_priority = core.numbers.priority; core_first = core.numbers.first; core_first_ncc = core.first_ncc; stations = network.stations; cells = network.cells };
       phones = phones;
       core_of = network.core_of;
     })

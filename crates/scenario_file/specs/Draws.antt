@@ -13,6 +13,7 @@ use Rattle.lte_events.specs.declared.acts.CoreAct.TheVariants as core
 use Rattle.lte_events.specs.declared.acts.StationAct.TheVariants as station
 use Rattle.lte_events.specs.declared.events.Event.{Event}
 use Rattle.lte_events.specs.declared.events.Event.TheVariants as event
+use Rattle.lte_events.specs.declared.setups.FirstNcc.TheVariants.{One}
 use Rattle.lte_events.specs.declared.setups.Setup.{Setup}
 use Rattle.lte_events.specs.declared.setups.StationSetup.{StationSetup}
 use Rattle.scenario_file.specs.declared.journey.Journey.{Journey}
@@ -40,6 +41,7 @@ generated_setup = record {
   caps = generated_caps;
   core_priority = usual_priority;
   core_first = 1;
+  core_first_ncc = One;
   stations = map station_setup (range_with_len 0 4);
   cells = map site_of (range_with_len 0 4);
 }

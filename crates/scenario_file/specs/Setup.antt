@@ -8,12 +8,14 @@ use Rattle.alg_choice.specs.declared.algs.Eea.TheVariants.{Eea0, Eea2}
 use Rattle.alg_choice.specs.declared.caps.Caps.{Caps}
 use Rattle.annex_a_keys.specs.Cell.{Place}
 use Rattle.lte_events.specs.Site.{Site, is_site}
+use Rattle.lte_events.specs.declared.setups.FirstNcc.TheVariants.{One}
 use Rattle.lte_events.specs.declared.setups.StationSetup.{StationSetup}
 use Rattle.lte_events.specs.Conditions.{has_station}
 use Rattle.scenario_file.specs.declared.fields.Field.{Field}
-use Rattle.scenario_file.specs.declared.fields.Field.TheVariants.{Phone, Core, Station, Step, Caps as CapsField, Priority, First, Id, Cells, Fleet, Phones}
+use Rattle.scenario_file.specs.declared.fields.Field.TheVariants.{Phone, Core, Station, Step, Caps as CapsField, Priority, First, FirstNcc, Id, Cells, Fleet, Phones}
 use Rattle.scenario_file.specs.declared.faults.Refusal.{Refusal}
 use Rattle.scenario_file.specs.declared.faults.Refusal.TheVariants.{Missing, Wrong}
+use Rattle.scenario_file.specs.declared.setup.CoreStart.{CoreStart}
 use Rattle.scenario_file.specs.declared.setup.Network.{Network}
 use Rattle.scenario_file.specs.declared.setup.Numbers.{Numbers}
 use Rattle.scenario_file.specs.declared.setup.Start.{Start}
@@ -21,7 +23,7 @@ use Rattle.scenario_file.specs.declared.systems.System.{System}
 use Rattle.scenario_file.specs.declared.systems.System.TheVariants as system
 use Rattle.scenario_file.specs.Systems.{more_at_top, more_of_station}
 use Rattle.scenario_file.specs.Keys.{only_in}
-use Rattle.scenario_file.specs.Values.{◌>>=◌, or_default, table_in, tables_in, array_in, count_of, number_in, first_in, caps_in, priority_in, cell_of}
+use Rattle.scenario_file.specs.Values.{◌>>=◌, or_default, table_in, tables_in, array_in, count_of, number_in, first_in, first_ncc_in, caps_in, priority_in, cell_of}
 
 -- 128-EEA2 before EEA0, where no list is given
 abbrev pub usual_priority : List Eea
@@ -47,21 +49,27 @@ phone_of document = do
   known ← only_in (CapsField ∷ []) phone
   caps_in CapsField phone
 
--- [core]
+-- what the core and a station share
 unfoldable pub numbers_in : Members → Result Numbers Refusal
 numbers_in table = do
   priority ← or_default usual_priority priority_in Priority table
   first ← or_default 1 first_in First table
   Ok (record { priority = priority; first = first })
 
-unfoldable pub core_in : Field → Members → Result Numbers Refusal
+-- [core]
+unfoldable pub core_in : Field → Members → Result CoreStart Refusal
 core_in field document = do
   core ← table_in field document
-  known ← only_in (Priority ∷ First ∷ []) core
-  numbers_in core
+  known ← only_in (Priority ∷ First ∷ FirstNcc ∷ []) core
+  numbers ← numbers_in core
+  first_ncc ← or_default One first_ncc_in FirstNcc core
+  Ok (record { numbers = numbers; first_ncc = first_ncc })
 
-unfoldable pub core_of : Members → Result Numbers Refusal
-core_of document = or_default (record { priority = usual_priority; first = 1 }) core_in Core document
+abbrev pub usual_core : CoreStart
+usual_core = record { numbers = record { priority = usual_priority; first = 1 }; first_ncc = One }
+
+unfoldable pub core_of : Members → Result CoreStart Refusal
+core_of document = or_default usual_core core_in Core document
 
 -- the number of a station, which none before it has
 unfoldable pub id_in : List StationSetup → Members → Result ℕ Refusal
@@ -133,8 +141,9 @@ start_of system document = do
   Ok (record {
     setup = record {
       caps = caps;
-      core_priority = core.priority;
-      core_first = core.first;
+      core_priority = core.numbers.priority;
+      core_first = core.numbers.first;
+      core_first_ncc = core.first_ncc;
       stations = network.stations;
       cells = network.cells;
     };

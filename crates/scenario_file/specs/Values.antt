@@ -7,6 +7,7 @@ use Rattle.alg_choice.specs.declared.algs.Eea.{Eea}
 use Rattle.alg_choice.specs.declared.algs.Eea.TheVariants.{Eea0, Eea2}
 use Rattle.annex_a_keys.specs.Cell.{Place}
 use Rattle.rec_base.specs.declared.bearers.Bearer.{Bearer}
+use Rattle.lte_events.specs.declared.setups.FirstNcc.{FirstNcc}
 use Rattle.lte_events.specs.declared.setups.Setup.{Setup}
 use Rattle.lte_events.specs.Conditions.{has_station}
 use Rattle.scenario_file.specs.declared.fields.Field.{Field}
@@ -18,7 +19,7 @@ use Rattle.scenario_file.specs.declared.words.Actor.{Actor}
 use Rattle.scenario_file.specs.declared.words.RadioEnd.{RadioEnd}
 use Rattle.scenario_file.specs.declared.words.NasEnd.{NasEnd}
 use Rattle.scenario_file.specs.Field.{name_of}
-use Rattle.scenario_file.specs.Words.{act_of, actor_of, radio_end_of, nas_end_of, srb_of, drb_of, bearer_of, nas_of, path_of, caps_of, key_of, octets_of, natural, in_range, eea_of, place_of}
+use Rattle.scenario_file.specs.Words.{act_of, actor_of, radio_end_of, nas_end_of, srb_of, drb_of, bearer_of, nas_of, path_of, caps_of, key_of, octets_of, natural, in_range, eea_of, first_ncc_of, place_of}
 
 -- the first fault, in the order in which the parts stand
 infixl 10 ◌>>=◌
@@ -89,6 +90,12 @@ any_number_in = number_in 0 (2 ^ 32 - 1)
 -- the first number that is drawn
 abbrev pub first_in : Field → Members → Result ℕ Refusal
 first_in = number_in 1 (2 ^ 32 - 1)
+
+-- the NCC of the first pair that the core sends
+unfoldable pub first_ncc_in : Field → Members → Result FirstNcc Refusal
+first_ncc_in field table = do
+  integer ← integer_in field table
+  ok_or (first_ncc_of integer) (Wrong field)
 
 -- one of the stations, by its number
 unfoldable pub station_in : Setup → Members → Result ℕ Refusal

@@ -7,6 +7,8 @@ use Rattle.alg_choice.specs.declared.caps.Caps.{Caps}
 use Rattle.alg_choice.specs.declared.algs.Eea.{Eea}
 use Rattle.alg_choice.specs.declared.algs.Eea.TheVariants.{Eea0, Eea2}
 use Rattle.annex_a_keys.specs.Cell.{Place, greatest_pci, greatest_earfcn}
+use Rattle.lte_events.specs.declared.setups.FirstNcc.{FirstNcc}
+use Rattle.lte_events.specs.declared.setups.FirstNcc.TheVariants.{One, Two}
 use Rattle.rec_base.specs.declared.bearers.Bearer.{Bearer}
 use Rattle.rec_base.specs.declared.bearers.Bearer.TheVariants.{Srb1, Srb2, Drb1, Drb2, Drb3, Drb4}
 use Rattle.scenario_file.specs.declared.words.Act.{Act}
@@ -128,6 +130,11 @@ in_range low high n = if nat_le low n && nat_le n high then Some n else None
 abbrev pub eea_of : ℤ → Option Eea
 eea_of (pos n) = if n == 0 then Some Eea0 else (if n == 2 then Some Eea2 else None)
 eea_of (negsuc n) = None
+
+-- the NCC of a first pair, 1 or 2
+abbrev pub first_ncc_of : ℤ → Option FirstNcc
+first_ncc_of (pos n) = if n == 1 then Some One else (if n == 2 then Some Two else None)
+first_ncc_of (negsuc n) = None
 
 -- PCI and EARFCN-DL, both in their ranges
 abbrev pub place_of : ℕ → ℕ → Option Place

@@ -17,6 +17,8 @@ pub enum Field {
     Priority,
     /// `first`: the first number that the core or a station draws.
     First,
+    /// `first_ncc`: the NCC of the first pair of NH and NCC that the core sends for a chain.
+    FirstNcc,
     /// `id`: the number of a station.
     Id,
     /// `cells`: the cells of a station.
@@ -56,10 +58,10 @@ pub enum Field {
 impl Field {
     ghost use Rattle.scenario_file.specs.Field.{name_of};
 
-    /// The key as a scenario writes it: at most eight letters.
+    /// The key as a scenario writes it: at most nine letters.
     pub fn name(self) -> &'static str
         ensures name { result.now ≡ name_of self }
-        ensures short { length result.now ≤ 8 }
+        ensures short { length result.now ≤ 9 }
     {
         match self {
             Field::Phone => "phone",
@@ -69,6 +71,7 @@ impl Field {
             Field::Caps => "caps",
             Field::Priority => "priority",
             Field::First => "first",
+            Field::FirstNcc => "first_ncc",
             Field::Id => "id",
             Field::Cells => "cells",
             Field::Do => "do",

@@ -11,7 +11,7 @@ use crate::turns::add_opening;
 use crate::{Scenario, ScenarioFault};
 use alg_choice::Caps;
 use annex_a_keys::Cell;
-use lte_events::{Cells, Events, Few, Setup, StationSetup};
+use lte_events::{Cells, Events, Few, FirstNcc, Setup, StationSetup};
 use std::alloc::Global;
 
 /// The scenario of `n` steps that a seed gives, n being 1 to 100,000: a phone with traffic and handovers among
@@ -70,6 +70,7 @@ fn generated_setup() -> Setup
         caps: generated_caps(),
         core_priority: usual_priority(),
         core_first: 1,
+        core_first_ncc: FirstNcc::One,
         stations,
         cells,
     }

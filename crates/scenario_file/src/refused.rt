@@ -7,7 +7,7 @@ use rec_base::Bounded;
 
 impl ScenarioFault {
     /// The line for a text that is no scenario, in ASCII, with the LF that ends it: its first fault, and the
-    /// place of it. It takes no memory: the longest line names a step of ten digits and a field of eight letters.
+    /// place of it. It takes no memory: the longest line names a step of ten digits and a field of nine letters.
     #[tactic(auto, unfolding(crate::specs::Refused::refused_text))]
     pub fn line(&self) -> Bounded<48>
         ensures { result ≡ refused_text self.now }

@@ -1,9 +1,10 @@
 // What a system starts with: the tables of the phone, the core and the stations.
 ghost use Rattle.std.specs.Prelude.{◌≡◌, ◌≤◌, ◌<◌, ◌+◌, ◌*◌, length, IfOk, IfSome};
 ghost use Rattle.toml.specs.View.{table_view, items_view, view};
-ghost use Rattle.scenario_file.specs.declared.fields.Field.TheVariants.{Priority as PriorityField, First};
-ghost use Rattle.scenario_file.specs.Values.{count_of, or_default, priority_in, first_in};
-ghost use Rattle.scenario_file.specs.Setup.{usual_priority, phones_in, phones_of, phone_of, numbers_in, core_in, core_of, id_in, with_site, sites_from, cells_in, core_number_in, with_station, station_from, stations_from, no_stations, network_of, start_of};
+ghost use Rattle.scenario_file.specs.declared.fields.Field.TheVariants.{Priority as PriorityField, First, FirstNcc as FirstNccField};
+ghost use Rattle.lte_events.specs.declared.setups.FirstNcc.TheVariants.{One};
+ghost use Rattle.scenario_file.specs.Values.{count_of, or_default, priority_in, first_in, first_ncc_in};
+ghost use Rattle.scenario_file.specs.Setup.{usual_priority, phones_in, phones_of, phone_of, numbers_in, core_in, usual_core, core_of, id_in, with_site, sites_from, cells_in, core_number_in, with_station, station_from, stations_from, no_stations, network_of, start_of};
 
 use crate::faults::Refusal;
 use crate::keys::only;
@@ -11,7 +12,7 @@ use crate::systems::System;
 use crate::{Field, values};
 use alg_choice::{Caps, Eea, Priority};
 use annex_a_keys::Cell;
-use lte_events::{Cells, Few, Setup, StationSetup};
+use lte_events::{Cells, Few, FirstNcc, Setup, StationSetup};
 use toml::{Table, Value};
 
 // The algorithms that the core or a station may choose, and the first number that it draws.
@@ -19,6 +20,13 @@ use toml::{Table, Value};
 pub(crate) struct Numbers {
     pub(crate) priority: Priority,
     pub(crate) first: u32,
+}
+
+// What the core starts with.
+#[derive(Clone, Copy, Debug, PartialEq, Eq)]
+pub(crate) struct CoreStart {
+    pub(crate) numbers: Numbers,
+    pub(crate) first_ncc: FirstNcc,
 }
 
 // The stations read so far, their cells, and the core of each by its number.
@@ -53,11 +61,14 @@ pub(crate) fn start_in(document: &Table, system: System) -> Result<Start, Refusa
     let core = core(document)?;
     let network = network_in(document, system)?;
     let core_of = network.core_of;
+    let numbers = core.numbers;
+    let first_ncc = core.first_ncc;
     Ok(Start {
         setup: Setup {
             caps,
-            core_priority: core.priority,
-            core_first: core.first,
+            core_priority: numbers.priority,
+            core_first: numbers.first,
+            core_first_ncc: first_ncc,
             stations: network.stations,
             cells: network.cells,
         },
@@ -98,25 +109,38 @@ fn phone(document: &Table) -> Result<Caps, Refusal>
 
 // The table of the core, which need not stand.
 #[tactic(auto, unfolding(crate::specs::Setup::core_of))]
-fn core(document: &Table) -> Result<Numbers, Refusal>
+fn core(document: &Table) -> Result<CoreStart, Refusal>
     ensures { result ≡ core_of (table_view document.now) }
 {
     match values::found(document, Field::Core) {
-        None => Ok(Numbers {
-            priority: usual_priority(),
-            first: 1,
-        }),
+        None => Ok(usual_core()),
         Some(_) => core_in(document, Field::Core),
     }
 }
 
 #[tactic(auto, unfolding(crate::specs::Setup::core_in))]
-fn core_in(document: &Table, field: Field) -> Result<Numbers, Refusal>
+fn core_in(document: &Table, field: Field) -> Result<CoreStart, Refusal>
     ensures { result ≡ core_in field (table_view document.now) }
 {
     let core = values::table(document, field)?;
-    only(core, &[Field::Priority, Field::First], &[])?;
-    numbers_in(core)
+    only(core, &[Field::Priority, Field::First, Field::FirstNcc], &[])?;
+    let numbers = numbers_in(core)?;
+    let first_ncc = first_ncc_in(core)?;
+    Ok(CoreStart { numbers, first_ncc })
+}
+
+// What it starts with where the table does not stand.
+fn usual_core() -> CoreStart
+    ensures { result ≡ usual_core }
+{
+    let numbers = Numbers {
+        priority: usual_priority(),
+        first: 1,
+    };
+    CoreStart {
+        numbers,
+        first_ncc: FirstNcc::One,
+    }
 }
 
 // The fields that the core and a station share.
@@ -144,6 +168,15 @@ fn first_in(table: &Table) -> Result<u32, Refusal>
     match values::found(table, Field::First) {
         None => Ok(1),
         Some(_) => values::first(table, Field::First),
+    }
+}
+
+fn first_ncc_in(table: &Table) -> Result<FirstNcc, Refusal>
+    ensures { result ≡ or_default One first_ncc_in FirstNccField (table_view table.now) }
+{
+    match values::found(table, Field::FirstNcc) {
+        None => Ok(FirstNcc::One),
+        Some(_) => values::first_ncc(table, Field::FirstNcc),
     }
 }
 

@@ -8,14 +8,14 @@ ghost use Rattle.annex_a_keys.specs.Cell.{IsCell};
 ghost use Rattle.lte_events.specs.Conditions.{has_station, IsSrb, IsDrb, IsText, IsKey, AreCaps};
 ghost use Rattle.scenario_file.specs.Field.{name_of};
 ghost use Rattle.scenario_file.specs.Words.{natural, in_range};
-ghost use Rattle.scenario_file.specs.Values.{result_map, value_in, word_in, integer_in, array_in, table_in, are_tables, tables_in, number_in, any_number_in, first_in, station_in, act_in, actor_in, radio_end_in, nas_end_in, srb_in, drb_in, bearer_in, nas_in, path_in, caps_in, key_in, octets_in, cell_of_items, cell_of, cell_in, eea_at, both_of, priority_of_items, priority_in};
+ghost use Rattle.scenario_file.specs.Values.{result_map, value_in, word_in, integer_in, array_in, table_in, are_tables, tables_in, number_in, any_number_in, first_in, first_ncc_in, station_in, act_in, actor_in, radio_end_in, nas_end_in, srb_in, drb_in, bearer_in, nas_in, path_in, caps_in, key_in, octets_in, cell_of_items, cell_of, cell_in, eea_at, both_of, priority_of_items, priority_in};
 
 use crate::Field;
 use crate::faults::Refusal;
 use crate::words::{self, Act, Actor, NasEnd, RadioEnd};
 use alg_choice::{Caps, Eea, Priority};
 use annex_a_keys::Cell;
-use lte_events::{Setup, StationSetup};
+use lte_events::{FirstNcc, Setup, StationSetup};
 use rec_base::{Bearer, Bounded};
 use toml::{Table, Value};
 
@@ -125,6 +125,14 @@ pub(crate) fn first(table: &Table, field: Field) -> Result<u32, Refusal>
     ensures { result ≡ first_in field (table_view table.now) }
 {
     number(table, field, 1, u32::MAX)
+}
+
+// The NCC of the first pair that the core sends.
+#[tactic(auto, unfolding(crate::specs::Values::first_ncc_in))]
+pub(crate) fn first_ncc(table: &Table, field: Field) -> Result<FirstNcc, Refusal>
+    ensures { result ≡ first_ncc_in field (table_view table.now) }
+{
+    words::first_ncc(integer(table, field)?).ok_or(Refusal::Wrong(field))
 }
 
 // Whether one of the stations has this number.

@@ -1,11 +1,12 @@
 // The words and the hex texts that stand as values of a scenario.
 ghost use Rattle.std.specs.Prelude.{◌≡◌, ◌≤◌, ◌<◌, IfSome, length};
 ghost use Rattle.lte_events.specs.Conditions.{IsSrb, IsDrb};
-ghost use Rattle.scenario_file.specs.Words.{act_of, actor_of, radio_end_of, nas_end_of, srb_of, drb_of, bearer_of, nas_of, path_of, caps_of, key_of, octets_of, natural, in_range, eea_of, place_of};
+ghost use Rattle.scenario_file.specs.Words.{act_of, actor_of, radio_end_of, nas_end_of, srb_of, drb_of, bearer_of, nas_of, path_of, caps_of, key_of, octets_of, natural, in_range, eea_of, first_ncc_of, place_of};
 
 use alg_choice::{Caps, Eea};
 use annex_a_keys::Cell;
 use hex::FromHex;
+use lte_events::FirstNcc;
 use rec_base::{Bearer, Bounded};
 
 // What happens in a step: a word of `do`.
@@ -225,6 +226,17 @@ pub(crate) fn eea(identity: i64) -> Option<Eea>
     match identity {
         0 => Some(Eea::Eea0),
         2 => Some(Eea::Eea2),
+        _ => None,
+    }
+}
+
+// The NCC of a first pair, 1 or 2.
+pub(crate) fn first_ncc(integer: i64) -> Option<FirstNcc>
+    ensures { result ≡ first_ncc_of integer }
+{
+    match integer {
+        1 => Some(FirstNcc::One),
+        2 => Some(FirstNcc::Two),
         _ => None,
     }
 }
