@@ -13,6 +13,7 @@ use Rattle.lte_events.specs.declared.acts.CoreAct.TheVariants.{StartSmc, Connect
 use Rattle.lte_events.specs.declared.addresses.Address.TheVariants.{StationS1}
 use Rattle.lte_events.specs.declared.answers.Answer.{Answer}
 use Rattle.lte_events.specs.declared.answers.Answer.TheVariants.{Done, NoContext, MacFails, CountSpent, SmcOpen, NoAlgorithm, BadRecord, Short, BadHeader, WrongKind, NoUe, OldConnection, UnknownCell, Repeated, NumberSpent, NoTrigger, NoSmc}
+use Rattle.lte_events.specs.declared.setups.FirstNcc.{FirstNcc}
 use Rattle.nas_count.specs.Estimate.{estimate_of}
 use Rattle.nas_rec.specs.Reading.{read_nas, command_of, reject_of, bare, data_of}
 use Rattle.rec_base.specs.BigEndian.{number_of, number_at, field_at}
@@ -81,7 +82,7 @@ abbrev root : Term
 root = Root 0 []
 
 abbrev start : Core Term ℕ
-start = first_core (record { station = 0; cell = cell0 } ∷ record { station = 1; cell = cell1 } ∷ []) (Eea2 ∷ Eea0 ∷ []) 1
+start = first_core (record { station = 0; cell = cell0 } ∷ record { station = 1; cell = cell1 } ∷ []) (Eea2 ∷ Eea0 ∷ []) 1 FirstNcc.One
 
 abbrev elsewhere : Place
 elsewhere = record { pci = 12; earfcn = 102 }

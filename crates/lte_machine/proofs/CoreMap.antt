@@ -1,10 +1,13 @@
 -- The core's step in one reading of keys and chain numbers, carried to another, is its step there.
 use Rattle.std.proofs.Common.{◌≡◌, ℕ, Bool, true, false, refl, ap, sym, ◌∙◌}
-use Rattle.std.specs.Prelude.{List, Option, Some, None, option_map, Result, Ok, Err}
+use Rattle.std.specs.Prelude.{List, map, Option, Some, None, option_map, Result, Ok, Err}
 use Rattle.alg_choice.specs.Algs.{identity_of, eia2_identity}
 use Rattle.alg_choice.specs.declared.algs.Algs.{Algs}
 use Rattle.alg_choice.specs.declared.caps.Caps.{Caps}
 use Rattle.annex_a_keys.specs.Cell.{Place}
+use Rattle.lte_events.specs.declared.setups.FirstNcc.{FirstNcc}
+use Rattle.lte_events.specs.declared.setups.FirstNcc.TheVariants.{One, Two}
+use Rattle.key_model.specs.Derivation.{map_derivation}
 use Rattle.key_model.specs.HandoverLines.{map_numbered}
 use Rattle.key_model.specs.HandoverTable.{NumberedKey}
 use Rattle.key_model.specs.Reading.{Reading, Carries}
@@ -15,7 +18,7 @@ use Rattle.s1x2_rec.specs.Content.{Content}
 use Rattle.rec_base.specs.declared.faults.RecFault.{RecFault}
 use Rattle.rec_base.specs.declared.uses.Dir.TheVariants.{Up}
 use Rattle.lte_machine.specs.CoreChoice.{CoreFront, Settled, FromNas, NasSettled, OpensComplete, OpensProtected, core_front, core_row}
-use Rattle.lte_machine.specs.CoreKeys.{opens_by_procedure, opens_by_context, core_expects, authenticated, smc_started, smc_complete, key_changed, service_asked, nas_opened, sealed_reject, nas_sent, nas_skipped, context_set_up, path_switched, handover_asked, handover_notified, core_does_nas, core_does_record, core_does_act, core_does}
+use Rattle.lte_machine.specs.CoreKeys.{sync_from, number_from, nh_kept, opens_by_procedure, opens_by_context, core_expects, authenticated, smc_started, smc_complete, key_changed, service_asked, nas_opened, sealed_reject, nas_sent, nas_skipped, context_set_up, path_switched, handover_asked, handover_notified, core_does_nas, core_does_record, core_does_act, core_does}
 use Rattle.lte_machine.specs.CoreRows.{CoreNasRow, NasRefused, PlainReject, SmcComplete, SmcChange, ServiceAsked, NasOpened, SealedReject, CoreRecordRow, RecordRefused, PathSwitched, HandoverAsked, HandoverOrdered, HandoverNotified, HandoverCancelled, CoreActRow, ActRefused, SmcStarted, ContextSetUp, ContextReleased, NasSent, NasSkipped, CoreRow, OfNas, OfRecord, OfAct, OfAuth}
 use Rattle.lte_machine.specs.CoreState.{Core, CorePartial, CoreContext, CoreLink, CoreInput, CoreAuth, CoreActs, CoreNasPdu, CoreRecord, map_core_partial, map_core_context, map_core_link, map_core, map_core_input}
 use Rattle.lte_machine.specs.CoreStep.{plain_core, plain_core_input, core_front_of, core_root, core_received, core_opens, core_ends, core_step}
@@ -122,10 +125,26 @@ smc_complete-map f g count None keys s = refl
 smc_complete-map f g count (Some partial) None s = refl
 smc_complete-map f g count (Some partial) (Some keys) s = refl
 
+-- where a chain begins
+sync_from-map : {K C L D : Type 0} (r : Reading K C) (q : Reading L D) (f : K → L) (g : C → D) → Carries r q f g → (first_ncc : FirstNcc) (root kenb : K) → f (sync_from r first_ncc root kenb) ≡ sync_from q first_ncc (f root) (f kenb)
+sync_from-map r q f g c One root kenb = refl
+sync_from-map r q f g c Two root kenb = c.nh root kenb
+
+number_from-map : {K C L D : Type 0} (r : Reading K C) (q : Reading L D) (f : K → L) (g : C → D) → Carries r q f g → (first_ncc : FirstNcc) → g (number_from r first_ncc) ≡ number_from q first_ncc
+number_from-map r q f g c One = c.first
+number_from-map r q f g c Two = rw (c.plus r.first 1, c.first) refl
+
+nh_kept-map : {K C L D : Type 0} (r : Reading K C) (q : Reading L D) (f : K → L) (g : C → D) → Carries r q f g → (first_ncc : FirstNcc) (root kenb : K) → map (map_derivation f) (nh_kept r first_ncc root kenb) ≡ nh_kept q first_ncc (f root) (f kenb)
+nh_kept-map r q f g c One root kenb = refl
+nh_kept-map r q f g c Two root kenb = rw (c.nh root kenb) refl
+
 key_changed-map : {K C L D : Type 0} (r : Reading K C) (q : Reading L D) (f : K → L) (g : C → D) → Carries r q f g → (count conn next station : ℕ) (partial : Option (CorePartial K)) (keys : Option (Keys K)) (s : Core K C) → map_core_done f g (key_changed r count conn next station partial keys s) ≡ key_changed q count conn next station (option_map (map_core_partial f) partial) (option_map (map_keys f) keys) (map_core f g s)
 key_changed-map r q f g c count conn next station None keys s = refl
 key_changed-map r q f g c count conn next station (Some partial) None s = refl
-key_changed-map r q f g c count conn next station (Some partial) (Some keys) s = rw (c.kenb partial.root count, sym c.first, c.ncc r.first) refl
+key_changed-map r q f g c count conn next station (Some partial) (Some keys) s =
+    let root = partial.root in
+    let kenb = r.kenb root count in
+    rw (sync_from-map r q f g c s.first_ncc root kenb, number_from-map r q f g c s.first_ncc, nh_kept-map r q f g c s.first_ncc root kenb, c.kenb root count, sym c.first, c.ncc r.first) refl
 
 service_asked-map : {K C L D : Type 0} (f : K → L) (g : C → D) → (count : ℕ) (context : Option (CoreContext K)) (s : Core K C) → map_core_done f g (service_asked count context s) ≡ service_asked count (option_map (map_core_context f) context) (map_core f g s)
 service_asked-map f g count None s = refl
@@ -149,7 +168,10 @@ nas_skipped-map f g n (Some context) s = refl
 
 context_set_up-map : {K C L D : Type 0} (r : Reading K C) (q : Reading L D) (f : K → L) (g : C → D) → Carries r q f g → (conn : ℕ) (cell : Place) (target : ℕ) (caps : Caps) (count : ℕ) (context : Option (CoreContext K)) (s : Core K C) → map_core_done f g (context_set_up r conn cell target caps count context s) ≡ context_set_up q conn cell target caps count (option_map (map_core_context f) context) (map_core f g s)
 context_set_up-map r q f g c conn cell target caps count None s = refl
-context_set_up-map r q f g c conn cell target caps count (Some context) s = rw (c.kenb context.nas.root count, sym c.first, c.ncc r.first) refl
+context_set_up-map r q f g c conn cell target caps count (Some context) s =
+    let root = context.nas.root in
+    let kenb = r.kenb root count in
+    rw (sync_from-map r q f g c s.first_ncc root kenb, number_from-map r q f g c s.first_ncc, nh_kept-map r q f g c s.first_ncc root kenb, c.kenb root count, sym c.first, c.ncc r.first) refl
 
 path_switched-map : {K C L D : Type 0} (r : Reading K C) (q : Reading L D) (f : K → L) (g : C → D) → Carries r q f g → (conn : ℕ) (station : ℕ) (number : ℕ) (alarm : Bool) (link : Option (CoreLink K C)) (s : Core K C) → map_core_done f g (path_switched r conn station number alarm link s) ≡ path_switched q conn station number alarm (option_map (map_core_link f g) link) (map_core f g s)
 path_switched-map r q f g c conn station number alarm None s = refl

@@ -1,22 +1,36 @@
 -- Each row of the core derives from keys that are known, and leaves keys that are.
-use Rattle.std.proofs.Common.{refl, ℕ, Bool, List, Option, Some, None, inl}
+use Rattle.std.proofs.Common.{refl, ℕ, Bool, List, Option, Some, None, inl, inr}
 use Rattle.alg_choice.specs.declared.algs.Algs.{Algs}
 use Rattle.alg_choice.specs.declared.caps.Caps.{Caps}
 use Rattle.annex_a_keys.specs.Cell.{Place}
-use Rattle.key_model.specs.Term.{Term}
+use Rattle.lte_events.specs.declared.setups.FirstNcc.{FirstNcc}
+use Rattle.lte_events.specs.declared.setups.FirstNcc.TheVariants.{One, Two}
+use Rattle.key_model.specs.Term.{Term, Kenb}
 use Rattle.key_model.specs.Reading.{term_reading_by}
 use Rattle.nas_guard.specs.Keys.{Keys}
 use Rattle.lte_machine.specs.Reply.{Reply}
 use Rattle.lte_machine.specs.CoreState.{Core, CorePartial, CoreContext, CoreLink}
 use Rattle.lte_machine.specs.CoreRows.{CoreNasRow, NasRefused, PlainReject, SmcComplete, ServiceAsked, NasOpened, SealedReject, CoreRecordRow, RecordRefused, PathSwitched, HandoverAsked, HandoverOrdered, HandoverNotified, HandoverCancelled, CoreActRow, ActRefused, SmcStarted, ContextSetUp, ContextReleased, NasSent, NasSkipped, CoreRow, OfNas, OfRecord, OfAct, OfAuth, SmcChange}
-use Rattle.lte_machine.specs.CoreKeys.{authenticated, smc_started, smc_complete, service_asked, nas_opened, sealed_reject, nas_sent, nas_skipped, context_set_up, path_switched, handover_asked, handover_notified, core_does_nas, core_does_record, core_does_act, core_does, key_changed}
+use Rattle.lte_machine.specs.CoreKeys.{sync_from, nh_kept, authenticated, smc_started, smc_complete, service_asked, nas_opened, sealed_reject, nas_sent, nas_skipped, context_set_up, path_switched, handover_asked, handover_notified, core_does_nas, core_does_record, core_does_act, core_does, key_changed}
 use Rattle.lte_machine.specs.Known.{CorePartialKnown, ProcedureKnown, CoreContextKnown, LinkKnown, CoreKnown, SentKnown}
-use Rattle.lte_machine.proofs.KnownLists.{OfSome, Chain, AllOut, core_more}
+use Rattle.lte_machine.proofs.KnownLists.{OfSome, Plus, Chain, AllOut, core_more}
 
 -- what a step keeps: its derivations are from known keys, and with their keys known all keys of the core and of what it
 -- sends are known
 abbrev pub CoreKeeps : (Term → Type 0) → (Term → Type 0) → Core Term ℕ × Reply Term ℕ → Type 0
 CoreKeeps P Q d = Chain P d.1.derived × (AllOut Q d.1.derived → CoreKnown Q d.0 × OfSome (SentKnown Q) d.1.sent)
+
+-- the derivations as a chain begins, and its key, whether the NH of number 1 is kept or not
+module _ (same : Term → Term → Bool) where
+  kept_from : (P : Term → Type 0) (first_ncc : FirstNcc) (root : Term) (count : ℕ) → P root
+      → Chain (Plus P (Kenb root count)) (nh_kept (term_reading_by same) first_ncc root (Kenb root count))
+  kept_from P One root count p = tt
+  kept_from P Two root count p = ((inl p, inr refl, refl), tt)
+
+  sync_known : (Q : Term → Type 0) (first_ncc : FirstNcc) (root kenb : Term) → Q kenb
+      → AllOut Q (nh_kept (term_reading_by same) first_ncc root kenb) → Q (sync_from (term_reading_by same) first_ncc root kenb)
+  sync_known Q One root kenb q o = q
+  sync_known Q Two root kenb q o = o.0
 
 module _ (same : Term → Term → Bool) (P Q : Term → Type 0) (s : Core Term ℕ) (q : CoreKnown Q s) where
   auth_keeps : (ksi : ℕ) (caps : Caps) (o : Option Term) → OfSome Q o → CoreKeeps P Q (authenticated ksi caps o s)
@@ -45,7 +59,10 @@ module _ (same : Term → Term → Bool) (P Q : Term → Type 0) (s : Core Term 
       CoreKeeps P Q (key_changed (term_reading_by same) count conn next station p k s)
   key_changed_keeps count conn next station None k p h g = (tt, λ o. (q, tt))
   key_changed_keeps count conn next station (Some x) None p h g = (tt, λ o. (q, tt))
-  key_changed_keeps count conn next station (Some x) (Some keys) p h g = (((p, tt, refl), tt), λ o. ((tt, tt, (h, g), (h, o.0)), o.0))
+  key_changed_keeps count conn next station (Some x) (Some keys) p h g = (
+    ((p, tt, refl), kept_from same P s.first_ncc x.root count p),
+    λ o. ((tt, tt, (h, g), (h, sync_known same Q s.first_ncc x.root (Kenb x.root count) o.0 o.1)), o.0),
+  )
 
   nas_keeps : (row : CoreNasRow) → CoreKnown P s → CoreKeeps P Q (core_does_nas (term_reading_by same) row s)
   nas_keeps (NasRefused answer) p = (tt, λ o. (q, tt))
@@ -89,7 +106,10 @@ module _ (same : Term → Term → Bool) (P Q : Term → Type 0) (s : Core Term 
   context_set_up_keeps : (conn : ℕ) (cell : Place) (target : ℕ) (caps : Caps) (count : ℕ) (c : Option (CoreContext Term)) → CoreContextKnown P c → CoreContextKnown Q c →
       CoreKeeps P Q (context_set_up (term_reading_by same) conn cell target caps count c s)
   context_set_up_keeps conn cell target caps count None p h = (tt, λ o. (q, tt))
-  context_set_up_keeps conn cell target caps count (Some c) p h = (((p.0, tt, refl), tt), λ o. ((q.0, q.1, q.2, (h.0, o.0)), o.0))
+  context_set_up_keeps conn cell target caps count (Some c) p h = (
+    ((p.0, tt, refl), kept_from same P s.first_ncc c.nas.root count p.0),
+    λ o. ((q.0, q.1, q.2, (h.0, sync_known same Q s.first_ncc c.nas.root (Kenb c.nas.root count) o.0 o.1)), o.0),
+  )
 
   nas_sent_keeps : (count : ℕ) (text : List ℕ) (c : Option (CoreContext Term)) → CoreContextKnown Q c → CoreKeeps P Q (nas_sent count text c s)
   nas_sent_keeps count text None h = (tt, λ o. (q, tt))

@@ -35,6 +35,7 @@ pub mod Ordinary
 pub mod LateAnswers
 mod CancelledExamples
 pub mod KeyChanges
+mod FirstPair
 mod AfterChanges
 mod WideCell
 mod Edges

@@ -15,6 +15,7 @@ use Rattle.lte_events.specs.declared.answers.Answer.{Answer}
 use Rattle.lte_events.specs.declared.answers.Answer.TheVariants.{Done, MacFails}
 use Rattle.lte_events.specs.declared.classes.Class.{Class}
 use Rattle.lte_events.specs.declared.events.Event.{Event}
+use Rattle.lte_events.specs.declared.setups.FirstNcc.{FirstNcc}
 use Rattle.lte_events.specs.declared.setups.Setup.{Setup}
 use Rattle.key_model.specs.Least.{least}
 use Rattle.key_model.specs.HandoverTable.{NumberedKey}
@@ -75,6 +76,7 @@ setup = record {
   caps = record { eea = 0xa0; eia = 0x20 };
   core_priority = Eea2 ∷ Eea0 ∷ [];
   core_first = 1;
+  core_first_ncc = FirstNcc.One;
   stations = record { id = 0; priority = Eea2 ∷ Eea0 ∷ []; first = 1 } ∷ record { id = 1; priority = Eea2 ∷ Eea0 ∷ []; first = 1 } ∷ [];
   cells = record { station = 0; cell = place 0 } ∷ record { station = 1; cell = place 1 } ∷ [];
 }

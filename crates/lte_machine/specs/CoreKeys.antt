@@ -17,7 +17,9 @@ use Rattle.nas_guard.specs.Keys.{Keys}
 use Rattle.nas_guard.specs.Seal.{is_ciphered}
 use Rattle.nas_rec.specs.Spelling.{spelling_of}
 use Rattle.nas_rec.specs.declared.records.NasRecord.TheVariants.{SecurityModeCommand, NasData}
-use Rattle.nh_chain.specs.Chain.{ChainState, begun, stepped, present_pair}
+use Rattle.lte_events.specs.declared.setups.FirstNcc.{FirstNcc}
+use Rattle.lte_events.specs.declared.setups.FirstNcc.TheVariants.{One, Two}
+use Rattle.nh_chain.specs.Chain.{ChainState, stepped, present_pair}
 use Rattle.s1x2_rec.specs.Fields.{Fields, InitialContext, ContextRelease, PathSwitchAnswer, HandoverRequest, HandoverCommand, HandoverCancel, ContextModification}
 use Rattle.key_model.specs.HandoverTable.{NumberedKey}
 use Rattle.lte_machine.specs.Bearers.{skipped}
@@ -120,6 +122,26 @@ smc_complete count (Some partial) (Some keys) s = silent (record s {
 abbrev pub to_station : {K C : Type 0} → ℕ → Fields → Option (NumberedKey K C) → Outgoing K C
 to_station station fields key = Between (StationS1 station) fields key
 
+-- a chain begins: with NH of chain number 1 the core goes one step on at once and keeps that pair, so that the first pair that
+-- it sends has NCC 2 (TS 33.401 7.2.8.1.1). Without, it stands at KeNB, of chain number 0
+
+abbrev pub sync_from : {K C : Type 0} → Reading K C → FirstNcc → K → K → K
+sync_from r One root kenb = kenb
+sync_from r Two root kenb = r.nh root kenb
+
+abbrev pub number_from : {K C : Type 0} → Reading K C → FirstNcc → C
+number_from r One = r.first
+number_from r Two = r.plus r.first 1
+
+abbrev pub chain_from : {K C : Type 0} → Reading K C → FirstNcc → K → K → ChainState K C
+chain_from r first_ncc root kenb =
+    record { root = root; sync = sync_from r first_ncc root kenb; number = number_from r first_ncc }
+
+-- the derivation of the NH that is kept, which is sent to nobody
+abbrev pub nh_kept : {K C : Type 0} → Reading K C → FirstNcc → K → K → List (Derivation K)
+nh_kept r One root kenb = []
+nh_kept r Two root kenb = nh_made r root kenb ∷ []
+
 -- the new context is in use, and the key of the connection changes at once: its station gets the KeNB of the Complete's COUNT,
 -- and the connection goes on under the next number with a chain that begins anew (TS 33.401 7.2.9.2 and A.3)
 abbrev pub key_changed : {K C : Type 0} →
@@ -127,7 +149,7 @@ abbrev pub key_changed : {K C : Type 0} →
 key_changed r count conn next station (Some partial) (Some keys) s =
     let kenb = r.kenb partial.root count in
     sending_noted (to_station station (ContextModification conn next) (Some (record { key = kenb; number = r.first })))
-    (kenb_made r partial.root count ∷ [])
+    (kenb_made r partial.root count ∷ nh_kept r s.first_ncc partial.root kenb)
     (record { ncc = r.ncc r.first; way = Initial; key = kenb })
     false
     (record s {
@@ -136,7 +158,7 @@ key_changed r count conn next station (Some partial) (Some keys) s =
       partial = None;
       procedure = None;
       next = next + 1;
-      link = Some (record { conn = next; chain = begun r partial.root kenb; station = station });
+      link = Some (record { conn = next; chain = chain_from r s.first_ncc partial.root kenb; station = station });
     })
 key_changed r count conn next station partial procedure s = silent s
 
@@ -187,13 +209,13 @@ context_set_up r conn cell target caps count None s = silent s
 context_set_up r conn cell target caps count (Some c) s =
     let kenb = r.kenb c.nas.root count in
     sending_noted (to_station target (InitialContext conn cell caps) (Some (record { key = kenb; number = r.first })))
-    (kenb_made r c.nas.root count ∷ [])
+    (kenb_made r c.nas.root count ∷ nh_kept r s.first_ncc c.nas.root kenb)
     (record { ncc = r.ncc r.first; way = Initial; key = kenb })
     false
     (record s {
       trigger = None;
       next = conn + 1;
-      link = Some (record { conn = conn; chain = begun r c.nas.root kenb; station = target });
+      link = Some (record { conn = conn; chain = chain_from r s.first_ncc c.nas.root kenb; station = target });
     })
 
 abbrev pub context_released : {K C : Type 0} → ℕ → ℕ → Core K C → CoreDone K C

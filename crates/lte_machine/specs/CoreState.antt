@@ -4,6 +4,7 @@ use Rattle.alg_choice.specs.declared.algs.Eea.{Eea}
 use Rattle.alg_choice.specs.declared.caps.Caps.{Caps}
 use Rattle.rec_base.specs.declared.faults.RecFault.{RecFault}
 use Rattle.lte_events.specs.declared.acts.CoreAct.{CoreAct}
+use Rattle.lte_events.specs.declared.setups.FirstNcc.{FirstNcc}
 use Rattle.lte_events.specs.Site.{Site}
 use Rattle.nas_guard.specs.Keys.{Keys, map_keys}
 use Rattle.nh_chain.specs.Chain.{ChainState, map_chain}
@@ -44,6 +45,8 @@ pub record Core (K C : Type 0) : Type 0 where
   pub cells : List Site
   -- its list of encryption algorithms, the first the best
   pub priority : List Eea
+  -- the NCC of the first pair that it sends for a chain
+  pub first_ncc : FirstNcc
   -- the capabilities of the latest authentication
   pub latest : Caps
   -- what the latest authentication left
@@ -64,10 +67,11 @@ pub record Core (K C : Type 0) : Type 0 where
   pub requests : List ℕ
 
 -- a core that has authenticated nobody
-abbrev pub first_core : {K C : Type 0} → List Site → List Eea → ℕ → Core K C
-first_core cells priority first = record {
+abbrev pub first_core : {K C : Type 0} → List Site → List Eea → ℕ → FirstNcc → Core K C
+first_core cells priority first first_ncc = record {
   cells = cells;
   priority = priority;
+  first_ncc = first_ncc;
   latest = record { eea = 0; eia = 0 };
   partial = None;
   procedure = None;
@@ -102,6 +106,7 @@ abbrev pub map_core : {K C L D : Type 0} → (K → L) → (C → D) → Core K 
 map_core f g c = record {
   cells = c.cells;
   priority = c.priority;
+  first_ncc = c.first_ncc;
   latest = c.latest;
   partial = option_map (map_core_partial f) c.partial;
   procedure = option_map (map_keys f) c.procedure;

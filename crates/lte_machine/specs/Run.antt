@@ -63,7 +63,7 @@ abbrev pub first_world : {K C S : Type 0} → Setup → World K C S
 first_world setup = record {
   events = 0;
   phone = first_phone setup.caps;
-  core = first_core setup.cells setup.core_priority setup.core_first;
+  core = first_core setup.cells setup.core_priority setup.core_first setup.core_first_ncc;
   stations = stations_of setup.cells setup.stations;
   sent = [];
   uses = [];
