@@ -11,18 +11,19 @@ use Rattle.lte_events.specs.declared.acts.CoreAct.{CoreAct}
 use Rattle.lte_events.specs.declared.addresses.Address.{Address}
 use Rattle.lte_events.specs.declared.answers.Answer.TheVariants.{BadRecord}
 use Rattle.lte_events.specs.Site.{Site, station_of}
+use Rattle.lte_events.specs.declared.setups.FirstNcc.{FirstNcc}
+use Rattle.lte_events.specs.declared.setups.FirstNcc.TheVariants.{One, Two}
 use Rattle.key_model.specs.Term.{Term, Kenb, Nh}
 use Rattle.key_model.specs.Chain.{nh}
 use Rattle.key_model.specs.HandoverTable.{NumberedKey}
 use Rattle.key_model.specs.Reading.{term_reading_by}
 use Rattle.nas_guard.specs.Keys.{Keys}
-use Rattle.nh_chain.specs.Chain.{begun}
 use Rattle.s1x2_rec.specs.Fields.{Fields}
 use Rattle.lte_machine.specs.Opening.{Outcome}
 use Rattle.lte_machine.specs.Reply.{ByTarget}
 use Rattle.lte_machine.specs.CoreState.{Core, CorePartial, CoreContext, CoreLink}
 use Rattle.lte_machine.specs.CoreRows.{CoreNasRow, NasRefused, PlainReject, SmcComplete, SmcChange, ServiceAsked, NasOpened, SealedReject, CoreRecordRow, RecordRefused, PathSwitched, HandoverAsked, HandoverOrdered, HandoverNotified, HandoverCancelled, CoreActRow, ActRefused, SmcStarted, ContextSetUp, ContextReleased, NasSent, NasSkipped}
-use Rattle.lte_machine.specs.CoreKeys.{CoreDone, smc_started, smc_complete, key_changed, service_asked, nas_opened, sealed_reject, nas_sent, nas_skipped, context_set_up, path_switched, handover_asked, handover_notified, core_does_nas, core_does_record, core_does_act}
+use Rattle.lte_machine.specs.CoreKeys.{CoreDone, chain_from, number_from, smc_started, smc_complete, key_changed, service_asked, nas_opened, sealed_reject, nas_sent, nas_skipped, context_set_up, path_switched, handover_asked, handover_notified, core_does_nas, core_does_record, core_does_act}
 use Rattle.lte_machine.specs.CoreChoice.{core_fields_row, core_act_row}
 use Rattle.lte_machine.specs.CoreStep.{plain_core}
 use Rattle.lte_machine.proofs.ActFacts.{ActHas, act_has}
@@ -95,8 +96,11 @@ rises n f i = by_number (i == n) refl
     by_number false e = omega arith
 
 module _ (same : Term → Term → Bool) (cells : List Site) (g : Ghost) (tried_ok : AllOf (TriedOk cells g) g.tried) where
-  -- a new connection: its KASME, and the COUNT of its KeNB
-  module _ (conn : ℕ) (root : Term) (count : ℕ) (is : conn ≡ g.next) where
+  -- a new connection: its KASME, the COUNT of its KeNB, and the number of the first pair that the core sends
+  module _ (conn : ℕ) (root : Term) (count : ℕ) (first : FirstNcc) (is : conn ≡ g.next) where
+    abbrev begins_at : ℕ
+    begins_at = number_from (term_reading_by same) first
+
     abbrev roots : ℕ → Term
     roots = at_number conn root g.root
 
@@ -104,7 +108,7 @@ module _ (same : Term → Term → Bool) (cells : List Site) (g : Ghost) (tried_
     counts = at_number conn count g.count
 
     abbrev tops : ℕ → ℕ
-    tops = at_number conn 0 g.top
+    tops = at_number conn begins_at g.top
 
     abbrev begun_ghost : Ghost
     begun_ghost = with_conns g roots counts tops (conn + 1)
@@ -114,7 +118,7 @@ module _ (same : Term → Term → Bool) (cells : List Site) (g : Ghost) (tried_
       next = omega arith;
       root = λ i low. elsewhere conn i root g.root (omega arith);
       count = λ i low. elsewhere conn i count g.count (omega arith);
-      top = λ i low. equal_below (sym (elsewhere conn i 0 g.top (omega arith)));
+      top = λ i low. equal_below (sym (elsewhere conn i begins_at g.top (omega arith)));
       made = λ station air m e. e;
       tried = λ station number e f. f;
       took = λ x i. i;
@@ -127,22 +131,31 @@ module _ (same : Term → Term → Bool) (cells : List Site) (g : Ghost) (tried_
     begins_low : conn < conn + 1
     begins_low = omega arith
 
-    begins_link : (station : ℕ) → CoreLinkOk begun_ghost (Some (record { conn = conn; chain = begun (term_reading_by same) root (Kenb root count); station = station }))
-    begins_link station = (begins_low, sym (here conn 0 g.top), sym (here conn root g.root), begins_key)
+  -- the core stands at KeNB, or at the NH of number 1, which it keeps
+  begins_link : (conn : ℕ) (root : Term) (count : ℕ) (first : FirstNcc) (is : conn ≡ g.next) (station : ℕ)
+      → CoreLinkOk (begun_ghost conn root count first is) (Some (record { conn = conn; chain = chain_from (term_reading_by same) first root (Kenb root count); station = station }))
+  begins_link conn root count One is station =
+      (begins_low conn root count One is, sym (here conn 0 g.top), sym (here conn root g.root), begins_key conn root count One is)
+  begins_link conn root count Two is station = (
+    begins_low conn root count Two is,
+    sym (here conn 1 g.top),
+    sym (here conn root g.root),
+    λ j. Nh (sym (here conn root g.root) j) (begins_key conn root count Two is j),
+  )
 
   set_up_goes : (conn : ℕ) (cell : Place) (target : ℕ) (caps : Caps) (count : ℕ) (o : Option (CoreContext Term)) (s : Core Term ℕ)
       → CoreOk cells g s → conn ≡ s.next → CoreGoes cells g (context_set_up (term_reading_by same) conn cell target caps count o s)
   set_up_goes conn cell target caps count None s h draws = (g.root, g.count, g.top, g.next, later_itself g, h, tt, as_before _ g.top)
   set_up_goes conn cell target caps count (Some c) s h draws =
       let is : conn ≡ g.next = draws ∙ h.1 in (
-        roots conn c.nas.root count is,
-        counts conn c.nas.root count is,
-        tops conn c.nas.root count is,
+        roots conn c.nas.root count s.first_ncc is,
+        counts conn c.nas.root count s.first_ncc is,
+        tops conn c.nas.root count s.first_ncc is,
         conn + 1,
-        begins_later conn c.nas.root count is,
-        (begins_link conn c.nas.root count is target, refl, h.2),
-        (begins_low conn c.nas.root count is, begins_key conn c.nas.root count is, refl),
-        (λ i off. equal_below (apart conn i 0 g.top off)),
+        begins_later conn c.nas.root count s.first_ncc is,
+        (begins_link conn c.nas.root count s.first_ncc is target, refl, h.2),
+        (begins_low conn c.nas.root count s.first_ncc is, begins_key conn c.nas.root count s.first_ncc is, refl),
+        (λ i off. equal_below (apart conn i (number_from (term_reading_by same) s.first_ncc) g.top off)),
       )
 
   -- a step of the chain
@@ -254,14 +267,14 @@ module _ (same : Term → Term → Bool) (cells : List Site) (g : Ghost) (tried_
   key_changed_goes count conn next station (Some partial) (Some keys) s h needs =
       let root = partial.root in
       let is : next ≡ g.next = needs.0 ∙ h.1 in (
-        roots next root count is,
-        counts next root count is,
-        tops next root count is,
+        roots next root count s.first_ncc is,
+        counts next root count s.first_ncc is,
+        tops next root count s.first_ncc is,
         next + 1,
-        begins_later next root count is,
-        (begins_link next root count is station, refl, h.2),
-        (begins_low next root count is, begins_key next root count is, root, ap (Kenb root) needs.1, refl),
-        (λ i off. equal_below (apart next i 0 g.top off)),
+        begins_later next root count s.first_ncc is,
+        (begins_link next root count s.first_ncc is station, refl, h.2),
+        (begins_low next root count s.first_ncc is, begins_key next root count s.first_ncc is, root, ap (Kenb root) needs.1, refl),
+        (λ i off. equal_below (apart next i (number_from (term_reading_by same) s.first_ncc) g.top off)),
       )
 
   service_goes : (count : ℕ) (o : Option (CoreContext Term)) (s : Core Term ℕ) → CoreOk cells g s → CoreGoes cells g (service_asked count o s)

@@ -22,7 +22,7 @@ use Rattle.lte_machine.specs.StationState.{Station, Context}
 use Rattle.lte_machine.specs.CoreState.{Core, CorePartial, CoreContext, CoreLink, CoreInput, CoreAuth, CoreActs, CoreNasPdu, CoreRecord}
 use Rattle.lte_machine.specs.CoreRows.{CoreNasRow, NasRefused, PlainReject, SmcComplete, SmcChange, ServiceAsked, NasOpened, SealedReject, CoreRecordRow, RecordRefused, PathSwitched, HandoverAsked, HandoverOrdered, HandoverNotified, HandoverCancelled, CoreActRow, ActRefused, SmcStarted, ContextSetUp, ContextReleased, NasSent, NasSkipped}
 use Rattle.lte_machine.specs.CoreChoice.{core_fields_row, core_act_row}
-use Rattle.lte_machine.specs.CoreKeys.{authenticated, smc_started, smc_complete, service_asked, nas_opened, sealed_reject, nas_sent, nas_skipped, context_set_up, path_switched, handover_asked, handover_notified, core_does_nas, core_does_record, core_does_act, key_changed}
+use Rattle.lte_machine.specs.CoreKeys.{authenticated, smc_started, smc_complete, service_asked, nas_opened, sealed_reject, nas_sent, nas_skipped, context_set_up, path_switched, handover_asked, handover_notified, core_does_nas, core_does_record, core_does_act, key_changed, number_from}
 use Rattle.lte_machine.specs.CoreStep.{plain_core, core_step}
 use Rattle.lte_machine.proofs.ActFacts.{ActHas, act_has}
 use Rattle.lte_machine.proofs.NasFacts.{NasHas, nas_row, nas_has}
@@ -67,6 +67,10 @@ pub record CoreKept (top : ℕ → ℕ) (Asked : Station Term ℕ → Type 0) (t
   pub rises : (conn : ℕ) → top conn ≤ noted t.link top conn
   pub sends : OfSome (RecordBelow (noted t.link top)) x
   pub flies : (u : Station Term ℕ) → ContextBelow top u.context → Asked u → OfSome (InFlight u) x
+
+-- no number of a connection that was not drawn was noted: a chain of it begins at any
+from_none : {top : ℕ} (number : ℕ) → top ≡ 0 → top ≤ number
+from_none number none = omega (arith, none)
 
 -- no pair is sent
 abbrev pub Plainly : Option (Outgoing Term ℕ) → Type 0
@@ -137,13 +141,13 @@ module _ (top : ℕ → ℕ) (A : Station Term ℕ → Type 0) (s : Core Term �
   sealed_reject_kept count None = silent_kept s refl refl
   sealed_reject_kept count (Some c) = silent_kept _ refl refl
 
-  -- a key change begins with number 0 under the next connection number
+  -- a key change begins with number 0, or 1 kept, under the next connection number
   key_changed_kept : (same : Term → Term → Bool) (count conn next station : ℕ) (o : Option (CorePartial Term)) (p : Option (Keys Term)) → next ≡ s.next →
       CoreKept top A (key_changed (term_reading_by same) count conn next station o p s).0 (key_changed (term_reading_by same) count conn next station o p s).1.sent
   key_changed_kept same count conn next station None p e = silent_kept s refl refl
   key_changed_kept same count conn next station (Some partial) None e = silent_kept s refl refl
   key_changed_kept same count conn next station (Some partial) (Some keys) e =
-      link_moves _ _ _ refl (omega arith) (omega arith) (le_of_eq (h.1 next (le_of_eq (sym e)))) (omega arith) (λ u k a. tt)
+      link_moves _ _ _ refl (omega arith) (omega arith) (from_none (number_from (term_reading_by same) s.first_ncc) (h.1 next (le_of_eq (sym e)))) (omega arith) (λ u k a. tt)
 
   nas_kept : (same : Term → Term → Bool) (pdu : List ℕ) (outcome : Outcome) (row : CoreNasRow) → NasHas (term_reading_by same) s pdu outcome row →
       CoreKept top A (core_does_nas (term_reading_by same) row s).0 (core_does_nas (term_reading_by same) row s).1.sent
@@ -169,12 +173,12 @@ module _ (top : ℕ → ℕ) (A : Station Term ℕ → Type 0) (s : Core Term �
   nas_skipped_kept n None = silent_kept s refl refl
   nas_skipped_kept n (Some c) = silent_kept _ refl refl
 
-  -- a new connection begins with number 0
+  -- a new connection begins with number 0, or 1 kept
   context_set_up_kept : (same : Term → Term → Bool) (conn : ℕ) (cell : Place) (target : ℕ) (caps : Caps) (count : ℕ) (o : Option (CoreContext Term)) → conn ≡ s.next →
       CoreKept top A (context_set_up (term_reading_by same) conn cell target caps count o s).0 (context_set_up (term_reading_by same) conn cell target caps count o s).1.sent
   context_set_up_kept same conn cell target caps count None e = silent_kept s refl refl
   context_set_up_kept same conn cell target caps count (Some c) e =
-      link_moves _ _ _ refl (omega arith) (omega arith) (le_of_eq (h.1 conn (le_of_eq (sym e)))) (omega arith) (λ u k a. tt)
+      link_moves _ _ _ refl (omega arith) (omega arith) (from_none (number_from (term_reading_by same) s.first_ncc) (h.1 conn (le_of_eq (sym e)))) (omega arith) (λ u k a. tt)
 
   act_kept : (same : Term → Term → Bool) (act : CoreAct) (row : CoreActRow) → ActHas s act row →
       CoreKept top A (core_does_act (term_reading_by same) row s).0 (core_does_act (term_reading_by same) row s).1.sent

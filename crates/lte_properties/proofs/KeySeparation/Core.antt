@@ -9,6 +9,8 @@ use Rattle.lte_events.specs.Site.{Site}
 use Rattle.lte_events.specs.declared.acts.CoreAct.{CoreAct}
 use Rattle.lte_events.specs.declared.addresses.Address.TheVariants.{StationS1}
 use Rattle.lte_events.specs.declared.answers.Answer.TheVariants.{BadRecord}
+use Rattle.lte_events.specs.declared.setups.FirstNcc.{FirstNcc}
+use Rattle.lte_events.specs.declared.setups.FirstNcc.TheVariants.{One, Two}
 use Rattle.nas_count.specs.Estimate.{count_limit}
 use Rattle.nas_guard.specs.Keys.{Keys}
 use Rattle.key_model.specs.Term.{Term, Kenb, Nh, IsRoot, IsDerivationKey, IsWellFormed}
@@ -26,7 +28,7 @@ use Rattle.lte_machine.specs.CoreState.{Core, CorePartial, CoreContext, CoreLink
 use Rattle.lte_machine.specs.CoreChoice.{core_fields_row, core_act_row}
 use Rattle.lte_machine.specs.CoreStep.{plain_core, core_step}
 use Rattle.lte_machine.specs.CoreRows.{CoreNasRow, NasRefused, PlainReject, SmcComplete, ServiceAsked, NasOpened, SealedReject, CoreRecordRow, RecordRefused, PathSwitched, HandoverAsked, HandoverOrdered, HandoverNotified, HandoverCancelled, CoreActRow, ActRefused, SmcStarted, ContextSetUp, ContextReleased, NasSent, NasSkipped, SmcChange}
-use Rattle.lte_machine.specs.CoreKeys.{CoreDone, authenticated, smc_started, smc_complete, service_asked, nas_opened, sealed_reject, nas_sent, nas_skipped, context_set_up, path_switched, handover_asked, handover_notified, core_does_nas, core_does_record, core_does_act, key_changed, new_context}
+use Rattle.lte_machine.specs.CoreKeys.{CoreDone, chain_from, nh_kept, authenticated, smc_started, smc_complete, service_asked, nas_opened, sealed_reject, nas_sent, nas_skipped, context_set_up, path_switched, handover_asked, handover_notified, core_does_nas, core_does_record, core_does_act, key_changed, new_context}
 use Rattle.lte_machine.specs.World.{with_one}
 use Rattle.lte_machine.proofs.ActFacts.{ActHas, act_has}
 use Rattle.lte_machine.proofs.NasFacts.{NasHas, NextIn, nas_row, nas_has, opens_above}
@@ -48,6 +50,31 @@ not_itself n h = omega arith
 
 not_below : (n : ℕ) → n < n → ⊥
 not_below n h = omega arith
+
+-- a chain that begins, with the NH of number 1 kept or not: its key, and what was given no later than KeNB
+module _ (same : Term → Term → Bool) (root : Term) (count : ℕ) where
+  begun_ok : (first : FirstNcc) (roots : ℕ) (p : Option (CorePartial Term)) (c : Option (CoreContext Term)) (tr : Option ℕ) → IsRoot root → Past roots p c tr (Kenb root count)
+      → ChainOk roots p c tr (chain_from (term_reading_by same) first root (Kenb root count))
+  begun_ok One roots p c tr is past = (is, is, refl, past)
+  begun_ok Two roots p c tr is past =
+      (is, (is, is), refl, past_same roots p c tr (Kenb root count) (Nh root (Kenb root count)) refl refl past)
+
+  abbrev AtKenb : Term → Type 0
+  AtKenb u =
+      (root_number u ≤ root_number root)
+      × (root_number u ≡ root_number root → (count_of u ≤ count) × (count_of u ≡ count → chain_number u ≤ 0))
+
+  at_first : {n : ℕ} → n ≤ 0 → n ≤ 1
+  at_first low = omega arith
+
+  begun_most : (first : FirstNcc) (conn station : ℕ) (u : Term) → AtKenb u
+      → AtMost (Some (record { conn = conn; chain = chain_from (term_reading_by same) first root (Kenb root count); station = station })) u
+  begun_most One conn station u h = h
+  begun_most Two conn station u h = (h.0, λ e. let k = h.1 e in (k.0, λ f. at_first (k.1 f)))
+
+  kept_well : (first : FirstNcc) → IsRoot root → OutsAre IsWellFormed (nh_kept (term_reading_by same) first root (Kenb root count))
+  kept_well One is = tt
+  kept_well Two is = ((is, is), tt)
 
 module _ (roots : ℕ) (xs : List (Outgoing Term ℕ)) (sites : List Site) (tried : List (Tried Term ℕ)) (same : Term → Term → Bool) (s : Core Term ℕ) where
   abbrev Before : Core Term ℕ → Type 0
@@ -121,10 +148,10 @@ module _ (roots : ℕ) (xs : List (Outgoing Term ℕ)) (sites : List Site) (trie
       partial = tt;
       context = (h.partial.0, h.partial.1, tt);
       trigger = tt;
-      link = (h.partial.0, h.partial.0, refl, kenb_past);
-      given = λ u id q. by u id (given_split (Some sent) xs u id q);
+      link = begun_ok same p.root count s.first_ncc roots None (Some (new_context p keys count)) None h.partial.0 kenb_past;
+      given = λ u id q. let k = by u id (given_split (Some sent) xs u id q) in (k.0, begun_most same p.root count s.first_ncc next station u k.1);
     };
-    outs = (h.partial.0, tt);
+    outs = (h.partial.0, kept_well same p.root count s.first_ncc h.partial.0);
     sends = (((h.partial.0, given_new (Some sent) xs (Kenb p.root count) station (refl, refl)), tt), tt);
     fresh = λ t a b g l. not_below (root_number p.root) (h.given (Kenb p.root count) a (subst (λ u. GivenTo xs u a) (sym l.0) g)).0.1;
   } where
@@ -320,10 +347,10 @@ module _ (roots : ℕ) (xs : List (Outgoing Term ℕ)) (sites : List Site) (trie
       partial = h.partial;
       context = h.context;
       trigger = tt;
-      link = (h.context.0, h.context.0, refl, kenb_past);
-      given = λ u id q. by u id (given_split (Some sent) xs u id q);
+      link = begun_ok same c.nas.root count s.first_ncc roots s.partial (Some c) None h.context.0 kenb_past;
+      given = λ u id q. let k = by u id (given_split (Some sent) xs u id q) in (k.0, begun_most same c.nas.root count s.first_ncc conn target u k.1);
     };
-    outs = (h.context.0, tt);
+    outs = (h.context.0, kept_well same c.nas.root count s.first_ncc h.context.0);
     sends = (((h.context.0, given_new (Some sent) xs (Kenb c.nas.root count) target (refl, refl)), tt), tt);
     fresh = λ t a b g k. not_below count ((before (Kenb c.nas.root count) a (subst (λ u. GivenTo xs u a) (sym k.0) g)).2.1 refl);
   } where
