@@ -1,5 +1,5 @@
 -- The NAS part of a core, and the whole core around it (TS 24.301 4.4, TS 33.401 7.2.6.2 and 7.2.9.2).
-use Rattle.std.specs.Prelude.{ℕ, ◌+◌, ◌==◌, nat_le, Bool, true, false, if◌then◌else◌, List, [], ◌∷◌, replicate, Option, Some, None, option_map}
+use Rattle.std.specs.Prelude.{ℕ, ◌+◌, ◌==◌, nat_le, Bool, true, false, if◌then◌else◌, List, ◌∷◌, map, replicate, Option, Some, None, option_map}
 use Rattle.alg_choice.specs.declared.algs.Eea.{Eea}
 use Rattle.alg_choice.specs.declared.caps.Caps.{Caps}
 use Rattle.key_model.specs.Derivation.{derived_of, kenb_made}
@@ -8,13 +8,13 @@ use Rattle.lte_events.specs.Site.{Site}
 use Rattle.lte_events.specs.declared.addresses.Address.TheVariants.{PhoneNas}
 use Rattle.lte_events.specs.declared.replies.ActorOut.{ActorOut}
 use Rattle.lte_events.specs.declared.replies.Record.{Record}
+use Rattle.lte_events.specs.declared.setups.FirstNcc.{FirstNcc}
 use Rattle.lte_machine.specs.Calls.{note_out, record_out}
 use Rattle.lte_machine.specs.CoreChoice.{NUMBERS}
-use Rattle.lte_machine.specs.CoreKeys.{to_station}
+use Rattle.lte_machine.specs.CoreKeys.{chain_from, nh_kept, to_station}
 use Rattle.lte_machine.specs.CoreState.{Core, CorePartial, CoreContext, CoreLink}
 use Rattle.nas_guard.specs.Keys.{Keys}
 use Rattle.nas_guard.specs.Open.{header_in}
-use Rattle.nh_chain.specs.Chain.{begun}
 use Rattle.rec_base.specs.declared.ways.Way.TheVariants.{Initial}
 use Rattle.s1x2_rec.specs.Fields.{ContextModification}
 use Rattle.nas_smc.specs.declared.reply.NasOut.{NasOut}
@@ -49,6 +49,8 @@ closed l = record l { procedure = None }
 -- what else a core keeps
 pub record CoreRest : Type 0 where
   pub cells : List Site
+  -- the NCC of the first pair that it sends for a chain
+  pub first_ncc : FirstNcc
   -- the capabilities of the latest authentication
   pub latest : Caps
   -- the uplink NAS COUNT that triggers a connection
@@ -62,9 +64,10 @@ pub record CoreRest : Type 0 where
   pub requests : List ℕ
 
 -- of a core that has authenticated nobody
-abbrev pub first_rest : List Site → ℕ → CoreRest
-first_rest cells first = record {
+abbrev pub first_rest : List Site → ℕ → FirstNcc → CoreRest
+first_rest cells first first_ncc = record {
   cells = cells;
+  first_ncc = first_ncc;
   latest = record { eea = 0; eia = 0 };
   trigger = None;
   next = first;
@@ -78,6 +81,7 @@ abbrev pub core_of : CorePart → CoreRest → Core (List ℕ) ℕ
 core_of s rest = record {
   cells = rest.cells;
   priority = s.priority;
+  first_ncc = rest.first_ncc;
   latest = rest.latest;
   partial = partial_in s.left;
   procedure = procedure_in s.left;
@@ -114,11 +118,11 @@ changed s out root count conn station next =
       record s {
         trigger = None;
         next = next + 1;
-        link = Some (record { conn = next; chain = begun r root kenb; station = station });
+        link = Some (record { conn = next; chain = chain_from r s.first_ncc root kenb; station = station });
       },
       record (core_reply out) {
         sent = Some (record_out (to_station station (ContextModification conn next) (Some (record { key = kenb; number = r.first }))));
-        derived = derived_of (kenb_made r root count) ∷ [];
+        derived = map derived_of (kenb_made r root count ∷ nh_kept r s.first_ncc root kenb);
         note = Some (note_out (record { ncc = r.ncc r.first; way = Initial; key = kenb }));
       },
     )

@@ -4,6 +4,7 @@ ghost use Rattle.lte_events.specs.Site.{Site};
 ghost use Rattle.lte_events.specs.declared.acts.CoreAct.TheVariants.{SendNas, Skip, StartSmc};
 ghost use Rattle.lte_events.specs.declared.answers.Answer.TheVariants.{Done};
 ghost use Rattle.lte_events.specs.declared.inputs.CoreIn.TheVariants.{Act, Auth, Nas};
+ghost use Rattle.lte_events.specs.declared.setups.FirstNcc.{FirstNcc};
 ghost use Rattle.lte_machine.specs.Calls.{core_call};
 ghost use Rattle.lte_machine.specs.CoreState.{first_core};
 ghost use Rattle.nas_smc.specs.CoreNas.{CoreRest, core_after, core_of, first_rest, is_for_new_context};
@@ -41,7 +42,8 @@ impl Model for CoreNas {
 impl CoreNas {
     /// The NAS part of a core that has authenticated nobody.
     pub fn new(priority: Priority) -> CoreNas
-        ensures { (cells : List Site) (first : ℕ) → core_of result (first_rest cells first) ≡ first_core cells priority first }
+        ensures { (cells : List Site) (first : ℕ) (first_ncc : FirstNcc) →
+            core_of result (first_rest cells first first_ncc) ≡ first_core cells priority first first_ncc }
     {
         CoreNas {
             priority,
