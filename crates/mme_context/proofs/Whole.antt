@@ -10,6 +10,7 @@ use Rattle.mme_context.specs.Step.{answered}
 abbrev pub rest_in : Inside → CoreRest
 rest_in c = record {
   cells = c.cells;
+  first_ncc = c.first_ncc;
   latest = c.latest;
   trigger = c.trigger;
   next = c.next;

@@ -1,5 +1,5 @@
 // Acts of the core, and the next connection number.
-ghost use Rattle.std.specs.Prelude.{◌≡◌, ◌≤◌, ◌∷◌, [], IfNone, IfSome, Some, true, false, nat_le};
+ghost use Rattle.std.specs.Prelude.{◌≡◌, ◌≤◌, length, IfNone, IfSome, Some, true, false, nat_le};
 ghost use Rattle.lte_events.specs.declared.acts.CoreAct.TheVariants.{Connect, Release};
 ghost use Rattle.lte_machine.specs.CoreChoice.{NUMBERS};
 ghost use Rattle.lte_machine.specs.CoreState.{CoreActs};
@@ -9,12 +9,11 @@ ghost use Rattle.s1x2_rec.specs.Fields.{InitialContext};
 ghost use Rattle.mme_context.specs.Step.{answered, sending};
 
 use crate::Core;
-use crate::link::Link;
-use crate::sends::{sends, sends_key};
+use crate::link::{Link, begin};
+use crate::sends::sends;
 use alg_choice::Caps;
 use annex_a_keys::{Cell, Derived, Kenb};
 use lte_events::{ActorOut, Answer, CoreAct, KeyNote};
-use nh_chain::CoreChain;
 use rec_base::Way;
 use s1x2_rec::CoreRecord;
 
@@ -50,15 +49,23 @@ impl Core {
         let Some(conn) = self.number() else {
             return out.only(Answer::NumberSpent);
         };
-        let (chain, kenb, made) = CoreChain::begin(&root, count);
+        let begun = begin(&root, count, self.first_ncc);
+        begins(
+            station,
+            conn,
+            *cell,
+            caps,
+            &begun.kenb,
+            begun.made.as_slice(),
+            out,
+        );
         self.trigger = None;
         self.next = u64::from(conn) + 1;
         self.link = Some(Link {
             conn,
-            chain,
+            chain: begun.chain,
             station,
         });
-        begins(station, conn, *cell, caps, &kenb, made, out)
     }
 
     // UE Context Release Command (TS 36.413 8.3.3).
@@ -94,12 +101,13 @@ fn begins(
     cell: Cell,
     caps: Caps,
     kenb: &Kenb,
-    made: Derived,
+    made: &[Derived],
     out: &mut ActorOut,
 )
-    requires { 1 ≤ conn }
+    requires conn { 1 ≤ conn }
+    requires made { length made.now ≤ 2 }
     ensures { out.new ≡ record (sending (to_station station (InitialContext conn cell caps) (Some (record { key = kenb.now; number = 0 }))))
-        { derived = made ∷ []; note = Some (record { ncc = 0; way = Initial; key = kenb.now }) } }
+        { derived = made.now; note = Some (record { ncc = 0; way = Initial; key = kenb.now }) } }
 {
     let message = CoreRecord::InitialContext {
         conn,
@@ -112,5 +120,7 @@ fn begins(
         way: Way::Initial,
         key: kenb.octets(),
     };
-    sends_key(station, &message, made, note, out)
+    sends(station, &message, out);
+    out.derived.append(made);
+    out.note = Some(note);
 }

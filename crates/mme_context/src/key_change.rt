@@ -3,12 +3,11 @@ ghost use Rattle.std.specs.Prelude.{◌≡◌, ◌≤◌, ◌<◌};
 ghost use Rattle.nas_smc.specs.CoreNas.{changed, completes};
 
 use crate::Core;
-use crate::link::Link;
+use crate::link::{Link, begin};
 use crate::sends::told;
 use annex_a_keys::Kasme;
 use lte_events::{ActorOut, Address, KeyNote, Record};
 use nas_smc::NasOut;
-use nh_chain::CoreChain;
 use rec_base::Way;
 use s1x2_rec::CoreRecord;
 
@@ -48,19 +47,16 @@ impl Core {
         requires next { 1 ≤ next }
         ensures { (self.new, out.new) ≡ changed self.old said root.now count conn station next }
     {
-        let (chain, kenb, made) = CoreChain::begin(root, count);
-        self.trigger = None;
-        self.next = u64::from(next) + 1;
-        self.link = Some(Link {
-            conn: next,
-            chain,
-            station,
-        });
-        let message = CoreRecord::ContextModification { conn, next, kenb };
+        let begun = begin(root, count, self.first_ncc);
+        let message = CoreRecord::ContextModification {
+            conn,
+            next,
+            kenb: begun.kenb,
+        };
         let note = KeyNote {
             ncc: 0,
             way: Way::Initial,
-            key: kenb.octets(),
+            key: begun.kenb.octets(),
         };
         told(said, out);
         out.sent = Some(Record {
@@ -68,7 +64,14 @@ impl Core {
             octets: message.write(),
         });
         out.derived.clear();
-        out.derived.push(made);
+        out.derived.append(begun.made.as_slice());
         out.note = Some(note);
+        self.trigger = None;
+        self.next = u64::from(next) + 1;
+        self.link = Some(Link {
+            conn: next,
+            chain: begun.chain,
+            station,
+        });
     }
 }

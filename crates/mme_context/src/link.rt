@@ -1,9 +1,11 @@
-ghost use Rattle.std.specs.Prelude.{◌≡◌, ◌≤◌};
-ghost use Rattle.key_model.specs.Derivation.{derived_of, nh_made};
+ghost use Rattle.std.specs.Prelude.{◌≡◌, ◌≤◌, ◌∷◌, map};
+ghost use Rattle.key_model.specs.Derivation.{derived_of, kenb_made, nh_made};
 ghost use Rattle.key_model.specs.Reading.{octet_reading};
+ghost use Rattle.lte_machine.specs.CoreKeys.{chain_from, nh_kept};
 ghost use Rattle.nh_chain.specs.Chain.{present_pair, stepped};
 
-use annex_a_keys::Derived;
+use annex_a_keys::{Derived, Kasme, Kenb};
+use lte_events::{Few, FirstNcc};
 use nh_chain::{CoreChain, NhPair};
 use std::marker::Model;
 
@@ -42,5 +44,34 @@ impl Link {
         ensures { self.new ≡ record self.old { station = station } }
     {
         self.station = station;
+    }
+}
+
+// A chain as it begins: its KeNB, and what was derived for it, KeNB first.
+#[derive(Drop)]
+pub(crate) struct Begun {
+    pub(crate) chain: CoreChain,
+    pub(crate) kenb: Kenb,
+    pub(crate) made: Few<Derived, 2>,
+}
+
+// The chain of a KASME and an uplink NAS COUNT. A core whose first pair has NCC 2 derives the NH of NCC 1
+// now, and keeps it (TS 33.401 7.2.8.1.1 and A.3).
+pub(crate) fn begin(root: &Kasme, count: u32, first_ncc: FirstNcc) -> Begun
+    ensures kenb { result.kenb ≡ octet_reading.kenb root.now count }
+    ensures chain { result.chain ≡ chain_from octet_reading first_ncc root.now (octet_reading.kenb root.now count) }
+    ensures made { result.made ≡ map derived_of
+        (kenb_made octet_reading root.now count ∷ nh_kept octet_reading first_ncc root.now (octet_reading.kenb root.now count)) }
+{
+    let (mut chain, kenb, first) = CoreChain::begin(root, count);
+    let mut made = Few::new();
+    made.push(first);
+    match first_ncc {
+        FirstNcc::One => Begun { chain, kenb, made },
+        FirstNcc::Two => {
+            let (_, second) = chain.step();
+            made.push(second);
+            Begun { chain, kenb, made }
+        }
     }
 }

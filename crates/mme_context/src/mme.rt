@@ -1,5 +1,6 @@
 ghost use Rattle.std.specs.Prelude.{◌≡◌, ◌≢◌, ◌≤◌};
 ghost use Rattle.lte_events.specs.declared.answers.Answer.TheVariants.{Done};
+ghost use Rattle.lte_events.specs.declared.setups.FirstNcc.TheVariants.{One};
 ghost use Rattle.lte_machine.specs.Calls.{core_call, core_input};
 ghost use Rattle.lte_machine.specs.CoreState.{first_core};
 ghost use Rattle.mme_context.specs.Numbers.{Tells};
@@ -7,7 +8,7 @@ ghost use Rattle.mme_context.specs.Step.{IsInput};
 
 use crate::link::Link;
 use alg_choice::{Caps, Priority};
-use lte_events::{ActorOut, Answer, Cells, CoreIn};
+use lte_events::{ActorOut, Answer, Cells, CoreIn, FirstNcc};
 use nas_smc::CoreNas;
 use std::marker::Model;
 
@@ -17,6 +18,7 @@ use std::marker::Model;
 pub struct Core {
     pub(crate) nas: CoreNas,
     pub(crate) cells: Cells,
+    pub(crate) first_ncc: FirstNcc,
     pub(crate) latest: Caps,
     pub(crate) trigger: Option<u32>,
     pub(crate) next: u64,
@@ -34,6 +36,7 @@ impl Model for Core {
 
     ghost view = { λ c. core_of c.nas (record {
       cells = c.cells;
+      first_ncc = c.first_ncc;
       latest = c.latest;
       trigger = c.trigger;
       next = c.next;
@@ -47,14 +50,28 @@ impl Model for Core {
 
 impl Core {
     /// A core that has authenticated nobody: the cells of all stations, its algorithms by priority, and the
-    /// number of its first connection, at least 1.
+    /// number of its first connection, at least 1. The first pair of NH and NCC that it sends has NCC 1.
     pub fn new(cells: &Cells, priority: Priority, first: u32) -> Core
         requires { 1 ≤ first }
-        ensures { result ≡ first_core cells.now priority first }
+        ensures { result ≡ first_core cells.now priority first One }
+    {
+        Core::with_first_ncc(cells, priority, first, FirstNcc::One)
+    }
+
+    /// The same, and the NCC of the first pair that it sends for a chain, 1 or 2 (TS 33.401 7.2.8.1.1).
+    pub fn with_first_ncc(
+        cells: &Cells,
+        priority: Priority,
+        first: u32,
+        first_ncc: FirstNcc,
+    ) -> Core
+        requires { 1 ≤ first }
+        ensures { result ≡ first_core cells.now priority first first_ncc }
     {
         Core {
             nas: CoreNas::new(priority),
             cells: copied(cells),
+            first_ncc,
             latest: Caps { eea: 0, eia: 0 },
             trigger: None,
             next: u64::from(first),
