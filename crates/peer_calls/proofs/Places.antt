@@ -34,7 +34,7 @@ use Rattle.peer_calls.proofs.Running.{all_run_did}
 use Rattle.peer_calls.specs.declared.faults.DriveFault.TheVariants.{Memory, PeerFault}
 use Rattle.peer_calls.specs.Acts.{Starting, Calling}
 use Rattle.peer_calls.specs.Outside.{outside, AllRun, HasStarted, stopped_below}
-use Rattle.peer_calls.specs.Exchanges.{exchange, roles_of, seeds_of, starts, set_ups, station_peer, peer_of, replied, HasActor}
+use Rattle.peer_calls.specs.Exchanges.{core_seed, exchange, roles_of, seeds_of, starts, set_ups, station_peer, peer_of, replied, HasActor}
 use Rattle.peer_calls.specs.Went.{CutAt}
 
 -- behind two items stand those of a list
@@ -66,7 +66,7 @@ station_seed setup ss cells place x same same_cells is not_0 not_1 below =
     subst Q (sym same_cells)
     (subst R (sym is)
     (subst P (sym same)
-    (behind_two (first.Phone setup.caps) (first.Core setup.core_priority setup.core_first setup.cells) f setup.stations place x (omega (arith, not_0, not_1)) within)))
+    (behind_two (first.Phone setup.caps) (core_seed setup.core_first_ncc setup.core_priority setup.core_first setup.cells) f setup.stations place x (omega (arith, not_0, not_1)) within)))
 
 -- what is left begins with the item at its place
 pub drop_next : {X : Type 0} (xs : List X) (place : ℕ) (x : X) → slice_get xs place ≡ Some x → drop place xs ≡ x ∷ drop (place + 1) xs

@@ -1,13 +1,17 @@
 -- The acts of a scenario against peers: each role is started and set up, and each input of an actor goes to its peer.
 use Rattle.std.specs.Prelude.{ℕ, suc, ◌==◌, if◌then◌else◌, IsTrue, Option, Some, None, List, [], ◌∷◌, ◌++◌, map, take, drop}
+use Rattle.alg_choice.specs.declared.algs.Eea.{Eea}
 use Rattle.edge_io.specs.declared.peers.Role.{Role}
 use Rattle.edge_io.specs.declared.peers.Role.TheVariants as role
 use Rattle.lte_events.specs.Conditions.{has_station}
 use Rattle.lte_events.specs.Reply.{reply_of}
+use Rattle.lte_events.specs.Site.{Site}
 use Rattle.lte_events.specs.declared.answers.Answer.TheVariants.{Done}
 use Rattle.lte_events.specs.declared.inputs.ActorIn.{ActorIn}
 use Rattle.lte_events.specs.declared.inputs.ActorIn.TheVariants as input
 use Rattle.lte_events.specs.declared.replies.ActorOut.{ActorOut}
+use Rattle.lte_events.specs.declared.setups.FirstNcc.{FirstNcc}
+use Rattle.lte_events.specs.declared.setups.FirstNcc.TheVariants.{One, Two}
 use Rattle.lte_events.specs.declared.setups.Setup.{Setup}
 use Rattle.lte_events.specs.declared.setups.StationSetup.{StationSetup}
 use Rattle.role_wire.specs.declared.frames.FrameIn.TheVariants.{Setup as SetupFrame, Input}
@@ -32,10 +36,15 @@ roles_of setup = role.Phone ∷ role.Core ∷ map (λ (s : StationSetup). role.S
 abbrev pub starts : List Role → List Act
 starts roles = map (λ role. Calling (Starting role)) roles
 
+-- what a core starts with, by the NCC of the first pair that it sends
+abbrev pub core_seed : FirstNcc → List Eea → ℕ → List Site → RoleSetup
+core_seed One priority number cells = first.Core priority number cells
+core_seed Two priority number cells = first.StandardCore priority number cells
+
 -- what each starts with
 abbrev pub seeds_of : Setup → List RoleSetup
 seeds_of setup =
-    first.Phone setup.caps ∷ first.Core setup.core_priority setup.core_first setup.cells
+    first.Phone setup.caps ∷ core_seed setup.core_first_ncc setup.core_priority setup.core_first setup.cells
     ∷ map (λ (s : StationSetup). first.Station s.priority s.first setup.cells) setup.stations
 
 abbrev pub set_ups : ℕ → List RoleSetup → List Act

@@ -3,15 +3,16 @@ ghost use Rattle.std.specs.Prelude.{◌≡◌, ◌≢◌, ◌+◌, ◌≤◌, �
 ghost use Rattle.std.specs.List.{slice_get};
 ghost use Rattle.edge_io.specs.Cause.{Rose};
 ghost use Rattle.role_wire.specs.Ranges.{IsSetup};
-ghost use Rattle.peer_calls.specs.Exchanges.{seeds_of, set_ups};
+ghost use Rattle.peer_calls.specs.Exchanges.{core_seed, seeds_of, set_ups};
 ghost use Rattle.peer_calls.specs.Outside.{AllRun, outside};
 ghost use Rattle.peer_calls.specs.Went.{Went};
 
 use crate::DriveFault;
 use crate::calling::exchange;
 use crate::starting::peers_of;
+use alg_choice::Priority;
 use edge_io::Peers;
-use lte_events::{Cells, Setup};
+use lte_events::{Cells, FirstNcc, Setup};
 use role_wire::{RoleSetup, setup_frame, setup_reply};
 
 // What a peer starts with.
@@ -22,11 +23,26 @@ fn seed_at(setup: &Setup, peer: u8) -> RoleSetup
     let cells = copied(&setup.cells);
     match peer {
         0 => RoleSetup::Phone(setup.caps),
-        1 => RoleSetup::Core(setup.core_priority, setup.core_first, cells),
+        1 => core_seed(
+            setup.core_first_ncc,
+            setup.core_priority,
+            setup.core_first,
+            cells,
+        ),
         _ => {
             let station = &setup.stations.as_slice()[peer as usize - 2];
             RoleSetup::Station(station.priority, station.first, cells)
         }
+    }
+}
+
+// What a core starts with.
+fn core_seed(first_ncc: FirstNcc, priority: Priority, first: u32, cells: Cells) -> RoleSetup
+    ensures { result ≡ core_seed first_ncc priority first cells }
+{
+    match first_ncc {
+        FirstNcc::One => RoleSetup::Core(priority, first, cells),
+        FirstNcc::Two => RoleSetup::StandardCore(priority, first, cells),
     }
 }
 
