@@ -4,6 +4,8 @@ use Rattle.alg_choice.specs.declared.algs.Algs.{Algs}
 use Rattle.alg_choice.specs.declared.caps.Caps.{Caps}
 use Rattle.annex_a_keys.specs.Cell.{Place, IsCell}
 use Rattle.lte_events.specs.declared.acts.StationAct.{StationAct}
+use Rattle.lte_events.specs.declared.setups.FirstNcc.{FirstNcc}
+use Rattle.lte_events.specs.declared.setups.FirstNcc.TheVariants.{One, Two}
 use Rattle.key_model.specs.Reading.{Reading}
 use Rattle.nas_guard.specs.Keys.{Keys}
 use Rattle.s1x2_rec.specs.Content.{map_content}
@@ -98,6 +100,11 @@ module _ {K C : Type 0} (r : Reading K C) (s : Station K C) where
 
 -- THE CORE
 
+-- the NH that a core keeps as a chain begins is of no cell
+kept_cells : {K C : Type 0} (r : Reading K C) (first_ncc : FirstNcc) (root kenb : K) → CellsIn (does.nh_kept r first_ncc root kenb)
+kept_cells r One root kenb = tt
+kept_cells r Two root kenb = (tt, tt)
+
 module _ {K C : Type 0} (r : Reading K C) (s : Core K C) where
   auth_cells : (ksi : ℕ) (caps : Caps) (o : Option K) → CellsIn (does.authenticated ksi caps o s).1.derived
   auth_cells ksi caps None = tt
@@ -115,7 +122,7 @@ module _ {K C : Type 0} (r : Reading K C) (s : Core K C) where
   changed_cells : (count conn next station : ℕ) (o : Option (CorePartial K)) (keys : Option (Keys K)) → CellsIn (does.key_changed r count conn next station o keys s).1.derived
   changed_cells count conn next station None keys = tt
   changed_cells count conn next station (Some p) None = tt
-  changed_cells count conn next station (Some p) (Some keys) = (tt, tt)
+  changed_cells count conn next station (Some p) (Some keys) = (tt, kept_cells r s.first_ncc p.root (r.kenb p.root count))
 
   asked_cells : (count : ℕ) (o : Option (CoreContext K)) → CellsIn (does.service_asked count o s).1.derived
   asked_cells count None = tt
@@ -139,7 +146,7 @@ module _ {K C : Type 0} (r : Reading K C) (s : Core K C) where
 
   set_up_cells : (conn : ℕ) (cell : Place) (target : ℕ) (caps : Caps) (count : ℕ) (o : Option (CoreContext K)) → CellsIn (does.context_set_up r conn cell target caps count o s).1.derived
   set_up_cells conn cell target caps count None = tt
-  set_up_cells conn cell target caps count (Some c) = (tt, tt)
+  set_up_cells conn cell target caps count (Some c) = (tt, kept_cells r s.first_ncc c.nas.root (r.kenb c.nas.root count))
 
   switched_cells : (conn station number : ℕ) (alarm : Bool) (o : Option (CoreLink K C)) → CellsIn (does.path_switched r conn station number alarm o s).1.derived
   switched_cells conn station number alarm None = tt
