@@ -5,6 +5,7 @@ use Rattle.lte_events.specs.Reply.{reply_of}
 use Rattle.lte_events.specs.declared.answers.Answer.TheVariants.{Done}
 use Rattle.lte_events.specs.declared.inputs.ActorIn.{ActorIn}
 use Rattle.lte_events.specs.declared.replies.ActorOut.{ActorOut}
+use Rattle.lte_events.specs.declared.setups.FirstNcc.TheVariants.{One, Two}
 use Rattle.lte_machine.specs.Calls.{phone_call, station_call, core_call}
 use Rattle.lte_machine.specs.PhoneState.{first_phone}
 use Rattle.lte_machine.specs.StationState.{first_station}
@@ -24,7 +25,8 @@ station_of _ = 0
 unfoldable pub first_actor : Role → RoleSetup → Actor
 first_actor role (RoleSetup.Phone caps) = Actor.Phone (first_phone caps)
 first_actor role (RoleSetup.Station order first cells) = Actor.Station (first_station (station_of role) cells order first)
-first_actor role (RoleSetup.Core order first cells) = Actor.Core (first_core cells order first)
+first_actor role (RoleSetup.Core order first cells) = Actor.Core (first_core cells order first One)
+first_actor role (RoleSetup.StandardCore order first cells) = Actor.Core (first_core cells order first Two)
 
 -- A step: the actor afterwards, and its reply. What is no input of the actor, as no frame of its role is, does nothing.
 unfoldable pub step_of : Actor → ActorIn → Actor × ActorOut

@@ -8,7 +8,7 @@ ghost use Rattle.lte_events.specs.declared.answers.Answer.TheVariants.{Done};
 
 use edge_io::Role;
 use enb_context::Station;
-use lte_events::{ActorIn, ActorOut, Answer};
+use lte_events::{ActorIn, ActorOut, Answer, FirstNcc};
 use mme_context::Core;
 use role_wire::{FrameIn, RoleSetup};
 use ue_context::Phone;
@@ -38,6 +38,9 @@ impl Actor {
                 Actor::Station(Station::new(station_of(role), cells, *order, *first))
             }
             RoleSetup::Core(order, first, cells) => Actor::Core(Core::new(cells, *order, *first)),
+            RoleSetup::StandardCore(order, first, cells) => {
+                Actor::Core(Core::with_first_ncc(cells, *order, *first, FirstNcc::Two))
+            }
         }
     }
 
