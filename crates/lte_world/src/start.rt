@@ -25,7 +25,12 @@ impl System {
         let stations = stations_of(alloc, &setup.cells, setups).map_err(|_| WorldFault::Memory)?;
         Ok(System {
             phone: Phone::new(setup.caps),
-            core: Core::new(&setup.cells, setup.core_priority, setup.core_first),
+            core: Core::with_first_ncc(
+                &setup.cells,
+                setup.core_priority,
+                setup.core_first,
+                setup.core_first_ncc,
+            ),
             ids,
             stations,
             network: Network::new(alloc),
