@@ -4,6 +4,7 @@ use Rattle.std.specs.Option.{option_map}
 use Rattle.std.proofs.Common.{◌≡◌, ℕ, zero, suc, map, All, Some, None, IfSome, ◌+◌, ◌<◌, ◌≤◌, Bool, true, false, Option, List, [], ◌∷◌, ◌++◌, length, drop, get_or, Result, Ok, Err, refl, ap, sym, subst, ◌∙◌, append_assoc, drop_of_length-le, arith}
 use Rattle.std.proofs.lemmas.Option.{get_or_from_slice_get, slice_get_within}
 use Rattle.std.proofs.Math.Seq.{drop-cons}
+use Rattle.alg_choice.specs.declared.algs.Eea.{Eea}
 use Rattle.edge_io.specs.Octets.{Grows}
 use Rattle.edge_io.specs.Peers.{PeersTold}
 use Rattle.edge_io.specs.Told.{Told}
@@ -13,6 +14,8 @@ use Rattle.lte_events.specs.Conditions.{CanStart, IsStation}
 use Rattle.lte_events.specs.Site.{Site}
 use Rattle.lte_events.specs.declared.inputs.ActorIn.{ActorIn}
 use Rattle.lte_events.specs.declared.replies.ActorOut.{ActorOut}
+use Rattle.lte_events.specs.declared.setups.FirstNcc.{FirstNcc}
+use Rattle.lte_events.specs.declared.setups.FirstNcc.TheVariants.{One, Two}
 use Rattle.lte_events.specs.declared.setups.StationSetup.{StationSetup}
 use Rattle.role_wire.specs.Ranges.{IsSetup}
 use Rattle.role_wire.specs.declared.frames.RoleSetup.{RoleSetup}
@@ -30,7 +33,7 @@ use Rattle.peer_calls.specs.declared.faults.DriveFault.{DriveFault}
 use Rattle.peer_calls.specs.declared.faults.DriveFault.TheVariants.{Memory, PeerFault, Differs, Chance, WriteFault}
 use Rattle.peer_calls.specs.Acts.{Starting, Act, Calling, calls}
 use Rattle.peer_calls.specs.Driven.{Plan, then_plan, PlanWent, Driven}
-use Rattle.peer_calls.specs.Exchanges.{roles_of, starts, seeds_of, set_ups}
+use Rattle.peer_calls.specs.Exchanges.{core_seed, roles_of, starts, seeds_of, set_ups}
 use Rattle.peer_calls.specs.Outside.{Outside, outside, AllDone, AllRun, HasStarted, stopped_below}
 use Rattle.peer_calls.specs.Peerwise.{roles_started}
 use Rattle.peer_calls.specs.Went.{CutAt}
@@ -141,12 +144,16 @@ stations_good cells [] all some k d below = absurd (omega (arith, below))
 stations_good cells (s ∷ ss) all some zero d below = ((all 0 s (omega arith)).1, some)
 stations_good cells (s ∷ ss) all some (suc k) d below = stations_good cells ss (λ i e under. all (suc i) e (omega (arith, under))) some k d (omega (arith, below))
 
+core_good : (first_ncc : FirstNcc) (priority : List Eea) (number : ℕ) (cells : List Site) → 1 ≤ number → 1 ≤ length cells → IsSetup (core_seed first_ncc priority number cells)
+core_good One priority number cells least some = (least, some)
+core_good Two priority number cells least some = (least, some)
+
 pub seeds_good : (setup : Setup) → CanStart setup → 1 ≤ length setup.cells → All IsSetup (seeds_of setup)
 seeds_good setup can some = λ k d below. at k d below
   where
     at : (k : ℕ) (d : RoleSetup) → k < length (seeds_of setup) → IsSetup (get_or (seeds_of setup) k d)
     at zero d below = tt
-    at (suc zero) d below = (can.core_first, some)
+    at (suc zero) d below = core_good setup.core_first_ncc setup.core_priority setup.core_first setup.cells can.core_first some
     at (suc (suc k)) d below = stations_good setup.cells setup.stations can.stations some k d (omega (arith, below))
 
 -- WHO IS STARTED
