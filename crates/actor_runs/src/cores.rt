@@ -5,7 +5,7 @@ ghost use Rattle.std.specs.Prelude.{◌≤◌, length};
 use crate::values::same;
 use alg_choice::{Caps, Eea, Priority};
 use annex_a_keys::{Cell, Kasme};
-use lte_events::{ActorOut, Address, Answer, Cells, CoreAct, CoreIn};
+use lte_events::{ActorOut, Address, Answer, Cells, CoreAct, CoreIn, FirstNcc};
 use mme_context::Core;
 use rec_base::{Octets, Way};
 use std::process::Abort;
@@ -27,6 +27,11 @@ const KENB: [u8; 32] = [
 const NH: [u8; 32] = [
     0x09, 0xab, 0xa1, 0x73, 0x0b, 0x0a, 0xae, 0xee, 0x84, 0xfe, 0xac, 0x6b, 0xc0, 0x3f, 0x66, 0xb9,
     0xaa, 0x90, 0xd4, 0x53, 0x09, 0xb7, 0x19, 0x11, 0x4a, 0x90, 0xbe, 0x77, 0x7b, 0x24, 0xb7, 0x4c,
+];
+
+const SECOND_NH: [u8; 32] = [
+    0x9b, 0x6e, 0xff, 0xfa, 0x0c, 0xcc, 0xff, 0x87, 0x7e, 0x89, 0x57, 0x2b, 0xfc, 0xaa, 0x77, 0xa6,
+    0x2f, 0xe9, 0x8e, 0x06, 0x2b, 0xbf, 0x11, 0xdb, 0xd7, 0x65, 0x81, 0x36, 0xdf, 0x92, 0x6c, 0x93,
 ];
 
 const CONTEXT: [u8; 45] = [
@@ -149,10 +154,18 @@ fn expect_key(rt: &impl Abort, out: &ActorOut, ncc: u8, way: Way, key: [u8; 32])
 fn core(rt: &impl Abort, first: u32) -> Core
     requires { 1 ≤ first }
 {
+    Core::new(&cells(rt), order(), first)
+}
+
+fn order() -> Priority {
+    Priority::new(Eea::Eea2, Some(Eea::Eea0))
+}
+
+fn cells(rt: &impl Abort) -> Cells {
     let mut cells = Cells::new();
     cells.add(0, cell(rt, 10, 100)).expect(rt, "there is room");
     cells.add(1, cell(rt, 11, 101)).expect(rt, "there is room");
-    Core::new(&cells, Priority::new(Eea::Eea2, Some(Eea::Eea0)), first)
+    cells
 }
 
 // The phone is authenticated again, and completes the procedure.
@@ -209,6 +222,23 @@ fn connection_and_path_switch(rt: HostRuntime) {
         &s1(&mut core, &PATH_SWITCH),
         Answer::OldConnection(0, 1),
     );
+}
+
+#[test]
+fn the_first_nh_is_kept_and_the_second_sent(rt: HostRuntime) {
+    let mut core = Core::with_first_ncc(&cells(&rt), order(), 1, FirstNcc::Two);
+    let _ = renew(&rt, &mut core, 0, 0, &COMPLETE);
+    let context = connect(&rt, &mut core);
+    expect_sent(&rt, &context, Address::StationS1(0), &CONTEXT);
+    match context.derived.as_slice() {
+        [kenb, nh] => {
+            same(&rt, kenb.out, KENB);
+            same(&rt, nh.out, NH);
+        }
+        _ => assert!(rt; false, "two keys are derived"),
+    }
+    let pair = s1(&mut core, &PATH_SWITCH);
+    expect_key(&rt, &pair, 2, Way::Chained, SECOND_NH);
 }
 
 #[test]

@@ -9,6 +9,7 @@ use Rattle.alg_choice.specs.declared.caps.Caps.{Caps}
 use Rattle.annex_a_keys.specs.Cell.{Place, IsCell}
 use Rattle.lte_events.specs.Conditions.{has_station, AreCaps, IsText, IsStation}
 use Rattle.lte_events.specs.Site.{Site}
+use Rattle.lte_events.specs.declared.setups.FirstNcc.TheVariants.{One}
 use Rattle.lte_events.specs.declared.setups.Setup.{Setup}
 use Rattle.lte_events.specs.declared.setups.StationSetup.{StationSetup}
 use Rattle.lte_world.specs.Whole.{CanBegin}
@@ -31,7 +32,7 @@ module _ (s t : StationSetup) (first : s.id ≡ 0) (second : t.id ≡ 1) where
 
   module _ (s_first : s.first ≡ 1) (t_first : t.first ≡ 1) (caps : Caps) (fits : AreCaps caps) (priority : List Eea) (a b : Place) (a_is : IsCell a) (b_is : IsCell b) where
     abbrev two : List StationSetup → List Site → Setup
-    two stations cells = record { caps = caps; core_priority = priority; core_first = 1; stations = stations; cells = cells }
+    two stations cells = record { caps = caps; core_priority = priority; core_first = 1; core_first_ncc = One; stations = stations; cells = cells }
 
     abbrev sites : List Site
     sites = record { station = 0; cell = a } ∷ record { station = 1; cell = b } ∷ []

@@ -130,6 +130,10 @@ fn setups_are_refused_at_the_first_bad_octet(rt: HostRuntime) -> Result<(), Fail
         )?;
         expect_fault(&rt, Role::Core, true, text, FrameFault::BadBody(place))?;
     }
+    let standard = "000f060102000000010100000a00000064";
+    let other = FrameFault::BadBody(0);
+    expect_fault(&rt, Role::Station(7), true, standard, other)?;
+    expect_fault(&rt, Role::Core, false, standard, other)?;
     for (text, place) in [("000110", 0), ("000200a0", 2), ("000400a02000", 3)] {
         expect_fault(&rt, Role::Phone, true, text, FrameFault::BadBody(place))?;
     }

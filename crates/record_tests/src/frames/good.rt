@@ -148,6 +148,9 @@ fn frames_of_the_core_are_read_and_written_again(rt: HostRuntime) -> Result<(), 
     let setup = FrameIn::Setup(RoleSetup::Core(order, 7, cells(&rt)));
     let text = "0016000100000000070200000a0000006401000b00000065";
     expect_frame(&rt, Role::Core, true, text, &setup)?;
+    let setup = FrameIn::Setup(RoleSetup::StandardCore(order, 7, cells(&rt)));
+    let text = "0016060100000000070200000a0000006401000b00000065";
+    expect_frame(&rt, Role::Core, true, text, &setup)?;
     let table = [
         (
             "00240100000102030405060708090a0b0c0d0e0f101112131415161718191a1b1c1d1e1fa020",

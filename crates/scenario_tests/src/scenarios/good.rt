@@ -3,7 +3,7 @@ use crate::scenarios::{PHONE, STATION, event_at};
 use crate::values::{same, same_at};
 use alg_choice::{Caps, Eea, Priority};
 use annex_a_keys::Cell;
-use lte_events::{Address, CoreAct, Event, HoKind, PhoneAct, StationAct, StationSetup};
+use lte_events::{Address, CoreAct, Event, FirstNcc, HoKind, PhoneAct, StationAct, StationSetup};
 use rec_base::{Bearer, Bounded};
 use scenario_file::{Scenario, read};
 use std::alloc::Global;
@@ -28,7 +28,7 @@ fn scenario_of(alloc: Global, steps: &str) -> Result<Scenario, Fail> {
 #[test]
 fn a_setup_is_what_its_tables_say(rt: HostRuntime) -> Result<(), Fail> {
     let text = "[[station]]\nid=7\ncells=[[503,65535],[0,0]]\n[[station]]\nid=0\npriority=[0]\n\
-        first=4294967295\ncells=[[0,1]]\n[core]\npriority=[0,2]\nfirst=9\n[phone]\ncaps='Ff01'\n";
+        first=4294967295\ncells=[[0,1]]\n[core]\npriority=[0,2]\nfirst=9\nfirst_ncc=2\n[phone]\ncaps='Ff01'\n";
     let scenario = read(rt.alloc(), text.as_bytes())?;
     same(&rt, scenario.events.len(), 0);
     let setup = scenario.setup;
@@ -46,6 +46,7 @@ fn a_setup_is_what_its_tables_say(rt: HostRuntime) -> Result<(), Fail> {
         Priority::new(Eea::Eea0, Some(Eea::Eea2)),
     );
     same(&rt, setup.core_first, 9);
+    same(&rt, setup.core_first_ncc, FirstNcc::Two);
     let stations = [
         StationSetup {
             id: 7,

@@ -8,7 +8,7 @@ use crate::values::same;
 use alg_choice::{Caps, Eea, Priority};
 use annex_a_keys::Cell;
 use lte_events::{
-    Answer, Cells, Class, CoreAct, Event, Few, HoKind, Line, PhoneAct, Setup, StationAct,
+    Answer, Cells, Class, CoreAct, Event, Few, FirstNcc, HoKind, Line, PhoneAct, Setup, StationAct,
     StationSetup, Who,
 };
 use lte_world::{World, WorldFault};
@@ -108,6 +108,7 @@ pub(crate) fn setup(rt: &impl Abort) -> Setup
         caps: CAPS,
         core_priority: priority(),
         core_first: 1,
+        core_first_ncc: FirstNcc::One,
         stations,
         cells,
     }
