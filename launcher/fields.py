@@ -35,8 +35,9 @@ PATHS = {"phone": Words(NAS + SRBS + DRBS), "station": Words(SRBS + DRBS), "core
 ACTORS = Words(("phone", "station", "core"))
 
 PHONE = [Field("caps", Hex(2))]
-CORE = [Field("priority", Priority(), may_lack=True), Field("first", Number(1, NUMBER), may_lack=True)]
-STATIONS = [Field("id", NewStation()), *CORE, Field("cells", Cells())]
+NUMBERS = [Field("priority", Priority(), may_lack=True), Field("first", Number(1, NUMBER), may_lack=True)]
+CORE = [*NUMBERS, Field("first_ncc", Number(1, 2), may_lack=True)]
+STATIONS = [Field("id", NewStation()), *NUMBERS, Field("cells", Cells())]
 THE_FLEET = [Field("phones", Number(1, 256))]
 OF_CORE = Field("core", Number(0, 1), may_lack=True)
 

@@ -80,7 +80,8 @@ class System:
             if name != "core":
                 self.actors[name] = Actor("station", str(name))
             priority = bytes(part.get("priority", [2, 0]))
-            self.actors[name].told(b"\0" + number(len(priority), 1) + priority + number(part.get("first", 1), 4) + table)
+            kind = b"\6" if name == "core" and part.get("first_ncc") == 2 else b"\0"
+            self.actors[name].told(kind + number(len(priority), 1) + priority + number(part.get("first", 1), 4) + table)
         self.sent: list[Sent] = []  # of each record: the step, the sender, its address, its octets, and whether it opens security
         self.keys: dict[bytes, bytes] = {}  # the KeNB of each station and air address
 

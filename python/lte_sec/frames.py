@@ -219,24 +219,27 @@ for _role, _bare in BARE.items():
 OCTETS = ("kasme", "caps")  # fields that are octets and no numbers
 
 
-def read_setup(role: str, octets: Octets) -> Input:
-    """The Setup of a role, after its kind."""
+SETUPS = {"phone": (0,), "station": (0,), "core": (0, 6)}  # the kinds of a Setup
+
+
+def read_setup(role: str, kind: int, octets: Octets) -> Input:
+    """The Setup of a role, after its kind. That of a core whose first pair of NH and NCC has NCC 2 is of kind 06 (TS 33.401 7.2.8.1.1)."""
     if role == "phone":
         fields: dict[str, object] = {"caps": octets.take(2)}
     else:
         fields = {"priority": algorithms(octets), "first": octets.number(4, range(1, 1 << 32), "first number"), "cells": sites(octets)}
     octets.end()
-    return Input(0, "Setup", fields)
+    return Input(kind, "Setup", fields | ({"first_ncc": 2} if kind == 6 else {}))
 
 
 def read_input(role: str, first: bool, body: bytes) -> Input:
     """What the kind and the body of a frame tell the phone, a station or the core: a Setup first and only first."""
     octets = Octets(body)
     kind = octets.number(1)
-    if first != (kind == 0) or not first and kind not in INPUTS[role]:
+    if kind not in (SETUPS if first else INPUTS)[role]:
         raise BadFrame(0, f"{kind:02x} is not a kind of frame for the {role} here")
     if first:
-        return read_setup(role, octets)
+        return read_setup(role, kind, octets)
     name, *forms = INPUTS[role][kind]
     fields: dict[str, object] = {}
     for form in forms:

@@ -45,6 +45,15 @@ class Frames(unittest.TestCase):
                         frames.read_input(role, first, bytes.fromhex(text)[2:])
                     self.assertEqual(refused.exception.place, place)
 
+    def test_a_core_that_sends_ncc_2_first_has_a_setup_of_its_own(self) -> None:
+        body = "0102000000010100000a00000064"
+        told = [frames.read_input("core", True, bytes.fromhex(kind + body)) for kind in ("00", "06")]
+        self.assertEqual([one.fields.get("first_ncc") for one in told], [None, 2])
+        for role, first in (("station", True), ("core", False)):
+            with self.assertRaises(frames.BadFrame) as refused:
+                frames.read_input(role, first, bytes.fromhex("06" + body))
+            self.assertEqual(refused.exception.place, 0)
+
     def test_replies_of_the_tables_are_read_and_written_again(self) -> None:
         found = re.findall(r'"(00[0-9a-f]{2}80[0-9a-f]+)"', (TESTS / "replies.rt").read_text())
         whole = [text for text in found if int(text[:4], 16) * 2 == len(text) - 4]
