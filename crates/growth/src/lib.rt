@@ -1,0 +1,11 @@
+//! Each call of the standard library by which a list or a text grows, with one clause more: where it answers want of memory, std
+//! refused room for so many items.
+#![tactic(auto)]
+
+mod commands;
+mod lists;
+mod texts;
+
+pub use commands::{arg, command};
+pub use lists::{collect, extend_from_slice, from_elem, push, reserve, with_capacity};
+pub use texts::{decode, encode, format, from_str};
