@@ -1,5 +1,6 @@
 ghost use Rattle.std.specs.Prelude.{◌≡◌, ◌↔◌, ℕ, ◌+◌, ◌-◌, ◌^◌, ◌<◌, ◌≤◌, [], ◌∷◌, ◌++◌, length, OnOk, OnErr, IfOk, IfErr, IfSome, IsSome, Some, None, IsOkUnless, slice_get, vec_len, vec_capacity};
 ghost use Rattle.std.specs.Option.{option_map};
+ghost use Rattle.growth.specs.Growth.{Refused};
 ghost use Rattle.hmac_kdf.specs.Kdf.{IsKdfInput, kdf};
 ghost use Rattle.key_terms.specs.Ladder.{row, unheld, octets_at, origin_at, row_of, origin_of, HasRoot, HasSync, IsMade, AreNumbered, IsLadder, Coincides, RootRefused, AddRefused, AreApart, IsIndexOf, IsHolder, holding};
 
@@ -53,18 +54,19 @@ impl Ladder {
         }
     }
 
-    /// Makes room for so many rows more. Where memory runs out the ladder is as before, and it runs out only where there
-    /// was not room for so many.
+    /// Makes room for so many rows more. Where memory runs out the ladder is as before: there was not room for so many, and std
+    /// refused it.
     pub fn reserve(&mut self, rows: usize) -> Result<(), LadderFault>
         requires { length self.old.rows + rows < 2 ^ 32 }
         ensures memory { IsOkUnless result LadderFault.Memory }
         ensures lacking { OnErr result (self.old.spare < rows) }
+        ensures refused { OnErr result (Refused (length self.old.rows + rows)) }
         ensures spare { OnOk result (rows ≤ self.new.spare) }
         ensures rows { self.new.rows ≡ self.old.rows }
         ensures err { OnErr result (self.new ≡ self.old) }
     {
         index_all(&mut self.index, &self.rows);
-        match self.rows.reserve(rows) {
+        match growth::reserve(&mut self.rows, rows) {
             Ok(()) => Ok(()),
             Err(_) => Err(LadderFault::Memory),
         }
