@@ -1,4 +1,5 @@
 // The events of a fleet, one after the other.
+ghost use Rattle.growth.specs.Growth.{WasRefused};
 ghost use Rattle.std.specs.Prelude.{◌≡◌, ◌<◌, [], ◌∷◌, ◌++◌, length, Some, slice_get, OnOk, OnErr};
 
 use crate::{Event, Events};
@@ -36,12 +37,13 @@ impl FleetEvents {
         }
     }
 
-    /// Makes room for one event more. Where memory runs out the events are the same.
+    /// Makes room for one event more. Where std refuses memory the events are the same.
     pub fn reserve(&mut self) -> Result<(), AllocError>
         ensures items { self.new.items ≡ self.old.items }
         ensures room { OnOk result (0 < self.new.spare) }
+        ensures refused { OnErr result WasRefused }
     {
-        self.phones.reserve(1)?;
+        growth::reserve(&mut self.phones, 1)?;
         self.events.reserve()
     }
 
@@ -54,9 +56,10 @@ impl FleetEvents {
         self.events.put(event);
     }
 
-    /// Puts an event of a phone at the end. Where memory runs out the events are the same.
+    /// Puts an event of a phone at the end. Where std refuses memory the events are the same.
     pub fn push(&mut self, phone: u16, event: &Event) -> Result<(), AllocError>
         ensures items { OnOk result (self.new.items ≡ self.old.items ++ (phone, event.now) ∷ []) }
+        ensures refused { OnErr result WasRefused }
         ensures err { OnErr result (self.new.items ≡ self.old.items) }
     {
         self.reserve()?;

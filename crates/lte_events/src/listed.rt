@@ -1,4 +1,5 @@
 // Events, one after the other.
+ghost use Rattle.growth.specs.Growth.{WasRefused};
 ghost use Rattle.std.specs.Prelude.{◌≡◌, ◌+◌, ◌-◌, ◌<◌, ◌≤◌, [], ◌∷◌, ◌++◌, length, Some, slice_get, IfOk, OnOk, OnErr};
 
 use crate::heads::{Head, join, split};
@@ -37,7 +38,8 @@ impl Events {
 
     /// These events.
     pub fn of(alloc: Global, events: &[Event]) -> Result<Events, AllocError>
-        ensures { IfOk result (λ list. list.items ≡ events.now) }
+        ensures items { IfOk result (λ list. list.items ≡ events.now) }
+        ensures refused { OnErr result WasRefused }
     {
         let mut list = Events::new(alloc);
         for event in events {
@@ -46,10 +48,11 @@ impl Events {
         Ok(list)
     }
 
-    /// Makes room for one event more. Where memory runs out nothing changes, and there was room for none.
+    /// Makes room for one event more. Where memory runs out nothing changes: there was room for none, and std refused it.
     pub fn reserve(&mut self) -> Result<(), AllocError>
         ensures items { self.new.items ≡ self.old.items }
         ensures lacking { OnErr result (self.old.spare < 1) }
+        ensures refused { OnErr result WasRefused }
         ensures room { OnOk result (0 < self.new.spare) }
         ensures spare { self.old.spare ≤ self.new.spare }
         ensures err { OnErr result (self.new ≡ self.old) }
@@ -67,9 +70,10 @@ impl Events {
         self.texts.put(head, text);
     }
 
-    /// Puts an event at the end. Where memory runs out nothing changes.
+    /// Puts an event at the end. Where std refuses memory nothing changes.
     pub fn push(&mut self, event: &Event) -> Result<(), AllocError>
         ensures items { OnOk result (self.new.items ≡ self.old.items ++ event.now ∷ []) }
+        ensures refused { OnErr result WasRefused }
         ensures err { OnErr result (self.new ≡ self.old) }
     {
         self.reserve()?;

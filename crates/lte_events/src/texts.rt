@@ -1,5 +1,6 @@
 // Items, each of which has octets. The octets of all of them stand in one flat list, so that an item takes
 // no more room than its own octets need.
+ghost use Rattle.growth.specs.Growth.{WasRefused};
 ghost use Rattle.rec_base.specs.Lengths.{longest_record};
 ghost use Rattle.std.specs.Prelude.{◌≡◌, ◌+◌, ◌<◌, ◌≤◌, [], ◌∷◌, ◌++◌, length, Some, slice_get, vec_len, vec_capacity, OnOk, OnErr};
 
@@ -52,18 +53,19 @@ impl<T> Texts<T> {
 }
 
 impl<T: Copy> Texts<T> {
-    /// Makes room for one item more. Where memory runs out nothing changes, and there was room for none.
+    /// Makes room for one item more. Where memory runs out nothing changes: there was room for none, and std refused it.
     pub fn reserve(&mut self) -> Result<(), AllocError>
         ensures items { self.new.items ≡ self.old.items }
         ensures lacking { OnErr result (self.old.spare ≡ 0) }
+        ensures refused { OnErr result WasRefused }
         ensures room { OnOk result (0 < self.new.spare) }
         ensures spare { self.old.spare ≤ self.new.spare }
         ensures one { self.new.spare ≤ self.old.spare + 1 }
         ensures err { OnErr result (self.new ≡ self.old) }
     {
         if self.spare == 0 {
-            self.pieces.reserve(1)?;
-            self.flat.reserve(Octets::capacity())?;
+            growth::reserve(&mut self.pieces, 1)?;
+            growth::reserve(&mut self.flat, Octets::capacity())?;
             self.spare = 1;
         }
         Ok(())
