@@ -1,3 +1,4 @@
+ghost use Rattle.growth.specs.Growth.{WasRefused};
 ghost use Rattle.std.specs.Prelude.{◌≡◌, ℕ, ◌+◌, ◌-◌, ◌<◌, ◌≤◌, ◌^◌, [], ◌∷◌, ◌++◌, length, slice_get, option_copied, OnOk, OnErr};
 ghost use Rattle.net_bag.specs.Bag as spec;
 ghost use Rattle.net_bag.specs.Bag.{IsIndexOf};
@@ -52,11 +53,11 @@ impl Bag {
         }
     }
 
-    /// Makes room for one record more. Where memory runs out the bag is as before, and it runs out only where there was room
-    /// for none.
+    /// Makes room for one record more. Where memory runs out the bag is as before: there was room for none, and std refused it.
     pub fn reserve(&mut self) -> Result<(), BagMemory>
         requires { length self.old.records < 2 ^ 32 - 1 }
         ensures lacking { OnErr result (self.old.spare ≡ 0) }
+        ensures refused { OnErr result WasRefused }
         ensures room { OnOk result (0 < self.new.spare) }
         ensures records { self.new.records ≡ self.old.records }
         ensures spare { self.old.spare ≤ self.new.spare }

@@ -1,4 +1,5 @@
 // The records and their octets.
+ghost use Rattle.growth.specs.Growth.{WasRefused};
 ghost use Rattle.std.specs.Prelude.{◌≡◌, ◌+◌, ◌<◌, ◌≤◌, ◌^◌, ◌-◌, [], ◌∷◌, ◌++◌, length, Some, slice_get, OnOk, OnErr};
 ghost use Rattle.std.specs.Option.{option_map};
 ghost use Rattle.rec_base.specs.Lengths.{longest_record};
@@ -44,10 +45,11 @@ impl Records {
         }
     }
 
-    // Makes room for one record more. Where memory runs out nothing changes, and there was room for none.
+    // Makes room for one record more. Where memory runs out nothing changes: there was room for none, and std refused it.
     pub fn reserve(&mut self) -> Result<(), AllocError>
         requires { length self.old.records < 2 ^ 32 - 1 }
         ensures lacking { OnErr result (self.old.spare ≡ 0) }
+        ensures refused { OnErr result WasRefused }
         ensures room { OnOk result (0 < self.new.spare) }
         ensures records { self.new.records ≡ self.old.records }
         ensures spare { self.old.spare ≤ self.new.spare }
