@@ -1,4 +1,4 @@
-ghost use Rattle.std.specs.Prelude.{◌≡◌};
+ghost use Rattle.std.specs.Prelude.{◌≡◌, ◌≢◌};
 
 use crate::Field;
 use std::alloc::{AllocError, AllocFailed};
@@ -7,7 +7,7 @@ use std::alloc::{AllocError, AllocFailed};
 /// names the step, counted from 0, and one before the steps none.
 #[derive(Clone, Copy, Debug, Drop, PartialEq, Eq)]
 pub enum ScenarioFault {
-    /// Memory ran out. This says nothing of the text.
+    /// Std refused memory. This says nothing of the text.
     Memory,
     /// The text is not a TOML document.
     NotToml,
@@ -59,7 +59,8 @@ impl Refusal {
 
     // The refusal of a step's table, or of a table before the steps.
     pub(crate) fn at(self, step: Option<u32>) -> ScenarioFault
-        ensures { result ≡ fault_at step self }
+        ensures value { result ≡ fault_at step self }
+        ensures of_text { result ≢ ScenarioFault.Memory }
     {
         match self {
             Refusal::Missing(field) => ScenarioFault::Missing(step, field),

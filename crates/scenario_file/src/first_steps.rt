@@ -1,5 +1,6 @@
 // The first steps of a scenario.
-ghost use Rattle.std.specs.Prelude.{◌≡◌, ◌≤◌, ◌<◌, ◌∷◌, [], length, OnOk, IsTrue, IsOkUnless, ◌↔◌};
+ghost use Rattle.growth.specs.Growth.{WasRefused};
+ghost use Rattle.std.specs.Prelude.{◌≡◌, ◌≤◌, ◌<◌, ◌∷◌, [], length, OnErr, OnOk, IsTrue, IsOkUnless, ◌↔◌};
 ghost use Rattle.scenario_file.specs.Draws.{arrivals};
 ghost use Rattle.scenario_file.specs.FirstSteps.{with_steps};
 
@@ -47,6 +48,7 @@ impl FirstSteps {
     pub(crate) fn put(&mut self, step: &Event) -> Result<(), ScenarioFault>
         ensures step { OnOk result (self.new ≡ with_steps self.old (step.now ∷ [])) }
         ensures memory { IsOkUnless result ScenarioFault.Memory }
+        ensures refused { OnErr result WasRefused }
     {
         if self.is_full() {
             return Ok(());
@@ -59,6 +61,7 @@ impl FirstSteps {
     pub(crate) fn arrivals(&mut self, count: usize) -> Result<(), ScenarioFault>
         ensures steps { OnOk result (self.new ≡ with_steps self.old (arrivals count)) }
         ensures memory { IsOkUnless result ScenarioFault.Memory }
+        ensures refused { OnErr result WasRefused }
     {
         // Reading the steps brings into the proof that they are no more than are taken.
         let _ = &self.steps;

@@ -1,4 +1,5 @@
-ghost use Rattle.std.specs.Prelude.{◌≡◌, ◌≤◌, ◌<◌, ◌∷◌, ◌++◌, [], false, length, All, IfOk, IsOkUnless};
+ghost use Rattle.growth.specs.Growth.{WasRefused};
+ghost use Rattle.std.specs.Prelude.{◌≡◌, ◌≤◌, ◌<◌, ◌∷◌, ◌++◌, [], false, length, All, IfOk, IsOkUnless, OnErr};
 ghost use Rattle.std.specs.List.{list_any};
 ghost use Rattle.lte_events.specs.Site.{is_site};
 ghost use Rattle.lte_events.specs.Conditions.{CanStart, CanHappen, SetupFits, EventFits};
@@ -16,7 +17,7 @@ use std::alloc::Global;
 
 /// The scenario of `n` steps that a seed gives, n being 1 to 100,000: a phone with traffic and handovers among
 /// four stations, over X2, over S1 and within a station, with answers that come and answers that are lost. It
-/// is the same for ever, and want of memory is the one refusal.
+/// is the same for ever, and want of memory, which std refused, is the one refusal.
 pub fn generate(alloc: Global, n: u32, seed: u32) -> Result<Scenario, ScenarioFault>
     requires some { 1 ≤ n }
     requires few { n ≤ 100000 }
@@ -24,6 +25,7 @@ pub fn generate(alloc: Global, n: u32, seed: u32) -> Result<Scenario, ScenarioFa
     ensures events { IfOk result (λ s. s.events.items ≡ generated n seed) }
     ensures steps { IfOk result (λ s. length s.events.items ≡ n) }
     ensures memory { IsOkUnless result ScenarioFault.Memory }
+    ensures refused { OnErr result WasRefused }
     ensures can_start { IfOk result (λ s. CanStart s.setup) }
     ensures can_happen { IfOk result (λ s. All (CanHappen s.setup) s.events.items) }
     ensures setup_fits { IfOk result (λ s. SetupFits s.setup) }
@@ -38,6 +40,7 @@ pub fn generate(alloc: Global, n: u32, seed: u32) -> Result<Scenario, ScenarioFa
 fn generated_events(alloc: Global, n: u32, seed: u32) -> Result<Events, ScenarioFault>
     ensures events { IfOk result (λ events. events.items ≡ generated n seed) }
     ensures memory { IsOkUnless result ScenarioFault.Memory }
+    ensures refused { OnErr result WasRefused }
 {
     let mut first = FirstSteps::new(alloc, n as usize);
     add_opening(&mut first)?;

@@ -1,5 +1,6 @@
 // What a scenario keeps of its steps.
-ghost use Rattle.std.specs.Prelude.{◌≡◌, ◌<◌, [], ◌∷◌, ◌++◌, length, OnOk};
+ghost use Rattle.growth.specs.Growth.{WasRefused};
+ghost use Rattle.std.specs.Prelude.{◌≡◌, ◌<◌, [], ◌∷◌, ◌++◌, length, OnErr, OnOk};
 
 use lte_events::{Event, Events, FleetEvents};
 use std::alloc::{AllocError, Global};
@@ -39,6 +40,7 @@ pub(crate) trait Kept: Drop {
     fn keep(&mut self, step: &Step) -> Result<(), AllocError>
         ensures kept { OnOk result (items self.new ≡ items self.old ++ kept step.now ∷ []) }
         ensures event { happening (kept step.now) ≡ step.now.event }
+        ensures refused { OnErr result WasRefused }
         ensures phone { (phones : ℕ) → step.now.phone < phones → is_of phones (kept step.now) };
 }
 

@@ -1,3 +1,4 @@
+ghost use Rattle.growth.specs.Growth.{WasRefused};
 ghost use Rattle.std.specs.Prelude.{◌≡◌, ◌≤◌, ◌<◌, length, Ok, Err, IfOk, IfErr, All};
 ghost use Rattle.lte_events.specs.Conditions.{CanStart, CanHappen, SetupFits, EventFits};
 ghost use Rattle.scenario_file.specs.Reading.{reading_of, fleet_reading_of, two_reading_of};
@@ -39,12 +40,13 @@ pub struct TwoScenario {
     pub events: Events,
 }
 
-/// The scenario that a text says, in TOML, or its first fault. `Memory` where memory ran out, which says nothing of
-/// the text.
+/// The scenario that a text says, in TOML, or its first fault. `Memory` where std refused memory, which says nothing
+/// of the text.
 #[tactic(auto, unfolding(crate::specs::Reading::reading_of))]
 pub fn read(alloc: Global, octets: &[u8]) -> Result<Scenario, ScenarioFault>
     ensures scenario { IfOk result (λ s. reading_of octets.now ≡ Ok (s.setup, s.events.items)) }
     ensures refused { IfErr result (λ fault. ¬ (fault ≡ ScenarioFault.Memory) → reading_of octets.now ≡ Err fault) }
+    ensures memory { IfErr result (λ fault. fault ≡ ScenarioFault.Memory → WasRefused) }
     ensures can_start { IfOk result (λ s. CanStart s.setup) }
     ensures can_happen { IfOk result (λ s. All (CanHappen s.setup) s.events.items) }
     ensures setup_fits { IfOk result (λ s. SetupFits s.setup) }
@@ -64,6 +66,7 @@ pub fn read(alloc: Global, octets: &[u8]) -> Result<Scenario, ScenarioFault>
 pub fn read_fleet(alloc: Global, octets: &[u8]) -> Result<FleetScenario, ScenarioFault>
     ensures scenario { IfOk result (λ s. fleet_reading_of octets.now ≡ Ok (s.setup, s.phones, s.events.items)) }
     ensures refused { IfErr result (λ fault. ¬ (fault ≡ ScenarioFault.Memory) → fleet_reading_of octets.now ≡ Err fault) }
+    ensures memory { IfErr result (λ fault. fault ≡ ScenarioFault.Memory → WasRefused) }
     ensures can_start { IfOk result (λ s. CanStart s.setup) }
     ensures can_happen { IfOk result (λ s. All (λ step. CanHappen s.setup step.1) s.events.items) }
     ensures setup_fits { IfOk result (λ s. SetupFits s.setup) }
@@ -87,6 +90,7 @@ pub fn read_fleet(alloc: Global, octets: &[u8]) -> Result<FleetScenario, Scenari
 pub fn read_two(alloc: Global, octets: &[u8]) -> Result<TwoScenario, ScenarioFault>
     ensures scenario { IfOk result (λ s. two_reading_of octets.now ≡ Ok (s.setup, s.core_of, s.events.items)) }
     ensures refused { IfErr result (λ fault. ¬ (fault ≡ ScenarioFault.Memory) → two_reading_of octets.now ≡ Err fault) }
+    ensures memory { IfErr result (λ fault. fault ≡ ScenarioFault.Memory → WasRefused) }
     ensures can_start { IfOk result (λ s. CanStart s.setup) }
     ensures can_happen { IfOk result (λ s. All (CanHappen s.setup) s.events.items) }
     ensures setup_fits { IfOk result (λ s. SetupFits s.setup) }

@@ -1,5 +1,6 @@
 // The turns of a generated scenario, and their steps.
-ghost use Rattle.std.specs.Prelude.{◌≡◌, OnOk, IsOkUnless};
+ghost use Rattle.growth.specs.Growth.{WasRefused};
+ghost use Rattle.std.specs.Prelude.{◌≡◌, OnErr, OnOk, IsOkUnless};
 ghost use Rattle.std.specs.List.{range_with_len};
 ghost use Rattle.scenario_file.specs.Draws.{handover, steps_of, opening};
 ghost use Rattle.scenario_file.specs.FirstSteps.{with_steps};
@@ -36,6 +37,7 @@ impl Turn {
     pub(crate) fn add_to(&self, first: &mut FirstSteps) -> Result<(), ScenarioFault>
         ensures steps { OnOk result (first.new ≡ with_steps first.old (steps_of self.now)) }
         ensures memory { IsOkUnless result ScenarioFault.Memory }
+        ensures refused { OnErr result WasRefused }
     {
         match *self {
             Turn::Uplink(text) => uplink(first, &text),
@@ -55,6 +57,7 @@ impl Turn {
 pub(crate) fn add_opening(first: &mut FirstSteps) -> Result<(), ScenarioFault>
     ensures steps { OnOk result (first.new ≡ with_steps first.old opening) }
     ensures memory { IsOkUnless result ScenarioFault.Memory }
+    ensures refused { OnErr result WasRefused }
 {
     first.put(&Event::Auth(0, KASME, generated_caps()))?;
     first.put(&Event::Core(CoreAct::StartSmc))?;
@@ -67,6 +70,7 @@ pub(crate) fn add_opening(first: &mut FirstSteps) -> Result<(), ScenarioFault>
 fn uplink(first: &mut FirstSteps, octets: &[u8; 8]) -> Result<(), ScenarioFault>
     ensures steps { OnOk result (first.new ≡ with_steps first.old (steps_of (Turn.Uplink octets.now))) }
     ensures memory { IsOkUnless result ScenarioFault.Memory }
+    ensures refused { OnErr result WasRefused }
 {
     first.put(&Event::Phone(PhoneAct::SendUser(Bearer::Drb1, packet(octets))))?;
     first.arrivals(1)?;
@@ -76,6 +80,7 @@ fn uplink(first: &mut FirstSteps, octets: &[u8; 8]) -> Result<(), ScenarioFault>
 fn downlink(first: &mut FirstSteps, s: u8, octets: &[u8; 8]) -> Result<(), ScenarioFault>
     ensures steps { OnOk result (first.new ≡ with_steps first.old (steps_of (Turn.Downlink s octets.now))) }
     ensures memory { IsOkUnless result ScenarioFault.Memory }
+    ensures refused { OnErr result WasRefused }
 {
     first.put(&Event::Station(s, StationAct::SendUser(Bearer::Drb1, packet(octets))))?;
     first.arrivals(1)?;
@@ -93,6 +98,7 @@ fn handover(
 ) -> Result<(), ScenarioFault>
     ensures steps { OnOk result (first.new ≡ with_steps first.old (handover kind from to before behind)) }
     ensures memory { IsOkUnless result ScenarioFault.Memory }
+    ensures refused { OnErr result WasRefused }
 {
     first.put(&Event::Station(from, StationAct::Start(kind, cell_of(to))))?;
     first.arrivals(before)?;

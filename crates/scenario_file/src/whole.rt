@@ -1,5 +1,6 @@
 // What a text says, for each kind of system alike.
-ghost use Rattle.std.specs.Prelude.{◌≡◌, ◌≤◌, ◌<◌, [], length, Some, None, Ok, Err, IfOk, IfErr, OnOk, All};
+ghost use Rattle.growth.specs.Growth.{WasRefused};
+ghost use Rattle.std.specs.Prelude.{◌≡◌, ◌≢◌, ◌≤◌, ◌<◌, [], length, Some, None, Ok, Err, IfOk, IfErr, OnOk, All};
 ghost use Rattle.toml.specs.View.{table_view, items_view, view};
 ghost use Rattle.lte_events.specs.Conditions.{CanStart, CanHappen, SetupFits, EventFits};
 ghost use Rattle.scenario_file.specs.Values.{result_map};
@@ -29,6 +30,7 @@ pub(crate) fn read_as<E: Kept>(
 ) -> Result<Whole<E>, ScenarioFault>
     ensures whole { IfOk result (λ w. text_of E.kept system octets.now ≡ Ok (w.start, E.items w.steps)) }
     ensures refused { IfErr result (λ fault. ¬ (fault ≡ ScenarioFault.Memory) → text_of E.kept system octets.now ≡ Err fault) }
+    ensures memory { IfErr result (λ fault. fault ≡ ScenarioFault.Memory → WasRefused) }
     ensures can_start { IfOk result (λ w. CanStart w.start.setup) }
     ensures setup_fits { IfOk result (λ w. SetupFits w.start.setup) }
     ensures cells { IfOk result (λ w. 1 ≤ length w.start.setup.cells) }
@@ -47,8 +49,9 @@ pub(crate) fn read_as<E: Kept>(
 fn document(alloc: Global, octets: &[u8]) -> Result<Table, ScenarioFault>
     ensures document { IfOk result (λ t. document_of octets.now ≡ Some (table_view t)) }
     ensures refused { IfErr result (λ fault. ¬ (fault ≡ ScenarioFault.Memory) → (fault ≡ ScenarioFault.NotToml) × (document_of octets.now ≡ None)) }
+    ensures memory { IfErr result (λ fault. fault ≡ ScenarioFault.Memory → WasRefused) }
 {
-    match toml::table_from_slice(alloc, octets) {
+    match toml_text::table_from_slice(alloc, octets) {
         Ok(table) => Ok(table),
         Err(fault) => {
             if fault.is_memory() {
@@ -69,6 +72,7 @@ fn whole_in<E: Kept>(
 ) -> Result<Whole<E>, ScenarioFault>
     ensures whole { IfOk result (λ w. whole_of E.kept system (table_view document.now) ≡ Ok (w.start, E.items w.steps)) }
     ensures refused { IfErr result (λ fault. ¬ (fault ≡ ScenarioFault.Memory) → whole_of E.kept system (table_view document.now) ≡ Err fault) }
+    ensures memory { IfErr result (λ fault. fault ≡ ScenarioFault.Memory → WasRefused) }
     ensures before_steps { (fault : ScenarioFault) → before_steps system (table_view document.now) ≡ Err fault → result ≡ Err fault }
     ensures can_start { IfOk result (λ w. CanStart w.start.setup) }
     ensures setup_fits { IfOk result (λ w. SetupFits w.start.setup) }
@@ -89,6 +93,7 @@ fn whole_in<E: Kept>(
 
 fn start_in(document: &Table, system: System) -> Result<Start, ScenarioFault>
     ensures value { result ≡ at_place None (start_of system (table_view document.now)) }
+    ensures of_text { IfErr result (λ fault. fault ≢ ScenarioFault.Memory) }
     ensures can { IfOk result (λ start. CanStart start.setup) }
     ensures fits { IfOk result (λ start. SetupFits start.setup) }
     ensures cells { IfOk result (λ start. 1 ≤ length start.setup.cells) }
@@ -102,7 +107,8 @@ fn start_in(document: &Table, system: System) -> Result<Start, ScenarioFault>
 }
 
 fn steps_in(document: &Table) -> Result<&[Value], ScenarioFault>
-    ensures { result_map (λ vs. items_view vs.now) result ≡ at_place None (steps_of (table_view document.now)) }
+    ensures value { result_map (λ vs. items_view vs.now) result ≡ at_place None (steps_of (table_view document.now)) }
+    ensures of_text { IfErr result (λ fault. fault ≢ ScenarioFault.Memory) }
 {
     match steps_of(document) {
         Ok(steps) => Ok(steps),
@@ -123,6 +129,7 @@ fn steps_of(document: &Table) -> Result<&[Value], Refusal>
 
 fn if_few(steps: &[Value]) -> Result<(), ScenarioFault>
     ensures value { result ≡ if_few (items_view steps.now) }
+    ensures of_text { IfErr result (λ fault. fault ≢ ScenarioFault.Memory) }
     ensures few { OnOk result (length steps.now ≤ 200000) }
 {
     if setup::count(steps) > 200_000 {
@@ -143,6 +150,7 @@ fn kept_steps<E: Kept>(
     requires few { length values.now ≤ 200000 }
     ensures steps { IfOk result (λ es. kept_from E.kept system start.now [] (items_view values.now) ≡ Ok (E.items es)) }
     ensures refused { IfErr result (λ fault. ¬ (fault ≡ ScenarioFault.Memory) → kept_from E.kept system start.now [] (items_view values.now) ≡ Err fault) }
+    ensures memory { IfErr result (λ fault. fault ≡ ScenarioFault.Memory → WasRefused) }
     ensures can { IfOk result (λ es. All (λ e. CanHappen start.now.setup (E.happening e)) (E.items es)) }
     ensures fit { IfOk result (λ es. All (λ e. EventFits (E.happening e)) (E.items es)) }
     ensures stand { IfOk result (λ es. All (E.is_of start.now.phones) (E.items es)) }
@@ -163,6 +171,7 @@ fn step_at(value: &Value, system: System, start: &Start, n: u32) -> Result<Step,
     requires setup { SetupFits start.now.setup }
     requires phones { 1 ≤ start.now.phones }
     ensures value { result ≡ step_at system start.now n (view value.now) }
+    ensures of_text { IfErr result (λ fault. fault ≢ ScenarioFault.Memory) }
     ensures can { IfOk result (λ step. CanHappen start.now.setup step.event) }
     ensures fits { IfOk result (λ step. EventFits step.event) }
     ensures phone { IfOk result (λ step. step.phone < start.now.phones) }
