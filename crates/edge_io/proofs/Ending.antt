@@ -4,14 +4,14 @@ use Rattle.std.proofs.lemmas.List.{take_rest}
 use Rattle.std.specs.Prelude.{IfOk}
 use Rattle.std.specs.List.{last_or}
 use Rattle.std.specs.Option.{option_map_or}
-use Rattle.edge_io.specs.Lines.{EndsLine, are_lines, with_piece}
+use Rattle.edge_io.specs.Lines.{EndsLine, are_lines, ends_line, has_octets, with_octets, with_piece}
 
 last-append : (o : Option ℕ) (front : List ℕ) (x : ℕ) (more : List ℕ) → last_or o (front ++ x ∷ more) ≡ last_or None (x ∷ more)
 last-append o [] x more = refl
 last-append o (y ∷ front) x more = last-append (Some y) front x more
 
 -- the last octet tells whether octets end with a line
-pub last_found : (octets : List ℕ) (x : ℕ) → Some x ≡ slice_get octets (length octets - 1) → are_lines octets ≡ (x == 10)
+pub last_found : (octets : List ℕ) (x : ℕ) → Some x ≡ slice_get octets (length octets - 1) → ends_line octets ≡ (x == 10)
 last_found [] x is = cc
 last_found (y ∷ []) x is =
     let same : y ≡ x = cc in ap (λ octet. octet == 10) same
@@ -57,14 +57,44 @@ still : (all : Bool) (piece : Bool) → piece ≡ true → (all && piece) ≡ al
 still true piece is = is
 still false piece is = refl
 
-kept : (lines : Option Bool) (piece : List ℕ) → are_lines piece ≡ true → with_piece piece lines ≡ lines
+-- octets that are not none are the same to both
+some_last : (x : ℕ) (octets : List ℕ) → option_map_or (λ octet. octet == 10) (last_or (Some x) octets) false ≡ option_map_or (λ octet. octet == 10) (last_or (Some x) octets) true
+some_last x [] = refl
+some_last x (y ∷ octets) = some_last y octets
+
+line_of : (octets : List ℕ) → 0 < length octets → are_lines octets ≡ true → ends_line octets ≡ true
+line_of [] below ends = absurd (omega (arith, below))
+line_of (x ∷ octets) below ends = some_last x octets ∙ ends
+
+-- what is left of octets is not none
+some_left : (sent : ℕ) (octets : List ℕ) → sent < length octets → 0 < length (drop sent octets)
+some_left sent [] below = absurd (omega (arith, below))
+some_left zero (x ∷ octets) below = omega arith
+some_left (suc sent) (x ∷ octets) below = some_left sent octets (omega (arith, below))
+
+has_some : (octets : List ℕ) → 0 < length octets → has_octets octets ≡ true
+has_some [] below = absurd (omega (arith, below))
+has_some (x ∷ octets) below = refl
+
+kept : (lines : Option Bool) (piece : List ℕ) → ends_line piece ≡ true → with_piece piece lines ≡ lines
 kept None piece ends = refl
-kept (Some all) piece ends = ap Some (still all (are_lines piece) ends)
+kept (Some all) piece ends = ap Some (still all (ends_line piece) ends)
+
+stays : (pieces : Option Bool) (piece : List ℕ) → has_octets piece ≡ true → with_octets piece pieces ≡ pieces
+stays None piece some = refl
+stays (Some all) piece some = ap Some (still all (has_octets piece) some)
 
 -- the rest of a piece that ends with a line, as `octets[sent..]` is written, ends with it
 pub lines_kept : (lines : Option Bool) (sent : ℕ) (octets : List ℕ) → sent < length octets → are_lines octets ≡ true → with_piece (take (length octets - sent) (drop sent octets)) lines ≡ lines
 lines_kept lines sent octets below ends =
-    kept lines (take (length octets - sent) (drop sent octets)) (ap are_lines (take_rest octets sent) ∙ rest_lines sent octets below ends)
+    let rest = drop sent octets in
+    kept lines (take (length octets - sent) rest) (ap ends_line (take_rest octets sent) ∙ line_of rest (some_left sent octets below) (rest_lines sent octets below ends))
+
+-- and is not none
+pub pieces_kept : (pieces : Option Bool) (sent : ℕ) (octets : List ℕ) → sent < length octets → with_octets (take (length octets - sent) (drop sent octets)) pieces ≡ pieces
+pieces_kept pieces sent octets below =
+    let rest = drop sent octets in
+    stays pieces (take (length octets - sent) rest) (ap has_octets (take_rest octets sent) ∙ has_some rest (some_left sent octets below))
 
 -- a text for which there was memory is whole lines where its octets are
 pub text_is : {T E : Type 0} (view : T → List ℕ) (text : Result T E) (octets : List ℕ) → IfOk text (λ t. view t ≡ octets) → are_lines octets ≡ true → IfOk text (λ t. are_lines (view t) ≡ true)

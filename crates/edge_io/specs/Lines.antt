@@ -1,5 +1,5 @@
 -- Pieces that are whole lines.
-use Rattle.std.specs.Prelude.{◌≡◌, ℕ, Bool, true, ◌==◌, ◌&&◌, Option, Some, None, List}
+use Rattle.std.specs.Prelude.{◌≡◌, ℕ, Bool, true, false, ◌==◌, ◌&&◌, Option, Some, None, List, [], ◌∷◌}
 use Rattle.std.specs.List.{last_or}
 use Rattle.std.specs.Option.{option_map, option_map_or}
 
@@ -11,6 +11,19 @@ pub record EndsLine (octets : List ℕ) : Type 0 where
 abbrev pub are_lines : List ℕ → Bool
 are_lines octets = option_map_or (λ octet. octet == 10) (last_or None octets) true
 
--- whether each piece was whole lines, this one among them
+-- octets are whole lines, and not none
+abbrev pub ends_line : List ℕ → Bool
+ends_line octets = option_map_or (λ octet. octet == 10) (last_or None octets) false
+
+-- whether each piece was whole lines, and none was empty, this one among them
 abbrev pub with_piece : List ℕ → Option Bool → Option Bool
-with_piece piece lines = option_map (λ all. all && are_lines piece) lines
+with_piece piece lines = option_map (λ all. all && ends_line piece) lines
+
+-- there are octets
+abbrev pub has_octets : List ℕ → Bool
+has_octets [] = false
+has_octets (x ∷ octets) = true
+
+-- whether no piece was empty, this one among them
+abbrev pub with_octets : List ℕ → Option Bool → Option Bool
+with_octets piece pieces = option_map (λ all. all && has_octets piece) pieces

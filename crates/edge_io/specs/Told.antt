@@ -10,7 +10,8 @@ pub record Told : Type 0 where
   pub ended : Bool  -- whether a read met the end of its input
   pub read_faults : ℕ
   pub written : Option (List ℕ)  -- the octets that it was given, where it tells them
-  pub lines : Option Bool  -- whether each piece that it was given was whole lines, where it tells that
+  pub lines : Option Bool  -- whether each piece that it was given was whole lines, and none was empty, where it tells that
+  pub pieces : Option Bool  -- whether no piece that it was given was empty, where it tells that
   pub write_faults : ℕ
   pub open_faults : ℕ
   pub ready : Bool  -- it may be read and written; a port is ready while it is open
@@ -30,14 +31,15 @@ source_told left most ended faults =
       read_faults = faults;
       written = None;
       lines = None;
+      pieces = None;
       write_faults = 0;
       open_faults = 0;
       ready = true;
     }
 
 -- what a sink alone tells, which is always ready
-abbrev pub sink_told : Option (List ℕ) → Option Bool → ℕ → Told
-sink_told written lines faults =
+abbrev pub sink_told : Option (List ℕ) → Option Bool → Option Bool → ℕ → Told
+sink_told written lines pieces faults =
     record {
       left = None;
       most = 0;
@@ -45,6 +47,7 @@ sink_told written lines faults =
       read_faults = 0;
       written = written;
       lines = lines;
+      pieces = pieces;
       write_faults = faults;
       open_faults = 0;
       ready = true;
@@ -60,6 +63,7 @@ port_told source sink is_open =
       read_faults = source.read_faults;
       written = sink.written;
       lines = sink.lines;
+      pieces = sink.pieces;
       write_faults = sink.write_faults;
       open_faults = 0;
       ready = is_open;
@@ -75,6 +79,7 @@ connection_told is_open most ended read_faults write_faults open_faults =
       read_faults = read_faults;
       written = None;
       lines = None;
+      pieces = None;
       write_faults = write_faults;
       open_faults = open_faults;
       ready = is_open;

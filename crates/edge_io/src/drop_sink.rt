@@ -1,7 +1,7 @@
 ghost use Rattle.std.specs.Prelude.{◌≡◌, ◌≤◌, ◌<◌, IsTrue, length, IfOk, OnOk, Ok, None};
 ghost use Rattle.edge_io.specs.Told.{sink_told};
 ghost use Rattle.edge_io.specs.Cause.{HasCause, NoCountFell, NoFault};
-ghost use Rattle.edge_io.specs.Lines.{with_piece};
+ghost use Rattle.edge_io.specs.Lines.{with_octets, with_piece};
 ghost use Rattle.edge_io.specs.Octets.{Grows, octets_of};
 
 use crate::edge::Edge;
@@ -15,14 +15,14 @@ pub struct DropSink;
 impl DropSink {
     /// A sink that drops what it is given.
     pub fn new() -> DropSink
-        ensures { ⟦<DropSink as Edge>⟧.told result ≡ sink_told None None 0 }
+        ensures { ⟦<DropSink as Edge>⟧.told result ≡ sink_told None None None 0 }
     {
         DropSink
     }
 }
 
 impl Edge for DropSink {
-    ghost told = { λ _. sink_told None None 0 };
+    ghost told = { λ _. sink_told None None None 0 };
 }
 
 impl Sink for DropSink {
@@ -36,6 +36,8 @@ impl Sink for DropSink {
             (⟦<DropSink as Edge>⟧.told self.new).written (octets_of result piece.now) }
         ensures lines { (⟦<DropSink as Edge>⟧.told self.new).lines
             ≡ with_piece piece.now (⟦<DropSink as Edge>⟧.told self.old).lines }
+        ensures pieces { (⟦<DropSink as Edge>⟧.told self.new).pieces
+            ≡ with_octets piece.now (⟦<DropSink as Edge>⟧.told self.old).pieces }
         ensures left { (⟦<DropSink as Edge>⟧.told self.new).left
             ≡ (⟦<DropSink as Edge>⟧.told self.old).left }
         ensures most { (⟦<DropSink as Edge>⟧.told self.new).most

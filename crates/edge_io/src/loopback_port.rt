@@ -2,7 +2,7 @@ ghost use Rattle.std.specs.Prelude.{◌≡◌, ◌+◌, ◌-◌, ◌^◌, ◌≤
 ghost use Rattle.std.specs.Io.KnownBytes.{ReadConsumes, WriteAppends};
 ghost use Rattle.edge_io.specs.Told.{HasEnded, connection_told};
 ghost use Rattle.edge_io.specs.Cause.{HasCause, NoCountFell, NoFault};
-ghost use Rattle.edge_io.specs.Lines.{with_piece};
+ghost use Rattle.edge_io.specs.Lines.{with_octets, with_piece};
 ghost use Rattle.edge_io.specs.Octets.{Gives, Grows, MetNoEnd, octets_of};
 ghost use Rattle.edge_io.specs.Opening.{IsOpened, OpenFails};
 ghost use Rattle.edge_io.specs.Tries.{LastAnswers, GivesUp};
@@ -78,6 +78,8 @@ impl<N: Network + Drop, K: Sink + Drop> Source for LoopbackPort<N, K> {
             + length (octets_of result buf.new) ≤ (⟦<LoopbackPort<N, K> as Edge>⟧.told self.old).most }
         ensures written { (⟦<LoopbackPort<N, K> as Edge>⟧.told self.new).written
             ≡ (⟦<LoopbackPort<N, K> as Edge>⟧.told self.old).written }
+        ensures pieces { (⟦<LoopbackPort<N, K> as Edge>⟧.told self.new).pieces
+            ≡ (⟦<LoopbackPort<N, K> as Edge>⟧.told self.old).pieces }
         ensures cause { HasCause (⟦<LoopbackPort<N, K> as Edge>⟧.told self.old).read_faults
             (⟦<LoopbackPort<N, K> as Edge>⟧.told self.new).read_faults result }
         ensures no_fault { OnOk result (NoFault (⟦<LoopbackPort<N, K> as Edge>⟧.told self.old)
@@ -125,6 +127,8 @@ impl<N: Network + Drop, K: Sink + Drop> Sink for LoopbackPort<N, K> {
             (⟦<LoopbackPort<N, K> as Edge>⟧.told self.new).written (octets_of result piece.now) }
         ensures lines { (⟦<LoopbackPort<N, K> as Edge>⟧.told self.new).lines
             ≡ with_piece piece.now (⟦<LoopbackPort<N, K> as Edge>⟧.told self.old).lines }
+        ensures pieces { (⟦<LoopbackPort<N, K> as Edge>⟧.told self.new).pieces
+            ≡ with_octets piece.now (⟦<LoopbackPort<N, K> as Edge>⟧.told self.old).pieces }
         ensures left { (⟦<LoopbackPort<N, K> as Edge>⟧.told self.new).left
             ≡ (⟦<LoopbackPort<N, K> as Edge>⟧.told self.old).left }
         ensures most { (⟦<LoopbackPort<N, K> as Edge>⟧.told self.new).most
@@ -176,6 +180,8 @@ impl<N: Network + Drop, K: Sink + Drop> Port for LoopbackPort<N, K> {
             ≡ (⟦<LoopbackPort<N, K> as Edge>⟧.told self.old).ended }
         ensures written { (⟦<LoopbackPort<N, K> as Edge>⟧.told self.new).written
             ≡ (⟦<LoopbackPort<N, K> as Edge>⟧.told self.old).written }
+        ensures pieces { (⟦<LoopbackPort<N, K> as Edge>⟧.told self.new).pieces
+            ≡ (⟦<LoopbackPort<N, K> as Edge>⟧.told self.old).pieces }
         ensures cause { HasCause (⟦<LoopbackPort<N, K> as Edge>⟧.told self.old).open_faults
             (⟦<LoopbackPort<N, K> as Edge>⟧.told self.new).open_faults result }
         ensures no_fault { OnOk result (NoFault (⟦<LoopbackPort<N, K> as Edge>⟧.told self.old)

@@ -1,7 +1,7 @@
 ghost use Rattle.std.specs.Prelude.{◌≡◌, ◌+◌, ◌-◌, ◌≤◌, ◌<◌, ◌↔◌, ◌⊎◌, min, IsTrue, length, IfOk, OnOk, OnErr, IsOk, IsErr, IfSome, false};
 ghost use Rattle.edge_io.specs.Told.{HasEnded, port_told, sink_told};
 ghost use Rattle.edge_io.specs.Cause.{HasCause, NoCountFell, NoFault};
-ghost use Rattle.edge_io.specs.Lines.{with_piece};
+ghost use Rattle.edge_io.specs.Lines.{with_octets, with_piece};
 ghost use Rattle.edge_io.specs.Octets.{Gives, Grows, MetNoEnd, octets_of};
 ghost use Rattle.edge_io.specs.Script.{FailsNext, IsFull, after_call};
 
@@ -45,6 +45,7 @@ impl MemPort {
         ensures told { ⟦<MemSink as Edge>⟧.told result.now
             ≡ sink_told (⟦<MemPort as Edge>⟧.told self.now).written
             (⟦<MemPort as Edge>⟧.told self.now).lines
+            (⟦<MemPort as Edge>⟧.told self.now).pieces
             (⟦<MemPort as Edge>⟧.told self.now).write_faults }
         ensures writes { ⟦<MemSink as Scripted>⟧.writes result.now
             ≡ ⟦<MemPort as Scripted>⟧.writes self.now }
@@ -85,6 +86,8 @@ impl Source for MemPort {
             + length (octets_of result buf.new) ≤ (⟦<MemPort as Edge>⟧.told self.old).most }
         ensures written { (⟦<MemPort as Edge>⟧.told self.new).written
             ≡ (⟦<MemPort as Edge>⟧.told self.old).written }
+        ensures pieces { (⟦<MemPort as Edge>⟧.told self.new).pieces
+            ≡ (⟦<MemPort as Edge>⟧.told self.old).pieces }
         ensures cause { HasCause (⟦<MemPort as Edge>⟧.told self.old).read_faults
             (⟦<MemPort as Edge>⟧.told self.new).read_faults result }
         ensures no_fault { OnOk result (NoFault (⟦<MemPort as Edge>⟧.told self.old)
@@ -119,6 +122,8 @@ impl Sink for MemPort {
             (⟦<MemPort as Edge>⟧.told self.new).written (octets_of result piece.now) }
         ensures lines { (⟦<MemPort as Edge>⟧.told self.new).lines
             ≡ with_piece piece.now (⟦<MemPort as Edge>⟧.told self.old).lines }
+        ensures pieces { (⟦<MemPort as Edge>⟧.told self.new).pieces
+            ≡ with_octets piece.now (⟦<MemPort as Edge>⟧.told self.old).pieces }
         ensures left { (⟦<MemPort as Edge>⟧.told self.new).left
             ≡ (⟦<MemPort as Edge>⟧.told self.old).left }
         ensures most { (⟦<MemPort as Edge>⟧.told self.new).most
@@ -163,6 +168,8 @@ impl Port for MemPort {
             ≡ (⟦<MemPort as Edge>⟧.told self.old).ended }
         ensures written { (⟦<MemPort as Edge>⟧.told self.new).written
             ≡ (⟦<MemPort as Edge>⟧.told self.old).written }
+        ensures pieces { (⟦<MemPort as Edge>⟧.told self.new).pieces
+            ≡ (⟦<MemPort as Edge>⟧.told self.old).pieces }
         ensures cause { HasCause (⟦<MemPort as Edge>⟧.told self.old).open_faults
             (⟦<MemPort as Edge>⟧.told self.new).open_faults result }
         ensures no_fault { OnOk result (NoFault (⟦<MemPort as Edge>⟧.told self.old)

@@ -1,14 +1,14 @@
 ghost use Rattle.std.specs.Prelude.{◌≡◌, ◌-◌, ◌≤◌, ◌<◌, ◌⊎◌, min, IsTrue, length, Some, true, [], IfOk, OnOk, IsErr, IfSome, vec_capacity};
 ghost use Rattle.edge_io.specs.Told.{sink_told};
 ghost use Rattle.edge_io.specs.Cause.{HasCause, NoCountFell, NoFault};
-ghost use Rattle.edge_io.specs.Lines.{with_piece};
+ghost use Rattle.edge_io.specs.Lines.{with_octets, with_piece};
 ghost use Rattle.edge_io.specs.Octets.{Grows, octets_of};
 ghost use Rattle.edge_io.specs.Script.{script_of, FailsNext, IsFull, after_call};
 
 use crate::edge::Edge;
 use crate::failed::Failed;
 use crate::faults::Faults;
-use crate::lines::are_lines;
+use crate::lines::{ends_line, has_octets};
 use crate::scripted::Scripted;
 use crate::sink::Sink;
 use std::alloc::{AllocError, Global};
@@ -19,6 +19,7 @@ use std::alloc::{AllocError, Global};
 pub struct MemSink {
     octets: Vec<u8>,
     lines: bool,
+    pieces: bool,
     room: usize,
     faults: Faults,
     ghost within: { length octets.items ≤ room },
@@ -28,7 +29,7 @@ pub struct MemSink {
 impl MemSink {
     /// An empty sink with room for this many octets. The one error is want of memory.
     pub fn new(alloc: Global, room: usize, failing: Vec<u64>) -> Result<MemSink, AllocError>
-        ensures told { IfOk result (λ sink. ⟦<MemSink as Edge>⟧.told sink ≡ sink_told (Some []) (Some true) 0) }
+        ensures told { IfOk result (λ sink. ⟦<MemSink as Edge>⟧.told sink ≡ sink_told (Some []) (Some true) (Some true) 0) }
         ensures writes { IfOk result (λ sink.
             ⟦<MemSink as Scripted>⟧.writes sink ≡ script_of failing.items) }
         ensures room { IfOk result (λ sink. ⟦<MemSink as Scripted>⟧.room sink ≡ room) }
@@ -36,6 +37,7 @@ impl MemSink {
         Ok(MemSink {
             octets: Vec::with_capacity(alloc, room)?,
             lines: true,
+            pieces: true,
             room,
             faults: Faults::new(failing),
         })
@@ -50,7 +52,7 @@ impl MemSink {
 }
 
 impl Edge for MemSink {
-    ghost told = { λ s. sink_told (Some s.octets.items) (Some s.lines) s.faults.count };
+    ghost told = { λ s. sink_told (Some s.octets.items) (Some s.lines) (Some s.pieces) s.faults.count };
 }
 
 impl Scripted for MemSink {
@@ -70,6 +72,8 @@ impl Sink for MemSink {
             (⟦<MemSink as Edge>⟧.told self.new).written (octets_of result piece.now) }
         ensures lines { (⟦<MemSink as Edge>⟧.told self.new).lines
             ≡ with_piece piece.now (⟦<MemSink as Edge>⟧.told self.old).lines }
+        ensures pieces { (⟦<MemSink as Edge>⟧.told self.new).pieces
+            ≡ with_octets piece.now (⟦<MemSink as Edge>⟧.told self.old).pieces }
         ensures left { (⟦<MemSink as Edge>⟧.told self.new).left
             ≡ (⟦<MemSink as Edge>⟧.told self.old).left }
         ensures most { (⟦<MemSink as Edge>⟧.told self.new).most
@@ -94,7 +98,8 @@ impl Sink for MemSink {
             ≡ after_call (⟦<MemSink as Scripted>⟧.writes self.old) }
         ensures room { ⟦<MemSink as Scripted>⟧.room self.new ≡ ⟦<MemSink as Scripted>⟧.room self.old }
     {
-        self.lines = self.lines && are_lines(piece);
+        self.lines = self.lines && ends_line(piece);
+        self.pieces = self.pieces && has_octets(piece);
         self.faults.next_call()?;
         let count = piece.len().min(self.room - self.octets.len());
         if count == 0 && !piece.is_empty() {

@@ -64,6 +64,8 @@ impl Source for MemSource {
             + length (octets_of result buf.new) ≤ (⟦<MemSource as Edge>⟧.told self.old).most }
         ensures written { (⟦<MemSource as Edge>⟧.told self.new).written
             ≡ (⟦<MemSource as Edge>⟧.told self.old).written }
+        ensures pieces { (⟦<MemSource as Edge>⟧.told self.new).pieces
+            ≡ (⟦<MemSource as Edge>⟧.told self.old).pieces }
         ensures cause { HasCause (⟦<MemSource as Edge>⟧.told self.old).read_faults
             (⟦<MemSource as Edge>⟧.told self.new).read_faults result }
         ensures no_fault { OnOk result (NoFault (⟦<MemSource as Edge>⟧.told self.old)

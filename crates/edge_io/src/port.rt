@@ -17,6 +17,7 @@ pub trait Port: Source + Sink {
         ensures most { (Self.told self.new).most ≡ (Self.told self.old).most }
         ensures ended { (Self.told self.new).ended ≡ (Self.told self.old).ended }
         ensures written { (Self.told self.new).written ≡ (Self.told self.old).written }
+        ensures pieces { (Self.told self.new).pieces ≡ (Self.told self.old).pieces }
         ensures cause { HasCause (Self.told self.old).open_faults (Self.told self.new).open_faults
             result }
         ensures no_fault { OnOk result (NoFault (Self.told self.old) (Self.told self.new)) }

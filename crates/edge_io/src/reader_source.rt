@@ -63,6 +63,8 @@ impl<R: Reader + Drop> Source for ReaderSource<R> {
             + length (octets_of result buf.new) ≤ (⟦<ReaderSource<R> as Edge>⟧.told self.old).most }
         ensures written { (⟦<ReaderSource<R> as Edge>⟧.told self.new).written
             ≡ (⟦<ReaderSource<R> as Edge>⟧.told self.old).written }
+        ensures pieces { (⟦<ReaderSource<R> as Edge>⟧.told self.new).pieces
+            ≡ (⟦<ReaderSource<R> as Edge>⟧.told self.old).pieces }
         ensures cause { HasCause (⟦<ReaderSource<R> as Edge>⟧.told self.old).read_faults
             (⟦<ReaderSource<R> as Edge>⟧.told self.new).read_faults result }
         ensures no_fault { OnOk result (NoFault (⟦<ReaderSource<R> as Edge>⟧.told self.old)

@@ -48,6 +48,7 @@ pub fn read_all<S: Source>(alloc: Global, src: &mut S, limit: usize) -> Result<V
     ensures left { LosesPrefix (S.told src.old).left (S.told src.new).left }
     ensures most { (S.told src.new).most ≤ (S.told src.old).most }
     ensures written { (S.told src.new).written ≡ (S.told src.old).written }
+    ensures pieces { (S.told src.new).pieces ≡ (S.told src.old).pieces }
     ensures counts { NoCountFell (S.told src.old) (S.told src.new) }
 {
     let mut octets = Vec::new(alloc);
@@ -93,6 +94,7 @@ pub fn read_fill<S: Source>(src: &mut S, buf: &mut [u8]) -> Result<usize, Failed
     ensures most { (S.told src.new).most + length (octets_of result buf.new)
         ≤ (S.told src.old).most }
     ensures written { (S.told src.new).written ≡ (S.told src.old).written }
+    ensures pieces { (S.told src.new).pieces ≡ (S.told src.old).pieces }
     ensures counts { NoCountFell (S.told src.old) (S.told src.new) }
 {
     let mut filled = 0;

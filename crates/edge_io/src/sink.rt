@@ -1,6 +1,6 @@
 ghost use Rattle.std.specs.Prelude.{◌≡◌, ◌≤◌, ◌<◌, IsTrue, length, IfOk, OnOk};
 ghost use Rattle.edge_io.specs.Cause.{HasCause, NoCountFell, NoFault};
-ghost use Rattle.edge_io.specs.Lines.{with_piece};
+ghost use Rattle.edge_io.specs.Lines.{with_octets, with_piece};
 ghost use Rattle.edge_io.specs.Octets.{Grows, octets_of};
 
 use crate::edge::Edge;
@@ -18,6 +18,7 @@ pub trait Sink: Edge {
         ensures octets { Grows (Self.told self.old).written (Self.told self.new).written
             (octets_of result piece.now) }
         ensures lines { (Self.told self.new).lines ≡ with_piece piece.now (Self.told self.old).lines }
+        ensures pieces { (Self.told self.new).pieces ≡ with_octets piece.now (Self.told self.old).pieces }
         ensures left { (Self.told self.new).left ≡ (Self.told self.old).left }
         ensures most { (Self.told self.new).most ≡ (Self.told self.old).most }
         ensures ended { (Self.told self.new).ended ≡ (Self.told self.old).ended }

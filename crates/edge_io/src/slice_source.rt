@@ -50,6 +50,8 @@ impl<'a> Source for SliceSource<'a> {
             + length (octets_of result buf.new) ≤ (⟦<SliceSource<'a> as Edge>⟧.told self.old).most }
         ensures written { (⟦<SliceSource<'a> as Edge>⟧.told self.new).written
             ≡ (⟦<SliceSource<'a> as Edge>⟧.told self.old).written }
+        ensures pieces { (⟦<SliceSource<'a> as Edge>⟧.told self.new).pieces
+            ≡ (⟦<SliceSource<'a> as Edge>⟧.told self.old).pieces }
         ensures cause { HasCause (⟦<SliceSource<'a> as Edge>⟧.told self.old).read_faults
             (⟦<SliceSource<'a> as Edge>⟧.told self.new).read_faults result }
         ensures no_fault { OnOk result (NoFault (⟦<SliceSource<'a> as Edge>⟧.told self.old)

@@ -22,6 +22,7 @@ pub trait Source: Edge {
         ensures most { (Self.told self.new).most + length (octets_of result buf.new)
             ≤ (Self.told self.old).most }
         ensures written { (Self.told self.new).written ≡ (Self.told self.old).written }
+        ensures pieces { (Self.told self.new).pieces ≡ (Self.told self.old).pieces }
         ensures cause { HasCause (Self.told self.old).read_faults (Self.told self.new).read_faults
             result }
         ensures no_fault { OnOk result (NoFault (Self.told self.old) (Self.told self.new)) }

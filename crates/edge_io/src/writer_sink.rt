@@ -3,14 +3,14 @@ ghost use Rattle.std.specs.Io.{WritesAtMost};
 ghost use Rattle.std.specs.Io.KnownBytes.{WriteAppends};
 ghost use Rattle.edge_io.specs.Told.{sink_told};
 ghost use Rattle.edge_io.specs.Cause.{HasCause, NoCountFell, NoFault};
-ghost use Rattle.edge_io.specs.Lines.{with_piece};
+ghost use Rattle.edge_io.specs.Lines.{with_octets, with_piece};
 ghost use Rattle.edge_io.specs.Octets.{Grows, octets_of};
 ghost use Rattle.edge_io.specs.Tries.{LastAnswers, GivesUp};
 
 use crate::edge::Edge;
 use crate::failed::Failed;
 use crate::interrupted::is_interrupted;
-use crate::lines::are_lines;
+use crate::lines::ends_line;
 use crate::sink::Sink;
 use crate::writer::Writer;
 
@@ -27,7 +27,7 @@ pub struct WriterSink<W: Drop> {
 impl<W: Writer + Drop> WriterSink<W> {
     /// A sink that hands on to this writer.
     pub fn new(writer: W) -> WriterSink<W>
-        ensures told { ⟦<WriterSink<W> as Edge>⟧.told result ≡ sink_told None (Some true) 0 }
+        ensures told { ⟦<WriterSink<W> as Edge>⟧.told result ≡ sink_told None (Some true) None 0 }
         ensures writer { result.writer ≡ writer }
     {
         WriterSink {
@@ -39,7 +39,7 @@ impl<W: Writer + Drop> WriterSink<W> {
 }
 
 impl<W: Writer + Drop> Edge for WriterSink<W> {
-    ghost told = { λ s. sink_told None (Some s.lines) s.faults };
+    ghost told = { λ s. sink_told None (Some s.lines) None s.faults };
 }
 
 impl<W: Writer + Drop> Sink for WriterSink<W> {
@@ -53,6 +53,8 @@ impl<W: Writer + Drop> Sink for WriterSink<W> {
             (⟦<WriterSink<W> as Edge>⟧.told self.new).written (octets_of result piece.now) }
         ensures lines { (⟦<WriterSink<W> as Edge>⟧.told self.new).lines
             ≡ with_piece piece.now (⟦<WriterSink<W> as Edge>⟧.told self.old).lines }
+        ensures pieces { (⟦<WriterSink<W> as Edge>⟧.told self.new).pieces
+            ≡ with_octets piece.now (⟦<WriterSink<W> as Edge>⟧.told self.old).pieces }
         ensures left { (⟦<WriterSink<W> as Edge>⟧.told self.new).left
             ≡ (⟦<WriterSink<W> as Edge>⟧.told self.old).left }
         ensures most { (⟦<WriterSink<W> as Edge>⟧.told self.new).most
@@ -75,7 +77,7 @@ impl<W: Writer + Drop> Sink for WriterSink<W> {
             ⊎ (LastAnswers (W.answers piece.now) (Ok 0) self.old.writer self.new.writer
             × (0 < length piece.now))) }
     {
-        self.lines = self.lines && are_lines(piece);
+        self.lines = self.lines && ends_line(piece);
         if let Ok(count) = write_once(&mut self.writer, piece) {
             if count > 0 || piece.is_empty() {
                 return Ok(count);

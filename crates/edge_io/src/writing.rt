@@ -20,6 +20,7 @@ pub fn write_all<K: Sink>(sink: &mut K, octets: &[u8]) -> Result<(), Failed>
     ensures cause { HasCause (K.told sink.old).write_faults (K.told sink.new).write_faults result }
     ensures lines { are_lines octets.now ≡ true →
         (K.told sink.new).lines ≡ (K.told sink.old).lines }
+    ensures pieces { (K.told sink.new).pieces ≡ (K.told sink.old).pieces }
     ensures no_fault { OnOk result (NoFault (K.told sink.old) (K.told sink.new)) }
 
     // What becomes of the sink.

@@ -37,6 +37,7 @@ pub fn read_frame<S: Source>(src: &mut S, role: Role, first: bool) -> Result<Fra
     ensures most { (S.told src.new).most ≤ (S.told src.old).most }
     ensures ended { MetEnd result (S.told src.old).ended (S.told src.new).ended }
     ensures written { (S.told src.new).written ≡ (S.told src.old).written }
+    ensures pieces { (S.told src.new).pieces ≡ (S.told src.old).pieces }
     ensures counts { NoCountFell (S.told src.old) (S.told src.new) }
 {
     next_frame(src, role, first)
@@ -55,6 +56,7 @@ fn next_frame<S: Source>(src: &mut S, role: Role, first: bool) -> Result<FrameIn
     ensures most { (S.told src.new).most ≤ (S.told src.old).most }
     ensures ended { MetEnd result (S.told src.old).ended (S.told src.new).ended }
     ensures written { (S.told src.new).written ≡ (S.told src.old).written }
+    ensures pieces { (S.told src.new).pieces ≡ (S.told src.old).pieces }
     ensures counts { NoCountFell (S.told src.old) (S.told src.new) }
 {
     let mut head = [0u8; 2];
@@ -106,6 +108,7 @@ fn read_body<S: Source>(
     ensures most { (S.told src.new).most ≤ (S.told src.old).most }
     ensures ended { MetEnd result (S.told src.old).ended (S.told src.new).ended }
     ensures written { (S.told src.new).written ≡ (S.told src.old).written }
+    ensures pieces { (S.told src.new).pieces ≡ (S.told src.old).pieces }
     ensures counts { NoCountFell (S.told src.old) (S.told src.new) }
 {
     let count = match read_fill(src, buf) {

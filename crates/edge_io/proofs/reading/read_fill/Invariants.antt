@@ -11,6 +11,7 @@ invariant-pieces g l =
     × ((g.S.Edge.told l.src).most + l.filled ≤ (g.S.Edge.told l.initial.src).most)
     × ((g.S.Edge.told l.src).ended ≡ (g.S.Edge.told l.initial.src).ended)
     × ((g.S.Edge.told l.src).written ≡ (g.S.Edge.told l.initial.src).written)
+    × ((g.S.Edge.told l.src).pieces ≡ (g.S.Edge.told l.initial.src).pieces)
     × NoFault (g.S.Edge.told l.initial.src) (g.S.Edge.told l.src)
 
 abbrev pub decreases-pieces : goal.decreases-pieces

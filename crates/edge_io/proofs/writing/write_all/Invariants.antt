@@ -13,6 +13,7 @@ invariant-pieces g l =
     × ((g.K.Edge.told l.sink).most ≡ (g.K.Edge.told l.initial.sink).most)
     × ((g.K.Edge.told l.sink).ended ≡ (g.K.Edge.told l.initial.sink).ended)
     × (are_lines l.octets ≡ true → (g.K.Edge.told l.sink).lines ≡ (g.K.Edge.told l.initial.sink).lines)
+    × ((g.K.Edge.told l.sink).pieces ≡ (g.K.Edge.told l.initial.sink).pieces)
     × NoFault (g.K.Edge.told l.initial.sink) (g.K.Edge.told l.sink)
 
 abbrev pub decreases-pieces : goal.decreases-pieces
