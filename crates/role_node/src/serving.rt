@@ -45,6 +45,9 @@ pub fn serve<L: Port>(role: Role, port: &mut L) -> ServeEnd
     ensures no_fault { result ≢ ServeEnd.ReadFault → result ≢ ServeEnd.WriteFault
         → NoFault (L.told port.old) (L.told port.new) }
     ensures counts { NoCountFell (L.told port.old) (L.told port.new) }
+
+    // No piece that it is given is empty.
+    ensures pieces { (L.told port.new).pieces ≡ (L.told port.old).pieces }
 {
     session(role, port)
 }
@@ -58,6 +61,7 @@ fn session<L: Port>(role: Role, port: &mut L) -> ServeEnd
     ensures no_fault { result ≢ ServeEnd.ReadFault → result ≢ ServeEnd.WriteFault
         → NoFault (L.told port.old) (L.told port.new) }
     ensures counts { NoCountFell (L.told port.old) (L.told port.new) }
+    ensures pieces { (L.told port.new).pieces ≡ (L.told port.old).pieces }
 {
     let mut actor = None;
     let mut place = 0u64;

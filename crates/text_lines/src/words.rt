@@ -1,6 +1,7 @@
-ghost use Rattle.std.specs.Prelude.{◌≡◌, true, map, take, IfOk};
+ghost use Rattle.std.specs.Prelude.{◌≡◌, true, map, take, IfOk, OnErr};
 ghost use Rattle.std.specs.Char.{is_ascii_digit};
 ghost use Rattle.std.specs.List.{list_all};
+ghost use Rattle.growth.specs.Growth.{WasRefused};
 ghost use Rattle.text_lines.specs.Words.{words_of, starts_well, is_numeral, number_of, hex_octets};
 
 use hex::FromHex;
@@ -8,16 +9,18 @@ use std::alloc::{AllocError, Global};
 
 /// The first words of a line, at most so many.
 pub fn first_words(alloc: Global, line: &[u8], most: usize) -> Result<Vec<&[u8]>, AllocError>
-    ensures { IfOk result (λ words. map (λ word. word.now) words.items ≡ take most (words_of line.now)) }
+    ensures words { IfOk result (λ words. map (λ word. word.now) words.items ≡ take most (words_of line.now)) }
+    ensures refused { OnErr result WasRefused }
 {
-    line.split(|octet| *octet == b' ').take(most).collect(alloc)
+    growth::collect(line.split(|octet| *octet == b' ').take(most), alloc)
 }
 
 /// The words of a line.
 pub fn all_words(alloc: Global, line: &[u8]) -> Result<Vec<&[u8]>, AllocError>
-    ensures { IfOk result (λ words. map (λ word. word.now) words.items ≡ words_of line.now) }
+    ensures words { IfOk result (λ words. map (λ word. word.now) words.items ≡ words_of line.now) }
+    ensures refused { OnErr result WasRefused }
 {
-    line.split(|octet| *octet == b' ').collect(alloc)
+    growth::collect(line.split(|octet| *octet == b' '), alloc)
 }
 
 /// N octets that a word is in hex digits of either case.

@@ -12,7 +12,8 @@ frames-preserved g c =
     let new = g.L.Edge.told c.write_all.new.sink in (
       search rules,
       search rules,
-      going_on _ _ _ _ _ _ _ _ now mid new c.frames.invariant.2
+      search rules,
+      going_on _ _ _ _ _ _ _ _ now mid new c.frames.invariant.3
           (subst (λ (b : Bool). FrameRead c.args.role b (Ok c.in-Ok.frame) now.left mid.left) c.waits.ensures c.in-Ok.ensures.read)
           c.read_frame.ensures.written
           c.turn-reply.ensures
@@ -27,7 +28,7 @@ returns-in-Err-write_all-clause-session g c =
     let now = g.L.Edge.told c.frames.port in
     let mid = g.L.Edge.told c.read_frame.new.src in
     let new = g.L.Edge.told c.write_all.new.sink in
-    cut _ _ _ _ _ _ _ now mid new c.frames.invariant.2 c.frames.invariant.1
+    cut _ _ _ _ _ _ _ now mid new c.frames.invariant.3 c.frames.invariant.1
     (subst (λ (b : Bool). FrameRead c.args.role b (Ok c.in-Ok.frame) now.left mid.left) c.waits.ensures c.in-Ok.ensures.read)
     (search rules)
     c.read_frame.ensures.written

@@ -1,10 +1,10 @@
 use Rattle.std.proofs.Common.{rules}
-use Rattle.std.proofs.lemmas.Iterator.Consumers.{map_from_collect}
 use Rattle.std.proofs.lemmas.Iterator.Splits.{YieldsList-from_slice_split}
 use Rattle.text_lines.specs.Words.{is_space}
+use Rattle.text_lines.proofs.Collected.{collected}
 use Rattle.text_lines.proofs.words.all_words.Goals as goal
 
-pub returns : goal.returns
-returns c =
-    map_from_collect _ c.collect.ensures.ran
+pub returns-clause-words : goal.returns-clause-words
+returns-clause-words c =
+    collected _ c.collect.ensures.ran
     (YieldsList-from_slice_split _ is_space c.args.line.now c.split.ensures.rest c.split.ensures.done c.split.ensures.closure (search rules))
