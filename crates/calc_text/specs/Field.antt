@@ -3,6 +3,7 @@ use Rattle.std.specs.Prelude.{◌≡◌, ℕ, ◌==◌, ◌^◌, nat_lt, nat_le,
 use Rattle.std.specs.Option.{ok_or, option_and_then}
 use Rattle.std.specs.Result.{result_ok}
 use Rattle.std.specs.Str.{bytes_eq}
+use Rattle.growth.specs.Growth.{WasRefused}
 use Rattle.hex.specs.Hex.{decode_of}
 use Rattle.alg_choice.specs.declared.algs.Eea.{Eea}
 use Rattle.alg_choice.specs.declared.algs.Eea.TheVariants.{Eea0, Eea2}
@@ -23,10 +24,10 @@ abbrev pub ◌>>=◌ : {A B : Type 0} → Result A Field → (A → Result B Fie
 (Ok x) >>= f = f x
 (Err e) >>= f = Err e
 
--- a fault of a line is the first bad field; want of memory says nothing of it
+-- a fault of a line is the first bad field, or memory that std refused, which says nothing of the line
 abbrev pub Refuses : {A : Type 0} → LineFault → Result A Field → Type 0
 Refuses (Bad field) reading = reading ≡ Err field
-Refuses Memory reading = Unit {0}
+Refuses Memory reading = WasRefused
 
 -- a key of so many octets
 abbrev pub key_in : ℕ → Field → List ℕ → Result (List ℕ) Field

@@ -1,5 +1,6 @@
-ghost use Rattle.std.specs.Prelude.{◌≡◌, ◌<◌, IfOk};
+ghost use Rattle.std.specs.Prelude.{◌≡◌, ◌<◌, IfOk, OnErr};
 ghost use Rattle.std.specs.String.{string_bytes};
+ghost use Rattle.growth.specs.Growth.{WasRefused};
 ghost use Rattle.cmac_eia2.specs.Eia2.{eia2_of};
 ghost use Rattle.ctr_eea2.specs.Eea2.{eea2_of};
 ghost use Rattle.calc_text.specs.Answer.{IsRequest, gives, bad_text, line, is_silent, answer_to};
@@ -30,6 +31,7 @@ pub struct Answer {
 pub fn answer_to(alloc: Global, line: &[u8]) -> Result<Answer, AllocError>
     ensures text { IfOk result (λ answer. string_bytes answer.text ≡ (answer_to line.now).text) }
     ensures good { IfOk result (λ answer. answer.good ≡ (answer_to line.now).good) }
+    ensures refused { OnErr result WasRefused }
 {
     if is_silent(line) {
         return Ok(Answer {
@@ -52,9 +54,10 @@ pub fn answer_to(alloc: Global, line: &[u8]) -> Result<Answer, AllocError>
 
 // A line of the output.
 fn line_of(alloc: Global, text: String) -> Result<String, AllocError>
-    ensures { IfOk result (λ t. string_bytes t ≡ line (string_bytes text)) }
+    ensures text { IfOk result (λ t. string_bytes t ≡ line (string_bytes text)) }
+    ensures refused { OnErr result WasRefused }
 {
-    format!(in alloc; "{text}\n")
+    growth::format(alloc, format_args!("{text}\n"))
 }
 
 // Whether a line says nothing.
@@ -70,7 +73,8 @@ fn is_silent(line: &[u8]) -> bool
 // What a request gives.
 fn given(alloc: Global, request: Request) -> Result<String, AllocError>
     requires { IsRequest request }
-    ensures { IfOk result (λ text. string_bytes text ≡ gives request) }
+    ensures line { IfOk result (λ text. string_bytes text ≡ gives request) }
+    ensures refused { OnErr result WasRefused }
 {
     match request {
         Request::Kenb { kasme, count } => {
@@ -105,7 +109,8 @@ fn given(alloc: Global, request: Request) -> Result<String, AllocError>
 // A text enciphered or deciphered.
 fn ciphered(alloc: Global, taken: Ciphering) -> Result<String, AllocError>
     requires { taken.inputs.bearer < 32 }
-    ensures { IfOk result (λ line. string_bytes line ≡ written (eea2_of taken.inputs.key taken.inputs.count taken.inputs.bearer taken.inputs.dir taken.text)) }
+    ensures line { IfOk result (λ line. string_bytes line ≡ written (eea2_of taken.inputs.key taken.inputs.count taken.inputs.bearer taken.inputs.dir taken.text)) }
+    ensures refused { OnErr result WasRefused }
 {
     let Ciphering { inputs, mut text } = taken;
     text.cipher(&inputs);
@@ -115,7 +120,8 @@ fn ciphered(alloc: Global, taken: Ciphering) -> Result<String, AllocError>
 // The MAC of a text.
 fn mac(alloc: Global, taken: &Ciphering) -> Result<String, AllocError>
     requires { taken.now.inputs.bearer < 32 }
-    ensures { IfOk result (λ line. string_bytes line ≡ written (eia2_of taken.now.inputs.key taken.now.inputs.count taken.now.inputs.bearer taken.now.inputs.dir taken.now.text)) }
+    ensures line { IfOk result (λ line. string_bytes line ≡ written (eia2_of taken.now.inputs.key taken.now.inputs.count taken.now.inputs.bearer taken.now.inputs.dir taken.now.text)) }
+    ensures refused { OnErr result WasRefused }
 {
     let Inputs {
         key,
@@ -130,8 +136,9 @@ fn mac(alloc: Global, taken: &Ciphering) -> Result<String, AllocError>
 // What is bad in a line.
 #[tactic(auto, unfolding(crate::specs::Answer::bad_text))]
 fn refusal(alloc: Global, field: Field) -> Result<String, AllocError>
-    ensures { IfOk result (λ text. string_bytes text ≡ bad_text field) }
+    ensures line { IfOk result (λ text. string_bytes text ≡ bad_text field) }
+    ensures refused { OnErr result WasRefused }
 {
     let name = field.name();
-    format!(in alloc; "bad {name}")
+    growth::format(alloc, format_args!("bad {name}"))
 }

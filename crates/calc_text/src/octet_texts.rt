@@ -1,5 +1,6 @@
-ghost use Rattle.std.specs.Prelude.{◌≡◌, ◌≤◌, ◌<◌, Ok, length, IfOk, IfErr};
+ghost use Rattle.std.specs.Prelude.{◌≡◌, ◌≤◌, ◌<◌, Ok, length, IfOk, IfErr, OnErr};
 ghost use Rattle.std.specs.String.{string_bytes};
+ghost use Rattle.growth.specs.Growth.{WasRefused};
 ghost use Rattle.ctr_eea2.specs.Eea2.{eea2_of};
 ghost use Rattle.calc_text.specs.Field.{Refuses, octets_in, few_octets_in};
 ghost use Rattle.calc_text.specs.PduAnswer.{written};
@@ -40,7 +41,7 @@ impl Octets {
         if word.is_empty() {
             return Err(LineFault::Bad(field));
         }
-        match hex::decode(alloc, word) {
+        match growth::decode(alloc, word) {
             Ok(octets) => Ok(Octets { octets }),
             Err(FromHexError::OutOfMemory) => Err(LineFault::Memory),
             Err(_) => Err(LineFault::Bad(field)),
@@ -90,11 +91,12 @@ impl Octets {
 
 // Octets in hex digits, or `-` where there are none.
 pub(crate) fn written(alloc: Global, octets: &[u8]) -> Result<String, AllocError>
-    ensures { IfOk result (λ text. string_bytes text ≡ written octets.now) }
+    ensures text { IfOk result (λ text. string_bytes text ≡ written octets.now) }
+    ensures refused { OnErr result WasRefused }
 {
     if octets.is_empty() {
-        String::from_str(alloc, "-")
+        growth::from_str(alloc, "-")
     } else {
-        hex::encode(alloc, octets)
+        growth::encode(alloc, octets)
     }
 }

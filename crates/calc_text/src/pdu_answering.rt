@@ -1,6 +1,7 @@
 // What the lines of PDUs, and of a phone's chain, give.
-ghost use Rattle.std.specs.Prelude.{◌≡◌, ◌<◌, ◌≤◌, length, IfOk};
+ghost use Rattle.std.specs.Prelude.{◌≡◌, ◌<◌, ◌≤◌, length, IfOk, OnErr};
 ghost use Rattle.std.specs.String.{string_bytes};
+ghost use Rattle.growth.specs.Growth.{WasRefused};
 ghost use Rattle.hmac_kdf.specs.Kdf.{kdf};
 ghost use Rattle.nas_guard.specs.Keys.{Keys};
 ghost use Rattle.nas_guard.specs.Open.{opened};
@@ -71,7 +72,8 @@ fn drb_keys(inputs: &BearerInputs, numbers: Numbers) -> DrbKeys
 #[tactic(auto, unfolding(nas_guard::specs::Open::opened))]
 pub(crate) fn nas(alloc: Global, n: &NasPdu) -> Result<String, AllocError>
     requires { n.now.inputs.count < 0x1000000 }
-    ensures { IfOk result (λ line. string_bytes line ≡ nas_line n.now.inputs n.now.pdu) }
+    ensures line { IfOk result (λ line. string_bytes line ≡ nas_line n.now.inputs n.now.pdu) }
+    ensures refused { OnErr result WasRefused }
 {
     let pdu = n.pdu.as_slice();
     if pdu.len() < 6 {
@@ -92,9 +94,10 @@ fn opened_nas(
 ) -> Result<String, AllocError>
     requires next { next < 0x1000000 }
     requires long { 6 ≤ length pdu.now }
-    ensures { IfOk result (λ line. string_bytes line ≡ nas_answer keys.now dir pdu.now (opened keys.now next dir pdu.now)) }
+    ensures line { IfOk result (λ line. string_bytes line ≡ nas_answer keys.now dir pdu.now (opened keys.now next dir pdu.now)) }
+    ensures refused { OnErr result WasRefused }
 {
-    let mut text = vec![in alloc; 0u8; pdu.len() - 6]?;
+    let mut text = growth::from_elem(alloc, 0, pdu.len() - 6)?;
     match open_nas(keys, next, dir, pdu, text.as_mut_slice()) {
         Ok(head) => nas_opens(alloc, head.header, head.count, text.as_slice()),
         Err(OpenFault::Short) => short(alloc),
@@ -110,12 +113,13 @@ fn opened_nas(
 // A NAS message, protected.
 pub(crate) fn sealed_nas(alloc: Global, n: &NasText) -> Result<String, AllocError>
     requires { IsRequest (SealNasOf n.now) }
-    ensures { IfOk result (λ line. string_bytes line ≡ gives (SealNasOf n.now)) }
+    ensures line { IfOk result (λ line. string_bytes line ≡ gives (SealNasOf n.now)) }
+    ensures refused { OnErr result WasRefused }
 {
     let kasme = n.inputs.kasme;
     let keys = nas_keys(&kasme, n.inputs.eea);
     let text = n.text.as_slice();
-    let mut pdu = vec![in alloc; 0u8; text.len() + 6]?;
+    let mut pdu = growth::from_elem(alloc, 0, text.len() + 6)?;
     seal_nas(
         &keys,
         n.header,
@@ -135,7 +139,8 @@ pub(crate) fn service_request(
     pdu: [u8; 4],
 ) -> Result<String, AllocError>
     requires { next < 0x1000000 }
-    ensures { IfOk result (λ line. string_bytes line ≡ service_line (service_checked (nas_keys kasme Eea.Eea0).int next pdu)) }
+    ensures line { IfOk result (λ line. string_bytes line ≡ service_line (service_checked (nas_keys kasme Eea.Eea0).int next pdu)) }
+    ensures refused { OnErr result WasRefused }
 {
     let (int, _) = Kasme::of_octets(kasme).nas_alg(AlgType::NasInt, 2);
     match check_service_request(&int, next, &pdu) {
@@ -153,7 +158,8 @@ pub(crate) fn service_request(
 pub(crate) fn srb(alloc: Global, s: &SrbOctets) -> Result<String, AllocError>
     requires bearer { s.now.inputs.bearer < 32 }
     requires few { length s.now.octets ≤ 8193 }
-    ensures { IfOk result (λ line. string_bytes line ≡ srb_line s.now.inputs s.now.octets) }
+    ensures line { IfOk result (λ line. string_bytes line ≡ srb_line s.now.inputs s.now.octets) }
+    ensures refused { OnErr result WasRefused }
 {
     let pdu = s.octets.as_slice();
     if pdu.len() < 5 {
@@ -174,9 +180,10 @@ fn opened_srb(
     requires bearer { keys.now.bearer < 32 }
     requires long { 5 ≤ length pdu.now }
     requires few { length pdu.now ≤ 8193 }
-    ensures { IfOk result (λ line. string_bytes line ≡ srb_answer keys.now dir pdu.now (srb_pdu_opened keys.now next dir pdu.now)) }
+    ensures line { IfOk result (λ line. string_bytes line ≡ srb_answer keys.now dir pdu.now (srb_pdu_opened keys.now next dir pdu.now)) }
+    ensures refused { OnErr result WasRefused }
 {
-    let mut text = vec![in alloc; 0u8; pdu.len() - 5]?;
+    let mut text = growth::from_elem(alloc, 0, pdu.len() - 5)?;
     match open_srb(keys, u64::from(next), dir, pdu, text.as_mut_slice()) {
         Ok(count) => opens(alloc, count, text.as_slice()),
         Err(PdcpFault::Short) => short(alloc),
@@ -192,11 +199,12 @@ fn opened_srb(
 // The PDU of a text of a signalling radio bearer.
 pub(crate) fn sealed_srb(alloc: Global, s: &SrbOctets) -> Result<String, AllocError>
     requires { s.now.inputs.bearer < 32 }
-    ensures { IfOk result (λ line. string_bytes line ≡ gives (SealSrbOf s.now)) }
+    ensures line { IfOk result (λ line. string_bytes line ≡ gives (SealSrbOf s.now)) }
+    ensures refused { OnErr result WasRefused }
 {
     let keys = srb_keys(&s.inputs);
     let text = s.octets.as_slice();
-    let mut pdu = vec![in alloc; 0u8; text.len() + 5]?;
+    let mut pdu = growth::from_elem(alloc, 0, text.len() + 5)?;
     seal_srb(
         &keys,
         s.inputs.count,
@@ -210,7 +218,8 @@ pub(crate) fn sealed_srb(alloc: Global, s: &SrbOctets) -> Result<String, AllocEr
 // What a PDU of a data radio bearer opens to.
 pub(crate) fn drb(alloc: Global, d: &DrbOctets) -> Result<String, AllocError>
     requires { d.now.inputs.bearer < 32 }
-    ensures { IfOk result (λ line. string_bytes line ≡ drb_line (drb_keys d.now.inputs d.now.numbers) d.now.inputs.count d.now.inputs.dir d.now.octets) }
+    ensures line { IfOk result (λ line. string_bytes line ≡ drb_line (drb_keys d.now.inputs d.now.numbers) d.now.inputs.count d.now.inputs.dir d.now.octets) }
+    ensures refused { OnErr result WasRefused }
 {
     let keys = drb_keys(&d.inputs, d.numbers);
     opened_drb(
@@ -230,10 +239,11 @@ fn opened_drb(
     pdu: &[u8],
 ) -> Result<String, AllocError>
     requires { keys.now.bearer < 32 }
-    ensures { IfOk result (λ line. string_bytes line ≡ drb_answer (drb_pdu_opened keys.now next dir pdu.now)) }
+    ensures line { IfOk result (λ line. string_bytes line ≡ drb_answer (drb_pdu_opened keys.now next dir pdu.now)) }
+    ensures refused { OnErr result WasRefused }
 {
     let size = pdu.len().saturating_sub(keys.numbers.header_octets());
-    let mut text = vec![in alloc; 0u8; size]?;
+    let mut text = growth::from_elem(alloc, 0, size)?;
     match open_drb(keys, u64::from(next), dir, pdu, text.as_mut_slice()) {
         Ok(count) => opens(alloc, count, text.as_slice()),
         Err(PdcpFault::Short) => short(alloc),
@@ -252,11 +262,12 @@ fn opened_drb(
 // The PDU of a text of a data radio bearer.
 pub(crate) fn sealed_drb(alloc: Global, d: &DrbOctets) -> Result<String, AllocError>
     requires { d.now.inputs.bearer < 32 }
-    ensures { IfOk result (λ line. string_bytes line ≡ gives (SealDrbOf d.now)) }
+    ensures line { IfOk result (λ line. string_bytes line ≡ gives (SealDrbOf d.now)) }
+    ensures refused { OnErr result WasRefused }
 {
     let keys = drb_keys(&d.inputs, d.numbers);
     let text = d.octets.as_slice();
-    let mut pdu = vec![in alloc; 0u8; keys.numbers.header_octets() + text.len()]?;
+    let mut pdu = growth::from_elem(alloc, 0, keys.numbers.header_octets() + text.len())?;
     seal_drb(
         &keys,
         d.inputs.count,
@@ -277,14 +288,15 @@ pub(crate) fn reached(
 ) -> Result<String, AllocError>
     requires own { phone.now.ncc ≤ 7 }
     requires ncc { ncc ≤ 7 }
-    ensures { IfOk result (λ line. string_bytes line ≡ reach_line phone.now ncc cell.now) }
+    ensures line { IfOk result (λ line. string_bytes line ≡ reach_line phone.now ncc cell.now) }
+    ensures refused { OnErr result WasRefused }
 {
     let reached = reach(phone, ncc, cell);
     let way = way(reached.steps);
     let steps = reached.steps;
-    let sync = hex::encode(alloc, &reached.sync.octets())?;
-    let star = hex::encode(alloc, &reached.star.octets())?;
-    format!(in alloc; "{way} {steps} {sync} {star}")
+    let sync = growth::encode(alloc, &reached.sync.octets())?;
+    let star = growth::encode(alloc, &reached.star.octets())?;
+    growth::format(alloc, format_args!("{way} {steps} {sync} {star}"))
 }
 
 fn way(steps: u8) -> &'static str
@@ -295,25 +307,28 @@ fn way(steps: u8) -> &'static str
 
 #[tactic(auto, unfolding(crate::specs::PduAnswer::nas_opens_line))]
 fn nas_opens(alloc: Global, header: u8, count: u32, text: &[u8]) -> Result<String, AllocError>
-    ensures { IfOk result (λ line. string_bytes line ≡ nas_opens_line header count text.now) }
+    ensures line { IfOk result (λ line. string_bytes line ≡ nas_opens_line header count text.now) }
+    ensures refused { OnErr result WasRefused }
 {
     let text = written(alloc, text)?;
-    format!(in alloc; "opens {header} {count} {text}")
+    growth::format(alloc, format_args!("opens {header} {count} {text}"))
 }
 
 #[tactic(auto, unfolding(crate::specs::PduAnswer::opens_line))]
 fn opens(alloc: Global, count: u32, text: &[u8]) -> Result<String, AllocError>
-    ensures { IfOk result (λ line. string_bytes line ≡ opens_line count text.now) }
+    ensures line { IfOk result (λ line. string_bytes line ≡ opens_line count text.now) }
+    ensures refused { OnErr result WasRefused }
 {
     let text = written(alloc, text)?;
-    format!(in alloc; "opens {count} {text}")
+    growth::format(alloc, format_args!("opens {count} {text}"))
 }
 
 #[tactic(auto, unfolding(crate::specs::PduAnswer::count_line))]
 fn opens_at(alloc: Global, count: u32) -> Result<String, AllocError>
-    ensures { IfOk result (λ line. string_bytes line ≡ count_line count) }
+    ensures line { IfOk result (λ line. string_bytes line ≡ count_line count) }
+    ensures refused { OnErr result WasRefused }
 {
-    format!(in alloc; "opens {count}")
+    growth::format(alloc, format_args!("opens {count}"))
 }
 
 #[tactic(auto, unfolding(crate::specs::PduAnswer::mac_fails_line))]
@@ -324,12 +339,13 @@ fn mac_fails(
     got: &[u8; 4],
     text: &[u8],
 ) -> Result<String, AllocError>
-    ensures { IfOk result (λ line. string_bytes line ≡ mac_fails_line count wanted.now got.now text.now) }
+    ensures line { IfOk result (λ line. string_bytes line ≡ mac_fails_line count wanted.now got.now text.now) }
+    ensures refused { OnErr result WasRefused }
 {
     let text = written(alloc, text)?;
-    let wanted = hex::encode(alloc, wanted)?;
-    let got = hex::encode(alloc, got)?;
-    format!(in alloc; "mac fails {count} wanted {wanted} got {got} text {text}")
+    let wanted = growth::encode(alloc, wanted)?;
+    let got = growth::encode(alloc, got)?;
+    growth::format(alloc, format_args!("mac fails {count} wanted {wanted} got {got} text {text}"))
 }
 
 #[tactic(auto, unfolding(crate::specs::PduAnswer::short_mac_fails_line))]
@@ -339,29 +355,33 @@ fn short_mac_fails(
     wanted: &[u8; 2],
     got: &[u8; 2],
 ) -> Result<String, AllocError>
-    ensures { IfOk result (λ line. string_bytes line ≡ short_mac_fails_line count wanted.now got.now) }
+    ensures line { IfOk result (λ line. string_bytes line ≡ short_mac_fails_line count wanted.now got.now) }
+    ensures refused { OnErr result WasRefused }
 {
-    let wanted = hex::encode(alloc, wanted)?;
-    let got = hex::encode(alloc, got)?;
-    format!(in alloc; "mac fails {count} wanted {wanted} got {got}")
+    let wanted = growth::encode(alloc, wanted)?;
+    let got = growth::encode(alloc, got)?;
+    growth::format(alloc, format_args!("mac fails {count} wanted {wanted} got {got}"))
 }
 
 #[tactic(auto, unfolding(crate::specs::PduAnswer::bad_header_line))]
 fn bad_header(alloc: Global, octet: u8) -> Result<String, AllocError>
-    ensures { IfOk result (λ line. string_bytes line ≡ bad_header_line octet) }
+    ensures line { IfOk result (λ line. string_bytes line ≡ bad_header_line octet) }
+    ensures refused { OnErr result WasRefused }
 {
-    let octet = hex::encode(alloc, &[octet])?;
-    format!(in alloc; "bad header {octet}")
+    let octet = growth::encode(alloc, &[octet])?;
+    growth::format(alloc, format_args!("bad header {octet}"))
 }
 
 fn short(alloc: Global) -> Result<String, AllocError>
-    ensures { IfOk result (λ line. string_bytes line ≡ short_line) }
+    ensures line { IfOk result (λ line. string_bytes line ≡ short_line) }
+    ensures refused { OnErr result WasRefused }
 {
-    String::from_str(alloc, "short")
+    growth::from_str(alloc, "short")
 }
 
 fn spent(alloc: Global) -> Result<String, AllocError>
-    ensures { IfOk result (λ line. string_bytes line ≡ spent_line) }
+    ensures line { IfOk result (λ line. string_bytes line ≡ spent_line) }
+    ensures refused { OnErr result WasRefused }
 {
-    String::from_str(alloc, "count spent")
+    growth::from_str(alloc, "count spent")
 }
