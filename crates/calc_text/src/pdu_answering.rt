@@ -345,7 +345,10 @@ fn mac_fails(
     let text = written(alloc, text)?;
     let wanted = growth::encode(alloc, wanted)?;
     let got = growth::encode(alloc, got)?;
-    growth::format(alloc, format_args!("mac fails {count} wanted {wanted} got {got} text {text}"))
+    growth::format(
+        alloc,
+        format_args!("mac fails {count} wanted {wanted} got {got} text {text}"),
+    )
 }
 
 #[tactic(auto, unfolding(crate::specs::PduAnswer::short_mac_fails_line))]
@@ -360,7 +363,10 @@ fn short_mac_fails(
 {
     let wanted = growth::encode(alloc, wanted)?;
     let got = growth::encode(alloc, got)?;
-    growth::format(alloc, format_args!("mac fails {count} wanted {wanted} got {got}"))
+    growth::format(
+        alloc,
+        format_args!("mac fails {count} wanted {wanted} got {got}"),
+    )
 }
 
 #[tactic(auto, unfolding(crate::specs::PduAnswer::bad_header_line))]

@@ -1,4 +1,5 @@
 ghost use Rattle.std.specs.Prelude.{◌≡◌, ◌≢◌, ◌↔◌, ◌<◌, length, IsTrue};
+ghost use Rattle.growth.specs.Growth.{WasRefused};
 ghost use Rattle.edge_io.specs.Cause.{NoFault};
 ghost use Rattle.edge_io.specs.Used.{UsedAsSource, UsedAsSink};
 ghost use Rattle.lte_calc.specs.Run.{Run, RunIsComplete};
@@ -33,6 +34,9 @@ pub fn run<R: Source, W: Sink>(
     // Each other status has met no fault, want of memory among them.
     ensures no_read_fault { result ≢ Status.ReadFault → NoFault (R.told input.old) (R.told input.new) }
     ensures no_write_fault { result ≢ Status.WriteFault → NoFault (W.told out.old) (W.told out.new) }
+
+    // Memory ran out only where std refused it: no line is the cause, good or bad.
+    ensures memory { result ≡ Status.Memory → WasRefused }
 
     // What stays of input and output.
     ensures input { UsedAsSource (R.told input.old) (R.told input.new) }

@@ -1,6 +1,7 @@
 // The lines of an input, each answered before the next is read.
-ghost use Rattle.std.specs.Prelude.{◌≡◌, ◌≢◌, true, Err, IfOk, IfErr, IsTrue};
+ghost use Rattle.std.specs.Prelude.{◌≡◌, ◌≢◌, true, Err, IfOk, IfErr, IsErrOf, IsTrue, OnErr};
 ghost use Rattle.std.specs.String.{string_bytes};
+ghost use Rattle.growth.specs.Growth.{WasRefused};
 ghost use Rattle.edge_io.specs.Cause.{NoFault};
 ghost use Rattle.edge_io.specs.Lines.{are_lines};
 ghost use Rattle.edge_io.specs.Used.{UsedAsSource, UsedAsSink};
@@ -31,6 +32,7 @@ pub(crate) fn answer_lines<R: Source, W: Sink>(alloc: Global, input: &mut R, out
     ensures complete { RunIsComplete result (R.told input.old) (R.told input.new) (W.told out.old) (W.told out.new) }
     ensures no_read_fault { result ≢ Status.ReadFault → NoFault (R.told input.old) (R.told input.new) }
     ensures no_write_fault { result ≢ Status.WriteFault → NoFault (W.told out.old) (W.told out.new) }
+    ensures memory { result ≡ Status.Memory → WasRefused }
     ensures input { UsedAsSource (R.told input.old) (R.told input.new) }
     ensures out { UsedAsSink (W.told out.old) (W.told out.new) }
 {
@@ -44,6 +46,7 @@ fn read_lines<R: Source, W: Sink>(alloc: Global, input: &mut R, out: &mut W) -> 
     ensures run { Run result (R.told input.old) (R.told input.new) (W.told out.old) (W.told out.new) }
     ensures no_read_fault { result ≢ Status.ReadFault → NoFault (R.told input.old) (R.told input.new) }
     ensures no_write_fault { result ≢ Status.WriteFault → NoFault (W.told out.old) (W.told out.new) }
+    ensures memory { result ≡ Status.Memory → WasRefused }
     ensures input { UsedAsSource (R.told input.old) (R.told input.new) }
     ensures out { UsedAsSink (W.told out.old) (W.told out.new) }
 {
@@ -58,11 +61,11 @@ fn read_lines<R: Source, W: Sink>(alloc: Global, input: &mut R, out: &mut W) -> 
         if count == 0 {
             return answer_last(alloc, held.as_slice(), good, out);
         }
-        if held.extend_from_slice(&piece[..count]).is_err() {
+        if growth::extend_from_slice(&mut held, &piece[..count]).is_err() {
             return Status::Memory;
         }
         let begun = match answer_whole(alloc, held.as_slice(), &mut good, out) {
-            Ok(begun) => Vec::from_slice(alloc, begun),
+            Ok(begun) => kept(alloc, begun),
             Err(status) => return status,
         };
         held = match begun {
@@ -85,6 +88,7 @@ fn answer_whole<'a, W: Sink>(
     ensures begun { IfOk result (λ rest. IsLine rest.now) }
     ensures stopped { IfErr result (λ status. StoppedIn status text.now (W.told out.old) (W.told out.new)) }
     ensures no_fault { result ≢ Err Status.WriteFault → NoFault (W.told out.old) (W.told out.new) }
+    ensures memory { IsErrOf result Status.Memory → WasRefused }
     ensures out { UsedAsSink (W.told out.old) (W.told out.new) }
 {
     let mut rest = text;
@@ -116,6 +120,7 @@ fn answer_last<W: Sink>(alloc: Global, line: &[u8], mut good: bool, out: &mut W)
     requires short { IsLine line.now }
     ensures last { LastAt result line.now good (W.told out.old) (W.told out.new) }
     ensures no_fault { result ≢ Status.WriteFault → NoFault (W.told out.old) (W.told out.new) }
+    ensures memory { result ≡ Status.Memory → WasRefused }
     ensures out { UsedAsSink (W.told out.old) (W.told out.new) }
 {
     if line.is_empty() {
@@ -124,6 +129,18 @@ fn answer_last<W: Sink>(alloc: Global, line: &[u8], mut good: bool, out: &mut W)
     match answer_line(alloc, line, &mut good, out) {
         Status::Done => ends_of(good),
         ended => ended,
+    }
+}
+
+// A copy of octets.
+fn kept(alloc: Global, octets: &[u8]) -> Result<Vec<u8>, AllocError>
+    ensures octets { IfOk result (λ copied. copied.items ≡ octets.now) }
+    ensures refused { OnErr result WasRefused }
+{
+    let mut copied = growth::with_capacity(alloc, octets.len())?;
+    match growth::extend_from_slice(&mut copied, octets) {
+        Ok(()) => Ok(copied),
+        Err(e) => Err(e),
     }
 }
 
@@ -139,6 +156,7 @@ fn answer_line<W: Sink>(alloc: Global, line: &[u8], good: &mut bool, out: &mut W
     requires { IsTrue (W.told out.old).ready }
     ensures at { LineAt result (answer_to line.now) good.old good.new (W.told out.old) (W.told out.new) }
     ensures no_fault { result ≢ Status.WriteFault → NoFault (W.told out.old) (W.told out.new) }
+    ensures memory { result ≡ Status.Memory → WasRefused }
     ensures out { UsedAsSink (W.told out.old) (W.told out.new) }
 {
     match answer_of(alloc, line) {
@@ -160,6 +178,7 @@ fn answer_of(alloc: Global, line: &[u8]) -> Result<Answer, AllocError>
     ensures text { IfOk result (λ answer. string_bytes answer.text ≡ (answer_to line.now).text) }
     ensures good { IfOk result (λ answer. answer.good ≡ (answer_to line.now).good) }
     ensures lines { IfOk result (λ answer. are_lines (string_bytes answer.text) ≡ true) }
+    ensures refused { OnErr result WasRefused }
 {
     match calc_text::answer_to(alloc, line) {
         Ok(answer) => Ok(answer),

@@ -47,6 +47,7 @@ returns-in_default g c =
       begun = tt;
       stopped = stopped_at c.answer_line.result c.args.text.now rest (take end rest) _ c.args.good.now c.lines.good c.answer_line.new.good _ _ _ c.lines.invariant.so_far c.lines.invariant.no_fault.writes is cut.1 c.answer_line.ensures.at c.in_default.not-Done;
       no_fault = search rules;
+      memory = search rules;
       out = search rules;
     }
 

@@ -50,7 +50,7 @@ returns-in-Err-answer_whole-clause-run g c =
     let now = g.R.Edge.told c.read.new.self in
     let held = c.pieces.held.items in
     let piece = take c.in-Ok.count c.read.new.buf in
-    let after = c.extend_from_slice.new.self.items in
+    let after = c.extend_from_slice.new.items.items in
     let came : Came piece mid now = record { gives = c.in-Ok.ensures.octets; most = c.in-Ok.ensures.most } in
     let put : after ≡ held ++ piece = search rules in
     let stopped = subst (λ t. StoppedIn c.in-Err-answer_whole.status t (g.W.Edge.told c.pieces.out) (g.W.Edge.told c.answer_whole.new.out)) c.as_slice-in-pieces.ensures.value c.in-Err-answer_whole.ensures.stopped in
@@ -66,7 +66,7 @@ returns-in-Err-begun-clause-run g c =
     let now = g.R.Edge.told c.read.new.self in
     let held = c.pieces.held.items in
     let piece = take c.in-Ok.count c.read.new.buf in
-    let after = c.extend_from_slice.new.self.items in
+    let after = c.extend_from_slice.new.items.items in
     let came : Came piece mid now = record { gives = c.in-Ok.ensures.octets; most = c.in-Ok.ensures.most } in
     let put : after ≡ held ++ piece = search rules in
     let begun = c.in-Ok-answer_whole.begun.now in
@@ -81,11 +81,11 @@ pieces-preserved g c =
     let now = g.R.Edge.told c.read.new.self in
     let held = c.pieces.held.items in
     let piece = take c.in-Ok.count c.read.new.buf in
-    let after = c.extend_from_slice.new.self.items in
+    let after = c.extend_from_slice.new.items.items in
     let came : Came piece mid now = record { gives = c.in-Ok.ensures.octets; most = c.in-Ok.ensures.most } in
     let put : after ≡ held ++ piece = search rules in
     let begun = c.in-Ok-answer_whole.begun.now in
-    let kept = c.in-Ok-begun.ensures.items in
+    let kept = c.in-Ok-begun.ensures.octets in
     let answered = subst (λ t. AnsweredUpTo t begun c.pieces.good c.answer_whole.new.good (g.W.Edge.told c.pieces.out) (g.W.Edge.told c.answer_whole.new.out)) c.as_slice-in-pieces.ensures.value c.in-Ok-answer_whole.ensures.answered in
     record {
       midway = subst (λ b. Midway b c.answer_whole.new.good (g.R.Edge.told c.args.input.now) now (g.W.Edge.told c.args.out.now) (g.W.Edge.told c.answer_whole.new.out)) (sym kept)
