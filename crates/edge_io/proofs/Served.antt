@@ -1,8 +1,10 @@
 -- Why a role is not served, by what failed.
-use Rattle.std.proofs.Common.{◌≡◌, ◌⊎◌, inl, inr, ℕ, ◌<◌, Option, Some, None, List, length, get_or, slice_get, slice_set, Result, Ok, Err, IfSome, IsSomeAnd, OnOk, OnErr, refl, sym, subst}
+use Rattle.std.proofs.Common.{◌≡◌, ◌⊎◌, inl, inr, ℕ, ◌<◌, Option, Some, None, List, [], ◌∷◌, ◌++◌, length, get_or, slice_get, slice_set, Result, Ok, Err, is_ok, if◌then◌else◌, IfSome, IsSomeAnd, OnOk, OnErr, refl, sym, subst, ◌∙◌}
 use Rattle.std.proofs.lemmas.Option.{slice_get_read}
 use Rattle.std.specs.declared.io.Error.{Error}
-use Rattle.edge_io.specs.Serving.{IsEnded, NotFound, NotServed, OfNoPeer, OfPeer}
+use Rattle.growth.specs.Growth.{Refused}
+use Rattle.edge_io.specs.Opening.{loopback}
+use Rattle.edge_io.specs.Serving.{IsEnded, Keeps, NoMemory, NotFound, NotServed, OfNoPeer, OfPeer, Says, WantsMemory}
 use Rattle.edge_io.specs.declared.peers.Role.{Role}
 use Rattle.edge_io.specs.declared.programs.Program.{Program}
 use Rattle.edge_io.specs.declared.peer_fault.PeerFault.{PeerFault}
@@ -17,6 +19,12 @@ not_served start kills waits answers remaining connects process ended said after
     record { process = process; said = said; started = started; holds = (record { after = ended; ended = stop }, record { after = after; holds = found }) }
 not_served start kills waits answers remaining connects process ended said after NotSent started stop found = absurd found
 not_served start kills waits answers remaining connects process ended said after NoReply started stop found = absurd found
+
+-- a program that was started, whose connection wanted memory, and that was ended
+pub no_memory : {P S C : Type 0} (start : Result (P × S) Error → Type 0) (kills waits : P → P → Type 0) (remaining : S → Option (List ℕ)) (connects : List ℕ → ℕ → Result C Error → Type 0) (process ended : P) (said after : S)
+    → start (Ok (process, said)) → IsEnded kills waits process ended → Says remaining said after (λ number. WantsMemory (connects loopback number)) → NoMemory start kills waits remaining connects
+no_memory start kills waits remaining connects process ended said after started stop wants =
+    inr (inr (record { process = process; said = said; started = started; holds = (record { after = ended; ended = stop }, record { after = after; holds = wants }) }))
 
 -- what failed is told with its role
 pub named : (many : Type 0) (program : Option Program) (role : Role) (fault : PeerFault) (last : Option (Role × PeerFault)) (Holds : Program → PeerFault → Type 0) → last ≡ Some (role, fault) → many ⊎ IfSome program (λ p. Holds p fault) → many ⊎ IfSome program (λ p. IsSomeAnd last (λ f. (f.0 ≡ role) × Holds p f.1))
@@ -42,6 +50,12 @@ at_number {P} number peers peer Holds below is holds =
     let At : Option P → Type 0 = λ o. IfSome o Holds in
     subst At (sym (slice_get_read peers (length peers) number peer refl below is)) holds
 
+-- the peer that stands at a place is the one that is read there
+pub same_at : {P : Type 0} (number : ℕ) (peers : List P) (peer old : P) → number < length peers → peer ≡ get_or peers number peer → slice_get peers number ≡ Some old → peer ≡ old
+same_at number peers peer old below is stands =
+    let read : slice_get peers number ≡ Some peer = slice_get_read peers (length peers) number peer refl below is in
+    let both : Some peer ≡ Some old = sym read ∙ stands in cc
+
 -- what follows from a fact at Ok, and at Err
 pub on_ok : {T E A B : Type 0} (r : Result T E) → (A → B) → OnOk r A → OnOk r B
 on_ok (Ok x) f a = f a
@@ -56,3 +70,18 @@ pub took_part : {P : Type 0} (number : ℕ) (before mid after : List P) (Holds :
 took_part {P} number before mid after Holds same of =
     let At : List P → Type 0 = λ ps. OfPeer number before ps Holds in
     inr (subst At (sym same) of)
+
+-- what is so of the peer that is read at its place, and what follows from it
+pub of_peer_on : {P : Type 0} (number : ℕ) (before after : List P) (peer : P) (Holds More : P → P → Type 0) → number < length before → peer ≡ get_or before number peer → OfPeer number before after Holds
+    → ((new : P) → Holds peer new → More peer new) → OfPeer number before after More
+of_peer_on {P} number before after peer Holds More below is of more =
+    let same : peer ≡ of.old = same_at number before peer of.old below is of.stands in
+    let At : P → Type 0 = λ p. More p of.new in
+    let Held : P → Type 0 = λ p. Holds p of.new in
+    record { old = of.old; new = of.new; stands = of.stands; put = of.put; holds = subst At same (more of.new (subst Held (sym same) of.holds)) }
+
+-- octets were put at the end, or std had no memory for that
+pub keeps : {T E V : Type 0} (result : Result T E) (before after : List (Role × V)) (items : V → List ℕ) (role : Role) (octets : List ℕ) (kept : V) (n : ℕ)
+    → items kept ≡ octets → after ≡ (if is_ok result then before ++ (role, kept) ∷ [] else before) → OnErr result (Refused n) → Keeps before after items role octets
+keeps (Ok x) before after items role octets kept n is put refused = inl (record { kept = kept; is = is; put = put })
+keeps (Err e) before after items role octets kept n is put refused = inr (inr (n, refused), put)

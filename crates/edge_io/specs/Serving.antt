@@ -1,11 +1,14 @@
 -- Which program serves a role, and how it is started, reached and ended, by what each call on the host answers.
-use Rattle.std.specs.Prelude.{◌≡◌, ◌⊎◌, ℕ, Option, Some, None, IsSomeAnd, List, ◌++◌, map, string_bytes, slice_set, Result, Ok}
+use Rattle.std.specs.Prelude.{◌≡◌, ◌≢◌, ◌⊎◌, ℕ, Option, Some, None, IsSomeAnd, List, [], ◌∷◌, ◌++◌, length, map, string_bytes, slice_set, Result, Ok, Err}
 use Rattle.std.specs.Option.{option_flatten}
 use Rattle.std.specs.List.{slice_get}
 use Rattle.std.specs.Io.KnownBytes.{Appends, Consumes}
 use Rattle.std.specs.Path.{path_buf_bytes}
+use Rattle.std.specs.IoError.{error_kind}
 use Rattle.std.specs.declared.io.Error.{Error}
-use Rattle.edge_io.specs.Opening.{Fails, loopback}
+use Rattle.std.specs.declared.io.ErrorKind.TheVariants.{OutOfMemory}
+use Rattle.growth.specs.Growth.{WasRefused}
+use Rattle.edge_io.specs.Opening.{loopback}
 use Rattle.edge_io.specs.PortLine.{ReadsPort, ReadsNoPort}
 use Rattle.edge_io.specs.RoleWords.{role_words}
 use Rattle.edge_io.specs.Tries.{GivesUp, LastAnswers}
@@ -23,8 +26,20 @@ program_of (Station number) programs = option_flatten (slice_get programs.statio
 program_of Core programs = programs.core
 
 -- Here `starts` is what the start of a program may answer, of the octets of its path and of its words; `kills` and
--- `waits` are what a kill and a wait do to it; `remaining` and `answers` are what it has still to say, and what a
+-- `waits` are what a kill and a wait do to it, and `finishes` what it does to a connection to say that nothing more comes; `remaining` and `answers` are what it has still to say, and what a
 -- read of that may answer; `connects` is what a connection may answer, at the octets of an address and a port.
+
+-- a call failed for want of memory
+pub record WantsMemory {X : Type 0} (answers : Result X Error → Type 0) : Type 0 where
+  pub error : Error
+  pub answered : answers (Err error)
+  pub kind : error_kind error ≡ OutOfMemory
+
+-- a call failed, and not for want of memory
+pub record FailsItself {X : Type 0} (answers : Result X Error → Type 0) : Type 0 where
+  pub error : Error
+  pub answered : answers (Err error)
+  pub kind : error_kind error ≢ OutOfMemory
 
 -- the start of this program in this role
 abbrev pub start_of : {A : Type 1} → (List ℕ → List (List ℕ) → A) → Program → Role → A
@@ -67,14 +82,22 @@ IsServed start remaining connects process said connection =
 -- Why a program that was started is not reached: it said no port, or nothing took a connection there.
 abbrev pub NotFound : {S C : Type 0} → (ℕ → S → Result ℕ Error → S → Type 0) → (S → Option (List ℕ)) → (List ℕ → ℕ → Result C Error → Type 0) → S → S → PeerFault → Type 0
 NotFound answers remaining connects said after NoPort = ReadsNoPort answers remaining said after
-NotFound answers remaining connects said after NotReached = Says remaining said after (λ number. Fails (connects loopback number))
+NotFound answers remaining connects said after NotReached = Says remaining said after (λ number. FailsItself (connects loopback number))
 NotFound answers remaining connects said after other = ⊥
 
 -- Why a program is not served: its start failed, or it was not reached, and ended.
 abbrev pub NotServed : {P S C : Type 0} → (Result (P × S) Error → Type 0) → (P → P → Type 0) → (P → P → Type 0) → (ℕ → S → Result ℕ Error → S → Type 0) → (S → Option (List ℕ)) → (List ℕ → ℕ → Result C Error → Type 0) → PeerFault → Type 0
-NotServed start kills waits answers remaining connects NotStarted = Fails start
+NotServed start kills waits answers remaining connects NotStarted = FailsItself start
 NotServed start kills waits answers remaining connects fault =
     Started start (λ process said. Stopped kills waits process × Heard (λ after. NotFound answers remaining connects said after fault))
+
+-- Why there was no memory to serve a program: std refused its command a growth; or its start wanted memory; or it was started, the connection to
+-- it wanted memory, and it was ended.
+abbrev pub NoMemory : {P S C : Type 0} → (Result (P × S) Error → Type 0) → (P → P → Type 0) → (P → P → Type 0) → (S → Option (List ℕ)) → (List ℕ → ℕ → Result C Error → Type 0) → Type 0
+NoMemory start kills waits remaining connects =
+    WasRefused
+    ⊎ (WantsMemory start
+    ⊎ Started start (λ process said. Stopped kills waits process × Heard (λ after. Says remaining said after (λ number. WantsMemory (connects loopback number)))))
 
 -- The last call on a connection was given up, or gave or took nothing. Here `answers` is what a call may answer.
 pub record LastCallFails {C X : Type 0} (answers : X → C → Result ℕ Error → C → Type 0) (after : C) : Type 0 where
@@ -95,6 +118,39 @@ IsFilled remaining octets before after = IsSomeAnd before (λ old. IsSomeAnd aft
 -- A connection was closed, or the last call on it was given up, or gave or took nothing.
 abbrev pub IsCut : {C X : Type 0} → (X → C → Result ℕ Error → C → Type 0) → Option C → Option C → Type 0
 IsCut answers before after = (before ≡ None) ⊎ IsSomeAnd after (LastCallFails answers)
+
+-- A connection was told that nothing more comes, and these octets were read then: as many as there is room for, or all that came.
+pub record StillSays {C : Type 0} (finishes : C → C → Type 0) (answers : ℕ → C → Result ℕ Error → C → Type 0) (remaining : C → Option (List ℕ)) (room : ℕ) (before : C) (octets : List ℕ) : Type 0 where
+  pub finished : C
+  pub after : C
+  pub finish : finishes before finished
+  pub said : Consumes (remaining finished) (remaining after) octets
+  pub whole : (length octets ≡ room) ⊎ LastCallFails answers after
+
+-- the octets that a peer had still to say when it was stopped, none where its connection was closed
+abbrev pub LeavesSaid : {C : Type 0} → (C → C → Type 0) → (ℕ → C → Result ℕ Error → C → Type 0) → (C → Option (List ℕ)) → ℕ → Option C → List ℕ → Type 0
+LeavesSaid finishes answers remaining room None octets = octets ≡ []
+LeavesSaid finishes answers remaining room (Some before) octets = StillSays finishes answers remaining room before octets
+
+-- octets were put at the end of what peers had still to say, with the role of theirs
+pub record Puts {V : Type 0} (before after : List (Role × V)) (items : V → List ℕ) (role : Role) (octets : List ℕ) : Type 0 where
+  pub kept : V
+  pub is : items kept ≡ octets
+  pub put : after ≡ before ++ (role, kept) ∷ []
+
+-- octets are kept, if there are any and std has memory for them
+abbrev pub Keeps : {V : Type 0} → List (Role × V) → List (Role × V) → (V → List ℕ) → Role → List ℕ → Type 0
+Keeps before after items role octets = Puts before after items role octets ⊎ (((octets ≡ []) ⊎ WasRefused) × (after ≡ before))
+
+-- how many octets of what a peer had still to say are kept at the most: those of the greatest reply
+abbrev pub most_kept : ℕ
+most_kept = 4098
+
+-- what a peer of this role had still to say was read, and kept
+pub record KeepsSaid {C V : Type 0} (finishes : C → C → Type 0) (answers : ℕ → C → Result ℕ Error → C → Type 0) (remaining : C → Option (List ℕ)) (before after : List (Role × V)) (items : V → List ℕ) (role : Role) (connection : Option C) : Type 0 where
+  pub octets : List ℕ
+  pub said : LeavesSaid finishes answers remaining most_kept connection octets
+  pub kept : Keeps before after items role octets
 
 -- of these peers only the one with this number took part, and this is so of it before and after
 pub record OfPeer {P : Type 0} (number : ℕ) (before after : List P) (Holds : P → P → Type 0) : Type 0 where

@@ -9,8 +9,7 @@ pub record UsedAsSource (before after : Told) : Type 0 where
   pub written : after.written ≡ before.written
   pub counts : NoCountFell before after
 
--- And of one that is used as a sink. Each piece that it was given is whole lines, where each before it was: no line is written in
--- parts.
+-- And of one that is used as a sink. Each piece that it was given is whole lines, and none is empty, where it was so of each before.
 pub record UsedAsSink (before after : Told) : Type 0 where
   pub ready : IsTrue after.ready
   pub left : after.left ≡ before.left

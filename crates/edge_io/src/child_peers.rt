@@ -1,9 +1,10 @@
 ghost use Rattle.std.specs.Prelude.{◌≡◌, ◌+◌, ◌-◌, ◌^◌, ◌≤◌, ◌<◌, ◌⊎◌, min, length, take, IfOk, IfErr, IfSome, IsSomeAnd, IsErrOf, OnOk, OnErr, None, Some};
 ghost use Rattle.std.specs.Option.{option_map};
 ghost use Rattle.std.specs.List.{slice_get};
+ghost use Rattle.growth.specs.Growth.{WasRefused};
 ghost use Rattle.edge_io.specs.Cause.{Rose, HasCause};
 ghost use Rattle.edge_io.specs.Peers.{IsRunning, SendFailed, ReceiveFailed, sent_to, started, stopped_at, taken_from, to_give_of};
-ghost use Rattle.edge_io.specs.Serving.{IsCut, IsEnded, IsFilled, IsSent, IsServed, NotServed, OfPeer, OfNoPeer, program_of, start_of};
+ghost use Rattle.edge_io.specs.Serving.{IsCut, IsEnded, IsFilled, IsSent, IsServed, Keeps, KeepsSaid, LeavesSaid, NoMemory, NotServed, OfPeer, OfNoPeer, program_of, start_of};
 
 use crate::failed::Failed;
 use crate::host::Host;
@@ -13,9 +14,9 @@ use crate::peers::{Peers, Role, StartFault};
 use crate::programs::Programs;
 use crate::reader::Reader;
 use crate::served_child::{ServedChild, StartError};
-use std::alloc::Global;
+use std::alloc::{AllocError, Global};
 
-/// How many octets of what a peer has still to say are kept: those of the greatest reply.
+/// How many octets of what a peer has still to say are kept at the most: those of the greatest reply.
 const REST: usize = 4098;
 
 /// Peers that are programs started here, each with the words of its role, and reached over TCP on
@@ -68,19 +69,34 @@ impl<H: Host + Drop> ChildPeers<H> {
         ensures peers { self.new.peers ≡ self.old.peers }
         ensures programs { self.new.programs ≡ self.old.programs }
         ensures heard { self.new.heard ≡ self.old.heard }
+        ensures rests { self.new.rests ≡ self.old.rests }
     {
         self.failed = Some((role, fault));
         self.faults = self.faults.saturating_add(1);
     }
+}
 
-    // Keeps what a peer had still to say, as far as there is memory for it.
-    fn keep_rest(&mut self, role: Role, octets: &[u8])
-        ensures peers { self.new.peers ≡ self.old.peers }
-        ensures faults { ⟦<ChildPeers<H> as Peers>⟧.faults self.new ≡ ⟦<ChildPeers<H> as Peers>⟧.faults self.old }
-    {
-        if let Ok(octets) = octets.to_vec(self.alloc) {
-            let _ = self.rests.push((role, octets));
-        }
+// Keeps what a peer had still to say with its role, as far as there is memory for it.
+fn keep_rest(alloc: Global, rests: &mut Vec<(Role, Vec<u8>)>, role: Role, octets: &[u8])
+    ensures { Keeps rests.old.items rests.new.items (λ v. v.items) role octets.now }
+{
+    if octets.is_empty() {
+        return;
+    }
+    if let Ok(octets) = copied(alloc, octets) {
+        let _ = growth::push(rests, (role, octets));
+    }
+}
+
+// A copy of octets.
+fn copied(alloc: Global, octets: &[u8]) -> Result<Vec<u8>, AllocError>
+    ensures octets { IfOk result (λ copied. copied.items ≡ octets.now) }
+    ensures refused { OnErr result WasRefused }
+{
+    let mut copied = growth::with_capacity(alloc, octets.len())?;
+    match growth::extend_from_slice(&mut copied, octets) {
+        Ok(()) => Ok(copied),
+        Err(e) => Err(e),
     }
 }
 
@@ -101,6 +117,8 @@ fn start_next<H: Host>(
     ensures failed { IfErr result (λ e. (fault : PeerFault) → e ≡ StartError.Peer fault → (256 ≤ length peers.old.items)
         ⊎ IfSome (program_of role programs.now) (λ program. NotServed (start_of (H.starts host.now) program role)
         H.kills H.waits H.Said.answers H.Said.remaining (H.connects host.now) fault)) }
+    ensures memory { IfErr result (λ e. e ≡ StartError.Memory → IfSome (program_of role programs.now) (λ program.
+        NoMemory (start_of (H.starts host.now) program role) H.kills H.waits H.Said.remaining (H.connects host.now))) }
 {
     let Some(program) = programs.of(role) else {
         return Err(StartError::Peer(PeerFault::NotStarted));
@@ -108,7 +126,7 @@ fn start_next<H: Host>(
     let Ok(place) = u8::try_from(peers.len()) else {
         return Err(StartError::Peer(PeerFault::NotStarted));
     };
-    let Ok(()) = peers.reserve(1) else {
+    let Ok(()) = growth::reserve(peers, 1) else {
         return Err(StartError::Memory);
     };
     let child = ServedChild::start(host, alloc, program, role)?;
@@ -150,7 +168,8 @@ fn receive_at<H: Host>(
 fn stop_at<H: Host>(peers: &mut Vec<ServedChild<H>>, place: usize, rest: &mut [u8]) -> usize
     requires { place < length peers.old.items }
     ensures ended { OfPeer place peers.old.items peers.new.items (λ old new.
-        (new.role ≡ old.role) × (new.connection ≡ None) × IsEnded H.kills H.waits old.process new.process) }
+        (new.role ≡ old.role) × (new.connection ≡ None) × IsEnded H.kills H.waits old.process new.process
+        × LeavesSaid H.finishes H.Stream.Reader.answers H.Stream.remaining (length rest.old) old.connection (take result rest.new)) }
     ensures count { result ≤ length rest.old }
 {
     peers[place].stop(rest)
@@ -191,6 +210,9 @@ impl<H: Host + Drop> Peers for ChildPeers<H> {
         ensures failed { IsErrOf result StartFault.Failed → (256 ≤ length self.old.peers.items)
             ⊎ IfSome (program_of role self.old.programs) (λ program. IsSomeAnd self.new.failed (λ failed. (failed.0 ≡ role)
             × NotServed (start_of (H.starts self.old.host) program role) H.kills H.waits H.Said.answers H.Said.remaining (H.connects self.old.host) failed.1)) }
+        ensures no_memory { IsErrOf result StartFault.Memory → IfSome (program_of role self.old.programs) (λ program.
+            NoMemory (start_of (H.starts self.old.host) program role) H.kills H.waits H.Said.remaining (H.connects self.old.host)) }
+        ensures rests { self.new.rests ≡ self.old.rests }
     {
         match start_next(
             &self.host,
@@ -228,6 +250,7 @@ impl<H: Host + Drop> Peers for ChildPeers<H> {
             (new.role ≡ old.role) × (new.process ≡ old.process) × IsCut H.Stream.Writer.answers old.connection new.connection)) }
         ensures named { OnErr result (IfSome (slice_get self.old.peers.items peer) (λ child.
             self.new.failed ≡ Some (child.role, PeerFault.NotSent))) }
+        ensures rests { self.new.rests ≡ self.old.rests }
     {
         let place = peer as usize;
         if place >= self.peers.len() {
@@ -267,6 +290,7 @@ impl<H: Host + Drop> Peers for ChildPeers<H> {
         ensures named { OnErr result (IfSome (slice_get self.old.peers.items peer) (λ child.
             self.new.failed ≡ Some (child.role, PeerFault.NoReply))) }
         ensures heard { IfSome (slice_get self.old.peers.items peer) (λ child. self.new.heard ≡ Some child.role) }
+        ensures rests { self.new.rests ≡ self.old.rests }
     {
         let place = peer as usize;
         if place >= self.peers.len() {
@@ -293,9 +317,11 @@ impl<H: Host + Drop> Peers for ChildPeers<H> {
         ensures no_fault { ⟦<ChildPeers<H> as Peers>⟧.faults self.new ≡ ⟦<ChildPeers<H> as Peers>⟧.faults self.old }
 
         // Which peer it is, and what was done to it.
-        ensures ended { OfNoPeer peer self.old.peers.items self.new.peers.items
+        ensures ended { (OfNoPeer peer self.old.peers.items self.new.peers.items × (self.new.rests ≡ self.old.rests))
             ⊎ OfPeer peer self.old.peers.items self.new.peers.items (λ old new. (new.role ≡ old.role) × (new.connection ≡ None)
-            × IsEnded H.kills H.waits old.process new.process) }
+            × IsEnded H.kills H.waits old.process new.process
+            × KeepsSaid H.finishes H.Stream.Reader.answers H.Stream.remaining self.old.rests.items self.new.rests.items
+            (λ v. v.items) old.role old.connection) }
     {
         let place = peer as usize;
         if place >= self.peers.len() {
@@ -304,9 +330,7 @@ impl<H: Host + Drop> Peers for ChildPeers<H> {
         let role = self.peers[place].role;
         let mut rest = [0u8; REST];
         let count = stop_at(&mut self.peers, place, &mut rest);
-        if count > 0 {
-            self.keep_rest(role, &rest[..count]);
-        }
+        keep_rest(self.alloc, &mut self.rests, role, &rest[..count]);
     }
 
     ghost within = { Prim.search rules };

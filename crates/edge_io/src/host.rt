@@ -27,6 +27,9 @@ pub trait Host: Network {
 
     ghost waits: { Self.Process → Self.Process → Type 0 };
 
+    // What it does to a connection to say that nothing more comes.
+    ghost finishes: { Self.Stream → Self.Stream → Type 0 };
+
     /// Starts a program. Its input is empty, and what it says is read here.
     fn start(&self, command: Command) -> io::Result<(Self::Process, Self::Said)>
         ensures { starts self.now (command_program command) (command_args command) result };
@@ -41,7 +44,8 @@ pub trait Host: Network {
 
     /// Tells the other side of a connection that nothing more comes, and waits only a second for what it
     /// has still to say.
-    fn finish(stream: &Self::Stream);
+    fn finish(stream: &mut Self::Stream)
+        ensures { finishes stream.old stream.new };
 }
 
 // Of which of its calls fail std says nothing. What a program says comes over a pair of sockets and not
@@ -59,6 +63,8 @@ impl<H: Net + Processes> Host for H {
 
     ghost waits = { λ _ _. ⊤ };
 
+    ghost finishes = { λ _ _. ⊤ };
+
     fn start(&self, mut command: Command) -> io::Result<(Child<H::Started>, UnixStream)> {
         let (ours, theirs) = self.unix_pair()?;
         ours.set_read_timeout(Some(Duration::from_secs(PATIENCE)))?;
@@ -75,7 +81,7 @@ impl<H: Net + Processes> Host for H {
         let _ = process.wait();
     }
 
-    fn finish(stream: &H::Stream) {
+    fn finish(stream: &mut H::Stream) {
         let _ = stream.shutdown(Shutdown::Write);
         let _ = stream.set_read_timeout(Some(Duration::from_secs(1)));
     }

@@ -222,7 +222,7 @@ fn accepted<N: Network, K: Sink>(net: &N, out: &mut K) -> Result<N::Stream, Fail
         return Err(Failed);
     };
     write_all(out, port_line(number).as_slice())?;
-    match N::accept_at(&listener) {
+    match N::accept_at(&listener, out) {
         Ok(connection) => Ok(connection),
         Err(_) => Err(Failed),
     }

@@ -2,7 +2,9 @@ ghost use Rattle.std.specs.Prelude.{ℕ, Result, List};
 ghost use Rattle.std.specs.Net.Addr.{ipv4_octets};
 ghost use Rattle.std.specs.Net.Socket.{v4_ip, v4_port};
 ghost use Rattle.std.specs.declared.io.Error.{Error};
+ghost use Rattle.edge_io.specs.Told.{Told};
 
+use crate::edge::Edge;
 use crate::reader::Reader;
 use crate::writer::Writer;
 use std::io;
@@ -21,14 +23,14 @@ pub trait Network {
     type Stream: Reader + Writer + Drop;
 
     // What a call may answer: a bind and a connection, at the octets of an IPv4 address and a port; the
-    // port of a listener; the next connection to a listener.
+    // port of a listener; the next connection to a listener, by what was told of the sink to which its port was written.
     ghost binds: { Self → List ℕ → ℕ → Result Self.Listener Error → Type 0 };
 
     ghost connects: { Self → List ℕ → ℕ → Result Self.Stream Error → Type 0 };
 
     ghost has_port: { Self.Listener → Result ℕ Error → Type 0 };
 
-    ghost accepts: { Self.Listener → Result Self.Stream Error → Type 0 };
+    ghost accepts: { Self.Listener → Told → Result Self.Stream Error → Type 0 };
 
     /// A listener at this address. Port 0 is one that the system chooses.
     fn listen_at(&self, address: SocketAddrV4) -> io::Result<Self::Listener>
@@ -42,9 +44,9 @@ pub trait Network {
     fn port_of(listener: &Self::Listener) -> io::Result<u16>
         ensures { has_port listener.now result };
 
-    /// Waits for a connection to a listener.
-    fn accept_at(listener: &Self::Listener) -> io::Result<Self::Stream>
-        ensures { accepts listener.now result };
+    /// Waits for a connection to a listener, whose port was written to this sink before.
+    fn accept_at<K: Edge>(listener: &Self::Listener, said: &K) -> io::Result<Self::Stream>
+        ensures { accepts listener.now (K.told said.now) result };
 }
 
 // Of which of its calls fail std says nothing. What is written goes out at once (TCP_NODELAY).
@@ -61,7 +63,7 @@ impl<N: Net> Network for N {
 
     ghost has_port = { λ _ _. ⊤ };
 
-    ghost accepts = { λ _ _. ⊤ };
+    ghost accepts = { λ _ _ _. ⊤ };
 
     fn listen_at(&self, address: SocketAddrV4) -> io::Result<N::Listener> {
         TcpListener::bind(self, address)
@@ -80,7 +82,7 @@ impl<N: Net> Network for N {
         Ok(listener.local_addr()?.port())
     }
 
-    fn accept_at(listener: &N::Listener) -> io::Result<N::Stream> {
+    fn accept_at<K: Edge>(listener: &N::Listener, _said: &K) -> io::Result<N::Stream> {
         let (stream, _) = listener.accept()?;
         stream.set_nodelay(true)?;
         Ok(stream)

@@ -1,10 +1,12 @@
-ghost use Rattle.std.specs.Prelude.{◌≡◌, ◌++◌, Some, None, IfOk, OnOk, IfSome, map, string_bytes};
+ghost use Rattle.std.specs.Prelude.{◌≡◌, ◌++◌, Some, None, IfOk, OnErr, OnOk, IfSome, map, string_bytes};
 ghost use Rattle.std.specs.Process.{command_program, command_args};
 ghost use Rattle.std.specs.Path.{path_buf_bytes};
+ghost use Rattle.growth.specs.Growth.{WasRefused};
 ghost use Rattle.edge_io.specs.RoleWords.{role_words};
 ghost use Rattle.edge_io.specs.Serving.{program_of};
 
 use crate::peers::Role;
+use itoa::Buffer;
 use std::alloc::{AllocError, Global};
 use std::path::PathBuf;
 use std::process::Command;
@@ -51,9 +53,10 @@ pub(crate) fn command_of(
 ) -> Result<Command, AllocError>
     ensures program { IfOk result (λ c. command_program c ≡ path_buf_bytes program.now.path) }
     ensures words { IfOk result (λ c. command_args c ≡ map string_bytes program.now.words.items ++ role_words role) }
+    ensures refused { OnErr result WasRefused }
 {
     let mut command = command_without_role(alloc, program)?;
-    add_role(alloc, &mut command, role)?;
+    add_role(&mut command, role)?;
     Ok(command)
 }
 
@@ -61,24 +64,29 @@ pub(crate) fn command_of(
 fn command_without_role(alloc: Global, program: &Program) -> Result<Command, AllocError>
     ensures program { IfOk result (λ c. command_program c ≡ path_buf_bytes program.now.path) }
     ensures words { IfOk result (λ c. command_args c ≡ map string_bytes program.now.words.items) }
+    ensures refused { OnErr result WasRefused }
 {
-    let mut command = Command::new(alloc, &program.path)?;
+    let mut command = growth::command(alloc, &program.path)?;
     'words: for word in program.words.as_slice() {
-        command.arg(word)?;
+        growth::arg(&mut command, word)?;
     }
     Ok(command)
 }
 
 // And the words for a role after them.
-fn add_role(alloc: Global, command: &mut Command, role: Role) -> Result<(), AllocError>
+fn add_role(command: &mut Command, role: Role) -> Result<(), AllocError>
     ensures program { OnOk result (command_program command.new ≡ command_program command.old) }
     ensures words { OnOk result (command_args command.new ≡ command_args command.old ++ role_words role) }
+    ensures refused { OnErr result WasRefused }
 {
-    command.arg("serve")?;
+    growth::arg(command, "serve")?;
     match role {
-        Role::Phone => command.arg("phone")?,
-        Role::Station(number) => command.arg("station")?.arg(format!(in alloc; "{number}")?)?,
-        Role::Core => command.arg("core")?,
-    };
-    Ok(())
+        Role::Phone => growth::arg(command, "phone"),
+        Role::Station(number) => {
+            let mut digits = Buffer::new();
+            growth::arg(command, "station")?;
+            growth::arg(command, digits.format(number))
+        }
+        Role::Core => growth::arg(command, "core"),
+    }
 }

@@ -1,4 +1,5 @@
 ghost use Rattle.std.specs.Prelude.{◌≡◌, ◌≢◌, ◌+◌, ◌≤◌, ◌<◌, IsTrue, length, take, IfOk, OnOk, OnErr, Err, IsErrOf, IfSome};
+ghost use Rattle.growth.specs.Growth.{WasRefused};
 ghost use Rattle.edge_io.specs.Cause.{Rose, HasCause, NoCountFell, NoFault};
 ghost use Rattle.edge_io.specs.Octets.{Gives, LosesFewer, LosesPrefix, LosesWithin, octets_of};
 ghost use Rattle.edge_io.specs.Told.{HasEnded};
@@ -22,7 +23,7 @@ pub enum ReadAll {
 }
 
 /// Reads the source to its end, and answers all octets that were left: at most `limit`, else
-/// `TooLong`. `ReadFault` where a read failed, `Memory` where memory ran out.
+/// `TooLong`. `ReadFault` where a read failed, `Memory` where std refused memory.
 pub fn read_all<S: Source>(alloc: Global, src: &mut S, limit: usize) -> Result<Vec<u8>, ReadAll>
     requires { IsTrue (S.told src.old).ready }
     ensures ready { IsTrue (S.told src.new).ready }
@@ -39,6 +40,7 @@ pub fn read_all<S: Source>(alloc: Global, src: &mut S, limit: usize) -> Result<V
         (S.told src.new).most + limit < (S.told src.old).most }
     ensures not_past { result ≢ Err ReadAll.TooLong →
         LosesWithin limit (S.told src.old).left (S.told src.new).left }
+    ensures memory { IsErrOf result ReadAll.Memory → WasRefused }
     ensures fault { IsErrOf result ReadAll.ReadFault →
         Rose (S.told src.old).read_faults (S.told src.new).read_faults }
     ensures no_fault { result ≢ Err ReadAll.ReadFault →
@@ -64,7 +66,7 @@ pub fn read_all<S: Source>(alloc: Global, src: &mut S, limit: usize) -> Result<V
         if count > limit - octets.len() {
             return Err(ReadAll::TooLong);
         }
-        if octets.extend_from_slice(&piece[..count]).is_err() {
+        if growth::extend_from_slice(&mut octets, &piece[..count]).is_err() {
             return Err(ReadAll::Memory);
         }
     }

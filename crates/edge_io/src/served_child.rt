@@ -1,7 +1,8 @@
-ghost use Rattle.std.specs.Prelude.{◌≡◌, ◌≤◌, length, Ok, IfOk, IfErr, IsSomeAnd, OnOk, OnErr, None};
+ghost use Rattle.std.specs.Prelude.{◌≡◌, ◌≢◌, ◌≤◌, ◌↔◌, ◌⊎◌, IsTrue, length, take, Ok, IfOk, IfErr, IsSomeAnd, OnOk, OnErr, None};
+ghost use Rattle.std.specs.IoError.{error_kind};
 ghost use Rattle.std.specs.Io.KnownBytes.{Appends, Consumes};
 ghost use Rattle.edge_io.specs.Opening.{loopback};
-ghost use Rattle.edge_io.specs.Serving.{IsCut, IsEnded, IsFilled, IsSent, IsServed, LastCallFails, NotFound, NotServed, Says, start_of};
+ghost use Rattle.edge_io.specs.Serving.{IsCut, IsEnded, IsFilled, IsSent, IsServed, LastCallFails, LeavesSaid, NoMemory, NotFound, NotServed, Says, WantsMemory, start_of};
 
 use crate::failed::Failed;
 use crate::host::Host;
@@ -40,7 +41,7 @@ pub(crate) enum StartError {
 
 impl<H: Host> ServedChild<H> {
     /// Starts this program in this role, reads the line with its port and connects to it. A program
-    /// that was started and is not reached is ended.
+    /// that was started and is not reached is ended, also where the connection wants memory.
     pub(crate) fn start(
         host: &H,
         alloc: Global,
@@ -52,6 +53,8 @@ impl<H: Host> ServedChild<H> {
             (IsServed (start_of (H.starts host.now) program.now role) H.Said.remaining (H.connects host.now) child.process child.said)) }
         ensures failed { IfErr result (λ e. (fault : PeerFault) → e ≡ StartError.Peer fault →
             NotServed (start_of (H.starts host.now) program.now role) H.kills H.waits H.Said.answers H.Said.remaining (H.connects host.now) fault) }
+        ensures memory { IfErr result (λ e. e ≡ StartError.Memory →
+            NoMemory (start_of (H.starts host.now) program.now role) H.kills H.waits H.Said.remaining (H.connects host.now)) }
     {
         let Ok(command) = command_of(alloc, program, role) else {
             return Err(StartError::Memory);
@@ -108,12 +111,15 @@ impl<H: Host> ServedChild<H> {
         ensures ended { IsEnded H.kills H.waits self.old.process self.new.process }
         ensures role { self.new.role ≡ self.old.role }
         ensures count { result ≤ length rest.old }
+        ensures said { LeavesSaid H.finishes H.Stream.Reader.answers H.Stream.remaining (length rest.old) self.old.connection (take result rest.new) }
     {
-        let mut count = 0;
-        if let Some(mut connection) = self.connection.take() {
-            H::finish(&connection);
-            count = still_said(&mut connection, rest);
-        }
+        let count = match self.connection.take() {
+            Some(mut connection) => {
+                H::finish(&mut connection);
+                still_said(&mut connection, rest)
+            }
+            None => 0,
+        };
         end::<H>(&mut self.process);
         count
     }
@@ -125,6 +131,8 @@ fn reached<H: Host>(host: &H, said: &mut H::Said) -> Result<H::Stream, StartErro
         Says H.Said.remaining said.old said.new (λ number. H.connects host.now loopback number (Ok connection))) }
     ensures failed { IfErr result (λ e. (fault : PeerFault) → e ≡ StartError.Peer fault →
         NotFound H.Said.answers H.Said.remaining (H.connects host.now) said.old said.new fault) }
+    ensures memory { IfErr result (λ e. e ≡ StartError.Memory →
+        Says H.Said.remaining said.old said.new (λ number. WantsMemory (H.connects host.now loopback number))) }
 {
     let number = match port_said(said) {
         Ok(number) => number,
@@ -139,12 +147,21 @@ fn reached<H: Host>(host: &H, said: &mut H::Said) -> Result<H::Stream, StartErro
 // The answer at an error of std: want of memory is no fault of the peer.
 fn error_of(e: Error, fault: PeerFault) -> StartError
     ensures fault { (other : PeerFault) → result ≡ StartError.Peer other → other ≡ fault }
+    ensures itself { (other : PeerFault) → result ≡ StartError.Peer other → error_kind e ≢ ErrorKind.OutOfMemory }
+    ensures memory { result ≡ StartError.Memory → error_kind e ≡ ErrorKind.OutOfMemory }
 {
-    if e.kind() == ErrorKind::OutOfMemory {
+    if wants_memory(&e) {
         StartError::Memory
     } else {
         StartError::Peer(fault)
     }
+}
+
+// Whether a call failed for want of memory.
+fn wants_memory(e: &Error) -> bool
+    ensures { IsTrue result ↔ (error_kind e.now ≡ ErrorKind.OutOfMemory) }
+{
+    e.kind() == ErrorKind::OutOfMemory
 }
 
 // Ends a program, and waits until it has ended.
@@ -189,13 +206,20 @@ fn fill<R: Reader>(stream: &mut R, buf: &mut [u8]) -> Result<(), Failed>
 
 // Reads until the end, a read that fails, or a full buffer, and answers how many octets came.
 fn still_said<R: Reader>(stream: &mut R, buf: &mut [u8]) -> usize
-    ensures { result ≤ length buf.old }
+    ensures count { result ≤ length buf.old }
+    ensures said { Consumes (R.remaining stream.old) (R.remaining stream.new) (take result buf.new) }
+    ensures whole { (result ≡ length buf.old) ⊎ LastCallFails R.answers stream.new }
 {
     let mut count = 0;
     'pieces: while count < buf.len() {
         match read_once(stream, &mut buf[count..]) {
-            Ok(more) if more > 0 => count += more,
-            _ => break,
+            Ok(more) => {
+                if more == 0 {
+                    return count;
+                }
+                count += more;
+            }
+            Err(_) => return count,
         }
     }
     count
