@@ -182,6 +182,9 @@ impl<H: Host + Drop> Peers for ChildPeers<H> {
 
     ghost told = { λ _. None };
 
+    ghost lacks_memory = { λ p role. IfSome (program_of role p.programs) (λ program.
+        NoMemory (start_of (H.starts p.host) program role) H.kills H.waits H.Said.remaining (H.connects p.host)) };
+
     /// It starts the program of the role, reads the line with its port and connects to it. It fails past 256
     /// peers.
     fn start(&mut self, role: Role) -> Result<u8, StartFault>
@@ -210,8 +213,7 @@ impl<H: Host + Drop> Peers for ChildPeers<H> {
         ensures failed { IsErrOf result StartFault.Failed → (256 ≤ length self.old.peers.items)
             ⊎ IfSome (program_of role self.old.programs) (λ program. IsSomeAnd self.new.failed (λ failed. (failed.0 ≡ role)
             × NotServed (start_of (H.starts self.old.host) program role) H.kills H.waits H.Said.answers H.Said.remaining (H.connects self.old.host) failed.1)) }
-        ensures no_memory { IsErrOf result StartFault.Memory → IfSome (program_of role self.old.programs) (λ program.
-            NoMemory (start_of (H.starts self.old.host) program role) H.kills H.waits H.Said.remaining (H.connects self.old.host)) }
+        ensures lacks { IsErrOf result StartFault.Memory → ⟦<ChildPeers<H> as Peers>⟧.lacks_memory self.old role }
         ensures rests { self.new.rests ≡ self.old.rests }
     {
         match start_next(

@@ -2,6 +2,7 @@
 use Rattle.std.specs.Prelude.{◌≡◌, ℕ, zero, suc, ◌<◌, Option, List, [], ◌∷◌, length, take, Ok, IfSome}
 use Rattle.std.specs.Option.{option_map}
 use Rattle.edge_io.specs.Octets.{Grows}
+use Rattle.edge_io.specs.declared.peers.Role.{Role}
 use Rattle.edge_io.specs.Peers.{PeersTold, IsRunning, started, sent_to, taken_from, stopped_at, to_give_of}
 use Rattle.peer_calls.specs.Acts.{Call, Starting, Sending, Receiving, Act, calls, writes}
 
@@ -12,6 +13,12 @@ pub record Outside : Type 0 where
 
 abbrev pub outside : Option (List ℕ) → Option PeersTold → Outside
 outside written peers = record { written = written; peers = peers }
+
+-- A start of peers in some role lacked memory. Here `lacks` is what they say of that.
+pub record LacksMemory {P : Type 0} (lacks : P → Role → Type 0) : Type 0 where
+  pub peers : P
+  pub role : Role
+  pub is : lacks peers role
 
 -- what a call makes of the peers
 abbrev pub done : Call → PeersTold → PeersTold

@@ -21,6 +21,7 @@ pub(crate) fn start<P: Peers>(peers: &mut P, role: Role) -> Result<(), DriveFaul
     ensures running { OnOk result ((count : ℕ) → HasStarted count (P.told peers.old) → AllRun count (P.told peers.old) → AllRun (count + 1) (P.told peers.new)) }
     ensures cause { IsErrOf result DriveFault.PeerFault → Rose (P.faults peers.old) (P.faults peers.new) }
     ensures no_write { IsErrOf result DriveFault.WriteFault → ⊥ }
+    ensures memory { IsErrOf result DriveFault.Memory → P.lacks_memory peers.old role }
     ensures no_fault { result ≢ Err DriveFault.PeerFault → P.faults peers.new ≡ P.faults peers.old }
 {
     match peers.start(role) {
@@ -37,6 +38,7 @@ fn send<P: Peers>(peers: &mut P, peer: u8, frame: &Frame) -> Result<(), DriveFau
         (outside written (P.told peers.old)) (outside written (P.told peers.new)) }
     ensures cause { IsErrOf result DriveFault.PeerFault → Rose (P.faults peers.old) (P.faults peers.new) }
     ensures no_write { IsErrOf result DriveFault.WriteFault → ⊥ }
+    ensures no_memory { IsErrOf result DriveFault.Memory → ⊥ }
     ensures no_fault { result ≢ Err DriveFault.PeerFault → P.faults peers.new ≡ P.faults peers.old }
 {
     match peers.send(peer, frame.as_slice()) {
@@ -63,6 +65,7 @@ fn receive<P: Peers>(
         (outside written (P.told peers.old)) (outside written (P.told peers.new)) }
     ensures cause { IsErrOf result DriveFault.PeerFault → Rose (P.faults peers.old) (P.faults peers.new) }
     ensures no_write { IsErrOf result DriveFault.WriteFault → ⊥ }
+    ensures no_memory { IsErrOf result DriveFault.Memory → ⊥ }
     ensures no_fault { result ≢ Err DriveFault.PeerFault → P.faults peers.new ≡ P.faults peers.old }
 {
     let mut buf = [0u8; 4098];
@@ -96,6 +99,7 @@ fn receive_in<P: Peers>(
         (outside written (P.told peers.old)) (outside written (P.told peers.new)) }
     ensures cause { IsErrOf result DriveFault.PeerFault → Rose (P.faults peers.old) (P.faults peers.new) }
     ensures no_write { IsErrOf result DriveFault.WriteFault → ⊥ }
+    ensures no_memory { IsErrOf result DriveFault.Memory → ⊥ }
     ensures no_fault { result ≢ Err DriveFault.PeerFault → P.faults peers.new ≡ P.faults peers.old }
 {
     match peers.receive(peer, received) {
@@ -136,6 +140,7 @@ pub(crate) fn exchange<P: Peers>(
         (outside written (P.told peers.old)) (outside written (P.told peers.new)) }
     ensures cause { IsErrOf result DriveFault.PeerFault → Rose (P.faults peers.old) (P.faults peers.new) }
     ensures no_write { IsErrOf result DriveFault.WriteFault → ⊥ }
+    ensures no_memory { IsErrOf result DriveFault.Memory → ⊥ }
     ensures no_fault { result ≢ Err DriveFault.PeerFault → P.faults peers.new ≡ P.faults peers.old }
 {
     match send(peers, peer, frame) {

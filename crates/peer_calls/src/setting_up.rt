@@ -62,6 +62,7 @@ pub fn set_up_all<P: Peers>(peers: &mut P, setup: &Setup) -> Result<(), DriveFau
         (outside written (P.told peers.old)) (outside written (P.told peers.new)) }
     ensures cause { IsErrOf result DriveFault.PeerFault → Rose (P.faults peers.old) (P.faults peers.new) }
     ensures no_write { IsErrOf result DriveFault.WriteFault → ⊥ }
+    ensures no_memory { IsErrOf result DriveFault.Memory → ⊥ }
     ensures no_fault { result ≢ Err DriveFault.PeerFault → P.faults peers.new ≡ P.faults peers.old }
 {
     let ready = setup_reply();

@@ -4,7 +4,7 @@ ghost use Rattle.std.specs.List.{slice_get};
 ghost use Rattle.std.specs.Option.{option_map};
 ghost use Rattle.edge_io.specs.Cause.{Rose};
 ghost use Rattle.peer_calls.specs.Exchanges.{roles_of, starts};
-ghost use Rattle.peer_calls.specs.Outside.{AllRun, HasStarted, outside, stopped_below};
+ghost use Rattle.peer_calls.specs.Outside.{AllRun, HasStarted, LacksMemory, outside, stopped_below};
 ghost use Rattle.peer_calls.specs.Went.{Went};
 
 use crate::DriveFault;
@@ -42,6 +42,7 @@ pub fn start_all<P: Peers>(peers: &mut P, setup: &Setup) -> (u8, Result<(), Driv
     ensures all { OnOk result.1 (result.0 ≡ length (roles_of setup.now)) }
     ensures cause { IsErrOf result.1 DriveFault.PeerFault → Rose (P.faults peers.old) (P.faults peers.new) }
     ensures no_write { IsErrOf result.1 DriveFault.WriteFault → ⊥ }
+    ensures memory { IsErrOf result.1 DriveFault.Memory → LacksMemory P.lacks_memory }
     ensures no_fault { result.1 ≢ Err DriveFault.PeerFault → P.faults peers.new ≡ P.faults peers.old }
 {
     let count = peers_of(setup);

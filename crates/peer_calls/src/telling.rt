@@ -51,6 +51,7 @@ pub fn tell_all<P: Peers>(
         (outside written (P.told peers.old)) (outside written (P.told peers.new)) }
     ensures cause { IsErrOf result DriveFault.PeerFault → Rose (P.faults peers.old) (P.faults peers.new) }
     ensures no_write { IsErrOf result DriveFault.WriteFault → ⊥ }
+    ensures no_memory { IsErrOf result DriveFault.Memory → ⊥ }
     ensures no_fault { result ≢ Err DriveFault.PeerFault → P.faults peers.new ≡ P.faults peers.old }
 {
     for (input, out) in replies {

@@ -20,6 +20,9 @@ returns-in-Err-clause-running g c =
     (outside None (g.P.Peers.told c.loop-peer.peers)) (outside None (g.P.Peers.told c.start.new.peers))
     c.loop-peer.invariant.1 (c.in-Err.ensures.went None)
 
+pub returns-in-Err-clause-memory : goal.returns-in-Err-clause-memory
+returns-in-Err-clause-memory g c is = record { peers = c.loop-peer.peers; role = c.role_at.result; is = c.in-Err.ensures.memory is }
+
 pub loop-peer-preserved : goal.loop-peer-preserved
 loop-peer-preserved g c = (
   λ written.
