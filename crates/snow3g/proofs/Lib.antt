@@ -1,0 +1,3 @@
+pub mod AlphaTables
+pub mod BoxTables
+pub mod StateLemmas

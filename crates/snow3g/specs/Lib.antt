@@ -1,0 +1,4 @@
+pub mod Octets
+pub mod Boxes
+pub mod Alpha
+pub mod State
