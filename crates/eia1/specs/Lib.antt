@@ -1,0 +1,3 @@
+pub mod Polynomial
+pub mod Eia1
+pub mod Rows
