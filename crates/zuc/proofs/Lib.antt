@@ -1,0 +1,2 @@
+pub mod BoxTables
+pub mod StateLemmas
