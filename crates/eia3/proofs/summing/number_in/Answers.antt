@@ -1,0 +1,12 @@
+use Rattle.std.proofs.Common.{◌∙◌}
+use Rattle.eia3.proofs.SumLemmas.{number_in-is, number_of_four}
+use Rattle.eia3.proofs.summing.number_in.Goals as goal
+
+pub returns-then-place-text : goal.returns-then-place-text
+returns-then-place-text c = c.from_be_bytes.ensures ∙ number_of_four _ _ _ _ ∙ number_in-is c.args.text.now c.args.i
+
+pub returns-else-place-text : goal.returns-else-place-text
+returns-else-place-text c =
+    c.from_be_bytes-else-place-text.ensures
+    ∙ rw (c.octet_in.ensures, c.octet_in-else-place-text.ensures, c.octet_in-else-place-text-2.ensures, c.octet_in-else-place-text-3.ensures)
+    (number_of_four _ _ _ _ ∙ number_in-is c.args.text.now c.args.i)

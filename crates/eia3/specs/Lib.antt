@@ -1,0 +1,2 @@
+pub mod Eia3
+pub mod Words
