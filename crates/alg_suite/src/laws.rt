@@ -1,6 +1,6 @@
 // Laws of the algorithms.
 ghost use Rattle.std.specs.Prelude.{◌≡◌, ℕ, List};
-ghost use Rattle.alg_choice.specs.declared.algs.Eea.TheVariants as old;
+ghost use Rattle.alg_choice.specs.declared.algs.Eea.TheVariants as choice;
 ghost use Rattle.alg_suite.specs.declared.ciphering.Ciphering.{Ciphering};
 ghost use Rattle.alg_suite.specs.declared.ciphering.Ciphering.TheVariants.{Eea0, Eea2};
 ghost use Rattle.alg_suite.specs.declared.integrity.Integrity.TheVariants.{Eia2};
@@ -8,12 +8,13 @@ ghost use Rattle.alg_suite.specs.Suite.{ciphered_by, mac_by};
 ghost use Rattle.nas_guard.specs.Cipher.{ciphered, mac_of};
 ghost use Rattle.rec_base.specs.declared.uses.Dir.{Dir};
 
-/// At EEA0, 128-EEA2 and 128-EIA2 the algorithms are those of the NAS messages and the PDCP PDUs of the scenario program.
-pub fn agrees_at_the_old_algorithms()
+/// At EEA0, 128-EEA2 and 128-EIA2 the algorithms are those of nas_guard, by which its NAS messages and the PDUs of pdcp_guard are
+/// protected.
+pub fn are_those_of_nas_guard()
     ensures eea0 { (key : List ℕ) (count bearer : ℕ) (dir : Dir) (text : List ℕ)
-        → ciphered_by Eea0 key count bearer dir text ≡ ciphered old.Eea0 key count bearer dir text }
+        → ciphered_by Eea0 key count bearer dir text ≡ ciphered choice.Eea0 key count bearer dir text }
     ensures eea2 { (key : List ℕ) (count bearer : ℕ) (dir : Dir) (text : List ℕ)
-        → ciphered_by Eea2 key count bearer dir text ≡ ciphered old.Eea2 key count bearer dir text }
+        → ciphered_by Eea2 key count bearer dir text ≡ ciphered choice.Eea2 key count bearer dir text }
     ensures eia2 { (key : List ℕ) (count bearer : ℕ) (dir : Dir) (text : List ℕ)
         → mac_by Eia2 key count bearer dir text ≡ mac_of key count bearer dir text }
 {}

@@ -8,5 +8,5 @@ mod protecting;
 
 pub use ciphering::Ciphering;
 pub use integrity::Integrity;
-pub use laws::{agrees_at_the_old_algorithms, ciphered_twice_is_the_text};
+pub use laws::{are_those_of_nas_guard, ciphered_twice_is_the_text};
 pub use protecting::{cipher, mac};

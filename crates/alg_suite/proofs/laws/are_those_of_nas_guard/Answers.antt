@@ -1,7 +1,7 @@
 use Rattle.std.proofs.Common.{refl}
 use Rattle.alg_suite.specs.Suite.{ciphered_by, mac_by}
 use Rattle.nas_guard.specs.Cipher.{ciphered, mac_of}
-use Rattle.alg_suite.proofs.laws.agrees_at_the_old_algorithms.Goals as goal
+use Rattle.alg_suite.proofs.laws.are_those_of_nas_guard.Goals as goal
 
 pub returns-clause-eea0 : goal.returns-clause-eea0
 unfolding ciphered_by ciphered
