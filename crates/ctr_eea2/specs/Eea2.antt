@@ -1,7 +1,7 @@
 -- 128-EEA2: AES in counter mode (TS 33.401 B.1.3).
-use Rattle.std.specs.Prelude.{ℕ, ◌/◌, ◌%◌, List, ◌++◌, bit_xor, map, slice_index}
-use Rattle.std.specs.List.{enumerate_from}
+use Rattle.std.specs.Prelude.{ℕ, ◌/◌, ◌%◌, List, ◌++◌, slice_index}
 use Rattle.aes_core.specs.Aes.{aes}
+use Rattle.keystream.specs.Combined.{combined}
 use Rattle.rec_base.specs.declared.uses.Dir.{Dir}
 use Rattle.rec_base.specs.BigEndian.{octets_of}
 use Rattle.rec_base.specs.Header.{header_of}
@@ -14,10 +14,6 @@ counter_block count bearer dir n = header_of count bearer dir ++ octets_of 8 n
 unfoldable pub keystream_octet : List ℕ → ℕ → ℕ → Dir → ℕ → ℕ
 keystream_octet key count bearer dir i =
     slice_index (aes key (counter_block count bearer dir (i / 16))) (i % 16)
-
--- the octets from place i on, each combined with the octet that the stream has at its place
-unfoldable pub combined : (ℕ → ℕ) → ℕ → List ℕ → List ℕ
-combined stream i octets = map (λ p. bit_xor p.1 (stream p.0)) (enumerate_from i octets)
 
 -- the text combined with the keystream, which both ciphers and deciphers (B.1.1)
 unfoldable pub eea2_of : List ℕ → ℕ → ℕ → Dir → List ℕ → List ℕ

@@ -4,7 +4,8 @@
 ghost use Rattle.std.specs.Prelude.{◌≡◌, ◌+◌, ◌<◌, ◌≤◌, List, ℕ, ◌++◌, length, slice_index};
 ghost use Rattle.rec_base.specs.BigEndian.{octets_of};
 ghost use Rattle.rec_base.specs.declared.uses.Dir.{Dir};
-ghost use Rattle.ctr_eea2.specs.Eea2.{combined, eea2_of};
+ghost use Rattle.keystream.specs.Combined.{combined};
+ghost use Rattle.ctr_eea2.specs.Eea2.{eea2_of};
 
 use aes_core::Aes128;
 use rec_base::{Dir, header};

@@ -1,7 +1,7 @@
 use Rattle.std.proofs.Common.{refl}
 use Rattle.std.specs.Prelude.{slice_index}
-use Rattle.ctr_eea2.specs.Eea2.{combined}
-use Rattle.ctr_eea2.proofs.CombinedLemmas.{combined_more, combined_all}
+use Rattle.keystream.specs.Combined.{combined}
+use Rattle.keystream.proofs.CombinedLemmas.{combined_more, combined_all}
 use Rattle.ctr_eea2.proofs.combine.Goals as goal
 
 pub loop-i-init : goal.loop-i-init

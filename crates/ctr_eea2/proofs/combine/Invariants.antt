@@ -1,5 +1,5 @@
 use Rattle.std.proofs.Common.{◌≡◌, ◌++◌, take, drop, slice_index}
-use Rattle.ctr_eea2.specs.Eea2.{combined}
+use Rattle.keystream.specs.Combined.{combined}
 use Rattle.ctr_eea2.proofs.combine.Given as goal
 
 abbrev pub invariant-loop-i : goal.invariant-loop-i

@@ -3,8 +3,10 @@ use Rattle.std.proofs.lemmas.List.{take_min, drop_min}
 use Rattle.aes_core.specs.Aes.{aes}
 use Rattle.rec_base.specs.BigEndian.{octets_of}
 use Rattle.rec_base.specs.Header.{header_of}
-use Rattle.ctr_eea2.specs.Eea2.{combined, eea2_of, keystream_octet}
-use Rattle.ctr_eea2.proofs.CombinedLemmas.{combined_all, combined_piece, eea2_of-eea2_of, keystream_octet_at}
+use Rattle.keystream.specs.Combined.{combined}
+use Rattle.keystream.proofs.CombinedLemmas.{combined_all, combined_piece}
+use Rattle.ctr_eea2.specs.Eea2.{eea2_of, keystream_octet}
+use Rattle.ctr_eea2.proofs.CombinedLemmas.{eea2_of-eea2_of, keystream_octet_at}
 use Rattle.ctr_eea2.proofs.eea2.Goals as goal
 
 pub loop-number-init : goal.loop-number-init

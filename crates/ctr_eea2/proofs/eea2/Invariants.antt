@@ -1,5 +1,6 @@
 use Rattle.std.proofs.Common.{◌≡◌, ◌*◌, ◌++◌, take, drop}
-use Rattle.ctr_eea2.specs.Eea2.{combined, keystream_octet}
+use Rattle.keystream.specs.Combined.{combined}
+use Rattle.ctr_eea2.specs.Eea2.{keystream_octet}
 use Rattle.ctr_eea2.proofs.eea2.Given as goal
 
 abbrev pub invariant-loop-number : goal.invariant-loop-number
