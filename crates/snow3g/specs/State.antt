@@ -65,7 +65,7 @@ key_words key = map (λ i. word_number (key_word key (3 - i))) (range_with_len 0
 abbrev pub inverted : ℕ → ℕ
 inverted w = bit_xor w (2 ^ 32 - 1)
 
--- the first eight stages that the words of the key load, and the others, without the IV (4.1)
+-- the stages that the words of the key and of the IV load (4.1)
 abbrev pub loaded_stages : List ℕ → List ℕ → List ℕ
 loaded_stages k iv =
     let k0 = slice_index k 0 in
