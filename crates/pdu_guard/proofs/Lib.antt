@@ -1,1 +1,3 @@
-mod NasFacts
+mod Agreement
+mod AmFacts
+mod SearchFacts

@@ -2,7 +2,7 @@
 use Rattle.std.specs.Prelude.{ℕ, ◌+◌, ◌*◌, ◌/◌, ◌%◌, ◌==◌, ◌||◌, nat_le, nat_lt, Bool, if◌then◌else◌, List, [], ◌∷◌, ◌++◌, drop, length, slice_index, Option, Some, None, Result, Ok, Err}
 use Rattle.rec_base.specs.declared.uses.Dir.{Dir}
 use Rattle.key_model.specs.Least.{least}
-use Rattle.nas_guard.specs.Cipher.{ciphered}
+use Rattle.alg_suite.specs.Suite.{ciphered_by}
 use Rattle.pdcp_guard.specs.Counts.{in_32_bits}
 use Rattle.pdcp_guard.specs.declared.pdus.PdcpOpened.{PdcpOpened}
 use Rattle.pdcp_guard.specs.declared.pdus.PdcpFault.{PdcpFault}
@@ -43,7 +43,7 @@ drb_head Eighteen count = (128 + count / 65536 % 4) ∷ count / 256 % 256 ∷ co
 
 -- a text as sent, and of a text as sent the text (5.6)
 abbrev pub drb_sent : DrbKeys → ℕ → Dir → List ℕ → List ℕ
-drb_sent keys count dir text = ciphered keys.eea keys.enc count keys.bearer dir text
+drb_sent keys count dir text = ciphered_by keys.eea keys.enc count keys.bearer dir text
 
 -- the PDU of a text: the header and the text as sent
 unfoldable pub drb_pdu : DrbKeys → ℕ → Dir → List ℕ → List ℕ

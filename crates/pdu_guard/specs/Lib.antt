@@ -1,5 +1,9 @@
+pub mod Checks
 pub mod Nas
 pub mod ShortMacs
 pub mod Srb
 pub mod Drb
+pub mod Am
+pub mod Search
 pub mod Phone
+pub mod Agreement

@@ -2,9 +2,8 @@ ghost use Rattle.std.specs.Prelude.{◌≡◌, ◌+◌, ◌-◌, ◌<◌, ◌≤
 ghost use Rattle.pdcp_guard.specs.Counts.{count_limit};
 ghost use Rattle.pdu_guard.specs.Drb.{drb_count_of, drb_head, drb_pdu, drb_pdu_opened, drb_pdu_text, header_octets, is_data, number_in, numbers_of, values_of};
 
-use alg_choice::Eea;
+use alg_suite::{Ciphering, cipher};
 use annex_a_keys::AlgKey;
-use nas_guard::cipher;
 use pdcp_guard::{PdcpFault, count_from};
 use rec_base::Dir;
 
@@ -46,8 +45,8 @@ impl Numbers {
         }
     }
 
-    // How many sequence numbers there are.
-    fn values(self) -> u32
+    /// How many sequence numbers there are.
+    pub fn values(self) -> u32
         ensures value { result ≡ values_of self }
         ensures eighteen_bits { result ≤ 262144 }
     {
@@ -60,7 +59,7 @@ impl Numbers {
     }
 
     // Whether a first octet is that of a data PDU.
-    fn is_data(self, first: u8) -> bool
+    pub(crate) fn is_data(self, first: u8) -> bool
         ensures { result ≡ is_data self first }
     {
         match self {
@@ -71,7 +70,7 @@ impl Numbers {
     }
 
     // The sequence number of a PDU that has its header.
-    fn number_in(self, pdu: &[u8]) -> u32
+    pub(crate) fn number_in(self, pdu: &[u8]) -> u32
         requires { header_octets self ≤ length pdu.now }
         ensures value { result ≡ number_in self pdu.now }
         ensures below { result < values_of self }
@@ -112,7 +111,7 @@ pub struct DrbKeys {
     /// KUPenc.
     pub enc: AlgKey,
     /// The encryption algorithm.
-    pub eea: Eea,
+    pub eea: Ciphering,
     /// BEARER, of 5 bits: the identity minus 1.
     pub bearer: u8,
     /// The sequence numbers.
@@ -178,7 +177,7 @@ pub fn open_drb(
 
 // The text of a PDU at a COUNT.
 #[tactic(auto, unfolding(crate::specs::Drb::drb_pdu_text))]
-fn drb_text(keys: &DrbKeys, count: u32, dir: Dir, pdu: &[u8], text: &mut [u8])
+pub(crate) fn drb_text(keys: &DrbKeys, count: u32, dir: Dir, pdu: &[u8], text: &mut [u8])
     requires bearer { keys.now.bearer < 32 }
     requires long { header_octets keys.now.numbers ≤ length pdu.now }
     requires room { length text.old ≡ length pdu.now - header_octets keys.now.numbers }

@@ -1,12 +1,27 @@
 ghost use Rattle.std.specs.Prelude.{◌≡◌, ◌+◌, ◌-◌, ◌<◌, ◌≤◌, IfErr, IfOk, OnErr, length};
 ghost use Rattle.nas_count.specs.Estimate.{count_limit};
-ghost use Rattle.nas_guard.specs.Seal.{sealed, sent_text};
-ghost use Rattle.nas_guard.specs.Open.{header_in, mac_at, mac_in, opened, sent_in};
-ghost use Rattle.pdu_guard.specs.Nas.{mac_checked, nas_head_of};
+ghost use Rattle.nas_guard.specs.Open.{header_in, sent_in};
+ghost use Rattle.pdu_guard.specs.Nas.{mac_checked, nas_covered, nas_head_of, nas_mac_of, nas_opened, nas_pdu, nas_sent};
 
+use crate::checks::{is_checked, is_taken};
+use alg_suite::{Ciphering, Integrity, cipher, mac};
+use annex_a_keys::AlgKey;
 use nas_count::RxCount;
-use nas_guard::{NasKeys, OpenFault};
+use nas_guard::OpenFault;
 use rec_base::Dir;
+
+/// What both ends of a NAS security context have (TS 33.401 6.2).
+#[derive(Clone, Copy, Debug, PartialEq, Eq)]
+pub struct NasKeys {
+    /// KNASenc.
+    pub enc: AlgKey,
+    /// KNASint.
+    pub int: AlgKey,
+    /// The encryption algorithm.
+    pub eea: Ciphering,
+    /// The integrity algorithm.
+    pub eia: Integrity,
+}
 
 /// What the front of a protected NAS message says.
 #[derive(Clone, Copy, Debug, PartialEq, Eq)]
@@ -21,20 +36,47 @@ pub struct NasHead {
 /// text's, go into `pdu`.
 ///
 /// `header` is the security header type, 1 to 4.
-#[tactic(auto, unfolding(nas_guard::specs::Seal::sealed))]
+#[tactic(auto, unfolding(crate::specs::Nas::nas_pdu))]
 pub fn seal_nas(keys: &NasKeys, header: u8, count: u32, dir: Dir, text: &[u8], pdu: &mut [u8])
     requires above_plain { 1 ≤ header }
     requires at_most_four { header ≤ 4 }
     requires count { count < count_limit }
     requires room { length pdu.old ≡ length text.now + 6 }
-    ensures { pdu.new ≡ sealed keys.now header count dir text.now }
+    ensures { pdu.new ≡ nas_pdu keys.now header count dir text.now }
 {
-    let (front, sent) = pdu.split_at_mut(6);
+    let (front, message) = pdu.split_at_mut(5);
+    write_covered(keys, header, count, dir, text, message);
+    let [a, b, c, d] = nas_mac(keys, count, dir, message);
+    front.copy_from_slice(&[16 * header + 7, a, b, c, d]);
+}
+
+// What the MAC covers: the sequence number, and the text as sent.
+fn write_covered(keys: &NasKeys, header: u8, count: u32, dir: Dir, text: &[u8], message: &mut [u8])
+    requires header { header ≤ 4 }
+    requires room { length message.old ≡ length text.now + 1 }
+    ensures { message.new ≡ nas_covered keys.now header count dir text.now }
+{
+    let (first, sent) = message.split_at_mut(1);
+    first.copy_from_slice(&[(count % 256) as u8]);
     sent.copy_from_slice(text);
-    keys.cipher(header, count, dir, sent);
-    let sn = (count % 256) as u8;
-    let [a, b, c, d] = keys.mac_behind(count, dir, sn, sent);
-    front.copy_from_slice(&[16 * header + 7, a, b, c, d, sn]);
+    cipher_nas(keys, header, count, dir, sent);
+}
+
+// The MAC over a sequence number and a text as sent.
+pub(crate) fn nas_mac(keys: &NasKeys, count: u32, dir: Dir, covered: &[u8]) -> [u8; 4]
+    ensures { result ≡ nas_mac_of keys.now count dir covered.now }
+{
+    mac(keys.eia, &keys.int, count, 0, dir, covered)
+}
+
+// Makes the text as sent of a text in place, or the text of a text as sent: ciphered at the header types 2 and 4.
+#[tactic(auto, unfolding(crate::specs::Nas::nas_sent))]
+fn cipher_nas(keys: &NasKeys, header: u8, count: u32, dir: Dir, text: &mut [u8])
+    ensures { text.new ≡ nas_sent keys.now header count dir text.old }
+{
+    if header == 2 || header == 4 {
+        cipher(keys.eea, &keys.enc, count, 0, dir, text);
+    }
 }
 
 /// The header type and the COUNT of a protected NAS message: the least COUNT at or above `next`, of at most 2^24, with the
@@ -63,28 +105,43 @@ pub fn nas_head(next: u32, pdu: &[u8]) -> Result<NasHead, OpenFault>
     }
 }
 
+/// What is found of a NAS message that opens.
+#[derive(Clone, Copy, Debug, PartialEq, Eq)]
+pub struct NasFound {
+    /// The security header type, 1 to 4 (TS 24.301 9.3.1).
+    pub header: u8,
+    /// The NAS COUNT, of 24 bits.
+    pub count: u32,
+    /// Whether its MAC was compared: under EIA0 nothing is checked.
+    pub checked: bool,
+}
+
 /// Opens a protected NAS message of any length at the least COUNT at or above `next`, of at most 2^24, with its sequence number
 /// (TS 24.301 4.4.3.1, 4.4.4.3 and 4.4.5): its text, six octets shorter, goes into `text`.
 ///
 /// Where causes stand together the answer is the first of `Short`, `BadHeader`, `CountSpent` and `MacFails`, and `text` is as it
-/// was.
+/// was. Under EIA0 any MAC is taken (TS 33.401 B.0), and the answer says that it was not compared.
 pub fn open_nas(
     keys: &NasKeys,
     next: u32,
     dir: Dir,
     pdu: &[u8],
     text: &mut [u8],
-) -> Result<NasHead, OpenFault>
+) -> Result<NasFound, OpenFault>
     requires next { next ≤ count_limit }
     requires room { length text.old ≡ length pdu.now - 6 }
-    ensures opens { IfOk result (λ head. opened keys.now next dir pdu.now ≡ Ok (record { header = head.header; count = head.count; text = text.new })) }
-    ensures refused { IfErr result (λ fault. opened keys.now next dir pdu.now ≡ Err fault) }
+    ensures opens { IfOk result (λ found. nas_opened keys.now next dir pdu.now ≡ Ok (record { header = found.header; count = found.count; checked = found.checked; text = text.new })) }
+    ensures refused { IfErr result (λ fault. nas_opened keys.now next dir pdu.now ≡ Err fault) }
     ensures err { OnErr result (text.new ≡ text.old) }
 {
     let head = nas_head(next, pdu)?;
     check_mac(keys, head.count, dir, pdu)?;
     nas_text(keys, head.header, head.count, dir, pdu, text);
-    Ok(head)
+    Ok(NasFound {
+        header: head.header,
+        count: head.count,
+        checked: is_checked(keys.eia),
+    })
 }
 
 /// The text of a protected NAS message at a COUNT, whatever its MAC is (TS 24.301 4.4.5): it goes into `text`, six octets
@@ -94,10 +151,10 @@ pub fn open_nas(
 pub fn nas_text(keys: &NasKeys, header: u8, count: u32, dir: Dir, pdu: &[u8], text: &mut [u8])
     requires long { 6 ≤ length pdu.now }
     requires room { length text.old ≡ length pdu.now - 6 }
-    ensures { text.new ≡ sent_text keys.now header count dir (sent_in pdu.now) }
+    ensures { text.new ≡ nas_sent keys.now header count dir (sent_in pdu.now) }
 {
     text.copy_from_slice(&pdu[6..]);
-    keys.cipher(header, count, dir, text);
+    cipher_nas(keys, header, count, dir, text);
 }
 
 // Whether the MAC of a message is right at a COUNT.
@@ -106,10 +163,10 @@ fn check_mac(keys: &NasKeys, count: u32, dir: Dir, pdu: &[u8]) -> Result<(), Ope
     requires { 6 ≤ length pdu.now }
     ensures { result ≡ mac_checked keys.now count dir pdu.now }
 {
-    let wanted = keys.mac(count, dir, &pdu[5..]);
+    let wanted = nas_mac(keys, count, dir, &pdu[5..]);
     let mut got = [0; 4];
     got.copy_from_slice(&pdu[1..5]);
-    if wanted != got {
+    if !is_taken(keys.eia, &wanted, &got) {
         return Err(OpenFault::MacFails { count, wanted, got });
     }
     Ok(())

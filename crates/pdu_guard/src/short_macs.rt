@@ -3,12 +3,13 @@ ghost use Rattle.std.specs.Prelude.{◌≡◌, ◌<◌, ◌≤◌, drop};
 ghost use Rattle.key_model.specs.Least.{least};
 ghost use Rattle.nas_count.specs.Estimate.{count_limit};
 ghost use Rattle.rec_base.specs.declared.uses.Dir.{Dir as Direction};
-ghost use Rattle.nas_guard.specs.Cipher.{mac_of};
+ghost use Rattle.alg_suite.specs.Suite.{mac_by};
 ghost use Rattle.pdu_guard.specs.ShortMacs.{service_checked, service_request_of, short_mac_i_of};
 
+use crate::checks::{is_checked, is_taken};
+use alg_suite::{Integrity, mac};
 use annex_a_keys::AlgKey;
 use nas_count::LIMIT;
-use nas_guard::mac;
 use rec_base::Dir;
 
 /// Why four octets are no Service Request that was made under a key.
@@ -29,33 +30,44 @@ pub enum ServiceFault {
     },
 }
 
+/// What is found of a Service Request.
+#[derive(Clone, Copy, Debug, PartialEq, Eq)]
+pub struct ServiceFound {
+    /// The uplink NAS COUNT.
+    pub count: u32,
+    /// Whether its short MAC was compared: under EIA0 nothing is checked.
+    pub checked: bool,
+}
+
 /// A Service Request at an uplink NAS COUNT (TS 24.301 8.2.25): C7 hex, the KSI with the lowest 5 bits of COUNT, and the
 /// short MAC (9.9.3.28).
 ///
 /// `int` is KNASint, `ksi` has 3 bits, and `count` 24.
 #[tactic(auto, unfolding(crate::specs::ShortMacs::service_request_of))]
-pub fn service_request(int: &AlgKey, ksi: u8, count: u32) -> [u8; 4]
+pub fn service_request(eia: Integrity, int: &AlgKey, ksi: u8, count: u32) -> [u8; 4]
     requires ksi { ksi < 8 }
     requires count { count < count_limit }
-    ensures { result ≡ service_request_of int.now ksi count }
+    ensures { result ≡ service_request_of eia int.now ksi count }
 {
     let second = 32 * ksi + (count % 32) as u8;
-    let [a, b] = short_mac(int, count, 0, Dir::Up, &[0xc7, second]);
+    let [a, b] = short_mac(eia, int, count, 0, Dir::Up, &[0xc7, second]);
     [0xc7, second, a, b]
 }
 
 /// The COUNT of a Service Request whose short MAC is right: the least at or above `next`, of at most 2^24, with its 5 bits
 /// (TS 24.301 4.4.3.1 and 9.9.3.28).
 ///
-/// `int` is KNASint. Where causes stand together the answer is the first of `BadHeader`, `CountSpent` and `MacFails`.
+/// `int` is KNASint. Where causes stand together the answer is the first of `BadHeader`, `CountSpent` and `MacFails`. Under EIA0 any short
+/// MAC is taken, and the answer says that it was not compared.
 #[tactic(auto, unfolding(crate::specs::ShortMacs::service_checked))]
 pub fn check_service_request(
+    eia: Integrity,
     int: &AlgKey,
     next: u32,
     request: &[u8; 4],
-) -> Result<u32, ServiceFault>
+) -> Result<ServiceFound, ServiceFault>
     requires { next ≤ count_limit }
-    ensures { result ≡ service_checked int.now next request.now }
+    ensures { result ≡ service_checked eia int.now next request.now }
 {
     let [first, second, c, d] = *request;
     if first != 0xc7 {
@@ -65,12 +77,15 @@ pub fn check_service_request(
     if count >= LIMIT {
         return Err(ServiceFault::CountSpent);
     }
-    let wanted = short_mac(int, count, 0, Dir::Up, &[first, second]);
+    let wanted = short_mac(eia, int, count, 0, Dir::Up, &[first, second]);
     let got = [c, d];
-    if wanted != got {
+    if !is_taken(eia, &wanted, &got) {
         return Err(ServiceFault::MacFails { count, wanted, got });
     }
-    Ok(count)
+    Ok(ServiceFound {
+        count,
+        checked: is_checked(eia),
+    })
 }
 
 /// shortMAC-I of a phone that re-establishes its connection (TS 36.331 5.3.7.4): the last two octets of the MAC over the
@@ -78,18 +93,25 @@ pub fn check_service_request(
 ///
 /// `int` is KRRCint of the source cell, and `input` the encoded VarShortMAC-Input.
 #[tactic(auto, unfolding(crate::specs::ShortMacs::short_mac_i_of))]
-pub fn short_mac_i(int: &AlgKey, input: &[u8]) -> [u8; 2]
-    ensures { result ≡ short_mac_i_of int.now input.now }
+pub fn short_mac_i(eia: Integrity, int: &AlgKey, input: &[u8]) -> [u8; 2]
+    ensures { result ≡ short_mac_i_of eia int.now input.now }
 {
-    short_mac(int, u32::MAX, 31, Dir::Down, input)
+    short_mac(eia, int, u32::MAX, 31, Dir::Down, input)
 }
 
 // The last two octets of the MAC of a text.
-fn short_mac(int: &AlgKey, count: u32, bearer: u8, dir: Dir, text: &[u8]) -> [u8; 2]
+pub(crate) fn short_mac(
+    eia: Integrity,
+    int: &AlgKey,
+    count: u32,
+    bearer: u8,
+    dir: Dir,
+    text: &[u8],
+) -> [u8; 2]
     requires { bearer < 32 }
-    ensures { result ≡ drop 2 (mac_of int.now count bearer dir text.now) }
+    ensures { result ≡ drop 2 (mac_by eia int.now count bearer dir text.now) }
 {
-    let [_, _, c, d] = mac(int, count, bearer, dir, text);
+    let [_, _, c, d] = mac(eia, int, count, bearer, dir, text);
     [c, d]
 }
 

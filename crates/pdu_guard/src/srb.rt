@@ -1,11 +1,12 @@
-ghost use Rattle.std.specs.Prelude.{◌≡◌, ◌+◌, ◌-◌, ◌<◌, ◌≤◌, IfErr, IfOk, OnErr, length};
+ghost use Rattle.std.specs.Prelude.{◌≡◌, ◌+◌, ◌-◌, ◌<◌, ◌≤◌, ◌∷◌, ◌++◌, IfErr, IfOk, OnErr, drop, length};
 ghost use Rattle.pdcp_guard.specs.Counts.{count_limit};
-ghost use Rattle.pdcp_guard.specs.Srb.{srb_count};
-ghost use Rattle.pdu_guard.specs.Srb.{longest_sdu, srb_pdu, srb_pdu_at, srb_pdu_got, srb_pdu_opened, srb_pdu_text, srb_sent};
+ghost use Rattle.pdcp_guard.specs.Srb.{srb_count, srb_first, srb_header};
+ghost use Rattle.pdu_guard.specs.Checks.{is_checked};
+ghost use Rattle.pdu_guard.specs.Srb.{longest_sdu, srb_mac_of, srb_pdu, srb_pdu_at, srb_pdu_got, srb_pdu_opened, srb_pdu_text, srb_sent};
 
-use alg_choice::Eea;
+use crate::checks::{is_checked, is_taken};
+use alg_suite::{Ciphering, Integrity, cipher, mac};
 use annex_a_keys::AlgKey;
-use nas_guard::{cipher, mac_behind};
 use pdcp_guard::{PdcpFault, count_from};
 use rec_base::Dir;
 
@@ -20,7 +21,9 @@ pub struct SrbKeys {
     /// KRRCint.
     pub int: AlgKey,
     /// The encryption algorithm; EEA0 for PDUs that are not ciphered.
-    pub eea: Eea,
+    pub eea: Ciphering,
+    /// The integrity algorithm.
+    pub eia: Integrity,
     /// BEARER, of 5 bits: the identity minus 1, so 0 for SRB1 and 1 for SRB2.
     pub bearer: u8,
 }
@@ -32,14 +35,30 @@ pub fn seal_srb(keys: &SrbKeys, count: u32, dir: Dir, text: &[u8], pdu: &mut [u8
     requires room { length pdu.old ≡ length text.now + 5 }
     ensures { pdu.new ≡ srb_pdu keys.now count dir text.now }
 {
-    let header = (count % 32) as u8;
-    let mac = mac_behind(&keys.int, count, keys.bearer, dir, header, text);
-    let (front, sent) = pdu.split_at_mut(1);
-    let (data, end) = sent.split_at_mut(text.len());
-    data.copy_from_slice(text);
-    end.copy_from_slice(&mac);
+    write_plain(keys, count, dir, text, pdu);
+    let (_, sent) = pdu.split_at_mut(1);
     cipher(keys.eea, &keys.enc, count, keys.bearer, dir, sent);
-    front[0] = header;
+}
+
+// The header octet, the text and its MAC-I, before ciphering.
+fn write_plain(keys: &SrbKeys, count: u32, dir: Dir, text: &[u8], pdu: &mut [u8])
+    requires bearer { keys.now.bearer < 32 }
+    requires room { length pdu.old ≡ length text.now + 5 }
+    ensures { pdu.new ≡ srb_header count ∷ (text.now ++ srb_mac_of keys.now count dir (srb_header count ∷ text.now)) }
+{
+    let (covered, end) = pdu.split_at_mut(text.len() + 1);
+    write_covered((count % 32) as u8, text, covered);
+    end.copy_from_slice(&mac(keys.eia, &keys.int, count, keys.bearer, dir, covered));
+}
+
+// An octet and a text after it.
+fn write_covered(first: u8, text: &[u8], covered: &mut [u8])
+    requires { length covered.old ≡ length text.now + 1 }
+    ensures { covered.new ≡ first ∷ text.now }
+{
+    let (front, rest) = covered.split_at_mut(1);
+    front.copy_from_slice(&[first]);
+    rest.copy_from_slice(text);
 }
 
 /// The COUNT of a PDU: the least at or above `next`, of at most 2^32, with its 5 bits (TS 36.323 5.1.2.2).
@@ -62,29 +81,41 @@ pub fn srb_count(next: u64, pdu: &[u8]) -> Result<u32, PdcpFault>
     count_from(next, u32::from(first), 32)
 }
 
+/// What is found of a PDU that opens.
+#[derive(Clone, Copy, Debug, PartialEq, Eq)]
+pub struct SrbFound {
+    /// COUNT.
+    pub count: u32,
+    /// Whether its MAC-I was compared: under EIA0 nothing is checked.
+    pub checked: bool,
+}
+
 /// Opens a PDU at the least COUNT at or above `next`, of at most 2^32, with its 5 bits (TS 36.323 5.1.2.2): its text, five
 /// octets shorter and of at most 8,188, goes into `text`.
 ///
 /// Where causes stand together the answer is the first of `Short`, `BadHeader`, `CountSpent` and `MacFails`, and `text` is as it
-/// was.
+/// was. Under EIA0 any MAC-I is taken (TS 33.401 B.0), and the answer says that it was not compared.
 pub fn open_srb(
     keys: &SrbKeys,
     next: u64,
     dir: Dir,
     pdu: &[u8],
     text: &mut [u8],
-) -> Result<u32, PdcpFault>
+) -> Result<SrbFound, PdcpFault>
     requires bearer { keys.now.bearer < 32 }
     requires next { next ≤ count_limit }
     requires length { length pdu.now ≤ longest_sdu + 5 }
     requires room { length text.old ≡ length pdu.now - 5 }
-    ensures opens { IfOk result (λ count. srb_pdu_opened keys.now next dir pdu.now ≡ Ok (record { count = count; text = text.new })) }
+    ensures opens { IfOk result (λ found. srb_pdu_opened keys.now next dir pdu.now ≡ Ok (record { count = found.count; checked = found.checked; text = text.new })) }
     ensures refused { IfErr result (λ fault. srb_pdu_opened keys.now next dir pdu.now ≡ Err fault) }
     ensures err { OnErr result (text.new ≡ text.old) }
 {
     let count = srb_count(next, pdu)?;
     open_at(keys, count, dir, pdu, text)?;
-    Ok(count)
+    Ok(SrbFound {
+        count,
+        checked: is_checked(keys.eia),
+    })
 }
 
 /// The text of a PDU at a COUNT, whatever its MAC-I is (TS 36.323 5.6): it goes into `text`, five octets shorter than the PDU,
@@ -97,10 +128,10 @@ pub fn srb_text(keys: &SrbKeys, count: u32, dir: Dir, pdu: &[u8], text: &mut [u8
     requires room { length text.old ≡ length pdu.now - 5 }
     ensures { text.new ≡ srb_pdu_text keys.now count dir pdu.now }
 {
-    let mut buffer = [0; 8192];
-    let plain = &mut buffer[..pdu.len() - 1];
-    decipher(keys, count, dir, &pdu[1..], plain);
-    text.copy_from_slice(&plain[..pdu.len() - 5]);
+    let mut buffer = [0; 8193];
+    let plain = &mut buffer[..pdu.len()];
+    decipher(keys, count, dir, pdu, plain);
+    text.copy_from_slice(&plain[1..pdu.len() - 4]);
 }
 
 // The text of a PDU at a COUNT, where its MAC-I is right.
@@ -116,30 +147,32 @@ fn open_at(
     requires long { 5 ≤ length pdu.now }
     requires length { length pdu.now ≤ longest_sdu + 5 }
     requires room { length text.old ≡ length pdu.now - 5 }
-    ensures opens { IfOk result (λ _. srb_pdu_at keys.now count dir pdu.now ≡ Ok (record { count = count; text = text.new })) }
+    ensures opens { IfOk result (λ _. srb_pdu_at keys.now count dir pdu.now ≡ Ok (record { count = count; checked = is_checked keys.now.eia; text = text.new })) }
     ensures refused { IfErr result (λ fault. srb_pdu_at keys.now count dir pdu.now ≡ Err fault) }
     ensures err { OnErr result (text.new ≡ text.old) }
 {
-    let mut buffer = [0; 8192];
-    let plain = &mut buffer[..pdu.len() - 1];
-    decipher(keys, count, dir, &pdu[1..], plain);
-    let (front, mac) = plain.split_at(pdu.len() - 5);
-    let wanted = mac_behind(&keys.int, count, keys.bearer, dir, pdu[0], front);
+    let mut buffer = [0; 8193];
+    let plain = &mut buffer[..pdu.len()];
+    decipher(keys, count, dir, pdu, plain);
+    let (covered, end) = plain.split_at(pdu.len() - 4);
+    let wanted = mac(keys.eia, &keys.int, count, keys.bearer, dir, covered);
     let mut got = [0; 4];
-    got.copy_from_slice(mac);
-    if wanted != got {
+    got.copy_from_slice(end);
+    if !is_taken(keys.eia, &wanted, &got) {
         return Err(PdcpFault::MacFails { count, wanted, got });
     }
-    text.copy_from_slice(front);
+    text.copy_from_slice(&covered[1..]);
     Ok(())
 }
 
-// The plain octets of octets as sent.
-fn decipher(keys: &SrbKeys, count: u32, dir: Dir, sent: &[u8], plain: &mut [u8])
+// The plain octets of a PDU, its header first.
+fn decipher(keys: &SrbKeys, count: u32, dir: Dir, pdu: &[u8], plain: &mut [u8])
     requires bearer { keys.now.bearer < 32 }
-    requires room { length plain.old ≡ length sent.now }
-    ensures { plain.new ≡ srb_sent keys.now count dir sent.now }
+    requires long { 5 ≤ length pdu.now }
+    requires room { length plain.old ≡ length pdu.now }
+    ensures { plain.new ≡ srb_first pdu.now ∷ srb_sent keys.now count dir (drop 1 pdu.now) }
 {
-    plain.copy_from_slice(sent);
-    cipher(keys.eea, &keys.enc, count, keys.bearer, dir, plain);
+    plain.copy_from_slice(pdu);
+    let (_, sent) = plain.split_at_mut(1);
+    cipher(keys.eea, &keys.enc, count, keys.bearer, dir, sent);
 }
