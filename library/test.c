@@ -1,5 +1,5 @@
 /* Tests of the library for C: published vectors, 2,000 random cases of each cipher and derivation beside OpenSSL (with
- * WITH_OPENSSL), each call once, and each status. What a refusal must leave is compared octet by octet. It prints one line
+ * WITH_OPENSSL) and libipsec-mb (with WITH_IPSEC_MB), each call once, and each status. What a refusal must leave is compared octet by octet. It prints one line
  * on each part, and ends with status 1 at the first that differs. */
 #include <lte_sec.h>
 #include <stdio.h>
@@ -9,6 +9,9 @@
 #include <openssl/core_names.h>
 #include <openssl/evp.h>
 #include <openssl/hmac.h>
+#endif
+#ifdef WITH_IPSEC_MB
+#include <intel-ipsec-mb.h>
 #endif
 
 #define CHECK(holds) \
@@ -49,6 +52,16 @@ static void vectors(void) {
     ltesec_kenb(root, 0, out);
     of_hex("e6267359de012d9bda173d1b6fae57dec0e04e01cfcf57cb33a7573f142b8b95", wanted); /* by Python's hmac */
     CHECK(!memcmp(out, wanted, 32));
+    of_hex("20dacc4ea11469989be30900ac3fe304a1075f26ca4489c78eadc9543f6cd1a6", root); /* CK and IK; by libosmocore's osmo_kdf_kasme */
+    of_hex("3020d8a22366217db8", text);
+    of_hex("147f0b58861b19065e402b33ab5b5f6aeb58c8b2d2f4798e9d358f47fc20ab36", wanted);
+    ltesec_kasme(root, root + 16, text, text + 3, out);
+    CHECK(!memcmp(out, wanted, 32));
+    of_hex("d3c5d592327fb11c4035c6680af8c6d1", key); /* 128-EEA1, TS 33.401 C.1 with its text of 256 bits */
+    of_hex("981ba6824c1bfb1ab485472029b71d808ce33e2cc3c0b5fc1f3de8a6dc66b1f0", text);
+    of_hex("5d5bfe75eb04f68ce0a12377ea00b37d47c6a0ba06309155086a859c4341b37c", wanted);
+    CHECK(ltesec_eea1(key, 965368244, 21, LTESEC_DOWNLINK, text, 32) == LTESEC_DONE && !memcmp(text, wanted, 32));
+    CHECK(ltesec_version() == LTESEC_VERSION);
     printf("vectors: as published\n");
 }
 
@@ -113,6 +126,48 @@ static void as_openssl(void) {
 static void as_openssl(void) { printf("ciphers and derivations: skipped beside OpenSSL, whose headers are not installed\n"); }
 #endif
 
+#ifdef WITH_IPSEC_MB
+/* 128-EEA1, 128-EIA1, 128-EEA3 and 128-EIA3. It takes no empty text. */
+static void as_ipsec_mb(void) {
+    uint8_t key[16], iv[16], text[ROOM], ours[ROOM], theirs[ROOM], mac[4];
+    IMB_MGR *manager = alloc_mb_mgr(0);
+    init_mb_mgr_auto(manager, NULL);
+    snow3g_key_schedule_t *schedule = malloc(IMB_SNOW3G_KEY_SCHED_SIZE(manager));
+    CHECK(schedule);
+    for (int turn = 0; turn < 2000; turn++) {
+        uint32_t count = wide(), bearer = draw() % 32, tag, direction = draw() % 2;
+        size_t length = 1 + (turn < 1900 ? draw() % 300 : draw() % (ROOM - 1));
+        fill(key, 16);
+        fill(text, length);
+        IMB_SNOW3G_INIT_KEY_SCHED(manager, key, schedule);
+        snow3g_f8_iv_gen(count, (uint8_t)bearer, (uint8_t)direction, iv);
+        IMB_SNOW3G_F8_1_BUFFER(manager, schedule, iv, text, theirs, (uint32_t)length);
+        memcpy(ours, text, length);
+        CHECK(ltesec_eea1(key, count, bearer, direction, ours, length) == LTESEC_DONE && !memcmp(ours, theirs, length));
+        snow3g_f9_iv_gen(count, bearer << 27, (uint8_t)direction, iv);
+        IMB_SNOW3G_F9_1_BUFFER(manager, schedule, iv, text, length * 8, theirs);
+        CHECK(ltesec_eia1(key, count, bearer, direction, text, length, mac) == LTESEC_DONE && !memcmp(mac, theirs, 4));
+        zuc_eea3_iv_gen(count, (uint8_t)bearer, (uint8_t)direction, iv);
+        IMB_ZUC_EEA3_1_BUFFER(manager, key, iv, text, theirs, (uint32_t)length);
+        memcpy(ours, text, length);
+        CHECK(ltesec_eea3(key, count, bearer, direction, ours, length) == LTESEC_DONE && !memcmp(ours, theirs, length));
+        zuc_eia3_iv_gen(count, (uint8_t)bearer, (uint8_t)direction, iv);
+        IMB_ZUC_EIA3_1_BUFFER(manager, key, iv, text, (uint32_t)length * 8, &tag);
+        CHECK(ltesec_eia3(key, count, bearer, direction, text, length, mac) == LTESEC_DONE && !memcmp(mac, &tag, 4));
+    }
+    free(schedule);
+    free_mb_mgr(manager);
+    printf("SNOW 3G and ZUC: 2000 random cases of each algorithm as libipsec-mb has them\n");
+}
+#else
+static void as_ipsec_mb(void) { printf("SNOW 3G and ZUC: skipped beside libipsec-mb, whose headers are not installed\n"); }
+#endif
+
+/* the MAC by the integrity algorithm of an identity, 1 to 3 */
+static uint32_t mac_by(uint32_t eia, const uint8_t *key, uint32_t count, uint32_t bearer, uint32_t direction, const uint8_t *text, size_t length, uint8_t mac[4]) {
+    return (eia == 1 ? ltesec_eia1 : eia == 2 ? ltesec_eia2 : ltesec_eia3)(key, count, bearer, direction, text, length, mac);
+}
+
 /* ---- what is kept at a refusal */
 
 static struct {
@@ -138,7 +193,7 @@ static int has_macs(uint32_t count, const uint8_t got[4]) {
 static void nas(void) {
     uint8_t text[ROOM], pdu[ROOM], old[ROOM];
     for (int turn = 0; turn < 2000; turn++) {
-        ltesec_nas context = {.eea = draw() % 2 * 2}, kept;
+        ltesec_nas context = {.eea = draw() % 4, .eia = 1 + draw() % 3}, kept;
         size_t length = draw() % 300, written = 7;
         uint32_t header = 1 + draw() % 4, count = draw() % (1 << 24), direction = draw() % 2;
         fill(context.enc_key, 64);
@@ -155,7 +210,7 @@ static void nas(void) {
         if (count - context.receive > 255) context.receive = count;
         kept = context;
         mark();
-        CHECK(ltesec_nas_open(&context, direction, pdu, written, now.text, ROOM, &now.found) == LTESEC_DONE && has_text(text, length, count, header));
+        CHECK(ltesec_nas_open(&context, direction, pdu, written, now.text, ROOM, &now.found) == LTESEC_DONE && has_text(text, length, count, header) && now.found.checked == 1);
         mark();
         CHECK(ltesec_nas_open_at(&context, count, direction, pdu, written, now.text, ROOM, &now.found) == LTESEC_DONE && has_text(text, length, count, header));
         mark();
@@ -174,6 +229,9 @@ static void nas(void) {
         pdu[0] ^= 0x08;
         pdu[1 + draw() % 4] ^= (uint8_t)(1 << draw() % 8);
         CHECK(ltesec_nas_open(&context, direction, pdu, written, now.text, ROOM, &now.found) == LTESEC_MAC_FAILS && has_macs(count, pdu + 1));
+        context.eia = LTESEC_EIA0; /* any MAC is taken, and it is told that nothing was checked */
+        mark();
+        CHECK(ltesec_nas_open(&context, direction, pdu, written, now.text, ROOM, &now.found) == LTESEC_DONE && has_text(text, length, count, header) && now.found.checked == 0);
         CHECK(ltesec_nas_accept(&context, count) == LTESEC_DONE && context.receive == count + 1);
         CHECK(ltesec_nas_accept(&context, count) == LTESEC_OUT_OF_RANGE && context.receive == count + 1);
         kept = context;
@@ -185,8 +243,12 @@ static void nas(void) {
         CHECK(!memcmp(&context, &kept, sizeof kept) && !memcmp(pdu, old, ROOM) && written == length + 6);
         context.send = 1 << 24;
         CHECK(ltesec_nas_seal(&context, 1, 1, text, length, pdu, ROOM, &written) == LTESEC_COUNT_SPENT && context.send == 1 << 24);
-        context.eea = 1;
+        context.eea = 4;
         CHECK(ltesec_nas_seal(&context, 1, 1, text, length, pdu, ROOM, &written) == LTESEC_OUT_OF_RANGE && !memcmp(pdu, old, ROOM));
+        context.eea = 0, context.eia = 4;
+        CHECK(ltesec_nas_seal(&context, 1, 1, text, length, pdu, ROOM, &written) == LTESEC_OUT_OF_RANGE && !memcmp(pdu, old, ROOM));
+        context.eia = LTESEC_EIA0, context.send = 0;
+        CHECK(ltesec_nas_seal(&context, 1, 1, text, length, pdu, ROOM, &written) == LTESEC_DONE && !memcmp(pdu + 1, "\0\0\0\0", 4));
     }
     printf("NAS messages: 2000 made, opened and refused\n");
 }
@@ -195,7 +257,7 @@ static void srb(void) {
     uint8_t text[8192], pdu[8200];
     static uint8_t long_text[8200];
     for (int turn = 0; turn < 2000; turn++) {
-        ltesec_srb context = {.eea = draw() % 2 * 2, .bearer = draw() % 32};
+        ltesec_srb context = {.eea = draw() % 4, .eia = 1 + draw() % 3, .bearer = draw() % 32};
         size_t length = draw() % 300, written = 7;
         uint32_t count = wide(), direction = draw() % 2;
         fill(context.enc_key, 64);
@@ -228,7 +290,7 @@ static void srb(void) {
         context.bearer = 32;
         CHECK(ltesec_srb_send(&context, direction, text, length, pdu, ROOM, &written) == LTESEC_OUT_OF_RANGE);
     }
-    ltesec_srb longest = {.eea = LTESEC_EEA2};
+    ltesec_srb longest = {.eea = LTESEC_EEA2, .eia = LTESEC_EIA2};
     size_t written;
     CHECK(ltesec_srb_send(&longest, 0, long_text, 8189, pdu, sizeof pdu, &written) == LTESEC_OUT_OF_RANGE);
     CHECK(ltesec_srb_send(&longest, 0, long_text, 8188, pdu, sizeof pdu, &written) == LTESEC_DONE && written == 8193);
@@ -243,7 +305,7 @@ static void drb(void) {
     static const uint32_t bits[] = {7, 12, 15, 18}, octets[] = {1, 2, 2, 3};
     uint8_t text[ROOM], pdu[ROOM];
     for (int turn = 0; turn < 2000; turn++) {
-        ltesec_drb context = {.eea = draw() % 2 * 2, .bearer = draw() % 32, .bits = bits[turn % 4]};
+        ltesec_drb context = {.eea = draw() % 4, .bearer = draw() % 32, .bits = bits[turn % 4]};
         size_t length = draw() % 1600, head = octets[turn % 4], written = 7;
         uint32_t count = wide(), direction = draw() % 2, values = 1u << bits[turn % 4];
         fill(context.enc_key, 32);
@@ -280,28 +342,67 @@ static void drb(void) {
     printf("PDUs of DRBs: 2000 made, opened and refused, at 7, 12, 15 and 18 bits\n");
 }
 
+/* A receiver on RLC AM whose least COUNT not handed on is `first`: what it finds of each COUNT around, by the sender's own. */
+static void drb_am(void) {
+    static const uint32_t bits[] = {12, 15, 18};
+    uint8_t text[64], pdu[64];
+    for (int turn = 0; turn < 2000; turn++) {
+        uint32_t values = 1u << bits[turn % 3], window = values / 2, fate = 7, before_fate;
+        ltesec_drb context = {.eea = draw() % 4, .bearer = draw() % 32, .bits = bits[turn % 3]}, old;
+        uint64_t first = turn % 2 ? wide() : draw() % 3000, next = first + draw() % (window + 1), count = first + draw() % (2 * window) - window;
+        size_t length = draw() % 48, written;
+        uint32_t last = (uint32_t)((first + values - 1) % values);
+        if (next > (uint64_t)1 << 32 || count >> 32) continue;
+        fill(context.enc_key, 32);
+        fill(text, length);
+        context.send = count;
+        CHECK(ltesec_drb_send(&context, 1, text, length, pdu, sizeof pdu, &written) == LTESEC_DONE);
+        context.receive = next;
+        old = context;
+        mark();
+        before_fate = fate;
+        CHECK(ltesec_drb_receive_am(&context, values, 1, pdu, written, now.text, ROOM, &now.found, &fate) == LTESEC_OUT_OF_RANGE && is_kept());
+        CHECK(ltesec_drb_receive_am(&context, last, 1, pdu, 1, now.text, ROOM, &now.found, &fate) == LTESEC_SHORT && is_kept());
+        if (length)
+            CHECK(ltesec_drb_receive_am(&context, last, 1, pdu, written, now.text, length - 1, &now.found, &fate) == LTESEC_NO_ROOM && is_kept());
+        CHECK(fate == before_fate && !memcmp(&context, &old, sizeof old));
+        if (count >= first || next < count + values) {
+            uint32_t wanted = count < first ? LTESEC_DISCARDED : count < next ? LTESEC_LATE : LTESEC_NEW;
+            CHECK(ltesec_drb_receive_am(&context, last, 1, pdu, written, now.text, ROOM, &now.found, &fate) == LTESEC_DONE);
+            CHECK(has_text(text, length, (uint32_t)count, 0) && fate == wanted && context.receive == (wanted == LTESEC_NEW ? count + 1 : next));
+        }
+        context.bits = 7;
+        CHECK(ltesec_drb_receive_am(&context, 0, 1, pdu, written, now.text, ROOM, &now.found, &fate) == LTESEC_OUT_OF_RANGE);
+    }
+    ltesec_drb fresh = {.bits = 12};
+    uint32_t fate;
+    mark();
+    CHECK(ltesec_drb_receive_am(&fresh, 4095, 0, (const uint8_t *)"\x8f\xff", 2, now.text, ROOM, &now.found, &fate) == LTESEC_BEFORE_FIRST && is_kept());
+    printf("PDUs of DRBs on RLC AM: 2000 found in the reordering window, at 12, 15 and 18 bits\n");
+}
+
 static void others(void) {
     uint8_t key[32], request[4], other[4], mac[2], four[4], whole[32], out[32];
     ltesec_phone phone;
     ltesec_reached reached;
     for (int turn = 0; turn < 2000; turn++) {
-        uint32_t count = draw() % (1 << 24), ksi = draw() % 8, next = count > 31 ? count - draw() % 32 : count;
+        uint32_t count = draw() % (1 << 24), ksi = draw() % 8, next = count > 31 ? count - draw() % 32 : count, eia = 1 + draw() % 3;
         fill(key, 32);
-        CHECK(ltesec_service_request(key, ksi, count, request) == LTESEC_DONE && request[0] == 0xc7 && request[1] == 32 * ksi + count % 32);
-        CHECK(ltesec_eia2(key + 16, count, 0, LTESEC_UPLINK, request, 2, four) == LTESEC_DONE && !memcmp(four + 2, request + 2, 2));
+        CHECK(ltesec_service_request(eia, key, ksi, count, request) == LTESEC_DONE && request[0] == 0xc7 && request[1] == 32 * ksi + count % 32);
+        CHECK(mac_by(eia, key + 16, count, 0, LTESEC_UPLINK, request, 2, four) == LTESEC_DONE && !memcmp(four + 2, request + 2, 2));
         mark();
-        CHECK(ltesec_service_request_check(key, next, request, &now.found) == LTESEC_DONE && now.found.count == count && now.found.header == 12);
+        CHECK(ltesec_service_request_check(eia, key, next, request, &now.found) == LTESEC_DONE && now.found.count == count && now.found.header == 12);
         mark();
         memcpy(other, request, 4);
-        CHECK(ltesec_service_request(key, 8, count, other) == LTESEC_OUT_OF_RANGE && ltesec_service_request(key, 0, 1 << 24, other) == LTESEC_OUT_OF_RANGE && !memcmp(other, request, 4));
-        CHECK(ltesec_service_request_check(key, 1 << 24, request, &now.found) == LTESEC_COUNT_SPENT && is_kept());
-        CHECK(ltesec_service_request_check(key, (1 << 24) + 1, request, &now.found) == LTESEC_OUT_OF_RANGE && is_kept());
+        CHECK(ltesec_service_request(eia, key, 8, count, other) == LTESEC_OUT_OF_RANGE && ltesec_service_request(eia, key, 0, 1 << 24, other) == LTESEC_OUT_OF_RANGE && !memcmp(other, request, 4));
+        CHECK(ltesec_service_request_check(eia, key, 1 << 24, request, &now.found) == LTESEC_COUNT_SPENT && is_kept());
+        CHECK(ltesec_service_request_check(eia, key, (1 << 24) + 1, request, &now.found) == LTESEC_OUT_OF_RANGE && is_kept());
         other[0] = 0x17;
-        CHECK(ltesec_service_request_check(key, next, other, &now.found) == LTESEC_BAD_HEADER && is_kept());
+        CHECK(ltesec_service_request_check(eia, key, next, other, &now.found) == LTESEC_BAD_HEADER && is_kept());
         request[2 + draw() % 2] ^= (uint8_t)(1 << draw() % 8);
-        CHECK(ltesec_service_request_check(key, next, request, &now.found) == LTESEC_MAC_FAILS && now.found.count == count && !memcmp(now.found.got, request + 2, 2));
-        ltesec_short_mac_i(key, whole, 7 < turn ? 7 : 0, mac);
-        CHECK(ltesec_eia2(key + 16, 0xffffffff, 31, LTESEC_DOWNLINK, whole, 7 < turn ? 7 : 0, four) == LTESEC_DONE && !memcmp(four + 2, mac, 2));
+        CHECK(ltesec_service_request_check(eia, key, next, request, &now.found) == LTESEC_MAC_FAILS && now.found.count == count && !memcmp(now.found.got, request + 2, 2));
+        CHECK(ltesec_short_mac_i(eia, key, whole, 7 < turn ? 7 : 0, mac) == LTESEC_DONE && ltesec_short_mac_i(4, key, whole, 0, mac) == LTESEC_OUT_OF_RANGE);
+        CHECK(mac_by(eia, key + 16, 0xffffffff, 31, LTESEC_DOWNLINK, whole, 7 < turn ? 7 : 0, four) == LTESEC_DONE && !memcmp(four + 2, mac, 2));
         fill((uint8_t *)&phone, sizeof phone);
         phone.ncc %= 8;
         uint32_t ncc = draw() % 8, steps = (ncc + 8 - phone.ncc) % 8, pci = draw() % 504, earfcn = draw() % 262144;
@@ -328,9 +429,11 @@ static void others(void) {
 int main(void) {
     vectors();
     as_openssl();
+    as_ipsec_mb();
     nas();
     srb();
     drb();
+    drb_am();
     others();
     return 0;
 }

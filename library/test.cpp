@@ -7,6 +7,7 @@
 int main() {
     ltesec_nas context{};
     context.eea = LTESEC_EEA2;
+    context.eia = LTESEC_EIA2;
     std::array<uint8_t, 32> kasme{};
     ltesec_algorithm_key(kasme.data(), 1, 2, context.enc_key);
     ltesec_algorithm_key(kasme.data(), 2, 2, context.int_key);

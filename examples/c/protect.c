@@ -15,10 +15,11 @@ int main(void) {
     uint8_t kasme[32], kenb[32], pdu[64], text[64];
     size_t written;
     ltesec_found found;
+    if (ltesec_version() != LTESEC_VERSION) return 1; /* header and library are of one version */
     for (int i = 0; i < 32; i++) kasme[i] = (uint8_t)i;
 
     /* The keys: identity 2 is that of 128-EEA2 and of 128-EIA2. */
-    ltesec_nas phone = {.eea = LTESEC_EEA2}, core;
+    ltesec_nas phone = {.eea = LTESEC_EEA2, .eia = LTESEC_EIA2}, core;
     ltesec_algorithm_key(kasme, 1, 2, phone.enc_key);
     ltesec_algorithm_key(kasme, 2, 2, phone.int_key);
     core = phone;

@@ -12,7 +12,7 @@ from types import ModuleType
 from .terms import Calls, TraceError
 
 TOP = Path(__file__).resolve().parents[2]
-NAMES = ("kenb", "nh", "kenb_star", "algorithm_key", "eea2", "eia2")
+NAMES = ("kenb", "nh", "kenb_star", "algorithm_key", "eea1", "eea2", "eea3", "eia1", "eia2", "eia3")
 WAYS = ("uplink", "downlink")
 
 
@@ -62,11 +62,23 @@ class Calc:
     def algorithm_key(self, key: bytes, type: int, identity: int) -> bytes:
         return self.told("alg", key, type, identity)
 
+    def eea1(self, key: bytes, count: int, bearer: int, direction: int, text: bytes) -> bytes:
+        return self.told("eea1", key, count, bearer, WAYS[direction], text)
+
     def eea2(self, key: bytes, count: int, bearer: int, direction: int, text: bytes) -> bytes:
         return self.told("eea2", key, count, bearer, WAYS[direction], text)
 
+    def eea3(self, key: bytes, count: int, bearer: int, direction: int, text: bytes) -> bytes:
+        return self.told("eea3", key, count, bearer, WAYS[direction], text)
+
+    def eia1(self, key: bytes, count: int, bearer: int, direction: int, text: bytes) -> bytes:
+        return self.told("eia1", key, count, bearer, WAYS[direction], text)
+
     def eia2(self, key: bytes, count: int, bearer: int, direction: int, text: bytes) -> bytes:
         return self.told("eia2", key, count, bearer, WAYS[direction], text)
+
+    def eia3(self, key: bytes, count: int, bearer: int, direction: int, text: bytes) -> bytes:
+        return self.told("eia3", key, count, bearer, WAYS[direction], text)
 
 
 def proved_calls() -> Calls:

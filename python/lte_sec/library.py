@@ -7,26 +7,37 @@ AES uses tables, so the time of a call may depend on key and text: for tests, re
 from __future__ import annotations
 
 import ctypes
-from ctypes import byref, c_size_t
+from ctypes import byref, c_size_t, c_uint32
 from dataclasses import dataclass
 from typing import Any
 
 from .native import DrbState, Found, NasState, PhoneState, ReachedState, SrbState, calls
-from .refusals import MAC_FAILS, BadHeader, CountSpent, MacFails, OtherCount, OutOfRange, Refused, Short
+from .refusals import MAC_FAILS, BadHeader, BeforeFirst, CountSpent, MacFails, OtherCount, OutOfRange, Refused, Short
 from .refusals import checked_key, checked_number, key_octets, raises
 
 __all__ = [
-    "EEA0", "EEA2", "DOWNLINK", "UPLINK",
-    "BadHeader", "CountSpent", "MacFails", "OtherCount", "OutOfRange", "Refused", "Short",
+    "EEA0", "EEA1", "EEA2", "EEA3", "EIA0", "EIA1", "EIA2", "EIA3", "DOWNLINK", "UPLINK",
+    "DISCARDED", "LATE", "NEW",
+    "BadHeader", "BeforeFirst", "CountSpent", "MacFails", "OtherCount", "OutOfRange", "Refused", "Short",
     "DrbContext", "NasContext", "Opened", "Reached", "SrbContext",
-    "algorithm_key", "check_service_request", "eea2", "eia2", "kenb", "kenb_star", "nh", "reach", "service_request", "short_mac_i",
+    "algorithm_key", "check_service_request", "eea1", "eea2", "eea3", "eia1", "eia2", "eia3", "kasme", "kenb", "kenb_star", "nh", "reach",
+    "service_request", "short_mac_i",
 ]
 
 UPLINK, DOWNLINK = 0, 1
-EEA0, EEA2 = 0, 2
+EEA0, EEA1, EEA2, EEA3 = range(4)
+EIA0, EIA1, EIA2, EIA3 = range(4)
+NEW, LATE, DISCARDED = range(3)  # what becomes of a PDU on RLC AM
 
 
 # ---- derivations (TS 33.401 Annex A)
+
+
+def kasme(ck: bytes, ik: bytes, plmn: bytes, sqn_xor_ak: bytes) -> bytes:
+    """KASME from CK and IK: the PLMN identity in three octets, as TS 24.301 9.9.3.32 writes it, and SQN xor AK in six (A.2)."""
+    out = ctypes.create_string_buffer(32)
+    calls.ltesec_kasme(checked_key(ck, 16), checked_key(ik, 16), checked_key(plmn, 3), checked_key(sqn_xor_ak, 6), out)
+    return out.raw
 
 
 def kenb(kasme: bytes, count: int) -> bytes:
@@ -60,20 +71,48 @@ def algorithm_key(key: bytes, type: int, identity: int) -> bytes:
 # ---- ciphers (TS 33.401 Annex B)
 
 
-def eea2(key16: bytes, count: int, bearer: int, direction: int, text: bytes) -> bytes:
-    """128-EEA2: the text enciphered, or deciphered (B.1.3)."""
+def _ciphered(call: Any, key16: bytes, count: int, bearer: int, direction: int, text: bytes) -> bytes:
     out = ctypes.create_string_buffer(bytes(text), max(len(text), 1))
     numbers = checked_number(count), checked_number(bearer), checked_number(direction)
-    raises(calls.ltesec_eea2(checked_key(key16, 16), *numbers, out, len(text)))
+    raises(call(checked_key(key16, 16), *numbers, out, len(text)))
     return out.raw[: len(text)]
 
 
-def eia2(key16: bytes, count: int, bearer: int, direction: int, text: bytes) -> bytes:
-    """128-EIA2: the MAC of a text, four octets (B.2.3)."""
+def _mac(call: Any, key16: bytes, count: int, bearer: int, direction: int, text: bytes) -> bytes:
     out = ctypes.create_string_buffer(4)
     numbers = checked_number(count), checked_number(bearer), checked_number(direction)
-    raises(calls.ltesec_eia2(checked_key(key16, 16), *numbers, bytes(text), len(text), out))
+    raises(call(checked_key(key16, 16), *numbers, bytes(text), len(text), out))
     return out.raw
+
+
+def eea1(key16: bytes, count: int, bearer: int, direction: int, text: bytes) -> bytes:
+    """128-EEA1, SNOW 3G: the text enciphered, or deciphered (B.1.2)."""
+    return _ciphered(calls.ltesec_eea1, key16, count, bearer, direction, text)
+
+
+def eea2(key16: bytes, count: int, bearer: int, direction: int, text: bytes) -> bytes:
+    """128-EEA2, AES: the text enciphered, or deciphered (B.1.3)."""
+    return _ciphered(calls.ltesec_eea2, key16, count, bearer, direction, text)
+
+
+def eea3(key16: bytes, count: int, bearer: int, direction: int, text: bytes) -> bytes:
+    """128-EEA3, ZUC: the text enciphered, or deciphered (B.1.4)."""
+    return _ciphered(calls.ltesec_eea3, key16, count, bearer, direction, text)
+
+
+def eia1(key16: bytes, count: int, bearer: int, direction: int, text: bytes) -> bytes:
+    """128-EIA1, SNOW 3G: the MAC of a text, four octets (B.2.2)."""
+    return _mac(calls.ltesec_eia1, key16, count, bearer, direction, text)
+
+
+def eia2(key16: bytes, count: int, bearer: int, direction: int, text: bytes) -> bytes:
+    """128-EIA2, AES: the MAC of a text, four octets (B.2.3)."""
+    return _mac(calls.ltesec_eia2, key16, count, bearer, direction, text)
+
+
+def eia3(key16: bytes, count: int, bearer: int, direction: int, text: bytes) -> bytes:
+    """128-EIA3, ZUC: the MAC of a text, four octets (B.2.4)."""
+    return _mac(calls.ltesec_eia3, key16, count, bearer, direction, text)
 
 
 # ---- NAS messages and PDCP PDUs
@@ -81,11 +120,14 @@ def eia2(key16: bytes, count: int, bearer: int, direction: int, text: bytes) -> 
 
 @dataclass(frozen=True)
 class Opened:
-    """What a PDU held: its text, its COUNT, and the security header type of a NAS message, else 0."""
+    """What a PDU held: its text, its COUNT, the security header type of a NAS message, else 0, and whether a MAC was compared,
+    which it is not under EIA0 and on a DRB. `fate` is what becomes of a PDU on RLC AM: NEW, LATE or DISCARDED."""
 
     text: bytes
     count: int
     header: int
+    checked: bool = True
+    fate: int = NEW
 
 
 class _Context:
@@ -117,7 +159,7 @@ class _Context:
         opens = getattr(calls, f"ltesec_{self._kind}_{call}")
         status = opens(byref(self._held), *map(checked_number, numbers), bytes(pdu), len(pdu), out, len(out), byref(found))
         raises(status, found)
-        return Opened(out.raw[: found.length], found.count, found.header)
+        return Opened(out.raw[: found.length], found.count, found.header, bool(found.checked))
 
     def open_at(self, count: int, direction: int, pdu: bytes) -> Opened:
         """Opens a PDU at this COUNT, whatever is expected."""
@@ -129,8 +171,9 @@ class NasContext(_Context):
 
     _kind = "nas"
 
-    def __init__(self, enc_key: bytes, int_key: bytes, eea: int = EEA2, send: int = 0, receive: int = 0):
-        super().__init__(NasState(key_octets(enc_key), key_octets(int_key), checked_number(send), checked_number(receive), checked_number(eea)))
+    def __init__(self, enc_key: bytes, int_key: bytes, eea: int = EEA2, send: int = 0, receive: int = 0, eia: int = EIA2):
+        numbers = map(checked_number, (send, receive, eea, eia))
+        super().__init__(NasState(key_octets(enc_key), key_octets(int_key), *numbers))
 
     def seal(self, header: int, direction: int, text: bytes) -> bytes:
         """The message of a text under the next COUNT, which it takes. The header type is 1 to 4."""
@@ -151,10 +194,10 @@ class SrbContext(_Context):
     _kind = "srb"
 
     def __init__(
-        self, enc_key: bytes, int_key: bytes, bearer: int, eea: int = EEA2, send: int = 0, receive: int = 0
+        self, enc_key: bytes, int_key: bytes, bearer: int, eea: int = EEA2, send: int = 0, receive: int = 0, eia: int = EIA2
     ):
         counts = checked_number(send, 64), checked_number(receive, 64)
-        super().__init__(SrbState(key_octets(enc_key), key_octets(int_key), *counts, checked_number(bearer), checked_number(eea)))
+        super().__init__(SrbState(key_octets(enc_key), key_octets(int_key), *counts, *map(checked_number, (bearer, eea, eia))))
 
     def send(self, direction: int, text: bytes) -> bytes:
         """The PDU of a text under the next COUNT, which it takes."""
@@ -186,33 +229,42 @@ class DrbContext(_Context):
         """Opens a PDU under the least COUNT at or above the next one to receive, and takes that COUNT. Nothing is verified."""
         return self._opens("receive", (direction,), pdu)
 
+    def receive_am(self, last: int, direction: int, pdu: bytes) -> Opened:
+        """Opens a PDU on RLC AM by the reordering window (5.1.2.1.2): `fate` says what becomes of it, and a new one moves the next COUNT.
+
+        `last` is Last_Submitted_PDCP_RX_SN: the sequence number of the last text handed on, and at first the greatest one."""
+        out, found, fate = ctypes.create_string_buffer(max(len(pdu), 1)), Found(), c_uint32()
+        numbers = checked_number(last), checked_number(direction)
+        raises(calls.ltesec_drb_receive_am(byref(self._held), *numbers, bytes(pdu), len(pdu), out, len(out), byref(found), byref(fate)), found)
+        return Opened(out.raw[: found.length], found.count, 0, False, fate.value)
+
 
 # ---- short MACs
 
 
-def service_request(int_key: bytes, ksi: int, count: int) -> bytes:
+def service_request(int_key: bytes, ksi: int, count: int, eia: int = EIA2) -> bytes:
     """A Service Request under KNASint at an uplink NAS COUNT: four octets (TS 24.301 8.2.25)."""
     out = ctypes.create_string_buffer(4)
-    raises(calls.ltesec_service_request(checked_key(int_key), checked_number(ksi), checked_number(count), out))
+    raises(calls.ltesec_service_request(checked_number(eia), checked_key(int_key), checked_number(ksi), checked_number(count), out))
     return out.raw
 
 
-def check_service_request(int_key: bytes, next: int, request: bytes) -> int:
+def check_service_request(int_key: bytes, next: int, request: bytes, eia: int = EIA2) -> int:
     """The COUNT of a Service Request: the least at or above `next` with its 5 bits, where its short MAC is right."""
     if len(request) != 4:
         raise Short("a Service Request has four octets")
     found = Found()
-    status = calls.ltesec_service_request_check(checked_key(int_key), checked_number(next), bytes(request), byref(found))
+    status = calls.ltesec_service_request_check(checked_number(eia), checked_key(int_key), checked_number(next), bytes(request), byref(found))
     if status == MAC_FAILS:
         raise MacFails(found.count, bytes(found.wanted)[:2], bytes(found.got)[:2])
     raises(status)
     return found.count
 
 
-def short_mac_i(int_key: bytes, input: bytes) -> bytes:
+def short_mac_i(int_key: bytes, input: bytes, eia: int = EIA2) -> bytes:
     """shortMAC-I under KRRCint over the encoded VarShortMAC-Input: two octets (TS 36.331 5.3.7.4)."""
     out = ctypes.create_string_buffer(2)
-    calls.ltesec_short_mac_i(checked_key(int_key), bytes(input), len(input), out)
+    raises(calls.ltesec_short_mac_i(checked_number(eia), checked_key(int_key), bytes(input), len(input), out))
     return out.raw
 
 

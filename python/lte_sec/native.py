@@ -15,6 +15,7 @@ class Found(Structure):
         ("header", c_uint32),
         ("wanted", c_uint8 * 4),
         ("got", c_uint8 * 4),
+        ("checked", c_uint32),
     ]
 
 
@@ -25,6 +26,7 @@ class NasState(Structure):
         ("send", c_uint32),
         ("receive", c_uint32),
         ("eea", c_uint32),
+        ("eia", c_uint32),
     ]
 
 
@@ -36,6 +38,7 @@ class SrbState(Structure):
         ("receive", c_uint64),
         ("bearer", c_uint32),
         ("eea", c_uint32),
+        ("eia", c_uint32),
     ]
 
 
@@ -59,32 +62,38 @@ class ReachedState(Structure):
 
 
 OCTETS, OUT = ctypes.c_char_p, ctypes.c_void_p
+CIPHER = [OCTETS, c_uint32, c_uint32, c_uint32, OUT, c_size_t]
+MAC = [OCTETS, c_uint32, c_uint32, c_uint32, OCTETS, c_size_t, OUT]
 OPEN = [c_uint32, OCTETS, c_size_t, OUT, c_size_t, POINTER(Found)]
 SEND = [c_uint32, OCTETS, c_size_t, OUT, c_size_t, POINTER(c_size_t)]
 TAKES: dict[str, list[Any]] = {
+    "version": [],
+    "kasme": [OCTETS, OCTETS, OCTETS, OCTETS, OUT],
     "kenb": [OCTETS, c_uint32, OUT],
     "nh": [OCTETS, OCTETS, OUT],
     "kenb_star": [OCTETS, c_uint32, c_uint32, OUT],
     "algorithm_key": [OCTETS, c_uint32, c_uint32, OUT],
-    "eea2": [OCTETS, c_uint32, c_uint32, c_uint32, OUT, c_size_t],
-    "eia2": [OCTETS, c_uint32, c_uint32, c_uint32, OCTETS, c_size_t, OUT],
+    "eea1": CIPHER, "eea2": CIPHER, "eea3": CIPHER,
+    "eia1": MAC, "eia2": MAC, "eia3": MAC,
     "nas_seal": [POINTER(NasState), c_uint32, *SEND],
     "nas_open": [POINTER(NasState), *OPEN],
     "nas_open_at": [POINTER(NasState), c_uint32, *OPEN],
     "nas_accept": [POINTER(NasState), c_uint32],
-    "service_request": [OCTETS, c_uint32, c_uint32, OUT],
-    "service_request_check": [OCTETS, c_uint32, OCTETS, POINTER(Found)],
-    "short_mac_i": [OCTETS, OCTETS, c_size_t, OUT],
+    "service_request": [c_uint32, OCTETS, c_uint32, c_uint32, OUT],
+    "service_request_check": [c_uint32, OCTETS, c_uint32, OCTETS, POINTER(Found)],
+    "short_mac_i": [c_uint32, OCTETS, OCTETS, c_size_t, OUT],
     "srb_send": [POINTER(SrbState), *SEND],
     "srb_open": [POINTER(SrbState), *OPEN],
     "srb_open_at": [POINTER(SrbState), c_uint32, *OPEN],
     "srb_accept": [POINTER(SrbState), c_uint32],
     "drb_send": [POINTER(DrbState), *SEND],
     "drb_receive": [POINTER(DrbState), *OPEN],
+    "drb_receive_am": [POINTER(DrbState), c_uint32, *OPEN, POINTER(c_uint32)],
     "drb_open_at": [POINTER(DrbState), c_uint32, *OPEN],
     "reach": [POINTER(PhoneState), c_uint32, c_uint32, c_uint32, POINTER(ReachedState)],
 }
-NOTHING = ("kenb", "nh", "short_mac_i")
+NOTHING = ("kasme", "kenb", "nh")
+VERSION = 2  # of the calls and structs, as `lte_sec.h` has it
 
 
 def places() -> list[Path]:
@@ -102,6 +111,8 @@ def load() -> ctypes.CDLL:
             break
     else:
         raise ImportError("liblte_sec.so is not built: run ./lte_sec library, or name it in LTE_SEC_LIBRARY")
+    if not hasattr(library, "ltesec_version") or library.ltesec_version() != VERSION:
+        raise ImportError(f"{place} is of another version than this package: run ./lte_sec library")
     for name, takes in TAKES.items():
         call = getattr(library, f"ltesec_{name}")
         call.argtypes = takes

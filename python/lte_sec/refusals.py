@@ -31,6 +31,10 @@ class OtherCount(Refused):
     """The sequence number of the PDU is not that of the COUNT that was named."""
 
 
+class BeforeFirst(Refused):
+    """On RLC AM the HFN of the PDU would be before the first."""
+
+
 class MacFails(Refused):
     """The MAC differs: the COUNT at which it was computed, the MAC computed and the one received."""
 
@@ -45,6 +49,7 @@ REFUSALS: dict[int, Refused] = {
     4: Short("the PDU is too short"),
     5: BadHeader("the first octet does not begin such a PDU"),
     7: OtherCount("the PDU has the sequence number of another COUNT"),
+    8: BeforeFirst("the HFN of the PDU would be before the first"),
 }
 MAC_FAILS = 6
 

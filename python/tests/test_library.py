@@ -11,6 +11,8 @@ from pathlib import Path
 TOP = Path(__file__).resolve().parents[2]
 sys.path.insert(0, str(TOP / "python"))
 
+from tests import ciphers  # noqa: E402
+
 try:
     from lte_sec import library
 except ImportError as fault:
@@ -44,8 +46,18 @@ class Derivations(unittest.TestCase):
                 library.algorithm_key(key, kind, identity), derived(key, 0x15, bytes([kind]), bytes([identity]))
             )
 
+    def test_kasme(self) -> None:
+        draw = random.Random(6)
+        for _ in range(CASES):
+            ck, ik, plmn, sqn_xor_ak = map(draw.randbytes, (16, 16, 3, 6))
+            self.assertEqual(library.kasme(ck, ik, plmn, sqn_xor_ak), derived(ck + ik, 0x10, plmn, sqn_xor_ak))
+        # by libosmocore's osmo_kdf_kasme
+        kasme = library.kasme(bytes(range(16)), bytes(range(16, 32)), b"\x00\xf1\x10", bytes(6))
+        self.assertEqual(kasme.hex(), "c5db04c2129761d1eb0fd756a3788928d694ef23ff9b7614a4244c59116a6686")
+
     def test_out_of_range(self) -> None:
         for call in (
+            lambda: library.kasme(bytes(16), bytes(16), bytes(4), bytes(6)),
             lambda: library.kenb(KASME[1:], 0),
             lambda: library.kenb(KASME, 1 << 32),
             lambda: library.kenb_star(KASME, 504, 0),
@@ -74,6 +86,14 @@ class Ciphers(unittest.TestCase):
         self.assertEqual(sealed[:1500], library.eea2(key, 1, 3, UP, text[:1500]))
         self.assertEqual(library.eea2(key, 1, 3, UP, sealed), text)
         self.assertEqual(library.eea2(key, 1, 3, UP, b""), b"")
+
+    def test_snow_3g_and_zuc_beside_python(self) -> None:
+        draw = random.Random(7)
+        for name in ("eea1", "eea3", "eia1", "eia3"):
+            for length in (0, 1, 8, 31, 63, 64, 65, 130):
+                key, text = draw.randbytes(16), draw.randbytes(length)
+                given = key, draw.getrandbits(32), draw.randrange(32), draw.randrange(2), text
+                self.assertEqual(getattr(library, name)(*given), getattr(ciphers, name)(*given), (name, length))
 
     def test_eia2(self) -> None:
         for key, count, bearer, direction, text, mac in (
@@ -152,7 +172,7 @@ class Pdus(unittest.TestCase):
                 made = library.DrbContext(self.enc, bearer, bits, send=count).send(UP, text)
                 self.assertEqual(made, head + library.eea2(self.enc[16:], count, bearer, UP, text))
                 receiver = library.DrbContext(self.enc, bearer, bits, receive=max(count - (1 << bits) + 1, 0))
-                self.assertEqual(receiver.receive(UP, made), library.Opened(text, count, 0))
+                self.assertEqual(receiver.receive(UP, made), library.Opened(text, count, 0, checked=False))
                 self.assertEqual(receiver.receive_count, count + 1)
                 self.assertRaises(library.OtherCount, receiver.open_at, count ^ 1, UP, made)
             self.assertRaises(library.Short, receiver.receive, UP, made[: octets - 1])
@@ -162,6 +182,32 @@ class Pdus(unittest.TestCase):
         self.assertRaises(library.BadHeader, receiver.receive, UP, bytes([made[0] | 0x20]) + made[1:])
         self.assertRaises(library.OutOfRange, library.DrbContext(self.enc, 0, 13).send, UP, b"")
         self.assertRaises(library.CountSpent, library.DrbContext(self.enc, 0, send=1 << 32).send, UP, b"")
+
+    def test_each_algorithm(self) -> None:
+        for eea in range(4):
+            for eia in range(4):
+                sender, receiver = (library.NasContext(self.enc, self.int, eea, eia=eia) for _ in range(2))
+                pdu = sender.seal(2, UP, b"a text")
+                self.assertEqual(receiver.open(UP, pdu), library.Opened(b"a text", 0, 2, checked=eia != library.EIA0))
+                bearer = library.SrbContext(self.enc, self.int, 1, eea, eia=eia)
+                made = bearer.send(DOWN, b"a text")
+                self.assertEqual(bearer.open(DOWN, made), library.Opened(b"a text", 0, 0, checked=eia != library.EIA0))
+                request = library.service_request(self.int, 3, 40, eia)
+                self.assertEqual(library.check_service_request(self.int, 32, request, eia), 40)
+            key = self.enc[16:]
+            wanted = b"a text" if eea == 0 else getattr(library, f"eea{eea}")(key, 0, 0, UP, b"a text")
+            self.assertEqual(pdu[6:], wanted)
+        self.assertEqual(library.NasContext(self.enc, self.int, eia=library.EIA0).seal(1, UP, b"")[1:5], bytes(4))
+
+    def test_rlc_am(self) -> None:
+        sender, receiver = (library.DrbContext(self.enc, 0, 12) for _ in range(2))
+        made = [sender.send(UP, str(count).encode()) for count in range(5000)]
+        found = [(receiver.receive_am(last, UP, made[count]), count) for last, count in ((4095, 0), (0, 3), (0, 1), (0, 3), (3, 2), (3, 2051), (2051, 4099))]
+        fates = [library.NEW, library.NEW, library.LATE, library.LATE, library.DISCARDED, library.NEW, library.NEW]
+        self.assertEqual(found, [(library.Opened(str(count).encode(), count, 0, False, fate), count) for fate, (_, count) in zip(fates, found)])
+        self.assertEqual(receiver.receive_count, 4100)
+        self.assertRaises(library.OutOfRange, receiver.receive_am, 4096, UP, made[0])
+        self.assertRaises(library.BeforeFirst, library.DrbContext(self.enc, 0, 12).receive_am, 4095, UP, b"\x8f\xff")
 
     def test_short_macs(self) -> None:
         for count in (0, 31, 32, (1 << 24) - 1):

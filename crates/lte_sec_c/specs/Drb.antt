@@ -1,7 +1,7 @@
 -- PDUs of a data radio bearer that C holds (TS 36.323 5.6).
 use Rattle.std.specs.Prelude.{ℕ, ◌+◌, ◌-◌, ◌==◌, ◌&&◌, ◌||◌, nat_le, nat_lt, Bool, if◌then◌else◌, List, length, Result, Ok, Err}
-use Rattle.nas_guard.specs.declared.opening.Opened.{Opened}
 use Rattle.pdcp_guard.specs.Counts.{count_limit}
+use Rattle.pdu_guard.specs.Nas.{NasOpening}
 use Rattle.pdu_guard.specs.Drb.{drb_count_of, drb_pdu_opened, header_octets}
 use Rattle.pdu_guard.specs.declared.drb.DrbKeys.{DrbKeys}
 use Rattle.pdu_guard.specs.declared.drb.Numbers.{Numbers}
@@ -9,8 +9,8 @@ use Rattle.pdu_guard.specs.declared.drb.Numbers.TheVariants.{Seven, Twelve, Fift
 use Rattle.lte_sec_c.specs.declared.fault.Fault.{Fault}
 use Rattle.lte_sec_c.specs.declared.fault.Fault.TheVariants.{OutOfRange, CountSpent, NoRoom, OtherCount}
 use Rattle.lte_sec_c.specs.declared.drb.DrbContext.{DrbContext}
-use Rattle.lte_sec_c.specs.Found.{pdcp_answer}
-use Rattle.lte_sec_c.specs.Ranges.{dir_of, eea_of, is_direction, is_eea}
+use Rattle.lte_sec_c.specs.Found.{drb_answer}
+use Rattle.lte_sec_c.specs.Ranges.{dir_of, eea_of, is_direction, is_identity}
 use Rattle.lte_sec_c.specs.Srb.{is_other}
 use Rattle.lte_sec_c.specs.Status.{done, status_of}
 
@@ -25,7 +25,7 @@ numbers_in bits =
 -- a bearer in range
 abbrev pub is_drb : DrbContext → Bool
 is_drb c =
-    is_eea c.eea && (is_bits c.bits && (nat_lt c.bearer 32 && (nat_le c.send count_limit && nat_le c.receive count_limit)))
+    is_identity c.eea && (is_bits c.bits && (nat_lt c.bearer 32 && (nat_le c.send count_limit && nat_le c.receive count_limit)))
 
 -- its keys
 abbrev pub drb_keys_in : DrbContext → DrbKeys
@@ -70,15 +70,15 @@ abbrev pub is_drb_opening : DrbContext → ℕ → ℕ → Bool
 is_drb_opening c next direction = is_drb c && (nat_le next count_limit && is_direction direction)
 
 -- what a PDU opens to where this COUNT is expected next, with so many octets of room
-abbrev pub drb_opens : DrbContext → ℕ → ℕ → List ℕ → ℕ → Result Opened Fault
+abbrev pub drb_opens : DrbContext → ℕ → ℕ → List ℕ → ℕ → Result NasOpening Fault
 drb_opens c next direction pdu room =
     if is_drb_opening c next direction
     then (if nat_lt room (length pdu - drb_header c) then Err NoRoom
-    else pdcp_answer (drb_pdu_opened (drb_keys_in c) next (dir_of direction) pdu))
+    else drb_answer (drb_pdu_opened (drb_keys_in c) next (dir_of direction) pdu))
     else Err OutOfRange
 
 -- what a PDU opens to at this COUNT
-abbrev pub drb_opens_at : DrbContext → ℕ → ℕ → List ℕ → ℕ → Result Opened Fault
+abbrev pub drb_opens_at : DrbContext → ℕ → ℕ → List ℕ → ℕ → Result NasOpening Fault
 drb_opens_at c count direction pdu room =
     if is_drb_opening c count direction
     then (if is_other count (drb_count_of (numbers_in c.bits) count pdu) then Err OtherCount
@@ -86,6 +86,6 @@ drb_opens_at c count direction pdu room =
     else Err OutOfRange
 
 -- the bearer after a PDU opened, or did not
-abbrev pub drb_after : DrbContext → Result Opened Fault → DrbContext
+abbrev pub drb_after : DrbContext → Result NasOpening Fault → DrbContext
 drb_after c (Ok o) = drb_expects c (o.count + 1)
 drb_after c (Err fault) = c

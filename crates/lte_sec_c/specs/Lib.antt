@@ -4,5 +4,6 @@ pub mod Found
 pub mod Nas
 pub mod Srb
 pub mod Drb
+pub mod Am
 pub mod ShortMacs
 pub mod Phone

@@ -1,33 +1,32 @@
 -- NAS messages under a context that C holds (TS 24.301 4.4).
 use Rattle.std.specs.Prelude.{ℕ, ◌+◌, ◌-◌, ◌==◌, ◌&&◌, nat_le, nat_lt, Bool, false, not, if◌then◌else◌, List, length, Result, Ok, Err}
 use Rattle.nas_count.specs.Estimate.{count_limit}
-use Rattle.nas_guard.specs.Keys.{Keys}
-use Rattle.nas_guard.specs.Open.{opened}
-use Rattle.nas_guard.specs.declared.opening.Opened.{Opened}
 use Rattle.nas_guard.specs.declared.opening.OpenFault.{OpenFault}
-use Rattle.pdu_guard.specs.Nas.{nas_head_of}
+use Rattle.pdu_guard.specs.Nas.{NasOpening, nas_head_of, nas_opened}
 use Rattle.pdu_guard.specs.declared.nas.NasHead.{NasHead}
+use Rattle.pdu_guard.specs.declared.nas.NasKeys.{NasKeys}
 use Rattle.lte_sec_c.specs.declared.fault.Fault.{Fault}
 use Rattle.lte_sec_c.specs.declared.fault.Fault.TheVariants.{OutOfRange, CountSpent, NoRoom, OtherCount}
 use Rattle.lte_sec_c.specs.declared.nas.NasContext.{NasContext}
 use Rattle.lte_sec_c.specs.Found.{nas_answer}
-use Rattle.lte_sec_c.specs.Ranges.{dir_of, eea_of, is_direction, is_eea}
+use Rattle.lte_sec_c.specs.Ranges.{dir_of, eea_of, eia_of, is_direction, is_identity}
 use Rattle.lte_sec_c.specs.Status.{done, status_of}
 
 -- a context in range
 abbrev pub is_nas : NasContext → Bool
-is_nas c = is_eea c.eea && (nat_le c.send count_limit && nat_le c.receive count_limit)
+is_nas c =
+    is_identity c.eea && (is_identity c.eia && (nat_le c.send count_limit && nat_le c.receive count_limit))
 
 -- its keys
-abbrev pub nas_keys_in : NasContext → Keys (List ℕ)
-nas_keys_in c = record { enc = c.enc_key; int = c.int_key; algs = record { eea = eea_of c.eea } }
+abbrev pub nas_keys_in : NasContext → NasKeys
+nas_keys_in c = record { enc = c.enc_key; int = c.int_key; eea = eea_of c.eea; eia = eia_of c.eia }
 
 -- the context with this next COUNT to send, or to receive
 abbrev pub nas_sends : NasContext → ℕ → NasContext
-nas_sends c count = record { enc_key = c.enc_key; int_key = c.int_key; send = count; receive = c.receive; eea = c.eea }
+nas_sends c count = record { enc_key = c.enc_key; int_key = c.int_key; send = count; receive = c.receive; eea = c.eea; eia = c.eia }
 
 abbrev pub nas_expects : NasContext → ℕ → NasContext
-nas_expects c count = record { enc_key = c.enc_key; int_key = c.int_key; send = c.send; receive = count; eea = c.eea }
+nas_expects c count = record { enc_key = c.enc_key; int_key = c.int_key; send = c.send; receive = count; eea = c.eea; eia = c.eia }
 
 -- a security header type of a protected message (9.3.1)
 abbrev pub is_header : ℕ → Bool
@@ -47,11 +46,11 @@ abbrev pub is_nas_opening : NasContext → ℕ → ℕ → Bool
 is_nas_opening c next direction = is_nas c && (nat_le next count_limit && is_direction direction)
 
 -- what a message opens to where this COUNT comes next, with so many octets of room
-abbrev pub nas_opens : NasContext → ℕ → ℕ → List ℕ → ℕ → Result Opened Fault
+abbrev pub nas_opens : NasContext → ℕ → ℕ → List ℕ → ℕ → Result NasOpening Fault
 nas_opens c next direction pdu room =
     if is_nas_opening c next direction
     then (if nat_lt room (length pdu - 6) then Err NoRoom
-    else nas_answer (opened (nas_keys_in c) next (dir_of direction) pdu))
+    else nas_answer (nas_opened (nas_keys_in c) next (dir_of direction) pdu))
     else Err OutOfRange
 
 -- whether a message has another COUNT than this one
@@ -60,7 +59,7 @@ has_other count (Ok head) = not (head.count == count)
 has_other count (Err fault) = false
 
 -- what a message opens to at this COUNT
-abbrev pub nas_opens_at : NasContext → ℕ → ℕ → List ℕ → ℕ → Result Opened Fault
+abbrev pub nas_opens_at : NasContext → ℕ → ℕ → List ℕ → ℕ → Result NasOpening Fault
 nas_opens_at c count direction pdu room =
     if nat_lt count count_limit && is_nas_opening c count direction
     then (if has_other count (nas_head_of count pdu) then Err OtherCount else nas_opens c count direction pdu room)

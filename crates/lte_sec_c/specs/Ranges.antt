@@ -1,16 +1,24 @@
 -- Numbers that C gives for an algorithm and a direction.
-use Rattle.std.specs.Prelude.{ℕ, ◌==◌, ◌||◌, ◌&&◌, nat_lt, Bool, if◌then◌else◌}
-use Rattle.alg_choice.specs.declared.algs.Eea.{Eea}
-use Rattle.alg_choice.specs.declared.algs.Eea.TheVariants.{Eea0, Eea2}
+use Rattle.std.specs.Prelude.{ℕ, ◌==◌, ◌&&◌, nat_lt, Bool, if◌then◌else◌}
+use Rattle.alg_suite.specs.declared.ciphering.Ciphering.{Ciphering}
+use Rattle.alg_suite.specs.declared.ciphering.Ciphering.TheVariants.{Eea0, Eea1, Eea2, Eea3}
+use Rattle.alg_suite.specs.declared.integrity.Integrity.{Integrity}
+use Rattle.alg_suite.specs.declared.integrity.Integrity.TheVariants.{Eia0, Eia1, Eia2, Eia3}
 use Rattle.rec_base.specs.declared.uses.Dir.{Dir}
 use Rattle.rec_base.specs.declared.uses.Dir.TheVariants.{Up, Down}
 
--- the identity of an encryption algorithm: 0 for the null algorithm, 2 for 128-EEA2 (TS 33.401 5.1.3.2)
-abbrev pub is_eea : ℕ → Bool
-is_eea identity = (identity == 0) || (identity == 2)
+-- the identity of an encryption or an integrity algorithm: 0 for the null algorithm, 1 to 3 for SNOW 3G, AES and ZUC (TS 33.401
+-- 5.1.3.2 and 5.1.4.2)
+abbrev pub is_identity : ℕ → Bool
+is_identity identity = nat_lt identity 4
 
-abbrev pub eea_of : ℕ → Eea
-eea_of identity = if identity == 2 then Eea2 else Eea0
+abbrev pub eea_of : ℕ → Ciphering
+eea_of identity =
+    if identity == 0 then Eea0 else (if identity == 1 then Eea1 else (if identity == 2 then Eea2 else Eea3))
+
+abbrev pub eia_of : ℕ → Integrity
+eia_of identity =
+    if identity == 0 then Eia0 else (if identity == 1 then Eia1 else (if identity == 2 then Eia2 else Eia3))
 
 -- DIRECTION: 0 for uplink, 1 for downlink (TS 33.401 B.1.1)
 abbrev pub is_direction : ℕ → Bool

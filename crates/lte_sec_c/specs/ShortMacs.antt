@@ -1,11 +1,13 @@
 -- What a check of a Service Request comes to (TS 24.301 8.2.25).
-use Rattle.std.specs.Prelude.{ℕ, nat_le, if◌then◌else◌, List, [], ◌∷◌, ◌++◌, Result, Ok, Err}
+use Rattle.std.specs.Prelude.{ℕ, ◌&&◌, nat_le, if◌then◌else◌, List, [], ◌∷◌, ◌++◌, Result, Ok, Err}
 use Rattle.nas_count.specs.Estimate.{count_limit}
-use Rattle.nas_guard.specs.declared.opening.Opened.{Opened}
+use Rattle.pdu_guard.specs.Nas.{NasOpening}
 use Rattle.pdu_guard.specs.ShortMacs.{service_checked}
+use Rattle.pdu_guard.specs.declared.short_macs.ServiceFound.{ServiceFound}
 use Rattle.pdu_guard.specs.declared.short_macs.ServiceFault.{ServiceFault}
 use Rattle.pdu_guard.specs.declared.short_macs.ServiceFault as service
 use Rattle.lte_sec_c.specs.declared.fault.Fault.{Fault}
+use Rattle.lte_sec_c.specs.Ranges.{eia_of, is_identity}
 use Rattle.lte_sec_c.specs.declared.fault.Fault.TheVariants.{OutOfRange, CountSpent, BadHeader, MacFails}
 
 -- a short MAC of two octets, in the place of four
@@ -18,11 +20,13 @@ service_fault service.TheVariants.CountSpent = CountSpent
 service_fault (service.TheVariants.MacFails count wanted got) = MacFails count (in_four wanted) (in_four got)
 
 -- the security header type of a Service Request is 12 (9.3.1), and it has no text
-abbrev pub service_answer : Result ℕ ServiceFault → Result Opened Fault
-service_answer (Ok count) = Ok (record { header = 12; count = count; text = [] })
+abbrev pub service_answer : Result ServiceFound ServiceFault → Result NasOpening Fault
+service_answer (Ok found) = Ok (record { header = 12; count = found.count; checked = found.checked; text = [] })
 service_answer (Err fault) = Err (service_fault fault)
 
 -- what four octets are where this COUNT comes next
-abbrev pub service_opens : List ℕ → ℕ → List ℕ → Result Opened Fault
-service_opens int next request =
-    if nat_le next count_limit then service_answer (service_checked int next request) else Err OutOfRange
+abbrev pub service_opens : ℕ → List ℕ → ℕ → List ℕ → Result NasOpening Fault
+service_opens eia int next request =
+    if is_identity eia && nat_le next count_limit
+    then service_answer (service_checked (eia_of eia) int next request)
+    else Err OutOfRange

@@ -1,25 +1,27 @@
 -- PDUs of a signalling radio bearer that C holds (TS 36.323 5.6 and 5.7).
 use Rattle.std.specs.Prelude.{ℕ, ◌+◌, ◌-◌, ◌==◌, ◌&&◌, nat_le, nat_lt, Bool, false, not, if◌then◌else◌, List, length, Result, Ok, Err}
-use Rattle.nas_guard.specs.declared.opening.Opened.{Opened}
 use Rattle.pdcp_guard.specs.Counts.{count_limit}
 use Rattle.pdcp_guard.specs.Srb.{srb_count}
 use Rattle.pdcp_guard.specs.declared.pdus.PdcpFault.{PdcpFault}
+use Rattle.pdu_guard.specs.Nas.{NasOpening}
 use Rattle.pdu_guard.specs.Srb.{longest_sdu, srb_pdu_opened}
 use Rattle.pdu_guard.specs.declared.srb.SrbKeys.{SrbKeys}
 use Rattle.lte_sec_c.specs.declared.fault.Fault.{Fault}
 use Rattle.lte_sec_c.specs.declared.fault.Fault.TheVariants.{OutOfRange, CountSpent, NoRoom, OtherCount}
 use Rattle.lte_sec_c.specs.declared.srb.SrbContext.{SrbContext}
-use Rattle.lte_sec_c.specs.Found.{pdcp_answer}
-use Rattle.lte_sec_c.specs.Ranges.{dir_of, eea_of, is_direction, is_eea}
+use Rattle.lte_sec_c.specs.Found.{srb_answer}
+use Rattle.lte_sec_c.specs.Ranges.{dir_of, eea_of, eia_of, is_direction, is_identity}
 use Rattle.lte_sec_c.specs.Status.{done, status_of}
 
 -- a bearer in range
 abbrev pub is_srb : SrbContext → Bool
-is_srb c = is_eea c.eea && (nat_lt c.bearer 32 && (nat_le c.send count_limit && nat_le c.receive count_limit))
+is_srb c =
+    is_identity c.eea
+    && (is_identity c.eia && (nat_lt c.bearer 32 && (nat_le c.send count_limit && nat_le c.receive count_limit)))
 
 -- its keys
 abbrev pub srb_keys_in : SrbContext → SrbKeys
-srb_keys_in c = record { enc = c.enc_key; int = c.int_key; eea = eea_of c.eea; bearer = c.bearer }
+srb_keys_in c = record { enc = c.enc_key; int = c.int_key; eea = eea_of c.eea; eia = eia_of c.eia; bearer = c.bearer }
 
 -- the bearer with this next COUNT to send, or to receive
 abbrev pub srb_sends : SrbContext → ℕ → SrbContext
@@ -30,6 +32,7 @@ srb_sends c count = record {
   receive = c.receive;
   bearer = c.bearer;
   eea = c.eea;
+  eia = c.eia;
 }
 
 abbrev pub srb_expects : SrbContext → ℕ → SrbContext
@@ -40,6 +43,7 @@ srb_expects c count = record {
   receive = count;
   bearer = c.bearer;
   eea = c.eea;
+  eia = c.eia;
 }
 
 -- the status of sending a text, with so many octets of room
@@ -57,11 +61,11 @@ is_srb_opening c next direction pdu =
     is_srb c && (nat_le next count_limit && (is_direction direction && nat_le (length pdu) (longest_sdu + 5)))
 
 -- what a PDU opens to where this COUNT is expected next, with so many octets of room
-abbrev pub srb_opens : SrbContext → ℕ → ℕ → List ℕ → ℕ → Result Opened Fault
+abbrev pub srb_opens : SrbContext → ℕ → ℕ → List ℕ → ℕ → Result NasOpening Fault
 srb_opens c next direction pdu room =
     if is_srb_opening c next direction pdu
     then (if nat_lt room (length pdu - 5) then Err NoRoom
-    else pdcp_answer (srb_pdu_opened (srb_keys_in c) next (dir_of direction) pdu))
+    else srb_answer (srb_pdu_opened (srb_keys_in c) next (dir_of direction) pdu))
     else Err OutOfRange
 
 -- whether a PDU has another COUNT than this one
@@ -70,7 +74,7 @@ is_other count (Ok found) = not (found == count)
 is_other count (Err fault) = false
 
 -- what a PDU opens to at this COUNT
-abbrev pub srb_opens_at : SrbContext → ℕ → ℕ → List ℕ → ℕ → Result Opened Fault
+abbrev pub srb_opens_at : SrbContext → ℕ → ℕ → List ℕ → ℕ → Result NasOpening Fault
 srb_opens_at c count direction pdu room =
     if is_srb_opening c count direction pdu
     then (if is_other count (srb_count count pdu) then Err OtherCount else srb_opens c count direction pdu room)

@@ -1,11 +1,27 @@
 // The derivations of TS 33.401 Annex A.
 ghost use Rattle.std.specs.Prelude.{◌≡◌, ◌≢◌, ◌≤◌, ◌↔◌};
 ghost use Rattle.hmac_kdf.specs.Kdf.{greatest_earfcn, kdf};
+ghost use Rattle.kasme_kdf.specs.Kasme.{kasme_of};
 ghost use Rattle.annex_a_keys.specs.Cell.{greatest_pci};
 ghost use Rattle.lte_sec_c.specs.Status.{done, status_of};
 
 use crate::fault::{DONE, Fault};
 use hmac_kdf::{KdfInput, kdf};
+use kasme_kdf::kasme;
+
+/// KASME from CK and IK, for the PLMN identity of the serving network, as TS 24.301 9.9.3.32 writes it, and SQN xor AK (A.2).
+#[unsafe(no_mangle)]
+pub extern "C" fn ltesec_kasme(
+    ck: &[u8; 16],
+    ik: &[u8; 16],
+    plmn: &[u8; 3],
+    sqn_xor_ak: &[u8; 6],
+    out: &mut [u8; 32],
+)
+    ensures { out.new ≡ kasme_of ck.now ik.now plmn.now sqn_xor_ak.now }
+{
+    *out = kasme(ck, ik, plmn, sqn_xor_ak);
+}
 
 /// KeNB from KASME at an uplink NAS COUNT (A.3).
 #[unsafe(no_mangle)]

@@ -10,7 +10,7 @@ ghost use Rattle.lte_sec_c.specs.Status.{done};
 
 use crate::fault::{DONE, Fault};
 use crate::found::Found;
-use crate::ranges::{dir_of, eea_of, is_direction, is_eea};
+use crate::ranges::{dir_of, eea_of, is_direction, is_identity};
 use annex_a_keys::AlgKey;
 use pdcp_guard::LIMIT;
 use pdu_guard::{DrbKeys, Numbers, drb_count, open_drb, seal_drb};
@@ -26,7 +26,7 @@ pub struct DrbContext {
     pub receive: u64,
     /// BEARER, of 5 bits: the identity minus 1.
     pub bearer: u32,
-    /// The identity of the encryption algorithm, 0 or 2.
+    /// The identity of the encryption algorithm, 0 to 3.
     pub eea: u32,
     /// The bits of the sequence numbers: 7, 12, 15 or 18.
     pub bits: u32,
@@ -137,7 +137,7 @@ fn open(
     let (front, _) = text.split_at_mut(length);
     match open_drb(&keys, next, dir_of(direction), pdu, front) {
         Ok(count) => {
-            found.opens(0, count, length);
+            found.opens(0, count, length, false);
             DONE
         }
         Err(fault) => found.refuses(Fault::of_pdcp(fault)),
@@ -145,10 +145,10 @@ fn open(
 }
 
 // Whether a bearer is in range.
-fn is_drb(context: &DrbContext) -> bool
+pub(crate) fn is_drb(context: &DrbContext) -> bool
     ensures { result ≡ is_drb context.now }
 {
-    is_eea(context.eea)
+    is_identity(context.eea)
         && is_bits(context.bits)
         && context.bearer < 32
         && context.send <= LIMIT
@@ -163,7 +163,7 @@ fn is_bits(bits: u32) -> bool
 }
 
 // The sequence numbers of so many bits.
-fn numbers_in(bits: u32) -> Numbers
+pub(crate) fn numbers_in(bits: u32) -> Numbers
     ensures { result ≡ numbers_in bits }
 {
     match bits {
@@ -193,7 +193,7 @@ fn is_other(count: u64, numbers: Numbers, pdu: &[u8]) -> bool
 }
 
 // The keys of a bearer.
-fn keys_in(context: &DrbContext) -> DrbKeys
+pub(crate) fn keys_in(context: &DrbContext) -> DrbKeys
     requires { context.now.bearer < 32 }
     ensures { result ≡ drb_keys_in context.now }
 {

@@ -1,8 +1,9 @@
 ghost use Rattle.std.specs.Prelude.{◌≡◌};
-ghost use Rattle.lte_sec_c.specs.Status.{of_nas, of_pdcp, status_of};
+ghost use Rattle.lte_sec_c.specs.Status.{of_am, of_nas, of_pdcp, status_of};
 
 use nas_guard::OpenFault;
 use pdcp_guard::PdcpFault;
+use pdu_guard::AmFault;
 
 // The status of a call that did what it is for.
 pub(crate) const DONE: u32 = 0;
@@ -28,6 +29,8 @@ pub(crate) enum Fault {
     },
     // The PDU's sequence number is not that of the COUNT.
     OtherCount,
+    // The HFN of the PDU would be before the first.
+    BeforeFirst,
 }
 
 impl Fault {
@@ -43,6 +46,7 @@ impl Fault {
             Fault::BadHeader => 5,
             Fault::MacFails { .. } => 6,
             Fault::OtherCount => 7,
+            Fault::BeforeFirst => 8,
         }
     }
 
@@ -67,6 +71,18 @@ impl Fault {
             PdcpFault::BadHeader(_) => Fault::BadHeader,
             PdcpFault::CountSpent => Fault::CountSpent,
             PdcpFault::MacFails { count, wanted, got } => Fault::MacFails { count, wanted, got },
+        }
+    }
+
+    // Of a PDU on RLC AM.
+    pub(crate) fn of_am(fault: AmFault) -> Fault
+        ensures { result ≡ of_am fault }
+    {
+        match fault {
+            AmFault::Short => Fault::Short,
+            AmFault::BadHeader(_) => Fault::BadHeader,
+            AmFault::CountSpent => Fault::CountSpent,
+            AmFault::BeforeFirst => Fault::BeforeFirst,
         }
     }
 }

@@ -4,6 +4,7 @@
 //! No call takes memory, keeps anything or has a `requires`: what it is given it checks, and at a refusal nothing is changed.
 #![tactic(auto)]
 
+mod am;
 mod ciphers;
 mod derivations;
 mod drb;
@@ -14,3 +15,4 @@ mod phone;
 mod ranges;
 mod short_macs;
 mod srb;
+mod version;

@@ -1,21 +1,18 @@
 // NAS messages (TS 24.301 4.4).
 ghost use Rattle.std.specs.Prelude.{◌≡◌, ◌≢◌, ◌+◌, ◌<◌, ◌≤◌, ◌↔◌, IsTrue, drop, length, take};
 ghost use Rattle.nas_count.specs.Estimate.{count_limit};
-ghost use Rattle.nas_guard.specs.Seal.{sealed};
 ghost use Rattle.lte_sec_c.specs.Found.{found_after, status_after, text_after};
 ghost use Rattle.lte_sec_c.specs.Nas.{is_header, is_nas, nas_expects, nas_keys_in, has_other, is_nas_opening, nas_opens, nas_opens_at, nas_seal_status, nas_sends};
-ghost use Rattle.pdu_guard.specs.Nas.{nas_head_of};
+ghost use Rattle.pdu_guard.specs.Nas.{nas_head_of, nas_pdu};
 ghost use Rattle.lte_sec_c.specs.Ranges.{dir_of};
 ghost use Rattle.lte_sec_c.specs.Status.{done, status_of};
 
 use crate::fault::{DONE, Fault};
 use crate::found::Found;
-use crate::ranges::{dir_of, eea_of, is_direction, is_eea};
-use alg_choice::Algs;
+use crate::ranges::{dir_of, eea_of, eia_of, is_direction, is_identity};
 use annex_a_keys::AlgKey;
 use nas_count::LIMIT;
-use nas_guard::NasKeys;
-use pdu_guard::{nas_head, open_nas, seal_nas};
+use pdu_guard::{NasKeys, nas_head, open_nas, seal_nas};
 
 /// A NAS security context (TS 33.401 6.2 and 8.1).
 #[repr(C)]
@@ -28,8 +25,10 @@ pub struct NasContext {
     pub send: u32,
     /// The next COUNT to receive, at most 2^24, where none is left.
     pub receive: u32,
-    /// The identity of the encryption algorithm, 0 or 2.
+    /// The identity of the encryption algorithm, 0 to 3.
     pub eea: u32,
+    /// The identity of the integrity algorithm, 0 to 3.
+    pub eia: u32,
 }
 
 /// Protects a text under the next COUNT, which it takes (4.4.4.2 and 4.4.5).
@@ -43,7 +42,7 @@ pub extern "C" fn ltesec_nas_seal(
     written: &mut usize,
 ) -> u32
     ensures status { result ≡ nas_seal_status context.old header direction text.now (length pdu.old) }
-    ensures sealed { result ≡ done → take written.new pdu.new ≡ sealed (nas_keys_in context.old) header context.old.send (dir_of direction) text.now }
+    ensures sealed { result ≡ done → take written.new pdu.new ≡ nas_pdu (nas_keys_in context.old) header context.old.send (dir_of direction) text.now }
     ensures written { result ≡ done → written.new ≡ length text.now + 6 }
     ensures behind { result ≡ done → drop written.new pdu.new ≡ drop written.new pdu.old }
     ensures moves { result ≡ done → context.new ≡ nas_sends context.old (context.old.send + 1) }
@@ -150,8 +149,13 @@ fn open(
     }
     let (front, _) = text.split_at_mut(length);
     match open_nas(&keys_in(context), next, dir_of(direction), pdu, front) {
-        Ok(head) => {
-            found.opens(u32::from(head.header), head.count, length);
+        Ok(opened) => {
+            found.opens(
+                u32::from(opened.header),
+                opened.count,
+                length,
+                opened.checked,
+            );
             DONE
         }
         Err(fault) => found.refuses(Fault::of_nas(fault)),
@@ -162,7 +166,10 @@ fn open(
 fn is_nas(context: &NasContext) -> bool
     ensures { result ≡ is_nas context.now }
 {
-    is_eea(context.eea) && context.send <= LIMIT && context.receive <= LIMIT
+    is_identity(context.eea)
+        && is_identity(context.eia)
+        && context.send <= LIMIT
+        && context.receive <= LIMIT
 }
 
 // Whether what an opening needs is in range.
@@ -195,8 +202,10 @@ fn keys_in(context: &NasContext) -> NasKeys
     ensures { result ≡ nas_keys_in context.now }
 {
     let (enc, int) = (context.enc_key, context.int_key);
-    let algs = Algs {
+    NasKeys {
+        enc: AlgKey::of_octets(enc),
+        int: AlgKey::of_octets(int),
         eea: eea_of(context.eea),
-    };
-    NasKeys::new(AlgKey::of_octets(enc), AlgKey::of_octets(int), algs)
+        eia: eia_of(context.eia),
+    }
 }

@@ -10,7 +10,7 @@ ghost use Rattle.lte_sec_c.specs.Status.{done, status_of};
 
 use crate::fault::{DONE, Fault};
 use crate::found::Found;
-use crate::ranges::{dir_of, eea_of, is_direction, is_eea};
+use crate::ranges::{dir_of, eea_of, eia_of, is_direction, is_identity};
 use annex_a_keys::AlgKey;
 use pdcp_guard::LIMIT;
 use pdu_guard::{LONGEST_SDU, SrbKeys, open_srb, seal_srb, srb_count};
@@ -28,8 +28,10 @@ pub struct SrbContext {
     pub receive: u64,
     /// BEARER, of 5 bits: the identity minus 1.
     pub bearer: u32,
-    /// The identity of the encryption algorithm, 0 or 2; 0 also for PDUs that are not ciphered.
+    /// The identity of the encryption algorithm, 0 to 3; 0 also for PDUs that are not ciphered.
     pub eea: u32,
+    /// The identity of the integrity algorithm, 0 to 3.
+    pub eia: u32,
 }
 
 /// Makes the PDU of a text under the next COUNT, which it takes.
@@ -149,8 +151,8 @@ fn open(
     }
     let (front, _) = text.split_at_mut(length);
     match open_srb(&keys_in(context), next, dir_of(direction), pdu, front) {
-        Ok(count) => {
-            found.opens(0, count, length);
+        Ok(opened) => {
+            found.opens(0, opened.count, length, opened.checked);
             DONE
         }
         Err(fault) => found.refuses(Fault::of_pdcp(fault)),
@@ -161,7 +163,11 @@ fn open(
 fn is_srb(context: &SrbContext) -> bool
     ensures { result ≡ is_srb context.now }
 {
-    is_eea(context.eea) && context.bearer < 32 && context.send <= LIMIT && context.receive <= LIMIT
+    is_identity(context.eea)
+        && is_identity(context.eia)
+        && context.bearer < 32
+        && context.send <= LIMIT
+        && context.receive <= LIMIT
 }
 
 // Whether what an opening needs is in range.
@@ -192,6 +198,7 @@ fn keys_in(context: &SrbContext) -> SrbKeys
         enc: AlgKey::of_octets(enc),
         int: AlgKey::of_octets(int),
         eea: eea_of(context.eea),
+        eia: eia_of(context.eia),
         bearer: context.bearer as u8,
     }
 }
