@@ -67,29 +67,43 @@ def word_of(words: list[str]) -> Check:
     return lambda word: None if word in words else f"is '{word}'; it must be {one_of(words)}{nearest(word, words)}"
 
 
+def algorithms(word: str) -> str | None:
+    """The identity of the encryption algorithm, or also that of integrity."""
+    return None if re.fullmatch(r"[0-3](/[0-3])?", word) else f"is '{word}'; it must be 0 to 3, or two of these with a slash, as 2/1 for 128-EEA2 and 128-EIA1"
+
+
+def count_or_any(word: str) -> str | None:
+    """A NAS COUNT, or `any`."""
+    wrong = None if word == "any" else number(0, 2**24 - 1)(word)
+    return wrong and f"{wrong}, or any"
+
+
 KEY, CIPHER_KEY, NAS_COUNT, COUNT = octets(32), octets(16), number(0, 2**24 - 1), number(0, 2**32 - 1)
 FIELDS: dict[str, Check] = {
-    "kasme": KEY, "key": KEY, "sync": KEY, "count": COUNT, "bearer": number(0, 31), "direction": word_of(["uplink", "downlink"]), "text": text(), "pdu": text(),
-    "eea": word_of(["0", "2"]), "bits": word_of(["7", "12", "15", "18"]), "ncc-in-use": number(0, 7), "ncc": number(0, 7), "pci": number(0, PCI), "earfcn": number(0, EARFCN),
+    "ck": CIPHER_KEY, "ik": CIPHER_KEY, "plmn": octets(3), "sqn-xor-ak": octets(6), "kasme": KEY, "key": KEY, "sync": KEY, "count": COUNT, "bearer": number(0, 31), "direction": word_of(["uplink", "downlink"]), "text": text(), "pdu": text(),
+    "eea": algorithms, "eia": word_of(["0", "1", "2", "3"]), "bits": word_of(["7", "12", "15", "18"]), "ncc-in-use": number(0, 7), "ncc": number(0, 7), "pci": number(0, PCI), "earfcn": number(0, EARFCN),
     "type": number(1, 6), "id": number(0, 15),
 }
 # The fields of each line, and of those that differ from the table above how.
 LINES: dict[str, tuple[str, dict[str, Check]]] = {
+    "kasme": ("ck ik plmn sqn-xor-ak", {}),
     "kenb": ("kasme count", {"count": NAS_COUNT}),
     "nh": ("kasme sync", {}),
     "star": ("key pci earfcn", {}),
     "alg": ("key type id", {}),
-    "eea2": ("key count bearer direction text", {"key": CIPHER_KEY}),
-    "eia2": ("key count bearer direction text", {"key": CIPHER_KEY}),
-    "nas": ("kasme eea count direction pdu", {"count": NAS_COUNT}),
+    **{name: ("key count bearer direction text", {"key": CIPHER_KEY}) for name in ("eea1", "eea2", "eea3", "eia1", "eia2", "eia3")},
+    "nas": ("kasme eea count direction pdu", {"count": count_or_any}),
     "seal-nas": ("kasme eea count direction type text", {"count": NAS_COUNT, "type": number(1, 4)}),
-    "service-request": ("kasme count pdu", {"count": NAS_COUNT, "pdu": text(exactly=4)}),
+    "service-request": ("kasme count pdu", {"count": count_or_any, "pdu": text(exactly=4)}),
     "srb": ("key eea count bearer direction pdu", {"pdu": text(most=8193)}),
     "seal-srb": ("key eea count bearer direction text", {"text": text(most=8188)}),
     "drb": ("key eea count bearer direction bits pdu", {}),
     "seal-drb": ("key eea count bearer direction bits text", {}),
     "reach": ("kasme key ncc-in-use sync ncc pci earfcn", {}),
 }
+
+
+MORE = {"service-request": "eia"}  # a further field that a line may have
 
 
 def is_answered(line: str) -> bool:
@@ -105,6 +119,8 @@ def first_fault(line: str) -> Bad | None:
         return Bad("word", why)
     names, others = LINES[word]
     needed = names.split(" ")
+    if word in MORE and len(words) == 2 + len(needed):
+        needed.append(MORE[word])
     if len(words) != 1 + len(needed):
         blanks = "; fields are parted by one blank, with none at the end" if "" in words else ""
         return Bad("fields", f"{word} has {len(words) - 1} field{'' if len(words) == 2 else 's'}; it must have {len(needed)}: {names}{blanks}")

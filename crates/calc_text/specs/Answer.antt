@@ -1,30 +1,27 @@
 -- The answer to a line.
 use Rattle.std.specs.Prelude.{ℕ, ◌<◌, ◌≤◌, ◌==◌, Bool, true, false, if◌then◌else◌, Result, Ok, Err, List, [], ◌∷◌, ◌++◌, length, codes}
-use Rattle.hex.specs.Hex.{encode_lower}
 use Rattle.hmac_kdf.specs.Kdf.{kdf}
 use Rattle.hmac_kdf.specs.declared.input.KdfInput.TheVariants as input
-use Rattle.ctr_eea2.specs.Eea2 as cipher
-use Rattle.cmac_eia2.specs.Eia2 as integrity
+use Rattle.kasme_kdf.specs.Kasme.{kasme_of}
 use Rattle.text_lines.specs.Words.{words_of}
 use Rattle.calc_text.specs.declared.fields.Field.{Field}
 use Rattle.calc_text.specs.declared.fields.Field.TheVariants as field
 use Rattle.calc_text.specs.declared.requests.Request.{Request}
-use Rattle.calc_text.specs.declared.requests.Request.TheVariants.{Kenb, Nh, Star, Alg, Eea2, Eia2, Nas, SealNas, ServiceRequest, Srb, SealSrb, Drb, SealDrb, Reach}
-use Rattle.calc_text.specs.PduAnswer.{written, nas_keys, srb_keys, drb_keys, nas_line, service_line, srb_line, drb_line, reach_line}
-use Rattle.alg_choice.specs.declared.algs.Eea.TheVariants.{Eea0}
-use Rattle.nas_guard.specs.Seal.{sealed}
-use Rattle.pdu_guard.specs.ShortMacs.{service_checked}
+use Rattle.calc_text.specs.declared.requests.Request.TheVariants.{Kasme, Kenb, Nh, Star, Alg, Cipher, Mac, Nas, AnyNas, SealNas, ServiceRequest, AnyServiceRequest, Srb, SealSrb, Drb, SealDrb, Reach}
+use Rattle.calc_text.specs.PduAnswer.{written, nas_keys, srb_keys, drb_keys, nas_line, any_nas_line, service_line, any_service_line, srb_line, drb_line, reach_line}
+use Rattle.pdu_guard.specs.Nas.{nas_pdu}
+use Rattle.calc_text.specs.Ciphering.{enciphered, mac_under}
 use Rattle.pdu_guard.specs.Srb.{srb_pdu}
 use Rattle.pdu_guard.specs.Drb.{drb_pdu}
 use Rattle.calc_text.specs.Reading.{request_of}
 
 -- the ranges of what a line asks for: BEARER of 5 bits, a NAS COUNT of 24, a header type 1 to 4, an NCC of 3 bits
 abbrev pub IsRequest : Request → Type 0
-IsRequest (Eea2 c) = c.inputs.bearer < 32
-IsRequest (Eia2 c) = c.inputs.bearer < 32
+IsRequest (Cipher eea c) = c.inputs.bearer < 32
+IsRequest (Mac eia c) = c.inputs.bearer < 32
 IsRequest (Nas n) = n.inputs.count < 0x1000000
 IsRequest (SealNas n) = (n.inputs.count < 0x1000000) × (1 ≤ n.header) × (n.header ≤ 4)
-IsRequest (ServiceRequest kasme count pdu) = count < 0x1000000
+IsRequest (ServiceRequest s) = s.count < 0x1000000
 IsRequest (Srb s) = (s.inputs.bearer < 32) × (length s.octets ≤ 8193)
 IsRequest (SealSrb s) = s.inputs.bearer < 32
 IsRequest (Drb d) = d.inputs.bearer < 32
@@ -34,15 +31,18 @@ IsRequest other = Unit {0}
 
 -- what a line gives
 abbrev pub gives : Request → List ℕ
+gives (Kasme k) = written (kasme_of k.ck k.ik k.plmn k.sqn_xor_ak)
 gives (Kenb kasme count) = written (kdf kasme (input.Kenb count))
 gives (Nh kasme sync) = written (kdf kasme (input.Nh sync))
 gives (Star key cell) = written (kdf key (input.Star cell.pci cell.earfcn))
 gives (Alg key a) = written (kdf key (input.Alg a.kind a.id))
-gives (Eea2 c) = written (cipher.eea2_of c.inputs.key c.inputs.count c.inputs.bearer c.inputs.dir c.text)
-gives (Eia2 c) = written (integrity.eia2_of c.inputs.key c.inputs.count c.inputs.bearer c.inputs.dir c.text)
+gives (Cipher eea c) = written (enciphered eea c.inputs c.text)
+gives (Mac eia c) = written (mac_under eia c.inputs c.text)
 gives (Nas n) = nas_line n.inputs n.pdu
-gives (SealNas n) = written (sealed (nas_keys n.inputs.kasme n.inputs.eea) n.header n.inputs.count n.inputs.dir n.text)
-gives (ServiceRequest kasme count pdu) = service_line (service_checked (nas_keys kasme Eea0).int count pdu)
+gives (AnyNas n) = any_nas_line n.inputs n.pdu
+gives (SealNas n) = written (nas_pdu (nas_keys n.inputs.kasme n.inputs.algorithms) n.header n.inputs.count n.inputs.dir n.text)
+gives (ServiceRequest s) = service_line s
+gives (AnyServiceRequest s) = any_service_line s
 gives (Srb s) = srb_line s.inputs s.octets
 gives (SealSrb s) = written (srb_pdu (srb_keys s.inputs) s.inputs.count s.inputs.dir s.octets)
 gives (Drb d) = drb_line (drb_keys d.inputs d.numbers) d.inputs.count d.inputs.dir d.octets
@@ -53,6 +53,10 @@ gives (Reach phone ncc cell) = reach_line phone ncc cell
 abbrev pub name_of : Field → List ℕ
 name_of field.Word = codes "word"
 name_of field.Fields = codes "fields"
+name_of field.Ck = codes "ck"
+name_of field.Ik = codes "ik"
+name_of field.Plmn = codes "plmn"
+name_of field.SqnXorAk = codes "sqn-xor-ak"
 name_of field.Kasme = codes "kasme"
 name_of field.Sync = codes "sync"
 name_of field.Key = codes "key"
@@ -65,6 +69,7 @@ name_of field.Pci = codes "pci"
 name_of field.Earfcn = codes "earfcn"
 name_of field.Text = codes "text"
 name_of field.Eea = codes "eea"
+name_of field.Eia = codes "eia"
 name_of field.Pdu = codes "pdu"
 name_of field.Bits = codes "bits"
 name_of field.NccInUse = codes "ncc-in-use"

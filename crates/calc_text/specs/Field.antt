@@ -1,12 +1,14 @@
 -- What a word of a line is as the value of a field, or which field is bad.
-use Rattle.std.specs.Prelude.{◌≡◌, ℕ, ◌==◌, ◌^◌, nat_lt, nat_le, ◌&&◌, if◌then◌else◌, Option, Some, None, Result, Ok, Err, List, [], length, codes}
+use Rattle.std.specs.Prelude.{◌≡◌, ℕ, ◌==◌, nat_lt, nat_le, ◌&&◌, if◌then◌else◌, Option, Some, None, Result, Ok, Err, List, [], ◌∷◌, length, codes}
 use Rattle.std.specs.Option.{ok_or, option_and_then}
 use Rattle.std.specs.Result.{result_ok}
 use Rattle.std.specs.Str.{bytes_eq}
 use Rattle.growth.specs.Growth.{WasRefused}
 use Rattle.hex.specs.Hex.{decode_of}
-use Rattle.alg_choice.specs.declared.algs.Eea.{Eea}
-use Rattle.alg_choice.specs.declared.algs.Eea.TheVariants.{Eea0, Eea2}
+use Rattle.alg_suite.specs.declared.ciphering.Ciphering.{Ciphering}
+use Rattle.alg_suite.specs.declared.ciphering.Ciphering.TheVariants.{Eea0, Eea1, Eea2, Eea3}
+use Rattle.alg_suite.specs.declared.integrity.Integrity.{Integrity}
+use Rattle.alg_suite.specs.declared.integrity.Integrity.TheVariants.{Eia0, Eia1, Eia2, Eia3}
 use Rattle.annex_a_keys.specs.Cell.{Place}
 use Rattle.pdu_guard.specs.declared.drb.Numbers.{Numbers}
 use Rattle.pdu_guard.specs.Drb.{numbers_of}
@@ -17,6 +19,7 @@ use Rattle.calc_text.specs.declared.fields.Field.{Field}
 use Rattle.calc_text.specs.declared.fields.LineFault.{LineFault}
 use Rattle.calc_text.specs.declared.fields.LineFault.TheVariants.{Bad, Memory}
 use Rattle.calc_text.specs.declared.fields.Field.TheVariants as field
+use Rattle.calc_text.specs.declared.requests.Algorithms.{Algorithms}
 
 -- the first bad field, in the order in which the fields stand
 infixl 10 ◌>>=◌
@@ -62,12 +65,36 @@ written_octets word =
 unfoldable pub octets_in : Field → List ℕ → Result (List ℕ) Field
 octets_in field word = ok_or (written_octets word) field
 
--- an encryption algorithm by its identity
-abbrev pub eea_numbered : ℕ → Option Eea
-eea_numbered n = if n == 0 then Some Eea0 else if n == 2 then Some Eea2 else None
+-- an encryption and an integrity algorithm by the digit of their identity, 0 to 3
+abbrev pub eea_of_digit : ℕ → Option Ciphering
+eea_of_digit digit =
+    if digit == 48 then Some Eea0 else if digit == 49 then Some Eea1
+    else if digit == 50 then Some Eea2 else if digit == 51 then Some Eea3 else None
 
-unfoldable pub eea_in : List ℕ → Result Eea Field
-eea_in word = ok_or (option_and_then eea_numbered (number_of word)) field.Eea
+abbrev pub eia_of_digit : ℕ → Option Integrity
+eia_of_digit digit =
+    if digit == 48 then Some Eia0 else if digit == 49 then Some Eia1
+    else if digit == 50 then Some Eia2 else if digit == 51 then Some Eia3 else None
+
+abbrev pub both_of : Option Ciphering → Option Integrity → Result Algorithms Field
+both_of (Some eea) (Some eia) = Ok (record { eea = eea; eia = eia })
+both_of eea eia = Err field.Eea
+
+-- both: E, where integrity is 128-EIA2, or E/I
+unfoldable pub algorithms_in : List ℕ → Result Algorithms Field
+algorithms_in (e ∷ []) = both_of (eea_of_digit e) (Some Eia2)
+algorithms_in (e ∷ slash ∷ i ∷ []) =
+    if slash == 47 then both_of (eea_of_digit e) (eia_of_digit i) else Err field.Eea
+algorithms_in word = Err field.Eea
+
+-- an integrity algorithm alone
+abbrev pub eia_by : Option Integrity → Result Integrity Field
+eia_by (Some eia) = Ok eia
+eia_by None = Err field.Eia
+
+unfoldable pub eia_in : List ℕ → Result Integrity Field
+eia_in (digit ∷ []) = eia_by (eia_of_digit digit)
+eia_in word = Err field.Eia
 
 -- the sequence numbers of a data radio bearer by their bits
 unfoldable pub numbers_in : List ℕ → Result Numbers Field

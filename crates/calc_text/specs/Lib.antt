@@ -1,4 +1,5 @@
 pub mod Field
+pub mod Ciphering
 pub mod Reading
 pub mod PduReading
 pub mod Answer

@@ -1,21 +1,18 @@
 -- What the lines of PDUs, and of a phone's chain, give.
-use Rattle.std.specs.Prelude.{ℕ, zero, suc, ◌==◌, if◌then◌else◌, Result, Ok, Err, List, [], ◌∷◌, ◌++◌, length, codes}
+use Rattle.std.specs.Prelude.{ℕ, ◌==◌, Bool, true, false, Option, Some, None, slice_index, if◌then◌else◌, Result, Ok, Err, List, [], ◌∷◌, ◌++◌, length, codes}
 use Rattle.std.specs.Fmt.{decimal}
 use Rattle.hex.specs.Hex.{encode_lower}
 use Rattle.hmac_kdf.specs.Kdf.{kdf}
 use Rattle.hmac_kdf.specs.declared.input.KdfInput.TheVariants as input
-use Rattle.alg_choice.specs.declared.algs.Eea.{Eea}
-use Rattle.alg_choice.specs.Algs.{identity_of, eia2_identity}
+use Rattle.alg_suite.specs.Suite.{eea_identity, eia_identity}
+use Rattle.alg_suite.specs.declared.integrity.Integrity.{Integrity}
 use Rattle.annex_a_keys.specs.Cell.{Place}
 use Rattle.annex_a_keys.specs.AlgType.{distinguisher}
 use Rattle.annex_a_keys.specs.declared.alg_type.AlgType.TheVariants.{NasEnc, NasInt, RrcEnc, RrcInt, UpEnc}
 use Rattle.key_model.specs.Reading.{octet_reading}
 use Rattle.key_model.specs.HandoverLines.{nh_after, phone_line, steps_to}
 use Rattle.rec_base.specs.declared.uses.Dir.{Dir}
-use Rattle.nas_guard.specs.Keys.{Keys}
-use Rattle.nas_guard.specs.Seal.{sent_text}
-use Rattle.nas_guard.specs.Open.{header_in, opened, sent_in}
-use Rattle.nas_guard.specs.declared.opening.Opened.{Opened}
+use Rattle.nas_guard.specs.Open.{header_in, sent_in}
 use Rattle.nas_guard.specs.declared.opening.OpenFault.{OpenFault}
 use Rattle.nas_guard.specs.declared.opening.OpenFault.TheVariants as nas_fault
 use Rattle.pdcp_guard.specs.declared.pdus.PdcpOpened.{PdcpOpened}
@@ -27,10 +24,19 @@ use Rattle.pdu_guard.specs.declared.phone.Phone.{Phone}
 use Rattle.pdu_guard.specs.declared.short_macs.ServiceFault.{ServiceFault}
 use Rattle.pdu_guard.specs.declared.short_macs.ServiceFault.TheVariants as service_fault
 use Rattle.pdu_guard.specs.declared.srb.SrbKeys.{SrbKeys}
+use Rattle.pdu_guard.specs.declared.nas.NasHead.{NasHead}
+use Rattle.pdu_guard.specs.declared.nas.NasKeys.{NasKeys}
+use Rattle.pdu_guard.specs.declared.short_macs.ServiceFound.{ServiceFound}
+use Rattle.pdu_guard.specs.Checks.{is_checked}
 use Rattle.pdu_guard.specs.Drb.{drb_pdu_opened}
+use Rattle.pdu_guard.specs.Nas.{NasOpening, nas_head_of, nas_opened, nas_sent}
+use Rattle.pdu_guard.specs.Search.{nas_search, service_search}
+use Rattle.pdu_guard.specs.ShortMacs.{service_checked, service_first}
 use Rattle.pdu_guard.specs.Phone.{keys_in}
-use Rattle.pdu_guard.specs.Srb.{srb_pdu_opened, srb_pdu_text}
+use Rattle.pdu_guard.specs.Srb.{SrbOpening, srb_pdu_opened, srb_pdu_text}
+use Rattle.calc_text.specs.declared.requests.Algorithms.{Algorithms}
 use Rattle.calc_text.specs.declared.requests.NasInputs.{NasInputs}
+use Rattle.calc_text.specs.declared.requests.ServicePdu.{ServicePdu}
 use Rattle.calc_text.specs.declared.requests.BearerInputs.{BearerInputs}
 
 -- octets in hex digits, or `-` for none
@@ -38,37 +44,47 @@ abbrev pub written : List ℕ → List ℕ
 written octets = if length octets == 0 then codes "-" else encode_lower octets
 
 -- the keys of NAS, of a signalling and of a data radio bearer (TS 33.401 6.2 and A.7)
-abbrev pub nas_keys : List ℕ → Eea → Keys (List ℕ)
-nas_keys kasme eea = record {
-  enc = kdf kasme (input.Alg (distinguisher NasEnc) (identity_of eea));
-  int = kdf kasme (input.Alg (distinguisher NasInt) eia2_identity);
-  algs = record { eea = eea };
+abbrev pub nas_int : List ℕ → Integrity → List ℕ
+nas_int kasme eia = kdf kasme (input.Alg (distinguisher NasInt) (eia_identity eia))
+
+abbrev pub nas_keys : List ℕ → Algorithms → NasKeys
+nas_keys kasme algorithms = record {
+  enc = kdf kasme (input.Alg (distinguisher NasEnc) (eea_identity algorithms.eea));
+  int = nas_int kasme algorithms.eia;
+  eea = algorithms.eea;
+  eia = algorithms.eia;
 }
 
 abbrev pub srb_keys : BearerInputs → SrbKeys
 srb_keys i = record {
-  enc = kdf i.kenb (input.Alg (distinguisher RrcEnc) (identity_of i.eea));
-  int = kdf i.kenb (input.Alg (distinguisher RrcInt) eia2_identity);
-  eea = i.eea;
+  enc = kdf i.kenb (input.Alg (distinguisher RrcEnc) (eea_identity i.algorithms.eea));
+  int = kdf i.kenb (input.Alg (distinguisher RrcInt) (eia_identity i.algorithms.eia));
+  eea = i.algorithms.eea;
+  eia = i.algorithms.eia;
   bearer = i.bearer;
 }
 
 abbrev pub drb_keys : BearerInputs → Numbers → DrbKeys
 drb_keys i numbers = record {
-  enc = kdf i.kenb (input.Alg (distinguisher UpEnc) (identity_of i.eea));
-  eea = i.eea;
+  enc = kdf i.kenb (input.Alg (distinguisher UpEnc) (eea_identity i.algorithms.eea));
+  eea = i.algorithms.eea;
   bearer = i.bearer;
   numbers = numbers;
 }
 
+-- where nothing was checked, under EIA0, the line says so
+abbrev pub mark : Bool → List ℕ
+mark true = []
+mark false = codes " unchecked"
+
 -- a PDU that opens: its COUNT and its text
-unfoldable pub opens_line : ℕ → List ℕ → List ℕ
-opens_line count text = codes "opens " ++ (decimal count ++ (codes " " ++ written text))
+unfoldable pub opens_line : ℕ → List ℕ → Bool → List ℕ
+opens_line count text checked = codes "opens " ++ (decimal count ++ (codes " " ++ (written text ++ mark checked)))
 
 -- a NAS message that opens: its security header type before
-unfoldable pub nas_opens_line : ℕ → ℕ → List ℕ → List ℕ
-nas_opens_line header count text =
-    codes "opens " ++ (decimal header ++ (codes " " ++ (decimal count ++ (codes " " ++ written text))))
+unfoldable pub nas_opens_line : ℕ → ℕ → List ℕ → Bool → List ℕ
+nas_opens_line header count text checked =
+    codes "opens " ++ (decimal header ++ (codes " " ++ (decimal count ++ (codes " " ++ (written text ++ mark checked)))))
 
 -- a MAC that differs: the COUNT at which it was computed, both MACs, and the text at that COUNT all the same
 unfoldable pub mac_fails_line : ℕ → List ℕ → List ℕ → List ℕ → List ℕ
@@ -86,35 +102,68 @@ short_line = codes "short"
 abbrev pub spent_line : List ℕ
 spent_line = codes "count spent"
 
+-- no COUNT has a MAC that is right
+abbrev pub no_count_line : List ℕ
+no_count_line = codes "no count"
+
+-- a NAS message that does not open
+abbrev pub nas_fault_line : NasKeys → Dir → List ℕ → OpenFault → List ℕ
+nas_fault_line keys dir pdu nas_fault.Short = short_line
+nas_fault_line keys dir pdu (nas_fault.BadHeader octet) = bad_header_line octet
+nas_fault_line keys dir pdu nas_fault.CountSpent = spent_line
+nas_fault_line keys dir pdu (nas_fault.MacFails count wanted got) =
+    mac_fails_line count wanted got (nas_sent keys (header_in pdu) count dir (sent_in pdu))
+
 -- a NAS message
-abbrev pub nas_answer : Keys (List ℕ) → Dir → List ℕ → Result Opened OpenFault → List ℕ
-nas_answer keys dir pdu (Ok o) = nas_opens_line o.header o.count o.text
-nas_answer keys dir pdu (Err nas_fault.Short) = short_line
-nas_answer keys dir pdu (Err (nas_fault.BadHeader octet)) = bad_header_line octet
-nas_answer keys dir pdu (Err nas_fault.CountSpent) = spent_line
-nas_answer keys dir pdu (Err (nas_fault.MacFails count wanted got)) =
-    mac_fails_line count wanted got (sent_text keys (header_in pdu) count dir (sent_in pdu))
+abbrev pub nas_answer : NasKeys → Dir → List ℕ → Result NasOpening OpenFault → List ℕ
+nas_answer keys dir pdu (Ok o) = nas_opens_line o.header o.count o.text o.checked
+nas_answer keys dir pdu (Err fault) = nas_fault_line keys dir pdu fault
 
 abbrev pub nas_line : NasInputs → List ℕ → List ℕ
-nas_line i pdu = let keys = nas_keys i.kasme i.eea in nas_answer keys i.dir pdu (opened keys i.count i.dir pdu)
+nas_line i pdu = let keys = nas_keys i.kasme i.algorithms in nas_answer keys i.dir pdu (nas_opened keys i.count i.dir pdu)
+
+-- a NAS message at the least COUNT at which its MAC is right, of all that have its sequence number
+abbrev pub nas_at : NasKeys → ℕ → Dir → List ℕ → Option ℕ → List ℕ
+nas_at keys header dir pdu (Some count) = nas_opens_line header count (nas_sent keys header count dir (sent_in pdu)) (is_checked keys.eia)
+nas_at keys header dir pdu None = no_count_line
+
+abbrev pub any_nas_answer : NasKeys → Dir → List ℕ → Result NasHead OpenFault → List ℕ
+any_nas_answer keys dir pdu (Ok head) = nas_at keys head.header dir pdu (nas_search keys dir pdu)
+any_nas_answer keys dir pdu (Err fault) = nas_fault_line keys dir pdu fault
+
+abbrev pub any_nas_line : NasInputs → List ℕ → List ℕ
+any_nas_line i pdu = any_nas_answer (nas_keys i.kasme i.algorithms) i.dir pdu (nas_head_of 0 pdu)
 
 -- a Service Request: it has no text
-unfoldable pub count_line : ℕ → List ℕ
-count_line count = codes "opens " ++ decimal count
+unfoldable pub count_line : ℕ → Bool → List ℕ
+count_line count checked = codes "opens " ++ (decimal count ++ mark checked)
 
 unfoldable pub short_mac_fails_line : ℕ → List ℕ → List ℕ → List ℕ
 short_mac_fails_line count wanted got =
     codes "mac fails " ++ (decimal count ++ (codes " wanted " ++ (encode_lower wanted ++ (codes " got " ++ encode_lower got))))
 
-abbrev pub service_line : Result ℕ ServiceFault → List ℕ
-service_line (Ok count) = count_line count
-service_line (Err (service_fault.BadHeader octet)) = bad_header_line octet
-service_line (Err service_fault.CountSpent) = spent_line
-service_line (Err (service_fault.MacFails count wanted got)) = short_mac_fails_line count wanted got
+abbrev pub service_answer : Result ServiceFound ServiceFault → List ℕ
+service_answer (Ok found) = count_line found.count found.checked
+service_answer (Err (service_fault.BadHeader octet)) = bad_header_line octet
+service_answer (Err service_fault.CountSpent) = spent_line
+service_answer (Err (service_fault.MacFails count wanted got)) = short_mac_fails_line count wanted got
+
+abbrev pub service_line : ServicePdu → List ℕ
+service_line s = service_answer (service_checked s.eia (nas_int s.kasme s.eia) s.count s.pdu)
+
+-- a Service Request at the least COUNT at which its short MAC is right, of all that have its 5 bits
+abbrev pub service_at : Integrity → Option ℕ → List ℕ
+service_at eia (Some count) = count_line count (is_checked eia)
+service_at eia None = no_count_line
+
+abbrev pub any_service_line : ServicePdu → List ℕ
+any_service_line s =
+    if slice_index s.pdu 0 == service_first then service_at s.eia (service_search s.eia (nas_int s.kasme s.eia) s.pdu)
+    else bad_header_line (slice_index s.pdu 0)
 
 -- a PDU of a signalling radio bearer
-abbrev pub srb_answer : SrbKeys → Dir → List ℕ → Result PdcpOpened PdcpFault → List ℕ
-srb_answer keys dir pdu (Ok o) = opens_line o.count o.text
+abbrev pub srb_answer : SrbKeys → Dir → List ℕ → Result SrbOpening PdcpFault → List ℕ
+srb_answer keys dir pdu (Ok o) = opens_line o.count o.text o.checked
 srb_answer keys dir pdu (Err pdcp_fault.Short) = short_line
 srb_answer keys dir pdu (Err (pdcp_fault.BadHeader octet)) = bad_header_line octet
 srb_answer keys dir pdu (Err pdcp_fault.CountSpent) = spent_line
@@ -126,7 +175,7 @@ srb_line i pdu = srb_answer (srb_keys i) i.dir pdu (srb_pdu_opened (srb_keys i) 
 
 -- a PDU of a data radio bearer, which has no MAC
 abbrev pub drb_answer : Result PdcpOpened PdcpFault → List ℕ
-drb_answer (Ok o) = opens_line o.count o.text
+drb_answer (Ok o) = opens_line o.count o.text true
 drb_answer (Err pdcp_fault.Short) = short_line
 drb_answer (Err (pdcp_fault.BadHeader octet)) = bad_header_line octet
 drb_answer (Err pdcp_fault.CountSpent) = spent_line

@@ -1,5 +1,5 @@
 -- The lines of PDUs, and of a phone's chain.
-use Rattle.std.specs.Prelude.{ℕ, ◌^◌, if◌then◌else◌, Result, Ok, Err, List, [], ◌∷◌, codes}
+use Rattle.std.specs.Prelude.{ℕ, if◌then◌else◌, Result, Ok, Err, List, [], ◌∷◌, codes}
 use Rattle.std.specs.Str.{bytes_eq}
 use Rattle.pdu_guard.specs.declared.phone.Phone.{Phone}
 use Rattle.calc_text.specs.declared.fields.Field.{Field}
@@ -10,18 +10,21 @@ use Rattle.calc_text.specs.declared.requests.NasText.{NasText}
 use Rattle.calc_text.specs.declared.requests.BearerInputs.{BearerInputs}
 use Rattle.calc_text.specs.declared.requests.SrbOctets.{SrbOctets}
 use Rattle.calc_text.specs.declared.requests.DrbOctets.{DrbOctets}
+use Rattle.alg_suite.specs.declared.integrity.Integrity.{Integrity}
+use Rattle.alg_suite.specs.declared.integrity.Integrity.TheVariants.{Eia2}
+use Rattle.calc_text.specs.declared.requests.ServicePdu.{ServicePdu}
 use Rattle.calc_text.specs.declared.requests.Request.{Request}
-use Rattle.calc_text.specs.declared.requests.Request.TheVariants.{Nas, SealNas, ServiceRequest, Srb, SealSrb, Drb, SealDrb, Reach}
-use Rattle.calc_text.specs.Field.{◌>>=◌, key_in, number_in, cell_in, direction_in, eea_in, numbers_in, octets_in, few_octets_in}
+use Rattle.calc_text.specs.declared.requests.Request.TheVariants.{Nas, AnyNas, SealNas, ServiceRequest, AnyServiceRequest, Srb, SealSrb, Drb, SealDrb, Reach}
+use Rattle.calc_text.specs.Field.{◌>>=◌, key_in, number_in, cell_in, direction_in, algorithms_in, eia_in, numbers_in, octets_in, few_octets_in}
 
 -- what protects a NAS message; a NAS COUNT has 24 bits (TS 24.301 4.4.3.1)
 unfoldable pub nas_inputs_of : List ℕ → List ℕ → List ℕ → List ℕ → Result NasInputs Field
 nas_inputs_of kasme eea count direction = do
   k ← key_in 32 field.Kasme kasme
-  e ← eea_in eea
+  e ← algorithms_in eea
   c ← number_in 0 0xffffff field.Count count
   d ← direction_in direction
-  Ok (record { kasme = k; eea = e; count = c; dir = d })
+  Ok (record { kasme = k; algorithms = e; count = c; dir = d })
 
 unfoldable pub nas_pdu_of : List ℕ → List ℕ → List ℕ → List ℕ → List ℕ → Result NasPdu Field
 nas_pdu_of kasme eea count direction pdu = do
@@ -41,11 +44,11 @@ nas_text_of kasme eea count direction type text = do
 unfoldable pub bearer_inputs_of : List ℕ → List ℕ → List ℕ → List ℕ → List ℕ → Result BearerInputs Field
 bearer_inputs_of kenb eea count bearer direction = do
   k ← key_in 32 field.Key kenb
-  e ← eea_in eea
+  e ← algorithms_in eea
   c ← number_in 0 0xffffffff field.Count count
   b ← number_in 0 31 field.Bearer bearer
   d ← direction_in direction
-  Ok (record { kenb = k; eea = e; count = c; bearer = b; dir = d })
+  Ok (record { kenb = k; algorithms = e; count = c; bearer = b; dir = d })
 
 -- octets of a signalling radio bearer, so many at the most
 unfoldable pub srb_octets_of : ℕ → Field → List ℕ → List ℕ → List ℕ → List ℕ → List ℕ → List ℕ → Result SrbOctets Field
@@ -71,7 +74,10 @@ phone_of kasme key own sync = do
   Ok (record { root = k; active = a; sync = s; ncc = n })
 
 unfoldable pub nas_of : List (List ℕ) → Result Request Field
-nas_of (kasme ∷ eea ∷ count ∷ direction ∷ pdu ∷ []) = nas_pdu_of kasme eea count direction pdu >>= λ n. Ok (Nas n)
+nas_of (kasme ∷ eea ∷ count ∷ direction ∷ pdu ∷ []) =
+    if bytes_eq count (codes "any")
+    then (nas_pdu_of kasme eea (codes "0") direction pdu >>= λ n. Ok (AnyNas n))
+    else nas_pdu_of kasme eea count direction pdu >>= λ n. Ok (Nas n)
 nas_of fields = Err field.Fields
 
 unfoldable pub seal_nas_of : List (List ℕ) → Result Request Field
@@ -79,15 +85,25 @@ seal_nas_of (kasme ∷ eea ∷ count ∷ direction ∷ type ∷ text ∷ []) = n
 seal_nas_of fields = Err field.Fields
 
 -- a Service Request has four octets (TS 24.301 8.2.25)
-unfoldable pub service_of : List ℕ → List ℕ → List ℕ → Result Request Field
-service_of kasme count pdu = do
+unfoldable pub service_pdu_of : Result Integrity Field → List ℕ → List ℕ → List ℕ → Result ServicePdu Field
+service_pdu_of eia kasme count pdu = do
   k ← key_in 32 field.Kasme kasme
   c ← number_in 0 0xffffff field.Count count
   p ← key_in 4 field.Pdu pdu
-  Ok (ServiceRequest k c p)
+  i ← eia
+  Ok (record { kasme = k; eia = i; count = c; pdu = p })
 
+-- `any` in place of a COUNT
+unfoldable pub service_of : Result Integrity Field → List ℕ → List ℕ → List ℕ → Result Request Field
+service_of eia kasme count pdu =
+    if bytes_eq count (codes "any")
+    then (service_pdu_of eia kasme (codes "0") pdu >>= λ s. Ok (AnyServiceRequest s))
+    else service_pdu_of eia kasme count pdu >>= λ s. Ok (ServiceRequest s)
+
+-- under 128-EIA2, or under the algorithm of a fourth field
 unfoldable pub service_request_of : List (List ℕ) → Result Request Field
-service_request_of (kasme ∷ count ∷ pdu ∷ []) = service_of kasme count pdu
+service_request_of (kasme ∷ count ∷ pdu ∷ []) = service_of (Ok Eia2) kasme count pdu
+service_request_of (kasme ∷ count ∷ pdu ∷ eia ∷ []) = service_of (eia_in eia) kasme count pdu
 service_request_of fields = Err field.Fields
 
 -- an SDU has at most 8,188 octets, and its PDU five more (TS 36.323 4.3.1 and 6.2.2)

@@ -1,20 +1,20 @@
 ghost use Rattle.std.specs.Prelude.{◌≡◌, ◌<◌, IfOk, OnErr};
 ghost use Rattle.std.specs.String.{string_bytes};
 ghost use Rattle.growth.specs.Growth.{WasRefused};
-ghost use Rattle.cmac_eia2.specs.Eia2.{eia2_of};
-ghost use Rattle.ctr_eea2.specs.Eea2.{eea2_of};
+ghost use Rattle.calc_text.specs.Ciphering.{enciphered, mac_under};
 ghost use Rattle.calc_text.specs.Answer.{IsRequest, gives, bad_text, line, is_silent, answer_to};
 ghost use Rattle.calc_text.specs.PduAnswer.{written};
 
+use crate::ciphering::mac_under;
 use crate::fields::{Field, LineFault};
+use crate::nas_answering::{any_nas, any_service_request, nas, sealed_nas, service_request};
 use crate::octet_texts::written;
-use crate::pdu_answering::{
-    drb, nas, reached, sealed_drb, sealed_nas, sealed_srb, service_request, srb,
-};
-use crate::requests::{Ciphering, Inputs, Request};
+use crate::pdu_answering::{drb, reached, sealed_drb, sealed_srb, srb};
+use crate::requests::{KeyedText, Request};
+use alg_suite::{Ciphering, Integrity};
 use annex_a_keys::{Kasme, Kenb, Nh};
-use cmac_eia2::eia2;
 use hmac_kdf::{KdfInput, kdf};
+use kasme_kdf::kasme;
 use std::alloc::{AllocError, Global};
 
 /// The answer to a line.
@@ -77,6 +77,7 @@ fn given(alloc: Global, request: Request) -> Result<String, AllocError>
     ensures refused { OnErr result WasRefused }
 {
     match request {
+        Request::Kasme(k) => written(alloc, &kasme(&k.ck, &k.ik, &k.plmn, &k.sqn_xor_ak)),
         Request::Kenb { kasme, count } => {
             written(alloc, &Kasme::of_octets(kasme).kenb(count).0.octets())
         }
@@ -93,11 +94,13 @@ fn given(alloc: Global, request: Request) -> Result<String, AllocError>
             written(alloc, &Kenb::of_octets(key).star(&cell).0.octets())
         }
         Request::Alg { key, alg } => written(alloc, &kdf(&key, &KdfInput::Alg(alg.kind, alg.id))),
-        Request::Eea2(taken) => ciphered(alloc, taken),
-        Request::Eia2(taken) => mac(alloc, &taken),
+        Request::Cipher(eea, taken) => ciphered(alloc, eea, taken),
+        Request::Mac(eia, taken) => mac(alloc, eia, &taken),
         Request::Nas(n) => nas(alloc, &n),
+        Request::AnyNas(n) => any_nas(alloc, &n),
         Request::SealNas(n) => sealed_nas(alloc, &n),
-        Request::ServiceRequest { kasme, count, pdu } => service_request(alloc, kasme, count, pdu),
+        Request::ServiceRequest(s) => service_request(alloc, &s),
+        Request::AnyServiceRequest(s) => any_service_request(alloc, &s),
         Request::Srb(s) => srb(alloc, &s),
         Request::SealSrb(s) => sealed_srb(alloc, &s),
         Request::Drb(d) => drb(alloc, &d),
@@ -107,29 +110,23 @@ fn given(alloc: Global, request: Request) -> Result<String, AllocError>
 }
 
 // A text enciphered or deciphered.
-fn ciphered(alloc: Global, taken: Ciphering) -> Result<String, AllocError>
+fn ciphered(alloc: Global, eea: Ciphering, taken: KeyedText) -> Result<String, AllocError>
     requires { taken.inputs.bearer < 32 }
-    ensures line { IfOk result (λ line. string_bytes line ≡ written (eea2_of taken.inputs.key taken.inputs.count taken.inputs.bearer taken.inputs.dir taken.text)) }
+    ensures line { IfOk result (λ line. string_bytes line ≡ written (enciphered eea taken.inputs taken.text)) }
     ensures refused { OnErr result WasRefused }
 {
-    let Ciphering { inputs, mut text } = taken;
-    text.cipher(&inputs);
+    let KeyedText { inputs, mut text } = taken;
+    text.cipher(eea, &inputs);
     written(alloc, text.as_slice())
 }
 
 // The MAC of a text.
-fn mac(alloc: Global, taken: &Ciphering) -> Result<String, AllocError>
+fn mac(alloc: Global, eia: Integrity, taken: &KeyedText) -> Result<String, AllocError>
     requires { taken.now.inputs.bearer < 32 }
-    ensures line { IfOk result (λ line. string_bytes line ≡ written (eia2_of taken.now.inputs.key taken.now.inputs.count taken.now.inputs.bearer taken.now.inputs.dir taken.now.text)) }
+    ensures line { IfOk result (λ line. string_bytes line ≡ written (mac_under eia taken.now.inputs taken.now.text)) }
     ensures refused { OnErr result WasRefused }
 {
-    let Inputs {
-        key,
-        count,
-        bearer,
-        dir,
-    } = taken.inputs;
-    let mac = eia2(&key, count, bearer, dir, taken.text.as_slice());
+    let mac = mac_under(eia, &taken.inputs, taken.text.as_slice());
     written(alloc, &mac)
 }
 

@@ -1,7 +1,8 @@
 ghost use Rattle.std.specs.Prelude.{◌≡◌, ◌≤◌, IfOk};
-ghost use Rattle.calc_text.specs.Field.{key_in, number_in, cell_in, direction_in, eea_in, numbers_in};
+ghost use Rattle.calc_text.specs.Field.{key_in, number_in, cell_in, direction_in, algorithms_in, both_of, eea_of_digit, eia_in, eia_of_digit, numbers_in};
 
-use alg_choice::Eea;
+use crate::requests::Algorithms;
+use alg_suite::{Ciphering, Integrity};
 use annex_a_keys::{Cell, CellFault};
 use pdu_guard::Numbers;
 use rec_base::Dir;
@@ -15,6 +16,14 @@ pub enum Field {
     Word,
     /// There are more or fewer fields than the line has.
     Fields,
+    /// CK.
+    Ck,
+    /// IK.
+    Ik,
+    /// A PLMN identity.
+    Plmn,
+    /// SQN xor AK.
+    SqnXorAk,
     /// KASME.
     Kasme,
     /// The SYNC-input of an NH.
@@ -37,8 +46,10 @@ pub enum Field {
     Earfcn,
     /// A text.
     Text,
-    /// An EPS encryption algorithm, by its identity 0 or 2.
+    /// EPS algorithms: that of encryption by its identity, 0 to 3, or also that of integrity behind a slash.
     Eea,
+    /// An EPS integrity algorithm, by its identity 0 to 3.
+    Eia,
     /// A PDU.
     Pdu,
     /// The bits of a sequence number.
@@ -59,6 +70,10 @@ impl Field {
         match self {
             Field::Word => "word",
             Field::Fields => "fields",
+            Field::Ck => "ck",
+            Field::Ik => "ik",
+            Field::Plmn => "plmn",
+            Field::SqnXorAk => "sqn-xor-ak",
             Field::Kasme => "kasme",
             Field::Sync => "sync",
             Field::Key => "key",
@@ -71,6 +86,7 @@ impl Field {
             Field::Earfcn => "earfcn",
             Field::Text => "text",
             Field::Eea => "eea",
+            Field::Eia => "eia",
             Field::Pdu => "pdu",
             Field::Bits => "bits",
             Field::NccInUse => "ncc-in-use",
@@ -158,15 +174,65 @@ pub(crate) fn direction(word: &[u8]) -> Result<Dir, Field>
     Err(Field::Direction)
 }
 
-// An encryption algorithm by its identity.
-#[tactic(auto, unfolding(crate::specs::Field::eea_in))]
-pub(crate) fn eea(word: &[u8]) -> Result<Eea, Field>
-    ensures { result ≡ eea_in word.now }
+// The algorithms: E, where integrity is 128-EIA2, or E/I.
+#[tactic(auto, unfolding(crate::specs::Field::algorithms_in))]
+pub(crate) fn algorithms(word: &[u8]) -> Result<Algorithms, Field>
+    ensures { result ≡ algorithms_in word.now }
 {
-    match number(word) {
-        Some(0) => Ok(Eea::Eea0),
-        Some(2) => Ok(Eea::Eea2),
+    match word {
+        [e] => both(eea_of_digit(*e), Some(Integrity::Eia2)),
+        [e, slash, i] if *slash == b'/' => both(eea_of_digit(*e), eia_of_digit(*i)),
         _ => Err(Field::Eea),
+    }
+}
+
+// Both algorithms, where there are both.
+fn both(eea: Option<Ciphering>, eia: Option<Integrity>) -> Result<Algorithms, Field>
+    ensures { result ≡ both_of eea eia }
+{
+    match (eea, eia) {
+        (Some(eea), Some(eia)) => Ok(Algorithms { eea, eia }),
+        _ => Err(Field::Eea),
+    }
+}
+
+// An encryption algorithm by the digit of its identity.
+fn eea_of_digit(digit: u8) -> Option<Ciphering>
+    ensures { result ≡ eea_of_digit digit }
+{
+    match digit {
+        b'0' => Some(Ciphering::Eea0),
+        b'1' => Some(Ciphering::Eea1),
+        b'2' => Some(Ciphering::Eea2),
+        b'3' => Some(Ciphering::Eea3),
+        _ => None,
+    }
+}
+
+// An integrity algorithm by the digit of its identity.
+fn eia_of_digit(digit: u8) -> Option<Integrity>
+    ensures { result ≡ eia_of_digit digit }
+{
+    match digit {
+        b'0' => Some(Integrity::Eia0),
+        b'1' => Some(Integrity::Eia1),
+        b'2' => Some(Integrity::Eia2),
+        b'3' => Some(Integrity::Eia3),
+        _ => None,
+    }
+}
+
+// An integrity algorithm.
+#[tactic(auto, unfolding(crate::specs::Field::eia_in))]
+pub(crate) fn eia(word: &[u8]) -> Result<Integrity, Field>
+    ensures { result ≡ eia_in word.now }
+{
+    match word {
+        [digit] => match eia_of_digit(*digit) {
+            Some(eia) => Ok(eia),
+            None => Err(Field::Eia),
+        },
+        _ => Err(Field::Eia),
     }
 }
 

@@ -2,7 +2,10 @@
 #![tactic(auto)]
 
 mod answering;
+mod ciphering;
 mod fields;
+mod line_texts;
+mod nas_answering;
 mod octet_texts;
 mod pdu_answering;
 mod pdu_reading;
@@ -13,6 +16,6 @@ pub use answering::{Answer, answer_to};
 pub use fields::{Field, LineFault};
 pub use octet_texts::Octets;
 pub use requests::{
-    Algorithm, BearerInputs, Ciphering, DrbOctets, Inputs, NasInputs, NasPdu, NasText, Request,
-    SrbOctets,
+    Algorithm, Algorithms, BearerInputs, DrbOctets, Inputs, KeyedText, NasInputs, NasPdu, NasText,
+    Request, ServicePdu, SrbOctets, UsimKeys,
 };

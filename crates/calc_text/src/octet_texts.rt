@@ -1,13 +1,14 @@
 ghost use Rattle.std.specs.Prelude.{◌≡◌, ◌≤◌, ◌<◌, Ok, length, IfOk, IfErr, OnErr};
 ghost use Rattle.std.specs.String.{string_bytes};
 ghost use Rattle.growth.specs.Growth.{WasRefused};
-ghost use Rattle.ctr_eea2.specs.Eea2.{eea2_of};
+ghost use Rattle.calc_text.specs.Ciphering.{enciphered};
 ghost use Rattle.calc_text.specs.Field.{Refuses, octets_in, few_octets_in};
 ghost use Rattle.calc_text.specs.PduAnswer.{written};
 
+use crate::ciphering::encipher;
 use crate::fields::{Field, LineFault};
 use crate::requests::Inputs;
-use ctr_eea2::eea2;
+use alg_suite::Ciphering;
 use hex::FromHexError;
 use std::alloc::{AllocError, Global};
 use std::marker::Model;
@@ -67,18 +68,12 @@ impl Octets {
         Ok(octets)
     }
 
-    // The octets, enciphered or deciphered by 128-EEA2.
-    pub(crate) fn cipher(&mut self, inputs: &Inputs)
+    // The octets, enciphered or deciphered.
+    pub(crate) fn cipher(&mut self, eea: Ciphering, inputs: &Inputs)
         requires { inputs.now.bearer < 32 }
-        ensures { self.new ≡ eea2_of inputs.now.key inputs.now.count inputs.now.bearer inputs.now.dir self.old }
+        ensures { self.new ≡ enciphered eea inputs.now self.old }
     {
-        eea2(
-            &inputs.key,
-            inputs.count,
-            inputs.bearer,
-            inputs.dir,
-            self.octets.as_mut_slice(),
-        );
+        encipher(eea, inputs, self.octets.as_mut_slice());
     }
 
     // The octets as a slice.

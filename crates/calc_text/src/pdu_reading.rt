@@ -2,12 +2,15 @@
 ghost use Rattle.std.specs.Prelude.{◌≡◌, ◌≤◌, ◌<◌, Ok, map, length, IfOk, IfErr};
 ghost use Rattle.calc_text.specs.Answer.{IsRequest};
 ghost use Rattle.calc_text.specs.Field.{Refuses};
-ghost use Rattle.calc_text.specs.PduReading.{nas_inputs_of, nas_pdu_of, nas_text_of, bearer_inputs_of, srb_octets_of, drb_octets_of, phone_of, nas_of, seal_nas_of, service_of, service_request_of, srb_of, seal_srb_of, drb_of, seal_drb_of, reach_to, reach_of, pdu_named};
+ghost use Rattle.calc_text.specs.PduReading.{nas_inputs_of, nas_pdu_of, nas_text_of, bearer_inputs_of, srb_octets_of, drb_octets_of, phone_of, nas_of, seal_nas_of, service_pdu_of, service_of, service_request_of, srb_of, seal_srb_of, drb_of, seal_drb_of, reach_to, reach_of, pdu_named};
 
-use crate::fields::{Field, LineFault, cell, direction, eea, key, number_in, numbers};
+use crate::fields::{Field, LineFault, algorithms, cell, direction, eia, key, number_in, numbers};
 use crate::octet_texts::Octets;
 use crate::reading::or_bad;
-use crate::requests::{BearerInputs, DrbOctets, NasInputs, NasPdu, NasText, Request, SrbOctets};
+use crate::requests::{
+    BearerInputs, DrbOctets, NasInputs, NasPdu, NasText, Request, ServicePdu, SrbOctets,
+};
+use alg_suite::Integrity;
 use annex_a_keys::{Kasme, Kenb, Nh};
 use pdu_guard::Phone;
 use std::alloc::Global;
@@ -19,12 +22,12 @@ fn nas_inputs(kasme: &[u8], alg: &[u8], count: &[u8], dir: &[u8]) -> Result<NasI
     ensures count { IfOk result (λ inputs. inputs.count < 0x1000000) }
 {
     let kasme = key(Field::Kasme, kasme)?;
-    let eea = eea(alg)?;
+    let algorithms = algorithms(alg)?;
     let count = number_in(0, 0xff_ffff, Field::Count, count)?;
     let dir = direction(dir)?;
     Ok(NasInputs {
         kasme,
-        eea,
+        algorithms,
         count,
         dir,
     })
@@ -43,13 +46,13 @@ fn bearer_inputs(
     ensures bearer { IfOk result (λ inputs. inputs.bearer < 32) }
 {
     let kenb = key(Field::Key, kenb)?;
-    let eea = eea(alg)?;
+    let algorithms = algorithms(alg)?;
     let count = number_in(0, 0xffff_ffff, Field::Count, count)?;
     let bearer = number_in(0, 31, Field::Bearer, bearer)?;
     let dir = direction(dir)?;
     Ok(BearerInputs {
         kenb,
-        eea,
+        algorithms,
         count,
         bearer: bearer as u8,
         dir,
@@ -190,27 +193,57 @@ fn phone(kasme: &[u8], start: &[u8], own: &[u8], sync: &[u8]) -> Result<Phone, F
     })
 }
 
-// A Service Request.
+// A Service Request: under 128-EIA2, or under the algorithm of a fourth field.
 #[tactic(auto, unfolding(crate::specs::PduReading::service_request_of))]
 fn service_request(fields: &[&[u8]]) -> Result<Request, Field>
     ensures value { result ≡ service_request_of (map (λ word. word.now) fields.now) }
     ensures fits { IfOk result IsRequest }
 {
     match fields {
-        [kasme, count, pdu] => service(kasme, count, pdu),
+        [kasme, count, pdu] => service(Ok(Integrity::Eia2), kasme, count, pdu),
+        [kasme, count, pdu, word] => service(eia(word), kasme, count, pdu),
         _ => Err(Field::Fields),
     }
 }
 
 #[tactic(auto, unfolding(crate::specs::PduReading::service_of))]
-fn service(kasme: &[u8], count: &[u8], pdu: &[u8]) -> Result<Request, Field>
-    ensures value { result ≡ service_of kasme.now count.now pdu.now }
+fn service(
+    eia: Result<Integrity, Field>,
+    kasme: &[u8],
+    count: &[u8],
+    pdu: &[u8],
+) -> Result<Request, Field>
+    ensures value { result ≡ service_of eia kasme.now count.now pdu.now }
     ensures fits { IfOk result IsRequest }
+{
+    if count == b"any".as_slice() {
+        let taken = service_pdu(eia, kasme, b"0".as_slice(), pdu)?;
+        return Ok(Request::AnyServiceRequest(taken));
+    }
+    let taken = service_pdu(eia, kasme, count, pdu)?;
+    Ok(Request::ServiceRequest(taken))
+}
+
+#[tactic(auto, unfolding(crate::specs::PduReading::service_pdu_of))]
+fn service_pdu(
+    eia: Result<Integrity, Field>,
+    kasme: &[u8],
+    count: &[u8],
+    pdu: &[u8],
+) -> Result<ServicePdu, Field>
+    ensures value { result ≡ service_pdu_of eia kasme.now count.now pdu.now }
+    ensures count { IfOk result (λ s. s.count < 0x1000000) }
 {
     let kasme = key(Field::Kasme, kasme)?;
     let count = number_in(0, 0xff_ffff, Field::Count, count)?;
     let pdu = key(Field::Pdu, pdu)?;
-    Ok(Request::ServiceRequest { kasme, count, pdu })
+    let eia = eia?;
+    Ok(ServicePdu {
+        kasme,
+        eia,
+        count,
+        pdu,
+    })
 }
 
 // What a phone makes of a handover command.
@@ -259,6 +292,10 @@ fn nas(alloc: Global, fields: &[&[u8]]) -> Result<Request, LineFault>
 {
     match fields {
         [kasme, eea, count, dir, pdu] => {
+            if *count == b"any".as_slice() {
+                let taken = nas_pdu(alloc, kasme, eea, b"0".as_slice(), dir, pdu)?;
+                return Ok(Request::AnyNas(taken));
+            }
             let taken = nas_pdu(alloc, kasme, eea, count, dir, pdu)?;
             Ok(Request::Nas(taken))
         }

@@ -3,14 +3,44 @@ ghost use Rattle.std.specs.Prelude.{◌≡◌, ◌<◌, Ok, map, IfOk, IfErr};
 ghost use Rattle.text_lines.specs.Words.{words_of};
 ghost use Rattle.calc_text.specs.Answer.{IsRequest};
 ghost use Rattle.calc_text.specs.Field.{Refuses};
-ghost use Rattle.calc_text.specs.Reading.{kenb_of, nh_of, star_of, alg_of, algorithm_of, inputs_of, ciphering_of, eea2_of, eia2_of, named, request_of};
+ghost use Rattle.calc_text.specs.Reading.{usim_keys_of, kasme_of, kenb_of, nh_of, star_of, alg_of, algorithm_of, inputs_of, keyed_text_of, cipher_of, mac_of, by_cipher, named, request_of};
 
 use crate::fields::{Field, LineFault, cell, direction, key, number_in};
 use crate::octet_texts::Octets;
 use crate::pdu_reading::pdu_named;
-use crate::requests::{Algorithm, Ciphering, Inputs, Request};
+use crate::requests::{Algorithm, Inputs, KeyedText, Request, UsimKeys};
+use alg_suite::{Ciphering, Integrity};
 use std::alloc::Global;
 use text_lines::all_words;
+
+// CK, IK, the PLMN identity and SQN xor AK.
+#[tactic(auto, unfolding(crate::specs::Reading::kasme_of))]
+fn kasme(fields: &[&[u8]]) -> Result<Request, Field>
+    ensures value { result ≡ kasme_of (map (λ word. word.now) fields.now) }
+    ensures fits { IfOk result IsRequest }
+{
+    let [ck, ik, plmn, sqn_xor_ak] = fields else {
+        return Err(Field::Fields);
+    };
+    let keys = usim_keys(ck, ik, plmn, sqn_xor_ak)?;
+    Ok(Request::Kasme(keys))
+}
+
+#[tactic(auto, unfolding(crate::specs::Reading::usim_keys_of))]
+fn usim_keys(ck: &[u8], ik: &[u8], plmn: &[u8], sqn_xor_ak: &[u8]) -> Result<UsimKeys, Field>
+    ensures { result ≡ usim_keys_of ck.now ik.now plmn.now sqn_xor_ak.now }
+{
+    let ck = key(Field::Ck, ck)?;
+    let ik = key(Field::Ik, ik)?;
+    let plmn = key(Field::Plmn, plmn)?;
+    let sqn_xor_ak = key(Field::SqnXorAk, sqn_xor_ak)?;
+    Ok(UsimKeys {
+        ck,
+        ik,
+        plmn,
+        sqn_xor_ak,
+    })
+}
 
 // KASME and an uplink NAS COUNT.
 #[tactic(auto, unfolding(crate::specs::Reading::kenb_of))]
@@ -99,59 +129,87 @@ fn inputs(start: &[u8], count: &[u8], bearer: &[u8], dir: &[u8]) -> Result<Input
     })
 }
 
-// What a cipher takes, and its text.
-#[tactic(auto, unfolding(crate::specs::Reading::ciphering_of))]
-fn ciphering(
+// A text, and what an algorithm takes beside it.
+#[tactic(auto, unfolding(crate::specs::Reading::keyed_text_of))]
+fn keyed_text(
     alloc: Global,
     key: &[u8],
     count: &[u8],
     bearer: &[u8],
     dir: &[u8],
     text: &[u8],
-) -> Result<Ciphering, LineFault>
-    ensures value { IfOk result (λ taken. ciphering_of key.now count.now bearer.now dir.now text.now ≡ Ok taken) }
-    ensures bad { IfErr result (λ fault. Refuses fault (ciphering_of key.now count.now bearer.now dir.now text.now)) }
+) -> Result<KeyedText, LineFault>
+    ensures value { IfOk result (λ taken. keyed_text_of key.now count.now bearer.now dir.now text.now ≡ Ok taken) }
+    ensures bad { IfErr result (λ fault. Refuses fault (keyed_text_of key.now count.now bearer.now dir.now text.now)) }
     ensures bearer { IfOk result (λ taken. taken.inputs.bearer < 32) }
 {
     match inputs(key, count, bearer, dir) {
         Ok(inputs) => {
             let text = Octets::read(alloc, Field::Text, text)?;
-            Ok(Ciphering { inputs, text })
+            Ok(KeyedText { inputs, text })
         }
         Err(field) => Err(LineFault::Bad(field)),
     }
 }
 
 // A text to encipher or decipher.
-#[tactic(auto, unfolding(crate::specs::Reading::eea2_of))]
-fn eea2(alloc: Global, fields: &[&[u8]]) -> Result<Request, LineFault>
-    ensures value { IfOk result (λ request. eea2_of (map (λ word. word.now) fields.now) ≡ Ok request) }
-    ensures bad { IfErr result (λ fault. Refuses fault (eea2_of (map (λ word. word.now) fields.now))) }
+#[tactic(auto, unfolding(crate::specs::Reading::cipher_of))]
+fn cipher(alloc: Global, eea: Ciphering, fields: &[&[u8]]) -> Result<Request, LineFault>
+    ensures value { IfOk result (λ request. cipher_of eea (map (λ word. word.now) fields.now) ≡ Ok request) }
+    ensures bad { IfErr result (λ fault. Refuses fault (cipher_of eea (map (λ word. word.now) fields.now))) }
     ensures fits { IfOk result IsRequest }
 {
     match fields {
         [key, count, bearer, dir, text] => {
-            let taken = ciphering(alloc, key, count, bearer, dir, text)?;
-            Ok(Request::Eea2(taken))
+            let taken = keyed_text(alloc, key, count, bearer, dir, text)?;
+            Ok(Request::Cipher(eea, taken))
         }
         _ => Err(LineFault::Bad(Field::Fields)),
     }
 }
 
 // A text whose MAC is asked for.
-#[tactic(auto, unfolding(crate::specs::Reading::eia2_of))]
-fn eia2(alloc: Global, fields: &[&[u8]]) -> Result<Request, LineFault>
-    ensures value { IfOk result (λ request. eia2_of (map (λ word. word.now) fields.now) ≡ Ok request) }
-    ensures bad { IfErr result (λ fault. Refuses fault (eia2_of (map (λ word. word.now) fields.now))) }
+#[tactic(auto, unfolding(crate::specs::Reading::mac_of))]
+fn mac(alloc: Global, eia: Integrity, fields: &[&[u8]]) -> Result<Request, LineFault>
+    ensures value { IfOk result (λ request. mac_of eia (map (λ word. word.now) fields.now) ≡ Ok request) }
+    ensures bad { IfErr result (λ fault. Refuses fault (mac_of eia (map (λ word. word.now) fields.now))) }
     ensures fits { IfOk result IsRequest }
 {
     match fields {
         [key, count, bearer, dir, text] => {
-            let taken = ciphering(alloc, key, count, bearer, dir, text)?;
-            Ok(Request::Eia2(taken))
+            let taken = keyed_text(alloc, key, count, bearer, dir, text)?;
+            Ok(Request::Mac(eia, taken))
         }
         _ => Err(LineFault::Bad(Field::Fields)),
     }
+}
+
+// The line of an algorithm.
+#[tactic(auto, unfolding(crate::specs::Reading::by_cipher))]
+fn by_cipher(alloc: Global, word: &[u8], fields: &[&[u8]]) -> Result<Request, LineFault>
+    ensures value { IfOk result (λ request. by_cipher word.now (map (λ word. word.now) fields.now) ≡ Ok request) }
+    ensures bad { IfErr result (λ fault. Refuses fault (by_cipher word.now (map (λ word. word.now) fields.now))) }
+    ensures fits { IfOk result IsRequest }
+{
+    if word == b"eea1".as_slice() {
+        return cipher(alloc, Ciphering::Eea1, fields);
+    }
+    if word == b"eea2".as_slice() {
+        return cipher(alloc, Ciphering::Eea2, fields);
+    }
+    if word == b"eea3".as_slice() {
+        return cipher(alloc, Ciphering::Eea3, fields);
+    }
+    if word == b"eia1".as_slice() {
+        return mac(alloc, Integrity::Eia1, fields);
+    }
+    if word == b"eia2".as_slice() {
+        return mac(alloc, Integrity::Eia2, fields);
+    }
+    if word == b"eia3".as_slice() {
+        return mac(alloc, Integrity::Eia3, fields);
+    }
+    pdu_named(alloc, word, fields)
 }
 
 // The line of this first word.
@@ -161,6 +219,9 @@ fn named(alloc: Global, word: &[u8], fields: &[&[u8]]) -> Result<Request, LineFa
     ensures bad { IfErr result (λ fault. Refuses fault (named word.now (map (λ word. word.now) fields.now))) }
     ensures fits { IfOk result IsRequest }
 {
+    if word == b"kasme".as_slice() {
+        return or_bad(kasme(fields));
+    }
     if word == b"kenb".as_slice() {
         return or_bad(kenb(fields));
     }
@@ -173,13 +234,7 @@ fn named(alloc: Global, word: &[u8], fields: &[&[u8]]) -> Result<Request, LineFa
     if word == b"alg".as_slice() {
         return or_bad(alg(fields));
     }
-    if word == b"eea2".as_slice() {
-        return eea2(alloc, fields);
-    }
-    if word == b"eia2".as_slice() {
-        return eia2(alloc, fields);
-    }
-    pdu_named(alloc, word, fields)
+    by_cipher(alloc, word, fields)
 }
 
 // A request, or the line's fault.
