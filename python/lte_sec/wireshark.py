@@ -12,9 +12,10 @@ def rows(trace: Trace) -> Iterator[str]:
     ue = 0
     for place, connection in enumerate(trace.connections, 1):
         eea, eia = connection.algorithms or (2, 2)
+        names = f"EEA{eea} and EIA{eia}{'' if connection.algorithms else ', which the trace does not tell'}"
         for frame, station, key in connection.keys:
             ue += 1
-            yield f"# UE id {ue}: connection {place}, from frame {frame} on at {station}: {trace.derivations.shown(key)}"
+            yield f"# UE id {ue}: connection {place}, from frame {frame} on at {station}: {trace.derivations.shown(key)}; {names}"
             yield row(trace.derivations, ue, key, eea, eia)
 
 
