@@ -15,6 +15,7 @@ from .terms import DOWN, NAS_ENCRYPTION, NAS_INTEGRITY, UP, Derivations
 GUTI = re.compile(rb"\x0b\xf6.{6}(.{4})", re.DOTALL)  # TS 24.301 9.9.3.12, with its length
 PLAIN, COMMAND, COMPLETE = 0, 3, 4  # security header types (TS 24.301 9.3.1)
 CIPHERED = (2, 4)
+COMPUTED = (2, 1, 3)  # the algorithms that are computed here, by identity, in the order in which they are tried (TS 33.401 Annex B)
 HEADERS = {0x5D: COMMAND, 0x5E: COMPLETE}  # the header types that these messages have (TS 24.301 5.4.3)
 WRAP, SHORT_WRAP = 256, 32  # of a sequence number, and of that of a Service Request
 LIMIT = 1 << 24
@@ -30,6 +31,11 @@ Later = Callable[[], Iterable[tuple[int, bytes] | bytes]]
 def estimate(least: int, low: int, wrap: int = WRAP) -> int:
     """The least COUNT from `least` on with these low bits."""
     return least + (low - least) % wrap
+
+
+def unchecked(eia: int) -> str:
+    """Why the MACs under an integrity algorithm are not judged: a receiver takes any under EIA0 (TS 33.401 B.0)."""
+    return "EIA0 checks nothing" if eia == 0 else f"128-EIA{eia} is not computed here"
 
 
 class NasBook:
@@ -50,16 +56,28 @@ class NasBook:
     # -- MACs and texts
 
     def mac(self, context: NasContext, direction: int, count: int, body: bytes) -> bytes:
-        key = self.derivations.nas_key(context.kasme, NAS_INTEGRITY, 2)
-        return self.derivations.calls.eia2(key, count, 0, direction, body)
+        eia = context.eia if context.eia in COMPUTED else 2
+        key = self.derivations.nas_key(context.kasme, NAS_INTEGRITY, eia)
+        return getattr(self.derivations.calls, f"eia{eia}")(key, count, 0, direction, body)
 
     def text(self, context: NasContext, direction: int, count: int, header: int, pdu: bytes) -> bytes | None:
         if header not in CIPHERED or context.eea == 0:
             return pdu[6:]
-        if context.eea != 2:
+        if context.eea not in COMPUTED:
             return None
-        key = self.derivations.nas_key(context.kasme, NAS_ENCRYPTION, 2)
-        return self.derivations.calls.eea2(key, count, 0, direction, pdu[6:])
+        key = self.derivations.nas_key(context.kasme, NAS_ENCRYPTION, context.eea)
+        return getattr(self.derivations.calls, f"eea{context.eea}")(key, count, 0, direction, pdu[6:])
+
+    def guesses(self, context: NasContext, direction: int, count: int, pdu: bytes) -> None:
+        """Sets the ciphering of a context whose Command the trace lacks: the one under which this text reads as EMM or ESM (9.2)."""
+        header = pdu[0] >> 4
+        if header not in CIPHERED:
+            return
+        for context.eea in (0, *COMPUTED):
+            plain = self.text(context, direction, count, header, pdu)
+            if plain and (plain[0] == 7 or plain[0] & 15 == 2) and len(plain) > 1:
+                return
+        context.eea = 2
 
     def counts(self, context: NasContext, direction: int, low: int) -> list[int]:
         """The COUNTs to try: the receiver's, then those of late messages, then those after messages that the trace lacks."""
@@ -118,9 +136,9 @@ class NasBook:
 
     def refused(self, context: NasContext, direction: int, pdu: bytes, count: int, note: str = "") -> NasSeen:
         """The finding for a message whose MAC is wrong at the COUNT that its receiver takes."""
-        header, judged = pdu[0] >> 4, context.eia == 2
+        header, judged = pdu[0] >> 4, context.eia in COMPUTED
         wanted = self.mac(context, direction, count, pdu[5:]).hex() if judged else ""
-        note = note if judged else f"128-EIA{context.eia} is not computed here"
+        note = note if judged else unchecked(context.eia)
         plain = self.text(context, direction, count, header, pdu)
         if not judged:
             context.next[direction] = max(context.next[direction], count + 1)
@@ -137,12 +155,13 @@ class NasBook:
         octet, ksi = (plain[2], plain[3] & 7) if len(plain) >= 4 else (0x22, None)
         eea, eia = octet >> 4 & 7, octet & 7
         fresh = [NasContext(kasme, eea, eia, ksi) for kasme in self.kasmes()]
-        context = next((one for one in fresh if eia == 2 and self.mac(one, DOWN, seq, pdu[5:]) == pdu[1:5]), None)
+        context = next((one for one in fresh if eia in COMPUTED and self.mac(one, DOWN, seq, pdu[5:]) == pdu[1:5]), None)
         old = self.contexts.get(context.kasme) if context else side.current
-        if old is not None and eia == 2:  # a context in use may go on under other algorithms: its COUNTs do too
-            count = self.opens(old, DOWN, pdu)
+        if old is not None and eia in COMPUTED:  # a context in use may go on under other algorithms: its COUNTs do too
+            renewed = replace(old, eea=eea, eia=eia, ksi=ksi)
+            count = self.opens(renewed, DOWN, pdu)
             if count is not None:
-                side.pending = replace(old, eea=eea, eia=eia, ksi=ksi)
+                side.pending = renewed
                 return self.found(side.pending, DOWN, pdu, count)
         if context is not None:
             side.pending, self.turn = context, context.kasme + 1
@@ -153,12 +172,12 @@ class NasBook:
             return self.nothing(DOWN, pdu)
         context.next[DOWN] = seq + 1
         seen = self.refused(context, DOWN, pdu, seq)
-        if context.eia == 2:  # what a message with a wrong MAC says of its context is not believed
-            context.ksi, context.eea = None, context.eea if context.eea == 0 else 2
+        if context.eia in COMPUTED:  # what a message with a wrong MAC says of its context is not believed
+            context.ksi, context.eea = None, context.eea if context.eea == 0 else context.eia
         return seen
 
     def evidence(self, context: NasContext, later: Later) -> bool:
-        """Whether what comes later in the connection stands under this new context; a MAC that is right tells 128-EIA2."""
+        """Whether what comes later in the connection stands under this new context; a MAC that is right tells its algorithm."""
         for place, one in enumerate(later()):
             if place == AHEAD:
                 break
@@ -169,10 +188,18 @@ class NasBook:
             direction, pdu = one
             if len(pdu) >= 7 and pdu[0] >> 4 == COMMAND:
                 break
-            if len(pdu) >= 7 and pdu[0] & 15 == 7 and 1 <= pdu[0] >> 4 <= 4 and self.mac(context, direction, pdu[5], pdu[5:]) == pdu[1:5]:
-                context.eia = 2
-                return True
+            if len(pdu) >= 7 and pdu[0] & 15 == 7 and 1 <= pdu[0] >> 4 <= 4:
+                right = self.under(context, direction, pdu[5], pdu)
+                if right is not None:
+                    context.eia = right.eia
+                    return True
         return False
+
+    def under(self, context: NasContext, direction: int, count: int, pdu: bytes) -> NasContext | None:
+        """The context with the integrity algorithm under which the MAC of a message is right: its own first, then the others."""
+        order = sorted(COMPUTED, key=lambda eia: eia != context.eia)
+        tried = (replace(context, eia=eia) for eia in order)
+        return next((one for one in tried if self.mac(one, direction, count, pdu[5:]) == pdu[1:5]), None)
 
     def protected(self, side: NasSide, direction: int, pdu: bytes, later: Later) -> NasSeen:
         complete = direction == UP and pdu[0] >> 4 == COMPLETE
@@ -181,7 +208,7 @@ class NasBook:
         if not held:
             held = self.likely(side, direction, pdu)
         for context in held:
-            count = self.opens(context, direction, pdu) if context.eia == 2 else None
+            count = self.opens(context, direction, pdu) if context.eia in COMPUTED else None
             if count is not None:
                 seen = self.found(context, direction, pdu, count)
                 self.takes(side, context, complete, direction, count, True)
@@ -222,13 +249,11 @@ class NasBook:
         if right or known or side.missed >= PATIENCE:
             return [*right, *([known] if known else [])]
         for kasme in range(len(self.derivations.kasmes)):
-            context = NasContext(kasme)
             for count in range(pdu[5], COLD * WRAP, WRAP):
-                if self.mac(context, direction, count, pdu[5:]) == pdu[1:5]:
+                context = self.under(NasContext(kasme), direction, count, pdu)
+                if context is not None:
                     context.next[direction] = count
-                    ciphered = pdu[0] >> 4 in CIPHERED
-                    if ciphered and pdu[6:7] == b"\x07":
-                        context.eea = 0
+                    self.guesses(context, direction, count, pdu)
                     return [context]
         side.missed += 1
         return []
@@ -244,9 +269,9 @@ class NasBook:
     def uncommanded(self, pdu: bytes) -> NasContext | None:
         """The context of a Security Mode Complete whose Command the trace lacks."""
         for kasme in range(len(self.derivations.kasmes)):
-            context = NasContext(kasme)
-            if self.mac(context, UP, pdu[5], pdu[5:]) == pdu[1:5]:
-                context.eea = 0 if pdu[6:8] == b"\x07\x5e" else 2
+            context = self.under(NasContext(kasme), UP, pdu[5], pdu)
+            if context is not None:
+                self.guesses(context, UP, pdu[5], pdu)
                 return context
         return None
 
@@ -283,8 +308,8 @@ class NasBook:
         side.trigger = Trigger(context, count, right)
         note = self.accept(context, UP, count, pdu) if right else ""
         seen = NasSeen(UP, pdu[0] >> 4, "right" if right else "wrong", pdu[2:4].hex(), count, wanted.hex(), context.kasme, pdu, note)
-        if context.eia != 2:
-            seen.verdict, seen.note = "unknown", f"128-EIA{context.eia} is not computed here"
+        if context.eia not in COMPUTED:
+            seen.verdict, seen.note = "unknown", unchecked(context.eia)
         if context.ksi is not None and context.ksi != ksi and right:
             seen.ksi = (ksi, context.ksi)
         context.ksi = ksi if context.ksi is None else context.ksi

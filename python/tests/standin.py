@@ -4,6 +4,8 @@ from __future__ import annotations
 import functools
 import hmac
 
+from . import ciphers
+
 
 def _boxes() -> bytes:
     """The S-box of AES (FIPS 197 5.1.1)."""
@@ -93,6 +95,9 @@ class StandIn:
 
     def eia2(self, key: bytes, count: int, bearer: int, direction: int, text: bytes) -> bytes:
         return cmac(key, head(count, bearer, direction) + text)[:4]
+
+    eea1, eea3 = staticmethod(ciphers.eea1), staticmethod(ciphers.eea3)
+    eia1, eia3 = staticmethod(ciphers.eia1), staticmethod(ciphers.eia3)
 
 
 def cmac(key: bytes, text: bytes) -> bytes:

@@ -17,7 +17,7 @@ from lte_sec.reading import check
 from .standin import StandIn
 
 TRACES = Path(__file__).resolve().parents[2] / "examples" / "traces"
-NAMES = ("A", "B1-star-earfcn", "B2-nh-twice", "C")
+NAMES = ("A", "B1-star-earfcn", "B2-nh-twice", "C", "A-1-1", "C-3-3")
 TSHARK = shutil.which("tshark") is not None
 
 
