@@ -76,6 +76,15 @@ class Scenarios(unittest.TestCase):
         setup = tomllib.loads('phone = { caps = "a020" }\nnew = { deep = [{ "a b" = "c\\"d" }] }\n[core]\nfirst_ncc = 2\n[[station]]\nid = 0\ncells = [[1, 2]]\nheard = true\n')
         self.assertEqual(tomllib.loads(scenarios.setup_text(setup)), setup)
 
+    def test_a_table_may_go_over_lines(self) -> None:
+        octets = (EXAMPLES / "run/wrong-ksi.toml").read_bytes()
+        over = octets.replace(b'{ do = "smc" }', b'{\n do = "smc",\n }')
+        self.assertNotEqual(over, octets)
+        self.assertEqual(scenarios.read(over), scenarios.read(octets))
+        self.assertEqual(launched(given=over).stdout, launched(given=octets).stdout)
+        with self.assertRaises(scenarios.NoScenario):
+            scenarios.read(b"a = [")
+
     def test_a_scenario_is_run_as_it_stands(self) -> None:
         for name in ("run/ordinary", "run/key-change", "worked/no-record", "what-if/ten-handovers"):
             whole = study(name)
