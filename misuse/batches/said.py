@@ -37,11 +37,13 @@ class Verdict:
 
 @dataclasses.dataclass(frozen=True)
 class Line:
-    """What the prover says of one function: its open goals, which of them only lack a name, and whether nothing is open."""
+    """What the prover says of one function: its open goals, which of them only lack a name, what else it stands on that the prover
+    refuses, and whether nothing is open."""
 
     path: str
     goals: tuple[str, ...]
     nameless: frozenset[str]
+    lemmas: tuple[str, ...]
     holds: bool
     is_told: bool = True  # the prover came to a verdict
 
@@ -80,17 +82,18 @@ def line_of(crate: str, path: str, rest: str, errors: dict[tuple[str, str], list
     """What the rest of a function's line says. Only goals of its own are its goals: what it calls may have an edit too."""
     searched = [goal for piece in SEARCHED.findall(rest) for goal in re.findall(r"`([^`]+)`", piece)]
     own = Function(path.replace("::fn::", "::").removeprefix("fn::"))
-    refused, nameless = [], set()
+    refused, lemmas, nameless = [], [], set()
     for cited in STANDS_ON.findall(rest):
         module, _, goal = cited.replace(".", "::").rpartition("::")
         if not own.has(module):
+            lemmas.append(cited)
             continue
         refused.append(goal)
         said = errors.get((module, goal), [])
         if said and all(NAME_WENT.search(it) for it in said):
             nameless.add(goal)
     goals = tuple(dict.fromkeys([*searched, *refused]))
-    return Line(path, goals, frozenset(nameless), rest == "no holes", not NO_VERDICT.search(rest))
+    return Line(path, goals, frozenset(nameless), tuple(lemmas), rest == "no holes", not NO_VERDICT.search(rest))
 
 
 def first_complaint(text: str) -> str:
@@ -113,6 +116,8 @@ def judge(said: Said, functions: tuple[Function, ...], is_by_itself: bool) -> Ve
     for line in seen:
         if line.goals:
             return Verdict(Kind.WEAK, line.path, line.goals[0])
+        if line.lemmas and is_by_itself:
+            return Verdict(Kind.REFUSED, line.path, line.lemmas[0])
     if not all(it.is_told for it in seen):
         return Verdict(Kind.UNTRIED, named, "the prover came to a limit of its own")
     if all(it.holds for it in (said.lines if is_by_itself else own)):

@@ -39,6 +39,11 @@ class Refused(unittest.TestCase):
         self.assertEqual(judged("callers.out", "ladder::Ladder::add").goal, "returns-in-Some-2-clause-coincidence")
 
 
+    def test_table_is_refused_by_a_lemma_that_functions_stand_on(self) -> None:
+        found = judge(sample("lemma_refused.out"), (), is_by_itself=True)
+        self.assertEqual(found, Verdict(Kind.REFUSED, "round_tables::mixed_column", "SBoxTable.all_entries"))
+
+
 class NotRefused(unittest.TestCase):
     """What fails the gate."""
 
