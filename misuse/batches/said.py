@@ -9,6 +9,7 @@ FUNCTION = re.compile(r"fn (\w+)::(\S+): (.*)")
 SEARCHED = re.compile(r"`search` did not prove ((?:`[^`]+`(?:, | and )?)+)")
 STANDS_ON = re.compile(r"`Rattle\.\w+\.proofs\.([^`]+)`")
 IN_PROOF = re.compile(r"(?:\./)?proofs/(\S+)\.antt:\d+:\d+: error: (?:`([^`]*)`: )?(.*)")
+OPEN = re.compile(r"note: src/\S+: it is not proved that .*?\(`([^`]+)`\)(; the facts known there allow values)?")
 UNREAD = re.compile(r"(?:\./)?((?:src|specs)/\S+?):\d+:\d+: error(?:\[[\w-]+\])?: (.*)")
 NAME_WENT = re.compile(r"has no field|is not in scope|has no `|was not admitted|is no name|the elim needs: use")
 ENDS = re.compile(r"(holes|only)=\d+|logic=")
@@ -65,16 +66,20 @@ class Said:
 def read_said(text: str) -> Said:
     """Reads the output of a check."""
     errors: dict[tuple[str, str], list[str]] = {}
-    lines, unread, reached = [], "", False
+    lines, notes, unread, reached = [], [], "", False
     for line in text.split("\n"):
         proof = IN_PROOF.match(line)
         if proof:
             errors.setdefault((proof[1].replace("/", "::"), proof[2] or ""), []).append(proof[3])
         unread = unread or (line if UNREAD.match(line) else "")
         reached = reached or bool(ENDS.match(line))
+        # what is open of a function stands above its line
+        notes += [(it[1], bool(it[2])) for it in [OPEN.match(line)] if it]
         found = FUNCTION.fullmatch(line)
         if found:
-            lines.append(line_of(found[1], found[2], found[3], errors))
+            told = line_of(found[1], found[2], found[3], errors)
+            lines.append(by_notes(told, notes, errors) if found[3] == "not proved" else told)
+            notes = []
     return Said(tuple(lines), reached and bool(lines), unread or first_complaint(text))
 
 
@@ -94,6 +99,15 @@ def line_of(crate: str, path: str, rest: str, errors: dict[tuple[str, str], list
             nameless.add(goal)
     goals = tuple(dict.fromkeys([*searched, *refused]))
     return Line(path, goals, frozenset(nameless), tuple(lemmas), rest == "no holes", not NO_VERDICT.search(rest))
+
+
+def by_notes(line: Line, notes: list[tuple[str, bool]], errors: dict[tuple[str, str], list[str]]) -> Line:
+    """The line of a function whose goals have other names than its proof file answers: what stands open says something of the code only
+    where the prover knows values at which it is false."""
+    own = [it for (module, _), told in errors.items() if Function(line.path).has(module) for it in told]
+    goals = tuple(goal for goal, is_false in notes if is_false) or tuple(goal for goal, _ in notes)
+    says_nothing = own and all(NAME_WENT.search(it) for it in own) and not any(is_false for _, is_false in notes)
+    return dataclasses.replace(line, goals=goals, nameless=frozenset(goals if says_nothing else ()))
 
 
 def first_complaint(text: str) -> str:

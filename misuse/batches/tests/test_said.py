@@ -44,6 +44,15 @@ class Refused(unittest.TestCase):
         self.assertEqual(found, Verdict(Kind.REFUSED, "round_tables::mixed_column", "SBoxTable.all_entries"))
 
 
+    def test_goal_that_is_false_counts_though_its_name_is_new(self) -> None:
+        found = judged("other_goals.out", "chain::Chain::steps_to")
+        self.assertEqual(found, Verdict(Kind.REFUSED, "chain::Chain::steps_to", "returns-else-ncc-self-clause-there"))
+
+    def test_goals_with_new_names_that_are_only_open_are_weak(self) -> None:
+        text = (SAMPLES / "other_goals.out").read_text("utf-8").replace("; the facts known there allow values", "")
+        self.assertEqual(judge(read_said(text), (Function("chain::Chain::steps_to"),), is_by_itself=True).kind, Kind.WEAK)
+
+
 class NotRefused(unittest.TestCase):
     """What fails the gate."""
 
