@@ -10,7 +10,7 @@ use rec_base::{Octets, RecFault};
 /// number and an air address are four octets and at least 1; a station, a source and an NCC are one
 /// octet from 0 to 7; a cell is its PCI in two octets and its EARFCN-DL in four; capabilities are two
 /// octets, algorithms one and a key 32.
-#[derive(Clone, PartialEq, Eq, Debug, Drop)]
+#[derive(PartialEq, Eq, Debug, Drop)]
 pub enum CoreRecord {
     /// 20, from the core: Initial Context Setup Request (TS 36.413 8.3.1), 45 octets.
     InitialContext {
