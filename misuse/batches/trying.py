@@ -6,7 +6,7 @@ import signal
 import threading
 
 from batches import plan
-from batches.crates import Crate, build_libraries, check
+from batches.crates import Crate, Unfit, build_libraries, check
 from batches.edits import Edit, Placed, Stale, Texts, place
 from batches.kept import Kept
 from batches.said import Kind, Said, Verdict, judge, read_said
@@ -101,9 +101,12 @@ def try_all(edits: dict[Crate, list[Edit]], kept: Kept, tell: "Tell") -> list[Tr
 
     def one(crate: Crate, of_it: list[Edit]) -> Tried:
         with lanes:
-            if not all(kept.find(crate, it) for it in of_it):
-                with libraries:
-                    build_libraries(crate)
+            try:
+                if not all(kept.find(crate, it) for it in of_it):
+                    with libraries:
+                        build_libraries(crate)
+            except Unfit as why:
+                return Tried(crate, {it: Verdict(Kind.UNTRIED, "", str(why)) for it in of_it})
             tried = Trying(crate, kept).all(of_it)
             tell(tried)
             return tried
