@@ -4,12 +4,12 @@
 #[cfg(test)]
 mod cases;
 #[cfg(test)]
-mod eea1;
+mod cases_of_eea1;
 #[cfg(test)]
-mod eea3;
+mod cases_of_eea3;
 #[cfg(test)]
-mod eia1;
+mod cases_of_eia1;
 #[cfg(test)]
-mod eia3;
+mod cases_of_eia3;
 #[cfg(test)]
 mod published;
