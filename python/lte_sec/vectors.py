@@ -74,11 +74,21 @@ class Draws:
     def one(self, *of: str) -> str:
         return self.random.choice(of)
 
+    def algorithms(self) -> str:
+        """Those of encryption and integrity, as calc takes them; null integrity has no MAC that fails, and is not drawn."""
+        return f"{self.one('0', '1', '2', '3')}/{self.one('1', '2', '3')}"
+
     def bit(self, octets: bytes, header: tuple[int, ...]) -> bytes:
         """The octets with one bit turned, of any octet but these."""
         spoilt = bytearray(octets)
         spoilt[self.random.choice([place for place in range(len(octets)) if place not in header])] ^= 1 << self.random.randrange(8)
         return bytes(spoilt)
+
+
+def kasme(draws: Draws) -> Iterator[Case]:
+    while True:
+        fields = {"ck": draws.octets(16), "ik": draws.octets(16), "plmn": draws.octets(3), "sqn-xor-ak": draws.octets(6)}
+        yield Case("kasme", fields, f"KASME in the network with the PLMN identity {fields['plmn']}")
 
 
 def kenb(draws: Draws) -> Iterator[Case]:
@@ -145,7 +155,7 @@ def window(case: Case) -> int:
 def nas(draws: Draws) -> Iterator[Case]:
     while True:
         count, kind, text = draws.number(2**24 - 1, 256, 2**16), draws.one("1", "2", "3", "4"), draws.text(60)
-        begun = {"kasme": draws.octets(32), "eea": draws.one("0", "2"), "count": str(count), "direction": draws.direction()}
+        begun = {"kasme": draws.octets(32), "eea": draws.algorithms(), "count": str(count), "direction": draws.direction()}
         case = Case("nas", begun, f"NAS message of type {kind} at COUNT {count}", seal=("seal-nas", begun | {"type": kind, "text": text}))
         yield opened(draws, case, (0, 5), 6, count, 2**24 - 1)
 
@@ -153,7 +163,7 @@ def nas(draws: Draws) -> Iterator[Case]:
 def srb(draws: Draws) -> Iterator[Case]:
     while True:
         count = draws.number(2**32 - 1, 32)
-        begun = {"key": draws.octets(32), "eea": draws.one("0", "2"), "count": str(count), "bearer": draws.one("0", "1"), "direction": draws.direction()}
+        begun = {"key": draws.octets(32), "eea": draws.algorithms(), "count": str(count), "bearer": draws.one("0", "1"), "direction": draws.direction()}
         case = Case("srb", begun, f"PDU of SRB{int(begun['bearer']) + 1} at COUNT {count}", seal=("seal-srb", begun | {"text": draws.text(60)}))
         yield opened(draws, case, (0,), 5, count, 2**32 - 1)
 
@@ -163,7 +173,7 @@ def drb(draws: Draws) -> Iterator[Case]:
     while True:
         bits = draws.one("7", "12", "15", "18")
         count = draws.number(2**32 - 1, 2 ** int(bits))
-        begun = {"key": draws.octets(32), "eea": draws.one("0", "2"), "count": str(count), "bearer": str(draws.number(31)), "direction": draws.direction(), "bits": bits}
+        begun = {"key": draws.octets(32), "eea": draws.one("0", "1", "2", "3"), "count": str(count), "bearer": str(draws.number(31)), "direction": draws.direction(), "bits": bits}
         case = Case("drb", begun, f"PDU of a DRB with {bits} bits at COUNT {count}", seal=("seal-drb", begun | {"text": draws.text(60)}))
         how = draws.one("right", "right", "right", "CountSpent", "Cut")
         if how == "CountSpent" and count % window(case) != window(case) - 1:
@@ -192,12 +202,17 @@ class Group:
 
 
 GROUPS: dict[str, Group] = {
+    "kasme": Group("KeyDerivation", "TS 33.401 A.2", ("kasme",), kasme),
     "kenb": Group("KeyDerivation", "TS 33.401 A.3", ("kenb",), kenb),
     "nh": Group("KeyDerivation", "TS 33.401 A.4", ("nh",), nh),
     "star": Group("KeyDerivation", "TS 33.401 A.5", ("kenb-star",), star),
     "alg": Group("KeyDerivation", "TS 33.401 A.7", ("algorithm-key",), alg),
+    "eea1": Group("Cipher", "TS 33.401 B.1.2", ("ciphertext",), cipher("eea1")),
     "eea2": Group("Cipher", "TS 33.401 B.1.3", ("ciphertext",), cipher("eea2")),
+    "eea3": Group("Cipher", "TS 33.401 B.1.4", ("ciphertext",), cipher("eea3")),
+    "eia1": Group("Mac", "TS 33.401 B.2.2", ("mac",), cipher("eia1")),
     "eia2": Group("Mac", "TS 33.401 B.2.3", ("mac",), cipher("eia2")),
+    "eia3": Group("Mac", "TS 33.401 B.2.4", ("mac",), cipher("eia3")),
     "nas": Group("NasMessage", "TS 24.301 4.4", ("opens", "type", "count", "text"), nas),
     "srb": Group("SrbPdu", "TS 36.323 5.6 and 5.7", ("opens", "count", "text"), srb),
     "drb": Group("DrbPdu", "TS 36.323 5.6", ("opens", "count", "text"), drb),
@@ -223,7 +238,7 @@ def made(cases: list[Case]) -> list[Case]:
 
 def value(name: str, text: str) -> int | str:
     """A field of a test: numbers as numbers, octets in hex, no octets as an empty text."""
-    is_number = name in ("count", "eea", "bearer", "type", "id", "bits", "ncc-in-use", "ncc", "pci", "earfcn", "steps")
+    is_number = name in ("count", "bearer", "type", "id", "bits", "ncc-in-use", "ncc", "pci", "earfcn", "steps")
     return int(text) if is_number else "" if text == "-" else text
 
 

@@ -6,9 +6,12 @@ import unittest
 
 from lte_sec import vectors, words
 from lte_sec.terms import TraceError
-from tests.standin import StandIn
+from tests import ciphers
+from tests.standin import StandIn, kdf
 
 PURE = StandIn()
+ENCIPHER = {"1": ciphers.eea1, "2": PURE.eea2, "3": ciphers.eea3}
+MAC = {"1": ciphers.eia1, "2": PURE.eia2, "3": ciphers.eia3}
 HEADERS = {7: 1, 12: 2, 15: 2, 18: 3}
 Test = dict[str, dict]
 
@@ -19,7 +22,13 @@ def key_of(key: str, kind: int, identity: int) -> bytes:
 
 
 def ciphered(key: str, kind: int, given: dict, count: int, bearer: int, text: bytes) -> bytes:
-    return PURE.eea2(key_of(key, kind, given["eea"]), count, bearer, way(given), text) if given["eea"] else text
+    eea = given["eea"].partition("/")[0]
+    return ENCIPHER[eea](key_of(key, kind, int(eea)), count, bearer, way(given), text) if eea != "0" else text
+
+
+def mac(key: str, kind: int, given: dict, count: int, bearer: int, text: bytes) -> bytes:
+    eia = given["eea"].partition("/")[2]
+    return MAC[eia](key_of(key, kind, int(eia)), count, bearer, way(given), text)
 
 
 def way(given: dict) -> int:
@@ -39,7 +48,7 @@ def nas(given: dict) -> dict:
     count = count_of(given, pdu[5], 8, 2**24 - 1)
     if count is None:
         return {"refused": "count spent"}
-    if PURE.eia2(key_of(given["kasme"], 2, 2), count, 0, way(given), pdu[5:]) != pdu[1:5]:
+    if mac(given["kasme"], 2, given, count, 0, pdu[5:]) != pdu[1:5]:
         return {"refused": "mac fails"}
     kind = pdu[0] >> 4
     text = ciphered(given["kasme"], 1, given, count, 0, pdu[6:]) if kind in (2, 4) else pdu[6:]
@@ -54,7 +63,7 @@ def srb(given: dict) -> dict:
     if count is None:
         return {"refused": "count spent"}
     plain = ciphered(given["key"], 3, given, count, given["bearer"], pdu[1:])
-    if PURE.eia2(key_of(given["key"], 4, 2), count, given["bearer"], way(given), pdu[:1] + plain[:-4]) != plain[-4:]:
+    if mac(given["key"], 4, given, count, given["bearer"], pdu[:1] + plain[:-4]) != plain[-4:]:
         return {"refused": "mac fails"}
     return {"count": count, "text": plain[:-4].hex()}
 
@@ -78,6 +87,11 @@ def reach(given: dict) -> dict:
     return {"way": "vertical" if steps else "horizontal", "steps": steps, "nh": sync.hex(), "kenb-star": star.hex()}
 
 
+def kasme(given: dict) -> bytes:
+    """KASME (TS 33.401 A.2)."""
+    return kdf(bytes.fromhex(given["ck"] + given["ik"]), 0x10, bytes.fromhex(given["plmn"]), bytes.fromhex(given["sqn-xor-ak"]))
+
+
 def text(given: dict) -> tuple:
     return bytes.fromhex(given["key"]), given["count"], given["bearer"], way(given), bytes.fromhex(given["text"])
 
@@ -87,8 +101,13 @@ COMPUTED = {
     "nh": lambda given: {"nh": PURE.nh(bytes.fromhex(given["kasme"]), bytes.fromhex(given["sync"])).hex()},
     "star": lambda given: {"kenb-star": PURE.kenb_star(bytes.fromhex(given["key"]), given["pci"], given["earfcn"]).hex()},
     "alg": lambda given: {"algorithm-key": PURE.algorithm_key(bytes.fromhex(given["key"]), given["type"], given["id"]).hex()},
+    "eea1": lambda given: {"ciphertext": ciphers.eea1(*text(given)).hex()},
     "eea2": lambda given: {"ciphertext": PURE.eea2(*text(given)).hex()},
+    "eea3": lambda given: {"ciphertext": ciphers.eea3(*text(given)).hex()},
+    "eia1": lambda given: {"mac": ciphers.eia1(*text(given)).hex()},
     "eia2": lambda given: {"mac": PURE.eia2(*text(given)).hex()},
+    "eia3": lambda given: {"mac": ciphers.eia3(*text(given)).hex()},
+    "kasme": lambda given: {"kasme": kasme(given).hex()},
     "nas": nas, "srb": srb, "drb": drb, "reach": reach,
 }
 
