@@ -1,4 +1,5 @@
 // What is kept beside the actors: the records sent, the ladder and the uses.
+ghost use Rattle.growth.specs.Growth.{WasRefused};
 ghost use Rattle.std.specs.Prelude.{◌≡◌, ◌+◌, ◌<◌, ◌≤◌, ◌^◌, [], ◌++◌, length, option_map, IsOkUnless, OnOk, OnErr};
 ghost use Rattle.key_terms.specs.Ladder.{IsHolder};
 ghost use Rattle.lte_machine.specs.Calls.{use_in, line_of_reply};
@@ -72,11 +73,12 @@ impl Network {
     }
 
     // Makes room for what one event gives out: a record, 12 derivations or a root, and 2 uses. Where memory runs out nothing
-    // changes but the room, and it runs out only where there was not this room.
+    // changes but the room: there was not this room, and std refused it.
     pub fn reserve(&mut self) -> Result<(), WorldFault>
         requires { HasPlace self.old }
         ensures memory { IsOkUnless result WorldFault.Memory }
         ensures lacking { OnErr result (HasRoom self.old → ⊥) }
+        ensures refused { OnErr result WasRefused }
         ensures room { OnOk result (HasRoom self.new) }
         ensures keeps { HasRoom self.old → HasRoom self.new }
         ensures records { self.new.records ≡ self.old.records }

@@ -1,4 +1,5 @@
 // A list with room for more.
+ghost use Rattle.growth.specs.Growth.{Refused};
 ghost use Rattle.std.specs.Prelude.{◌≡◌, ◌+◌, ◌-◌, ◌<◌, ◌≤◌, [], ◌∷◌, ◌++◌, length, OnOk, OnErr};
 
 use std::alloc::{AllocError, Global};
@@ -30,15 +31,16 @@ impl<T: Drop> Shelf<T> {
         }
     }
 
-    // Makes room for so many items more. Where memory runs out nothing changes, and there was not room for so many.
+    // Makes room for so many items more. Where memory runs out nothing changes: there was not room for so many, and std refused it.
     pub fn reserve(&mut self, more: usize) -> Result<(), AllocError>
         ensures items { self.new.items ≡ self.old.items }
         ensures lacking { OnErr result (self.old.spare < more) }
+        ensures refused { OnErr result (Refused (length self.old.items + more)) }
         ensures room { OnOk result (more ≤ self.new.spare) }
         ensures spare { self.old.spare ≤ self.new.spare }
         ensures err { OnErr result (self.new ≡ self.old) }
     {
-        self.items.reserve(more)
+        growth::reserve(&mut self.items, more)
     }
 
     // Puts an item at the end.

@@ -1,5 +1,6 @@
 // The system before its first event.
-ghost use Rattle.std.specs.Prelude.{◌≡◌, ◌<◌, ◌≤◌, All, IfOk, IsOkUnless, List, map};
+ghost use Rattle.growth.specs.Growth.{WasRefused};
+ghost use Rattle.std.specs.Prelude.{◌≡◌, ◌<◌, ◌≤◌, All, IfOk, IsOkUnless, List, map, OnErr};
 ghost use Rattle.lte_events.specs.Conditions.{CanStart, IsStation};
 ghost use Rattle.lte_machine.specs.Run.{first_world, stations_of as first_stations};
 ghost use Rattle.lte_world.specs.Systems.{Are};
@@ -18,6 +19,7 @@ impl System {
     pub fn new(alloc: Global, setup: &Setup) -> Result<System, WorldFault>
         requires { CanStart setup.now }
         ensures memory { IsOkUnless result WorldFault.Memory }
+        ensures refused { OnErr result WasRefused }
         ensures begins { IfOk result (λ s. Are (first_world setup.now) s) }
     {
         let setups = setup.stations.as_slice();
@@ -40,9 +42,10 @@ impl System {
 
 // The numbers of the stations.
 fn ids_of(alloc: Global, setups: &[StationSetup]) -> Result<Vec<u8>, AllocError>
-    ensures { IfOk result (λ ids. ids.items ≡ map (λ s. s.id) setups.now) }
+    ensures ids { IfOk result (λ ids. ids.items ≡ map (λ s. s.id) setups.now) }
+    ensures refused { OnErr result WasRefused }
 {
-    setups.iter().map(|s| s.id).collect(alloc)
+    growth::collect(setups.iter().map(|s| s.id), alloc)
 }
 
 // The stations, none of which has served anybody.
@@ -52,11 +55,15 @@ fn stations_of(
     setups: &[StationSetup],
 ) -> Result<Vec<Station>, AllocError>
     requires { All IsStation setups.now }
-    ensures { IfOk result (λ stations. stations.items ≡ first_stations cells.now setups.now) }
+    ensures stations { IfOk result (λ stations. stations.items ≡ first_stations cells.now setups.now) }
+    ensures refused { OnErr result WasRefused }
 {
     let mut stations = Vec::new(alloc);
     for setup in setups {
-        stations.push(Station::new(setup.id, cells, setup.priority, setup.first))?;
+        growth::push(
+            &mut stations,
+            Station::new(setup.id, cells, setup.priority, setup.first),
+        )?;
     }
     Ok(stations)
 }

@@ -1,4 +1,5 @@
 // The actors, and what is kept beside them.
+ghost use Rattle.growth.specs.Growth.{WasRefused};
 ghost use Rattle.std.specs.Prelude.{◌≡◌, ◌≤◌, ◌<◌, ◌==◌, [], length, position, None, IsOkUnless, OnOk, OnErr, IfSome};
 ghost use Rattle.lte_events.specs.Reply.{reply_of};
 ghost use Rattle.lte_events.specs.declared.events.Event.TheVariants.{Auth, Deliver, Inject};
@@ -313,11 +314,12 @@ impl System {
         )
     }
 
-    // Makes room for what one event gives out. Where memory runs out nothing changes but the room, and there was not this room.
+    // Makes room for what one event gives out. Where memory runs out nothing changes but the room: there was not this room, and std refused it.
     pub fn reserve(&mut self) -> Result<(), WorldFault>
         requires { HasPlace self.old.stores }
         ensures memory { IsOkUnless result WorldFault.Memory }
         ensures lacking { OnErr result (HasRoom self.old.stores → ⊥) }
+        ensures refused { OnErr result WasRefused }
         ensures room { OnOk result (HasRoom self.new.stores) }
         ensures keeps { HasRoom self.old.stores → HasRoom self.new.stores }
         ensures same { self.new ≡ with_room self.old self.new }

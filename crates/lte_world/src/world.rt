@@ -1,3 +1,4 @@
+ghost use Rattle.growth.specs.Growth.{WasRefused};
 ghost use Rattle.std.specs.Prelude.{◌≡◌, ◌≢◌, ◌<◌, ◌≤◌, [], ◌∷◌, ◌++◌, true, false, length, Some, None, IsTrue, IsOkUnless, OnOk, OnErr, IfOk};
 ghost use Rattle.lte_events.specs.Conditions.{has_station};
 ghost use Rattle.lte_events.specs.declared.events.Event.{Event as AnEvent};
@@ -60,10 +61,11 @@ impl Model for World {
 
 impl World {
     /// A system that begins with this setup, in which nothing has happened. It makes the list of the stations.
-    /// `Memory` where memory runs out.
+    /// `Memory` where std refuses that.
     pub fn new(alloc: Global, setup: &Setup) -> Result<World, WorldFault>
         requires { CanBegin setup.now }
         ensures memory { IsOkUnless result WorldFault.Memory }
+        ensures refused { OnErr result WasRefused }
         ensures begins { IfOk result (λ w. w ≡ begun setup.now) }
         ensures run { IfOk result (λ w. run_of w ≡ Running (first_world setup.now)) }
     {
@@ -126,13 +128,14 @@ impl World {
     }
 
     /// Makes room for one event, which has fewer than 200,000 before it. Where memory runs out nothing changes, and what is told of
-    /// any event later is what it would have been without this call. It runs out only where there was not this room: each record
+    /// any event later is what it would have been without this call. It runs out only where there was not this room and std refused it: each record
     /// that the event sends has a number, and so has each key that it derives.
     pub fn reserve(&mut self) -> Result<(), WorldFault>
         requires { length self.old.journal < most_events }
         ensures few { InRun (AreFew (length self.old.journal)) (run_of self.old) }
         ensures memory { IsOkUnless result WorldFault.Memory }
         ensures lacking { OnErr result (self.old.ready ≡ false) }
+        ensures refused { OnErr result WasRefused }
         ensures room { OnOk result (IsTrue self.new.ready) }
         ensures same { OnOk result (self.new ≡ record self.old { ready = true }) }
         ensures err { OnErr result (self.new ≡ self.old) }
