@@ -1,4 +1,5 @@
-ghost use Rattle.std.specs.Prelude.{◌≡◌, ◌≢◌, ◌≤◌, ◌<◌, None, Some, Err, IfOk, IfSome, IsOkUnless, length, slice_get};
+ghost use Rattle.growth.specs.Growth.{WasRefused};
+ghost use Rattle.std.specs.Prelude.{◌≡◌, ◌≢◌, ◌≤◌, ◌<◌, None, Some, Err, IfOk, IfSome, IsOkUnless, OnErr, length, slice_get};
 ghost use Rattle.fleet_world.specs.Answers.{own_at};
 ghost use Rattle.fleet_world.specs.Apart.{NoUseTwice, PhonesSeparate};
 ghost use Rattle.fleet_world.specs.Fleets.{answer_of, begun, journal_after, over_after, most_phones, CanTake, IsOwn, owns_in, world_of};
@@ -40,12 +41,13 @@ impl Model for Fleet {
 }
 
 impl Fleet {
-    /// A fleet of so many phones, 1 to 256, in which nothing has happened. `Memory` where memory runs out.
+    /// A fleet of so many phones, 1 to 256, in which nothing has happened. `Memory` where std refuses memory.
     pub fn new(alloc: Global, setup: &Setup, phones: u16) -> Result<Fleet, FleetFault>
         requires begins { CanBegin setup.now }
         requires some { 1 ≤ phones }
         requires few { phones ≤ most_phones }
         ensures memory { IsOkUnless result FleetFault.Memory }
+        ensures refused { OnErr result WasRefused }
         ensures begins { IfOk result (λ f. f ≡ begun setup.now phones) }
     {
         match worlds_of(alloc, setup, phones) {
@@ -65,10 +67,11 @@ impl Fleet {
     /// world sees it. `Chance` is a coincidence of the phone's own world. `Cross` is a key that the event adds to
     /// the phone's ladder although another phone's ladder has it: the first such key, and the least such
     /// phone. Both end the fleet: the event does not enter the journal, and every later event gets the same
-    /// answer. `Memory` leaves the fleet as it was.
+    /// answer. `Memory`, where std refuses memory, leaves the fleet as it was.
     pub fn apply(&mut self, phone: u16, event: &Event) -> Result<FleetLine, FleetFault>
         requires { CanTake self.old phone event.now }
         ensures memory { result ≡ Err FleetFault.Memory → self.new ≡ self.old }
+        ensures refused { self.old.over ≡ None → result ≡ Err FleetFault.Memory → WasRefused }
         ensures says { result ≢ Err FleetFault.Memory → result ≡ answer_of self.old phone event.now }
         ensures setup { self.new.setup ≡ self.old.setup }
         ensures journal { self.new.journal ≡ journal_after result self.old.journal phone event.now }

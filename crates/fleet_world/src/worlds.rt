@@ -1,5 +1,6 @@
 // The worlds of the phones.
-ghost use Rattle.std.specs.Prelude.{◌≡◌, ◌<◌, ◌≤◌, length, replicate, IfOk, IsOkUnless};
+ghost use Rattle.growth.specs.Growth.{WasRefused};
+ghost use Rattle.std.specs.Prelude.{◌≡◌, ◌<◌, ◌≤◌, length, replicate, IfErr, IfOk, IsOkUnless, OnErr};
 ghost use Rattle.lte_world.specs.Whole.{CanApply, CanBegin, begun};
 ghost use Rattle.fleet_world.specs.Worlds.{CanTakeAt, Goes, Takes, TakesAt, with_room};
 
@@ -12,6 +13,7 @@ use std::alloc::Global;
 pub(crate) fn worlds_of(alloc: Global, setup: &Setup, phones: u16) -> Result<Vec<World>, FleetFault>
     requires { CanBegin setup.now }
     ensures memory { IsOkUnless result FleetFault.Memory }
+    ensures refused { OnErr result WasRefused }
     ensures begin { IfOk result (λ worlds. worlds.items ≡ replicate phones (begun setup.now)) }
 {
     let mut worlds = Vec::new(alloc);
@@ -20,7 +22,7 @@ pub(crate) fn worlds_of(alloc: Global, setup: &Setup, phones: u16) -> Result<Vec
             Ok(world) => world,
             Err(_) => return Err(FleetFault::Memory),
         };
-        match worlds.push(world) {
+        match growth::push(&mut worlds, world) {
             Ok(()) => {}
             Err(_) => return Err(FleetFault::Memory),
         }
@@ -36,7 +38,8 @@ pub(crate) fn take(
 ) -> Result<(usize, Line), WorldFault>
     requires place { place < length worlds.old.items }
     requires can { CanTakeAt worlds.old.items place event.now }
-    ensures { TakesAt worlds.old.items worlds.new.items place event.now result }
+    ensures takes { TakesAt worlds.old.items worlds.new.items place event.now result }
+    ensures refused { IfErr result (λ fault. fault ≡ WorldFault.Memory → WasRefused) }
 {
     take_in(&mut worlds[place], event)
 }
@@ -45,7 +48,8 @@ pub(crate) fn take(
 fn take_in(world: &mut World, event: &Event) -> Result<(usize, Line), WorldFault>
     requires goes { Goes world.old }
     requires can { CanApply (with_room world.old) event.now }
-    ensures { Takes world.old world.new event.now result }
+    ensures takes { Takes world.old world.new event.now result }
+    ensures refused { IfErr result (λ fault. fault ≡ WorldFault.Memory → WasRefused) }
 {
     match world.reserve() {
         Ok(()) => {}

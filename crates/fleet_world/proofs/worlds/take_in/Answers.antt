@@ -3,8 +3,8 @@ use Rattle.lte_world.specs.Whole.{Whole, told_of, turned}
 use Rattle.fleet_world.proofs.Taking.{took, rows_before}
 use Rattle.fleet_world.proofs.worlds.take_in.Goals as goal
 
-pub returns-in-Ok-apply : goal.returns-in-Ok-apply
-returns-in-Ok-apply c =
+pub returns-in-Ok-apply-clause-takes : goal.returns-in-Ok-apply-clause-takes
+returns-in-Ok-apply-clause-takes c =
     let v = c.args.world.now in
     let same = c.in-Ok.ensures.same in
     let e = c.args.event.now in

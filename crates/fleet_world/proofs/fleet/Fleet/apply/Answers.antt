@@ -47,28 +47,28 @@ pub crossing-requires-clause-goes : goal.crossing-requires-clause-goes
 crossing-requires-clause-goes c =
     let i = c.self.inside in
     let untaken = ap (λ ws. taken_in ws c.args.phone c.args.event.now) (sym c.as_slice.ensures.value) ∙ sym c.taken.ensures ∙ c.in_default-taken.is in
-    let took = subst (TakesAt i.worlds.items c.take.new.worlds.items c.args.phone c.args.event.now) c.in-Ok-take.is c.take.ensures in
+    let took = subst (TakesAt i.worlds.items c.take.new.worlds.items c.args.phone c.args.event.now) c.in-Ok-take.is c.take.ensures.takes in
     subst (AllOf Goes) (sym c.as_slice-in-Ok-take.ensures.value) (goes_then i.over i.setup i.worlds.items i.journal.items c.args.self.now c.self.view_is c.in_default.is c.self.invariant c.args.phone c.args.event.now c.requires untaken c.take.new.worlds.items (c.in-Ok-take.rows, c.in-Ok-take.line) took)
 
 pub crossing-requires-clause-few : goal.crossing-requires-clause-few
 crossing-requires-clause-few c =
     let i = c.self.inside in
     let untaken = ap (λ ws. taken_in ws c.args.phone c.args.event.now) (sym c.as_slice.ensures.value) ∙ sym c.taken.ensures ∙ c.in_default-taken.is in
-    let took = subst (TakesAt i.worlds.items c.take.new.worlds.items c.args.phone c.args.event.now) c.in-Ok-take.is c.take.ensures in
+    let took = subst (TakesAt i.worlds.items c.take.new.worlds.items c.args.phone c.args.event.now) c.in-Ok-take.is c.take.ensures.takes in
     subst (λ ws. length ws ≤ most_phones) (sym c.as_slice-in-Ok-take.ensures.value) (few_then i.over i.setup i.worlds.items i.journal.items c.args.self.now c.self.view_is c.in_default.is c.self.invariant c.args.phone c.args.event.now c.requires untaken c.take.new.worlds.items (c.in-Ok-take.rows, c.in-Ok-take.line) took)
 
 pub crossing-requires-clause-phone : goal.crossing-requires-clause-phone
 crossing-requires-clause-phone c =
     let i = c.self.inside in
     let untaken = ap (λ ws. taken_in ws c.args.phone c.args.event.now) (sym c.as_slice.ensures.value) ∙ sym c.taken.ensures ∙ c.in_default-taken.is in
-    let took = subst (TakesAt i.worlds.items c.take.new.worlds.items c.args.phone c.args.event.now) c.in-Ok-take.is c.take.ensures in
+    let took = subst (TakesAt i.worlds.items c.take.new.worlds.items c.args.phone c.args.event.now) c.in-Ok-take.is c.take.ensures.takes in
     subst (λ ws. c.args.phone < length ws) (sym c.as_slice-in-Ok-take.ensures.value) (low_then i.over i.setup i.worlds.items i.journal.items c.args.self.now c.self.view_is c.in_default.is c.self.invariant c.args.phone c.args.event.now c.requires untaken c.take.new.worlds.items (c.in-Ok-take.rows, c.in-Ok-take.line) took)
 
 pub invariant_of-self-in-None : goal.invariant_of-self-in-None
 invariant_of-self-in-None c =
     let i = c.self.inside in
     let untaken = ap (λ ws. taken_in ws c.args.phone c.args.event.now) (sym c.as_slice.ensures.value) ∙ sym c.taken.ensures ∙ c.in_default-taken.is in
-    let took = subst (TakesAt i.worlds.items c.take.new.worlds.items c.args.phone c.args.event.now) c.in-Ok-take.is c.take.ensures in
+    let took = subst (TakesAt i.worlds.items c.take.new.worlds.items c.args.phone c.args.event.now) c.in-Ok-take.is c.take.ensures.takes in
     let found = subst (Found c.args.phone c.in-Ok-take.rows c.crossing.result) c.as_slice-in-Ok-take.ensures.value c.crossing.ensures in
     keeps_line i.over i.setup i.worlds.items i.journal.items c.args.self.now c.self.view_is c.in_default.is c.self.invariant c.args.phone c.args.event.now c.requires untaken c.take.new.worlds.items (c.in-Ok-take.rows, c.in-Ok-take.line) took c.crossing.result found c.in-None.is c.put-in-None.new.self.items (c.put-in-None.ensures ∙ ap (λ journal. journal ++ (c.args.phone, c.args.event.now) ∷ []) c.reserve.ensures.items)
 
@@ -76,7 +76,7 @@ pub returns-in-None-clause-says : goal.returns-in-None-clause-says
 returns-in-None-clause-says c differs =
     let i = c.self.inside in
     let untaken = ap (λ ws. taken_in ws c.args.phone c.args.event.now) (sym c.as_slice.ensures.value) ∙ sym c.taken.ensures ∙ c.in_default-taken.is in
-    let took = subst (TakesAt i.worlds.items c.take.new.worlds.items c.args.phone c.args.event.now) c.in-Ok-take.is c.take.ensures in
+    let took = subst (TakesAt i.worlds.items c.take.new.worlds.items c.args.phone c.args.event.now) c.in-Ok-take.is c.take.ensures.takes in
     let found = subst (Found c.args.phone c.in-Ok-take.rows c.crossing.result) c.as_slice-in-Ok-take.ensures.value c.crossing.ensures in
     says_line i.over i.setup i.worlds.items i.journal.items c.args.self.now c.self.view_is c.in_default.is c.self.invariant c.args.phone c.args.event.now c.requires untaken c.take.new.worlds.items (c.in-Ok-take.rows, c.in-Ok-take.line) took c.crossing.result found c.in-None.is
 
@@ -84,7 +84,7 @@ pub returns-in-None-clause-worlds : goal.returns-in-None-clause-worlds
 returns-in-None-clause-worlds c none =
     let i = c.self.inside in
     let untaken = ap (λ ws. taken_in ws c.args.phone c.args.event.now) (sym c.as_slice.ensures.value) ∙ sym c.taken.ensures ∙ c.in_default-taken.is in
-    let took = subst (TakesAt i.worlds.items c.take.new.worlds.items c.args.phone c.args.event.now) c.in-Ok-take.is c.take.ensures in
+    let took = subst (TakesAt i.worlds.items c.take.new.worlds.items c.args.phone c.args.event.now) c.in-Ok-take.is c.take.ensures.takes in
     let found = subst (Found c.args.phone c.in-Ok-take.rows c.crossing.result) c.as_slice-in-Ok-take.ensures.value c.crossing.ensures in
     leaves_line i.over i.setup i.worlds.items i.journal.items c.args.self.now c.self.view_is c.in_default.is c.self.invariant c.args.phone c.args.event.now c.requires untaken c.take.new.worlds.items (c.in-Ok-take.rows, c.in-Ok-take.line) took c.crossing.result found
 
@@ -92,7 +92,7 @@ pub returns-in-Some-crossing-clause-says : goal.returns-in-Some-crossing-clause-
 returns-in-Some-crossing-clause-says c differs =
     let i = c.self.inside in
     let untaken = ap (λ ws. taken_in ws c.args.phone c.args.event.now) (sym c.as_slice.ensures.value) ∙ sym c.taken.ensures ∙ c.in_default-taken.is in
-    let took = subst (TakesAt i.worlds.items c.take.new.worlds.items c.args.phone c.args.event.now) c.in-Ok-take.is c.take.ensures in
+    let took = subst (TakesAt i.worlds.items c.take.new.worlds.items c.args.phone c.args.event.now) c.in-Ok-take.is c.take.ensures.takes in
     let found = subst (Found c.args.phone c.in-Ok-take.rows c.crossing.result) c.as_slice-in-Ok-take.ensures.value c.crossing.ensures in
     says_cross i.over i.setup i.worlds.items i.journal.items c.args.self.now c.self.view_is c.in_default.is c.self.invariant c.args.phone c.args.event.now c.requires untaken c.take.new.worlds.items (c.in-Ok-take.rows, c.in-Ok-take.line) took c.crossing.result found c.in-Some-crossing.fault c.in-Some-crossing.is
 
@@ -100,7 +100,7 @@ pub returns-in-Some-crossing-clause-worlds : goal.returns-in-Some-crossing-claus
 returns-in-Some-crossing-clause-worlds c none =
     let i = c.self.inside in
     let untaken = ap (λ ws. taken_in ws c.args.phone c.args.event.now) (sym c.as_slice.ensures.value) ∙ sym c.taken.ensures ∙ c.in_default-taken.is in
-    let took = subst (TakesAt i.worlds.items c.take.new.worlds.items c.args.phone c.args.event.now) c.in-Ok-take.is c.take.ensures in
+    let took = subst (TakesAt i.worlds.items c.take.new.worlds.items c.args.phone c.args.event.now) c.in-Ok-take.is c.take.ensures.takes in
     let found = subst (Found c.args.phone c.in-Ok-take.rows c.crossing.result) c.as_slice-in-Ok-take.ensures.value c.crossing.ensures in
     leaves_cross i.over i.setup i.worlds.items i.journal.items c.args.self.now c.self.view_is c.in_default.is c.self.invariant c.args.phone c.args.event.now c.requires untaken c.take.new.worlds.items (c.in-Ok-take.rows, c.in-Ok-take.line) took c.crossing.result found c.in-Some-crossing.fault c.in-Some-crossing.is
 
@@ -108,33 +108,33 @@ pub returns-in-Err-Chance-clause-says : goal.returns-in-Err-Chance-clause-says
 returns-in-Err-Chance-clause-says c differs =
     let i = c.self.inside in
     let untaken = ap (λ ws. taken_in ws c.args.phone c.args.event.now) (sym c.as_slice.ensures.value) ∙ sym c.taken.ensures ∙ c.in_default-taken.is in
-    let took = subst (TakesAt i.worlds.items c.take.new.worlds.items c.args.phone c.args.event.now) (c.in-Err-Chance.is ∙ ap Err c.in-Err-Chance.field-0-is) c.take.ensures in
+    let took = subst (TakesAt i.worlds.items c.take.new.worlds.items c.args.phone c.args.event.now) (c.in-Err-Chance.is ∙ ap Err c.in-Err-Chance.field-0-is) c.take.ensures.takes in
     says_chance i.over i.setup i.worlds.items i.journal.items c.args.self.now c.self.view_is c.in_default.is c.self.invariant c.args.phone c.args.event.now c.requires untaken c.take.new.worlds.items c.in-Err-Chance.proof took
 
 pub returns-in-Err-Chance-clause-worlds : goal.returns-in-Err-Chance-clause-worlds
 returns-in-Err-Chance-clause-worlds c none =
     let i = c.self.inside in
     let untaken = ap (λ ws. taken_in ws c.args.phone c.args.event.now) (sym c.as_slice.ensures.value) ∙ sym c.taken.ensures ∙ c.in_default-taken.is in
-    let took = subst (TakesAt i.worlds.items c.take.new.worlds.items c.args.phone c.args.event.now) (c.in-Err-Chance.is ∙ ap Err c.in-Err-Chance.field-0-is) c.take.ensures in
+    let took = subst (TakesAt i.worlds.items c.take.new.worlds.items c.args.phone c.args.event.now) (c.in-Err-Chance.is ∙ ap Err c.in-Err-Chance.field-0-is) c.take.ensures.takes in
     leaves_chance i.over i.setup i.worlds.items i.journal.items c.args.self.now c.self.view_is c.in_default.is c.self.invariant c.args.phone c.args.event.now c.requires untaken c.take.new.worlds.items c.in-Err-Chance.proof took
 
 pub invariant_of-self-in-Err-Memory : goal.invariant_of-self-in-Err-Memory
 invariant_of-self-in-Err-Memory c =
     let i = c.self.inside in
     let untaken = ap (λ ws. taken_in ws c.args.phone c.args.event.now) (sym c.as_slice.ensures.value) ∙ sym c.taken.ensures ∙ c.in_default-taken.is in
-    let took = subst (TakesAt i.worlds.items c.take.new.worlds.items c.args.phone c.args.event.now) (c.in-Err-Memory.is ∙ ap Err c.in-Err-Memory.field-0-is) c.take.ensures in
+    let took = subst (TakesAt i.worlds.items c.take.new.worlds.items c.args.phone c.args.event.now) (c.in-Err-Memory.is ∙ ap Err c.in-Err-Memory.field-0-is) c.take.ensures.takes in
     keeps_memory i.over i.setup i.worlds.items i.journal.items c.args.self.now c.self.view_is c.in_default.is c.self.invariant c.args.phone c.args.event.now c.requires untaken c.take.new.worlds.items took c.reserve.new.self.items c.reserve.ensures.items
 
 pub returns-in-Err-Memory-clause-memory : goal.returns-in-Err-Memory-clause-memory
 returns-in-Err-Memory-clause-memory c is =
     let i = c.self.inside in
     let untaken = ap (λ ws. taken_in ws c.args.phone c.args.event.now) (sym c.as_slice.ensures.value) ∙ sym c.taken.ensures ∙ c.in_default-taken.is in
-    let took = subst (TakesAt i.worlds.items c.take.new.worlds.items c.args.phone c.args.event.now) (c.in-Err-Memory.is ∙ ap Err c.in-Err-Memory.field-0-is) c.take.ensures in
+    let took = subst (TakesAt i.worlds.items c.take.new.worlds.items c.args.phone c.args.event.now) (c.in-Err-Memory.is ∙ ap Err c.in-Err-Memory.field-0-is) c.take.ensures.takes in
     memory_is i.over i.setup i.worlds.items i.journal.items c.args.self.now c.self.view_is c.in_default.is c.self.invariant c.args.phone c.args.event.now c.requires untaken c.take.new.worlds.items took c.reserve.new.self.items c.reserve.ensures.items
 
 pub returns-in-Err-Memory-clause-worlds : goal.returns-in-Err-Memory-clause-worlds
 returns-in-Err-Memory-clause-worlds c none =
     let i = c.self.inside in
     let untaken = ap (λ ws. taken_in ws c.args.phone c.args.event.now) (sym c.as_slice.ensures.value) ∙ sym c.taken.ensures ∙ c.in_default-taken.is in
-    let took = subst (TakesAt i.worlds.items c.take.new.worlds.items c.args.phone c.args.event.now) (c.in-Err-Memory.is ∙ ap Err c.in-Err-Memory.field-0-is) c.take.ensures in
+    let took = subst (TakesAt i.worlds.items c.take.new.worlds.items c.args.phone c.args.event.now) (c.in-Err-Memory.is ∙ ap Err c.in-Err-Memory.field-0-is) c.take.ensures.takes in
     leaves_memory i.over i.setup i.worlds.items i.journal.items c.args.self.now c.self.view_is c.in_default.is c.self.invariant c.args.phone c.args.event.now c.requires untaken c.take.new.worlds.items took
