@@ -83,7 +83,7 @@ def place(edit: Edit, texts: Texts) -> Placed:
     functions: list[Function] = []
     for change in edit.changes:
         start = texts[change.path].find(change.old)
-        found = function_at(change.path, texts[change.path], start, start + len(change.old)) if start >= 0 else None
+        found = function_at(change.path, texts, start, start + len(change.old)) if start >= 0 else None
         if found is None:
             return Placed(edit, ())
         functions += [] if found in functions else [found]

@@ -9,8 +9,8 @@ IMPL = re.compile(r"impl\b")
 
 @dataclasses.dataclass(frozen=True)
 class Function:
-    """A function by the path that the prover names it by, below its crate: `module::Type::call`, and `module::TypeTrait::call` for a
-    method of a trait."""
+    """A function by the path that the prover names it by, below its crate: `module::Type::call` with the module of the type, and
+    `module::TypeTrait::call` with that of the block for a method of a trait."""
 
     path: str
 
@@ -20,16 +20,17 @@ class Function:
         return inside == self.path or inside.startswith(f"{self.path}::")
 
 
-def function_at(path: str, text: str, start: int, end: int) -> Function | None:
-    """The function in whose body a piece of the text lies, if it lies in one."""
+def function_at(path: str, texts: dict[str, str], start: int, end: int) -> Function | None:
+    """The function in whose body a piece of that file lies, if it lies in one. The texts are those of the crate, by path."""
+    text = texts[path]
     lines = text.split("\n")
     first, last = text.count("\n", 0, start), text.count("\n", 0, end)
     for at in range(first, -1, -1):
         found = STARTS.match(lines[at])
         if found and first > body_of(lines, at, found[1]) and last < end_of(lines, at, found[1]):
-            owner = owner_at(lines, at, found[1])
+            owner = owner_at(lines, at, found[1], texts, path)
             if owner is not None:
-                return Function("::".join([*module_of(path), *([owner] if owner else []), found[2]]))
+                return Function("::".join([*owner, found[2]]))
     return None
 
 
@@ -55,14 +56,13 @@ def module_of(path: str) -> list[str]:
     return [] if parts in (["lib"], ["main"]) else parts[:-1] if parts[-1] == "mod" else parts
 
 
-def owner_at(lines: list[str], at: int, indent: str) -> str | None:
-    """The type, and behind it the trait, whose block a function begins in: empty where it stands by itself, and none where it stands
-    inside another function."""
+def owner_at(lines: list[str], at: int, indent: str, texts: dict[str, str], path: str) -> list[str] | None:
+    """The path of what a function begins in, a module or a block of a type: none where it stands inside another function."""
     if not indent:
-        return ""
+        return module_of(path)
     for above in range(at, -1, -1):
         if is_at(lines[above], "") and IMPL.match(lines[above]):
-            return owner_in(header(lines, above), "\n".join(lines))
+            return block(header(lines, above), texts, path)
         if is_at(lines[above], "") and STARTS.match(lines[above]):
             return None
     return None
@@ -74,16 +74,23 @@ def header(lines: list[str], at: int) -> str:
     return whole.partition("{")[0].strip()
 
 
-def owner_in(head: str, text: str) -> str:
-    """The name that the prover gives an `impl` block. Where a type has a trait several times, the trait's arguments follow."""
+def block(head: str, texts: dict[str, str], path: str) -> list[str]:
+    """The path of an `impl` block. Where a type has a trait several times, the trait's arguments follow the names of both."""
     behind = without_arguments(head.removeprefix("impl"), drops_first=True)[0].partition(" where ")[0]
     named, trait_arguments = without_arguments(behind)
     trait, is_trait, of = named.partition(" for ")
     if not is_trait:
-        return last_word(trait)
+        return [*home_of(last_word(trait), texts, path), last_word(trait)]
     again = re.compile(rf"(?m)^impl(?:<[^{{]*?>)? (?:\w+::)*{last_word(trait)}<.*> for {last_word(of)}\b")
-    several = len(again.findall(text)) > 1
-    return last_word(of) + last_word(trait) + ("".join(re.findall(r"\w+", trait_arguments)) if several else "")
+    several = len(again.findall(texts[path])) > 1
+    return [*module_of(path), last_word(of) + last_word(trait) + ("".join(re.findall(r"\w+", trait_arguments)) if several else "")]
+
+
+def home_of(name: str, texts: dict[str, str], path: str) -> list[str]:
+    """The module in which a type is declared."""
+    declares = re.compile(rf"(?m)^(?:pub(?:\([^)]*\))? )?(?:struct|enum) {name}\b")
+    files = [it for it in (path, *texts) if it.startswith("src/") and declares.search(texts[it])]
+    return module_of(files[0] if files else path)
 
 
 def last_word(path: str) -> str:

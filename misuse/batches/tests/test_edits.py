@@ -55,7 +55,7 @@ pub extern "C" fn count(
     MOST
 }
 """
-TEXTS = {"src/text/counter.rt": TEXT}
+TEXTS = {"src/text/counter.rt": TEXT, "src/types.rt": "pub(crate) struct Counter {\n    count: u8,\n}\n"}
 
 
 def edit(*pairs: tuple[str, str], name: str = "one") -> Edit:
@@ -66,15 +66,15 @@ def edit(*pairs: tuple[str, str], name: str = "one") -> Edit:
 def path_at(old: str) -> str | None:
     """The function in whose body a text stands."""
     start = TEXT.index(old)
-    found = function_at("src/text/counter.rt", TEXT, start, start + len(old))
+    found = function_at("src/text/counter.rt", TEXTS, start, start + len(old))
     return found.path if found else None
 
 
 class Functions(unittest.TestCase):
     """In which function a text stands."""
 
-    def test_method_by_its_type(self) -> None:
-        self.assertEqual(path_at("self.count += by"), "text::counter::Counter::add")
+    def test_method_by_its_type_and_the_module_of_that(self) -> None:
+        self.assertEqual(path_at("self.count += by"), "types::Counter::add")
         self.assertEqual(path_at("        self.count\n    }\n}"), None)
 
     def test_method_of_a_trait_by_both(self) -> None:
@@ -94,7 +94,7 @@ class Functions(unittest.TestCase):
     def test_root_of_the_crate(self) -> None:
         text = "fn one() -> u8 {\n    1\n}\n"
         for path, wanted in (("src/lib.rt", "one"), ("src/main.rt", "one"), ("src/a/mod.rt", "a::one")):
-            self.assertEqual(getattr(function_at(path, text, 21, 22), "path", None), wanted)
+            self.assertEqual(getattr(function_at(path, {path: text}, 21, 22), "path", None), wanted)
 
 
 class Edits(unittest.TestCase):
