@@ -112,9 +112,11 @@ def build_libraries(crate: Crate) -> None:
     stamped = any((it.folder / "out/rlib/stamp").exists() for it in crate.below)
     if not stamped and all(it.library.is_dir() and is_newer(it) for it in crate.below):
         return
-    ran = subprocess.run(["rt", "check", "--only", ""], cwd=crate.folder, stdin=subprocess.DEVNULL, capture_output=True, text=True)
-    if ran.returncode:
-        last = (ran.stdout.strip() or ran.stderr.strip()).split("\n")[-1]
+    words = ["rt", "check", "--only", ""]
+    with tempfile.TemporaryDirectory(prefix="edits-") as room:
+        ran = run(words, str(crate.folder), room)
+    if ran.status:
+        last = ran.text.strip().split("\n")[-1]
         raise Unfit(f"nothing can be tried over {crate.name} as it stands: run rt check in its folder. It said: {last}")
 
 
@@ -142,17 +144,24 @@ def check(crate: Crate, texts: Texts, only: list[str]) -> Ran:
             file.parent.mkdir(parents=True, exist_ok=True)
             file.write_text(text, "utf-8")
         words = [*words_of(crate), "--allow-holes", *(word for it in only for word in ("--only", it))]
-        if (crate.folder / "out/incremental").is_dir():
+        try:
             copy_kept(crate.folder / "out/incremental", pathlib.Path(room, "kept"))
             words += ["--incremental", f"{room}/kept"]
-        with open(f"{room}/said", "wb+") as said:
-            ran = subprocess.Popen(words, cwd=f"{room}/copy", stdin=subprocess.DEVNULL, stdout=said, stderr=subprocess.STDOUT)
-            RUNNING[ran.pid] = room
-            _, status, used = os.wait4(ran.pid, 0)
-            del RUNNING[ran.pid]
-            ran.returncode = os.waitstatus_to_exitcode(status)
-            said.seek(0)
-            return Ran(ran.returncode, said.read().decode("utf-8", "replace"), used.ru_utime + used.ru_stime)
+        except OSError:
+            pass  # nothing is kept, or another check writes it
+        return run(words, f"{room}/copy", room)
+
+
+def run(words: list[str], folder: str, room: str) -> Ran:
+    """Runs a command in a folder, with what it says in a file of the room."""
+    with open(f"{room}/said", "wb+") as said:
+        ran = subprocess.Popen(words, cwd=folder, stdin=subprocess.DEVNULL, stdout=said, stderr=subprocess.STDOUT)
+        RUNNING[ran.pid] = room
+        _, status, used = os.wait4(ran.pid, 0)
+        del RUNNING[ran.pid]
+        ran.returncode = os.waitstatus_to_exitcode(status)
+        said.seek(0)
+        return Ran(ran.returncode, said.read().decode("utf-8", "replace"), used.ru_utime + used.ru_stime)
 
 
 def end_all(number: int, _frame: object) -> None:
