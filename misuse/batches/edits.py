@@ -78,10 +78,10 @@ def put_into(edit: Edit, texts: Texts) -> Texts:
 
 
 def place(edit: Edit, texts: Texts) -> Placed:
-    """Where an edit stands."""
+    """Where an edit stands. An import that its body needs changes nothing else."""
     put_into(edit, texts)
     functions: list[Function] = []
-    for change in edit.changes:
+    for change in [it for it in edit.changes if not it.old.startswith("use ")]:
         start = texts[change.path].find(change.old)
         found = function_at(change.path, texts, start, start + len(change.old)) if start >= 0 else None
         if found is None:

@@ -6,7 +6,7 @@ import unittest
 from batches import plan, table
 from batches.crates import Crate, read_crates
 from batches.edits import Change, Edit, Placed, Stale, place, put_into, read_edit
-from batches.functions import function_at
+from batches.functions import Function, function_at
 from batches.kept import Kept, crate_sum
 from batches.said import Kind, Verdict
 
@@ -118,6 +118,14 @@ class Edits(unittest.TestCase):
     def test_edit_of_two_functions(self) -> None:
         found = place(edit(("self.left", "0"), ("    MOST", "    7")), TEXTS)
         self.assertEqual([it.path for it in found.functions], ["text::counter::TextSource::read", "text::counter::count"])
+
+    def test_import_beside_a_body_changes_nothing_else(self) -> None:
+        self.assertEqual([it.path for it in self.functions_of(("use std::fmt;", "use std::mem;"), ("    MOST", "    7"))], ["text::counter::count"])
+        self.assertEqual(self.functions_of(("use std::fmt;", "use std::mem;")), ())
+
+    def functions_of(self, *pairs: tuple[str, str]) -> tuple[Function, ...]:
+        """The functions that an edit stands in."""
+        return place(edit(*pairs), TEXTS).functions
 
     def test_edit_that_also_changes_a_constant_is_alone(self) -> None:
         self.assertTrue(place(edit(("self.left", "0"), ("= 8", "= 9")), TEXTS).is_alone)
