@@ -26,6 +26,7 @@ AHEAD = 16  # messages of a connection that are looked at for a KASME
 
 # What comes later in the same connection: NAS messages with their directions, and KeNBs.
 Later = Callable[[], Iterable[tuple[int, bytes] | bytes]]
+Call = Callable[[bytes, int, int, int, bytes], bytes]  # a cipher or a MAC: key, COUNT, BEARER, DIRECTION, text
 
 
 def estimate(least: int, low: int, wrap: int = WRAP) -> int:
@@ -58,7 +59,8 @@ class NasBook:
     def mac(self, context: NasContext, direction: int, count: int, body: bytes) -> bytes:
         eia = context.eia if context.eia in COMPUTED else 2
         key = self.derivations.nas_key(context.kasme, NAS_INTEGRITY, eia)
-        return getattr(self.derivations.calls, f"eia{eia}")(key, count, 0, direction, body)
+        call: Call = getattr(self.derivations.calls, f"eia{eia}")
+        return call(key, count, 0, direction, body)
 
     def text(self, context: NasContext, direction: int, count: int, header: int, pdu: bytes) -> bytes | None:
         if header not in CIPHERED or context.eea == 0:
@@ -66,7 +68,8 @@ class NasBook:
         if context.eea not in COMPUTED:
             return None
         key = self.derivations.nas_key(context.kasme, NAS_ENCRYPTION, context.eea)
-        return getattr(self.derivations.calls, f"eea{context.eea}")(key, count, 0, direction, pdu[6:])
+        call: Call = getattr(self.derivations.calls, f"eea{context.eea}")
+        return call(key, count, 0, direction, pdu[6:])
 
     def guesses(self, context: NasContext, direction: int, count: int, pdu: bytes) -> None:
         """Sets the ciphering of a context whose Command the trace lacks: the one under which this text reads as EMM or ESM (9.2)."""
