@@ -85,7 +85,7 @@ def read_cells(file: Path) -> list[Site]:
     return found
 
 
-def sites_of(pairs: list) -> Iterator[Site]:
+def sites_of(pairs: list[tuple[str, object]]) -> Iterator[Site]:
     """The cells that an X2AP message tells: those that a station serves, and their neighbours."""
     for name, value in pairs:
         if not (isinstance(value, list) and value and isinstance(value[0], tuple)):
@@ -98,20 +98,20 @@ def sites_of(pairs: list) -> Iterator[Site]:
             yield from sites_of(value)
 
 
-def site_of(pairs: list) -> Site | None:
+def site_of(pairs: list[tuple[str, object]]) -> Site | None:
     found: dict[str, int] = {}
 
-    def walk(below: list, ie: int) -> None:
+    def walk(below: list[tuple[str, object]], ie: int) -> None:
         for name, value in below:
-            ie = int(value) if name == "x2ap.id" else ie
+            ie = int(str(value)) if name == "x2ap.id" else ie
             if isinstance(value, list) and value and isinstance(value[0], tuple):
                 walk(value, ie)
             elif name == "x2ap.eUTRANcellIdentifier":
                 found.setdefault(name, int(str(value).replace(":", ""), 16) >> 4)
             elif name == "x2ap.EARFCNExtension":
-                found[f"wide {ie}"] = int(value)
+                found[f"wide {ie}"] = int(str(value))
             elif name in ("x2ap.pCI", "x2ap.dL_EARFCN", "x2ap.uL_EARFCN", "x2ap.eARFCN"):
-                found.setdefault(name, int(value))
+                found.setdefault(name, int(str(value)))
 
     walk(pairs, -1)
     earfcn = found.get("x2ap.dL_EARFCN", found.get("x2ap.eARFCN"))

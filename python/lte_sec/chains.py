@@ -1,15 +1,19 @@
 """The keys that the core sends against TS 33.401: KeNB, and NH with its NCC."""
 from __future__ import annotations
 
-from .captures import Message
+
 from .cells import Cells
-from .nas import NasBook
-from .report import NOTE, Line, key_line, unknown_line
+from .contexts import NasContext, Trigger
+from .decoding import Message
+from .nas import LOST_MODE, NOT_GIVEN
+from .report import Line, key_line, note_line, unknown_line
 from .search import Search
-from .state import CHAIN, Chain, Connection
-from .terms import NONE, UP, Derivations, Key
+from .service import ServiceBook
+from .state import CHAIN, Chain, Connection, Undecided
+from .terms import NONE, UP, Key
 
 FAR = 6  # so many steps of the chain ahead of the phone the core is warned of; at eight they come apart
+FEW = 4  # COUNTs of an uplink message by which a KeNB is made after a Security Mode exchange
 OTHERS = 16  # contexts of other phones whose KeNBs are at hand for the search
 FIRST = (2, 1)  # the number of the first NH that a core sends: 2 by the note of TS 33.401 7.2.8.1.1, 1 of other cores
 
@@ -17,7 +21,7 @@ FIRST = (2, 1)  # the number of the first NH that a core sends: 2 by the note of
 class ChainJudge:
     """Judges KeNB and NH, each when it is sent, and goes on from what was sent."""
 
-    def __init__(self, book: NasBook, cells: Cells, search: Search, firsts: dict[str, int]):
+    def __init__(self, book: ServiceBook, cells: Cells, search: Search, firsts: dict[str, int]):
         self.book, self.cells, self.search, self.firsts = book, cells, search, firsts
         self.derivations = book.derivations
         self.lines: list[Line] = []
@@ -48,32 +52,43 @@ class ChainJudge:
     def show(self, key: Key, beside: Key | None = None) -> str:
         return self.derivations.shown(key, beside)
 
-    def judged(self, message: Message, what: str, found: Key, wanted: Key, ncc: tuple[int, int] | None = None, why: str = "") -> None:
+    def judged(self, message: Message, what: str, found: Key, wanted: Key, ncc: tuple[int, int] | None = None, why: str = "", cell: tuple[int, int] | None = None) -> Line:
+        line = self.line_of(message, what, found, wanted, ncc, why)
+        line.cell = cell
+        self.lines.append(line)
+        return line
+
+    def line_of(self, message: Message, what: str, found: Key, wanted: Key, ncc: tuple[int, int] | None = None, why: str = "") -> Line:
         differs = found.value != wanted.value
-        line = key_line(message.frame, title(message), what, self.show(found, wanted if differs else None), self.derivations.form(wanted, found) + self.derivations.whose(wanted), differs, ncc, why)
+        shown = self.show(found, wanted if differs else None), self.derivations.form(wanted, found) + self.derivations.whose(wanted)
+        line = key_line(message.frame, title(message), what, *shown, differs, ncc, why)
         line.found, line.wanted, line.base, line.hex = found.form, wanted.form, found.base, found.value.hex()
         line.kasme = self.derivations.kasmes[found.kasme].name if found.kasme >= 0 else ""
-        self.lines.append(line)
+        return line
 
     def unjudged(self, message: Message, what: str, why: str, found: Key | None = None) -> None:
-        self.lines.append(unknown_line(message.frame, title(message), what, why, self.show(found) if found and found.known else ""))
+        line = unknown_line(message.frame, title(message), what, why, self.show(found) if found and found.known else "")
+        line.hex = found.value.hex() if found else ""
+        self.lines.append(line)
 
     def cell(self, eci: int | None) -> tuple[int, int] | None:
         site = self.cells.sites.get(eci) if eci is not None else None
         return (site.pci, site.earfcn) if site else None
 
     def note(self, frame: str, text: str) -> None:
-        self.lines.append(Line(frame, "", "", NOTE, f"frame {frame} {text}"))
+        self.lines.append(note_line(frame, text))
 
     # -- KeNB
 
     def wanted_kenbs(self, connection: Connection) -> list[Key]:
         """The KeNB that is due: at the COUNT of the trigger; where its MAC is wrong, also at the COUNT that was to come."""
         trigger, pending = connection.side.trigger, connection.side.pending
-        counts = [] if trigger is None else [(trigger.context.kasme, trigger.count)]
-        if trigger is not None and not trigger.sure:
-            counts.append((trigger.context.kasme, trigger.context.next[UP]))
-        if pending is not None:  # the Security Mode Complete has not come yet, or the trace lacks it
+        counts: list[tuple[int, int]] = []
+        if trigger is not None and trigger.context.given:
+            counts += [(trigger.context.kasme, count) for count in trigger.counts]
+            if not trigger.sure:
+                counts.append((trigger.context.kasme, trigger.context.next[UP]))
+        if pending is not None and pending.given:  # the Security Mode Complete has not come yet, or the trace lacks it
             counts.append((pending.kasme, pending.next[UP]))
         return [self.derivations.kenb(*one) for one in dict.fromkeys(counts)]
 
@@ -82,22 +97,58 @@ class ChainJudge:
         assert message.key is not None
         wanted = self.wanted_kenbs(connection)
         match = next((key for key in wanted if key.value == message.key), None)
+        unseen = None if match is not None else self.kenb_of_unseen(connection, message.key)
+        if match is None and unseen is not None:
+            self.judged(message, "KeNB", unseen, unseen, why=LOST_MODE)
+            return unseen, [unseen]
         if match is not None:
             self.judged(message, "KeNB", match, match)
             if connection.side.pending is not None and match.kasme == connection.side.pending.kasme:
                 self.book.complete(connection.side)
+            self.used(connection)
             return match, [match]
-        found = self.named(message.key, connection, wanted)
-        if not wanted:
-            self.unjudged(message, "KeNB", "the trace does not show the message that brought the connection" if found.known else "no KASME that was given fits", found)
+        why = self.not_due(connection, wanted)
+        found = self.named(message.key, connection, [] if why else wanted)
+        self.used(connection)
+        if why:
+            self.unjudged(message, "KeNB", why if found.known or wanted else NOT_GIVEN, found)
             return found, [found]
         self.judged(message, "KeNB", found, wanted[0])
         return wanted[0], [found, wanted[0]]
 
+    def used(self, connection: Connection) -> None:
+        if connection.side.trigger is not None:
+            connection.side.trigger.used = True
+
+    def not_due(self, connection: Connection, wanted: list[Key]) -> str:
+        """Why a KeNB cannot be judged, or nothing."""
+        side = connection.side
+        if side.pending is not None and not side.pending.given or side.trigger is not None and not side.trigger.context.given:
+            return NOT_GIVEN
+        if not wanted:
+            return "the trace does not show the message that brought the connection"
+        if side.authenticated or side.trigger is not None and side.trigger.used and side.pending is None:
+            return "the trace lacks the Security Mode exchange before it"
+        return ""
+
+    def kenb_of_unseen(self, connection: Connection, value: bytes) -> Key | None:
+        """The KeNB of a new KASME whose Security Mode exchange the trace lacks: it is made at one of the first COUNTs."""
+        side = connection.side
+        for kasme in self.book.unused():
+            for count in range(FEW):
+                if self.derivations.calls.kenb(self.derivations.kasmes[kasme].value, count) == value:
+                    context = NasContext(kasme, guessed=True)
+                    self.book.follows(side.current, context)
+                    self.book.contexts[kasme] = side.current = context
+                    side.pending, side.authenticated, side.established = None, False, True
+                    side.trigger = Trigger(context, (count,), True, True)
+                    return self.derivations.kenb(kasme, count)
+        return None
+
     def chains(self, connection: Connection, keys: list[Key]) -> list[Chain]:
         """The chains that may begin at these KeNBs: under the KASME in use, and under that of the key."""
         trigger = connection.side.trigger
-        kasmes = [trigger.context.kasme] if trigger else []
+        kasmes = [trigger.context.kasme] if trigger and trigger.context.given else []
         pairs = [(kasme, key) for key in keys for kasme in dict.fromkeys([*kasmes, key.kasme]) if kasme >= 0]
         return [Chain(kasme, key) for kasme, key in pairs]
 
@@ -120,9 +171,12 @@ class ChainJudge:
             return fresh
         tried = [chain.step(self.derivations, steps) for chain in connection.core for steps in self.steps(connection, chain)]
         matches = [chain for chain in tried if chain.sync.value == message.nh]
-        match = next((chain for chain in matches if chain.number % CHAIN == message.ncc), matches[0] if matches else None)
+        match = next((chain for chain in matches if chain.number % CHAIN == message.ncc), None)
         if match is not None:
             return self.right_nh(connection, message, match)
+        if matches:
+            by_ncc = next((chain for chain in tried if chain.number % CHAIN == message.ncc and chain.kasme == matches[0].kasme), None)
+            return self.two_numbers(connection, message, matches[0], by_ncc) if by_ncc else self.right_nh(connection, message, matches[0])
         return self.overdue(connection, message) or self.other_nh(connection, message, tried)
 
     def other_nh(self, connection: Connection, message: Message, tried: list[Chain]) -> list[tuple[Key, int]]:
@@ -132,13 +186,14 @@ class ChainJudge:
         number = int(found.form[3:-1]) if found.form.startswith("nh(") else 0
         connection.asked = 0
         if not tried:
-            self.unjudged(message, "NH", "the trace does not show where the chain begins" if found.known else "no KASME that was given fits", found)
+            self.unjudged(message, "NH", "the trace does not show where the chain begins" if found.known else NOT_GIVEN, found)
             connection.core = [Chain(found.kasme, found, number)] if number else []
             return [(found, message.ncc)]
         # Several numbers may be due where requests have no answer. A key that nothing explains leaves NCC to tell.
         likely = [chain for chain in tried if not found.known and chain.number % CHAIN == message.ncc] + tried
         wanted = next((chain for chain in likely if chain.sync.base != NONE), likely[0])
         self.judged(message, "NH", found, wanted.sync, (message.ncc, wanted.number % CHAIN))
+        self.decided(connection, wanted)
         same = found.base == wanted.sync.base and found.kasme == wanted.kasme
         numbers = [number, wanted.number] if same and number else [wanted.number, number]
         before = [] if found.known else connection.core[:1]  # where nothing tells what was sent, the core may not have stepped
@@ -148,6 +203,8 @@ class ChainJudge:
         return [(found, message.ncc), (wanted.sync, wanted.number % CHAIN)]
 
     def right_nh(self, connection: Connection, message: Message, chain: Chain) -> list[tuple[Key, int]]:
+        """An NH that is due, with its NCC or another."""
+        self.decided(connection, chain)
         before = next((one.number for one in connection.core if one.number < chain.number), 0)
         if before == 0:
             first = self.firsts.get(connection.mme, chain.number if connection.asked < 2 else FIRST[0])
@@ -163,6 +220,25 @@ class ChainJudge:
             self.note(message.frame, f"warning: the core is {ahead} steps of the chain ahead of the phone; at eight they come apart")
         pairs = [(chain.sync, message.ncc or 0)]
         return pairs if message.ncc == ncc else [*pairs, (chain.sync, ncc)]
+
+    def two_numbers(self, connection: Connection, message: Message, by_key: Chain, by_ncc: Chain) -> list[tuple[Key, int]]:
+        """An NH of one number that is due and the NCC of another: one of them is the fault, and the next answer tells which."""
+        ncc = message.ncc or 0
+        lines = {
+            by_key.number: self.line_of(message, "NH", by_key.sync, by_key.sync, (ncc, by_key.number % CHAIN)),
+            by_ncc.number: self.line_of(message, "NH", by_key.sync, by_ncc.sync, (ncc, ncc)),
+        }
+        likely = sorted((by_key, by_ncc), key=lambda one: FIRST.index(one.number) if one.number in FIRST else -1)
+        self.lines.append(lines[likely[0].number])
+        connection.undecided = Undecided(lines[likely[0].number], lines[likely[1].number], likely[1].number)
+        connection.core, connection.asked = likely, 0
+        return [(by_key.sync, ncc), (by_key.sync, by_key.number % CHAIN), (by_ncc.sync, ncc)]
+
+    def decided(self, connection: Connection, chain: Chain) -> None:
+        """The next answer stands: which of two numbers it goes on from decides what the fault before it was."""
+        undecided, connection.undecided = connection.undecided, None
+        if undecided is not None and chain.number == undecided.number + 1:
+            self.lines[next(place for place, line in enumerate(self.lines) if line is undecided.line)] = undecided.other
 
     def numbered(self, connection: Connection, number: int) -> Chain | None:
         """The chain of a connection at a number, from its beginning."""
@@ -185,12 +261,20 @@ class ChainJudge:
         trigger = connection.side.trigger
         if message.name != "HandoverRequest" or trigger is None or not connection.core or trigger.context.kasme == connection.core[0].kasme:
             return None
-        kenb = self.derivations.kenb(trigger.context.kasme, trigger.count)
-        if not message.new_context and kenb.value != message.nh:
+        if not trigger.context.given:
+            if not message.new_context:
+                return None
+            key = Key(message.nh or b"", NONE)
+            self.unjudged(message, "NH", NOT_GIVEN)
+            connection.core, connection.asked = [], 0
+            return [(key, message.ncc or 0)]
+        kenbs = [self.derivations.kenb(trigger.context.kasme, count) for count in trigger.counts]
+        match = next((one for one in kenbs if one.value == message.nh), None)
+        if match is None and not message.new_context:
             return None
-        found = kenb if kenb.value == message.nh else self.named(message.nh or b"", connection, [kenb])
-        self.judged(message, "NH", found, kenb, (message.ncc or 0, 0))
-        keys = [found] if found is kenb else [found, kenb]
+        found = match or self.named(message.nh or b"", connection, kenbs)
+        self.judged(message, "NH", found, match or kenbs[0], (message.ncc or 0, 0))
+        keys = [found] if match else [found, kenbs[0]]
         connection.core, connection.asked = self.chains(connection, keys), 0
         return [(key, 0) for key in keys]
 

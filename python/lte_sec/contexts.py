@@ -3,6 +3,7 @@ from __future__ import annotations
 
 from dataclasses import dataclass, field
 
+from .report import Verdict
 from .terms import DOWN, UP
 
 NAMES = {
@@ -15,7 +16,10 @@ NAMES = {
     0x5E: "Security mode complete", 0x5F: "Security mode reject", 0x60: "EMM status", 0x61: "EMM information",
     0x62: "Downlink NAS transport", 0x63: "Uplink NAS transport",
 }
+PLAIN, COMMAND, COMPLETE, PARTLY = 0, 3, 4, 5  # security header types (TS 24.301 9.3.1)
+CIPHERED = (2, 4)
 SERVICE_REQUEST = 12  # the least header type of one: its first two bits tell it (TS 24.301 9.3.1)
+FOREIGN = -1  # the place of a KASME that was not given
 
 
 @dataclass
@@ -28,15 +32,26 @@ class NasContext:
     ksi: int | None = None
     next: dict[int, int] = field(default_factory=lambda: {UP: 0, DOWN: 0})
     seen: dict[tuple[int, int], bytes] = field(default_factory=dict)
+    capabilities: tuple[int, int] | None = None  # of the phone, as S1 has them
+    guessed: bool = False  # no Command told its algorithms: the ciphering shows at the first ciphered message
+
+    @property
+    def given(self) -> bool:
+        return self.kasme != FOREIGN
 
 
 @dataclass
 class Trigger:
-    """The uplink message that KeNB is made at: its context and COUNT, and whether its MAC is right."""
+    """The uplink message that KeNB is made at: its context, the COUNTs that it may have, and whether its MAC is right."""
 
     context: NasContext
-    count: int
+    counts: tuple[int, ...]
     sure: bool
+    used: bool = False  # a KeNB was made at it
+
+    @property
+    def count(self) -> int:
+        return self.counts[0]
 
 
 @dataclass
@@ -48,23 +63,31 @@ class NasSide:
     trigger: Trigger | None = None
     tmsi: int | None = None
     initial: bool = False  # the trace shows the first message of the connection
+    messages: int = 0  # of NAS, so far
     missed: int = 0  # messages for which no KASME was found
+    established: bool = False  # the secure exchange of NAS messages (TS 24.301 4.4.2.3), by a MAC that is right
+    completed: bool = False  # a Complete came that could not be judged
+    authenticated: bool = False  # an authentication whose Security Mode exchange did not come yet
+    told: bytes | None = None  # EEA, EIA, UEA and UIA of the phone's own Attach or Tracking Area Update Request
+    capabilities: tuple[int, int] | None = None  # of the phone, as S1 has them: ciphering, integrity
+    emergency: bool = False
 
 
 @dataclass
 class NasSeen:
-    """What was found of a protected message. `verdict` is right, wrong or unknown."""
+    """What was found of a NAS message: of its MAC, and each fault beside it."""
 
     direction: int
     header: int
-    verdict: str
-    mac: str
+    verdict: Verdict
+    mac: str = ""
     count: int | None = None
     wanted: str = ""
     kasme: int | None = None
     plain: bytes | None = None
     note: str = ""
-    ksi: tuple[int, int] | None = None  # the KSI that was told, and that of the context, where they differ
+    faults: list[str] = field(default_factory=list)
+    warning: str = ""
 
     @property
     def name(self) -> str:

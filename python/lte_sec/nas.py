@@ -9,41 +9,38 @@ import re
 from collections.abc import Callable, Iterable
 from dataclasses import replace
 
-from .contexts import SERVICE_REQUEST, NasContext, NasSeen, NasSide, Trigger
+from .contexts import CIPHERED, COMMAND, COMPLETE, FOREIGN, NAMES, PARTLY, PLAIN, SERVICE_REQUEST, NasContext, NasSeen, NasSide, Trigger
+from .counts import WRAP, Effort, estimate, near
+from .plain import EMM, ESM, MODE_COMMAND, capability_fault, learn, of_octets, plain_verdict, replayed
+from .report import DIFFERS, RIGHT, UNKNOWN
 from .terms import DOWN, NAS_ENCRYPTION, NAS_INTEGRITY, UP, Derivations
 
 GUTI = re.compile(rb"\x0b\xf6.{6}(.{4})", re.DOTALL)  # TS 24.301 9.9.3.12, with its length
-PLAIN, COMMAND, COMPLETE = 0, 3, 4  # security header types (TS 24.301 9.3.1)
-CIPHERED = (2, 4)
-COMPUTED = (2, 1, 3)  # the algorithms that are computed here, by identity, in the order in which they are tried (TS 33.401 Annex B)
+WITH_GUTI = (b"\x07\x42", b"\x07\x49", b"\x07\x50")
 HEADERS = {0x5D: COMMAND, 0x5E: COMPLETE}  # the header types that these messages have (TS 24.301 5.4.3)
-WRAP, SHORT_WRAP = 256, 32  # of a sequence number, and of that of a Service Request
-LIMIT = 1 << 24
-TRIES = 8  # wraps of the sequence number that a trace may lack
-COLD = 256  # wraps that are tried where a trace begins within a context
-PATIENCE = 3  # messages of a connection for which such a beginning is sought
+CONTROL_SERVICE = 0x4D  # Control Plane Service Request, whose text is ciphered in part
+COMPUTED = (0, 2)  # the identities of algorithms that are computed here
+PATIENCE = 3  # messages of a connection for which a beginning before the trace is sought
 AHEAD = 16  # messages of a connection that are looked at for a KASME
+NEW = 16  # COUNTs of a context whose Security Mode exchange a trace lacks
+NOT_GIVEN = "no KASME that was given fits"
+LOST_MODE = "after a Security Mode exchange that the trace lacks"
 
 # What comes later in the same connection: NAS messages with their directions, and KeNBs.
-Later = Callable[[], Iterable[tuple[int, bytes] | bytes]]
-Call = Callable[[bytes, int, int, int, bytes], bytes]  # a cipher or a MAC: key, COUNT, BEARER, DIRECTION, text
+Later = Callable[[], Iterable["tuple[int, bytes] | bytes"]]
 
 
-def estimate(least: int, low: int, wrap: int = WRAP) -> int:
-    """The least COUNT from `least` on with these low bits."""
-    return least + (low - least) % wrap
-
-
-def unchecked(eia: int) -> str:
-    """Why the MACs under an integrity algorithm are not judged: a receiver takes any under EIA0 (TS 33.401 B.0)."""
-    return "EIA0 checks nothing" if eia == 0 else f"128-EIA{eia} is not computed here"
+def is_protected(pdu: bytes) -> bool:
+    return len(pdu) >= 7 and pdu[0] & 15 == EMM and PLAIN < pdu[0] >> 4 < SERVICE_REQUEST
 
 
 class NasBook:
     """All NAS contexts of a trace, one for each KASME, and the temporary identities that were given out under them."""
 
-    def __init__(self, derivations: Derivations):
+    def __init__(self, derivations: Derivations, effort: int | None = None):
         self.derivations = derivations
+        effort = 10 * derivations.calls.budget if effort is None else effort
+        self.effort, self.cold = Effort(effort), Effort(effort, 4)  # for contexts that are known, and for those that began before the trace
         self.contexts: dict[int, NasContext] = {}
         self.phones: dict[int, int] = {}  # KASME by M-TMSI
         self.tmsis: dict[int, set[int]] = {}
@@ -54,45 +51,53 @@ class NasBook:
         every = range(len(self.derivations.kasmes))
         return [*every[self.turn:], *every[:self.turn]]
 
+    def unused(self) -> list[int]:
+        """The places of the KASMEs that no message stood under so far."""
+        return [kasme for kasme in self.kasmes() if kasme not in self.contexts]
+
     # -- MACs and texts
 
     def mac(self, context: NasContext, direction: int, count: int, body: bytes) -> bytes:
-        eia = context.eia if context.eia in COMPUTED else 2
-        key = self.derivations.nas_key(context.kasme, NAS_INTEGRITY, eia)
-        call: Call = getattr(self.derivations.calls, f"eia{eia}")
-        return call(key, count, 0, direction, body)
+        """The MAC of a message; EIA0 has zeros (TS 33.401 B.1)."""
+        if context.eia == 0:
+            return bytes(4)
+        key = self.derivations.nas_key(context.kasme, NAS_INTEGRITY, 2)
+        return self.derivations.calls.eia2(key, count, 0, direction, body)
 
-    def text(self, context: NasContext, direction: int, count: int, header: int, pdu: bytes) -> bytes | None:
-        if header not in CIPHERED or context.eea == 0:
-            return pdu[6:]
-        if context.eea not in COMPUTED:
-            return None
-        key = self.derivations.nas_key(context.kasme, NAS_ENCRYPTION, context.eea)
-        call: Call = getattr(self.derivations.calls, f"eea{context.eea}")
-        return call(key, count, 0, direction, pdu[6:])
+    def has_mac(self, context: NasContext, direction: int, count: int, pdu: bytes) -> bool:
+        return self.mac(context, direction, count, pdu[5:]) == pdu[1:5]
 
-    def guesses(self, context: NasContext, direction: int, count: int, pdu: bytes) -> None:
-        """Sets the ciphering of a context whose Command the trace lacks: the one under which this text reads as EMM or ESM (9.2)."""
+    def text(self, context: NasContext, direction: int, count: int, pdu: bytes) -> bytes | None:
+        """The text of a message, deciphered; None where that is not computed here."""
         header = pdu[0] >> 4
-        if header not in CIPHERED:
-            return
-        for context.eea in (0, *COMPUTED):
-            plain = self.text(context, direction, count, header, pdu)
-            if plain and (plain[0] == 7 or plain[0] & 15 == 2) and len(plain) > 1:
-                return
-        context.eea = 2
+        if header in CIPHERED and context.guessed and context.given:
+            self.guess(context, direction, count, pdu)
+        if header not in (*CIPHERED, PARTLY) or context.eea == 0:
+            return pdu[6:]
+        return self.deciphered(context, direction, count, pdu) if header != PARTLY and context.eea == 2 and context.given else None
 
-    def counts(self, context: NasContext, direction: int, low: int) -> list[int]:
-        """The COUNTs to try: the receiver's, then those of late messages, then those after messages that the trace lacks."""
-        first = estimate(context.next[direction], low)
-        late = [first - wrap * WRAP for wrap in range(1, TRIES + 1) if first >= wrap * WRAP]
-        ahead = [first + wrap * WRAP for wrap in range(1, TRIES + 1) if first + wrap * WRAP < LIMIT]
-        return [first, *late, *ahead]
+    def deciphered(self, context: NasContext, direction: int, count: int, pdu: bytes) -> bytes:
+        key = self.derivations.nas_key(context.kasme, NAS_ENCRYPTION, 2)
+        return self.derivations.calls.eea2(key, count, 0, direction, pdu[6:])
+
+    def guess(self, context: NasContext, direction: int, count: int, pdu: bytes) -> None:
+        """The ciphering of a context whose Command the trace lacks: that under which the text is a NAS message."""
+        def is_message(text: bytes) -> bool:
+            return len(text) > 1 and (text[0] == EMM and text[1] in NAMES or text[0] & 15 == ESM)
+
+        context.eea, context.guessed = 2, False
+        if is_message(pdu[6:]) and not is_message(self.deciphered(context, direction, count, pdu)):
+            context.eea = 0
+
+    def judged(self, context: NasContext) -> bool:
+        """Whether the MACs of a context are computed here."""
+        return context.eia in COMPUTED and (context.given or context.eia == 0)
 
     def opens(self, context: NasContext, direction: int, pdu: bytes) -> int | None:
-        """The COUNT under which the MAC is right, or None."""
-        tried = self.counts(context, direction, pdu[5])
-        return next((count for count in tried if self.mac(context, direction, count, pdu[5:]) == pdu[1:5]), None)
+        """The COUNT near the next one under which the MAC is right, or None."""
+        if not self.judged(context):
+            return None
+        return next((count for count in near(context, direction, pdu[5]) if self.has_mac(context, direction, count, pdu)), None)
 
     def accept(self, context: NasContext, direction: int, count: int, pdu: bytes) -> str:
         """Takes a message whose MAC is right; answers a remark, which begins with `COUNT` where a COUNT was used twice."""
@@ -108,79 +113,145 @@ class NasBook:
     # -- one message
 
     def judge(self, side: NasSide, direction: int, pdu: bytes, later: Later) -> NasSeen | None:
-        """What is found of a message, or None of a plain one."""
-        if len(pdu) < 2 or pdu[0] & 15 != 7:
-            return None
-        header = pdu[0] >> 4
+        """What is found of a message, or None of one that may be plain."""
+        side.messages += 1
+        if len(pdu) < 2:
+            return NasSeen(direction, PLAIN, UNKNOWN, note="shorter than a NAS message")
+        header, discriminator = pdu[0] >> 4, pdu[0] & 15
+        if discriminator == ESM:
+            return self.plain(side, direction, pdu, None)
+        if discriminator != EMM:
+            return NasSeen(direction, header, UNKNOWN, note=f"its protocol discriminator is {discriminator}, neither of EMM nor of ESM")
         if header == PLAIN:
-            if pdu[1] == 0x5F:
-                side.pending = None
-            return None
+            return self.plain(side, direction, pdu, pdu[1])
         if header >= SERVICE_REQUEST:
-            return self.service_request(side, pdu, later) if len(pdu) >= 4 else None
+            return self.service_request(side, pdu, later)
         if len(pdu) < 7:
-            return NasSeen(direction, header, "wrong", pdu[1:5].hex(), note="shorter than a protected message")
-        if header == COMMAND and direction == DOWN:
-            return self.command(side, pdu, later)
-        return self.protected(side, direction, pdu, later)
+            return NasSeen(direction, header, DIFFERS, pdu[1:5].hex(), faults=["shorter than a protected message"])
+        seen = self.command(side, pdu, later) if header == COMMAND and direction == DOWN else self.protected(side, direction, pdu, later)
+        self.reserved(seen)
+        return seen
 
-    def found(self, context: NasContext, direction: int, pdu: bytes, count: int, note: str = "") -> NasSeen:
+    def service_request(self, side: NasSide, pdu: bytes, later: Later) -> NasSeen | None:
+        raise NotImplementedError  # of `ServiceBook`
+
+    def reserved(self, seen: NasSeen) -> None:
+        if PARTLY < seen.header < SERVICE_REQUEST:
+            seen.faults = [f"header type differs: is {seen.header}, which TS 24.301 9.3.1 reserves"]
+            seen.verdict = DIFFERS
+
+    def plain(self, side: NasSide, direction: int, pdu: bytes, kind: int | None) -> NasSeen | None:
+        found = plain_verdict(side, direction, kind)
+        if found is None:
+            learn(side, direction, pdu)
+            return None
+        verdict, why = found
+        return NasSeen(direction, PLAIN, verdict, plain=pdu, note=why if verdict == UNKNOWN else "", faults=[why] if verdict == DIFFERS else [])
+
+    def found(self, side: NasSide, context: NasContext, direction: int, pdu: bytes, count: int, note: str = "") -> NasSeen:
         """The finding for a message whose MAC is right under a context and COUNT."""
         header = pdu[0] >> 4
         note = self.accept(context, direction, count, pdu) or note
-        plain = self.text(context, direction, count, header, pdu)
-        if direction == DOWN and plain:
-            for tmsi in GUTI.findall(plain) if plain[:2] in (b"\x07\x42", b"\x07\x49", b"\x07\x50") else ():
+        plain = self.text(context, direction, count, pdu)
+        seen = NasSeen(direction, header, RIGHT, pdu[1:5].hex(), count, "", context.kasme if context.given else None, plain, note)
+        if note.startswith("COUNT"):
+            seen.note, seen.faults = "", [note]
+        wanted = self.header_wanted(side, context, direction, pdu, plain)
+        if wanted != header:
+            seen.faults.append(f"header type differs: is {header}, wanted {wanted}")
+        if plain:
+            self.learn(side, context, direction, plain)
+        if plain and len(plain) > 1 and plain[:2] == bytes([EMM, MODE_COMMAND]):
+            self.commanded(side, context, plain, seen)
+        seen.verdict = DIFFERS if seen.faults else RIGHT
+        return seen
+
+    def header_wanted(self, side: NasSide, context: NasContext, direction: int, pdu: bytes, plain: bytes | None) -> int:
+        """The header type that a message must have (TS 24.301 4.4.5, 5.4.3); where several may stand, its own."""
+        header, text = pdu[0] >> 4, pdu[6:8] if pdu[0] >> 4 == PARTLY else (plain or b"")[:2]
+        kind = text[1] if len(text) == 2 and text[0] == EMM else None
+        if kind in HEADERS:
+            return HEADERS[kind]
+        if kind == CONTROL_SERVICE:
+            return PARTLY if header in (COMMAND, COMPLETE) else header
+        if text and header in (COMMAND, COMPLETE, PARTLY):
+            return 1 if direction == UP and not side.established else 2
+        told = context.eea and not context.guessed
+        return 2 if header == 1 and direction == DOWN and side.established and told else header
+
+    def learn(self, side: NasSide, context: NasContext, direction: int, plain: bytes) -> None:
+        learn(side, direction, plain)
+        if direction == DOWN and plain[:2] in WITH_GUTI:
+            for tmsi in GUTI.findall(plain):
                 self.knows(int.from_bytes(tmsi, "big"), context.kasme)
-        due = HEADERS.get(plain[1], header) if plain and plain[0] == 7 and len(plain) > 1 else header
-        note = note if due == header else f"header type differs: is {header}, wanted {due}"
-        verdict = "wrong" if note.startswith(("COUNT", "header")) else "right"
-        return NasSeen(direction, header, verdict, pdu[1:5].hex(), count, "", context.kasme, plain, note)
+
+    def commanded(self, side: NasSide, context: NasContext, plain: bytes, seen: NasSeen) -> None:
+        """What a Security Mode Command says beside its algorithms."""
+        back = replayed(plain)
+        fault = capability_fault(side, plain)
+        if fault:
+            seen.faults.append(fault)
+        if back is not None and (fault or side.capabilities is None):  # the core goes on from what it took
+            side.capabilities = of_octets(back)
+        side.authenticated = False
+        if context.eia == 0 and not side.emergency:
+            seen.warning = "EIA0 outside an emergency call, which TS 33.401 5.1.4.2 does not allow"
 
     def refused(self, context: NasContext, direction: int, pdu: bytes, count: int, note: str = "") -> NasSeen:
         """The finding for a message whose MAC is wrong at the COUNT that its receiver takes."""
-        header, judged = pdu[0] >> 4, context.eia in COMPUTED
-        wanted = self.mac(context, direction, count, pdu[5:]).hex() if judged else ""
-        note = note if judged else unchecked(context.eia)
-        plain = self.text(context, direction, count, header, pdu)
-        if not judged:
+        header = pdu[0] >> 4
+        if not self.judged(context):
             context.next[direction] = max(context.next[direction], count + 1)
-        return NasSeen(direction, header, "wrong" if judged else "unknown", pdu[1:5].hex(), count, wanted, context.kasme, plain, note)
+            note = f"128-EIA{context.eia} is not computed here" if context.given else NOT_GIVEN
+            return NasSeen(direction, header, UNKNOWN, pdu[1:5].hex(), count if context.given else None, "", context.kasme if context.given else None, self.text(context, direction, count, pdu), note)
+        wanted = self.mac(context, direction, count, pdu[5:]).hex()
+        kasme = context.kasme if context.given else None
+        return NasSeen(direction, header, DIFFERS, pdu[1:5].hex(), count, wanted, kasme, self.text(context, direction, count, pdu), note)
 
-    def nothing(self, direction: int, pdu: bytes) -> NasSeen:
-        return NasSeen(direction, pdu[0] >> 4, "unknown", pdu[1:5].hex(), note="no KASME that was given fits")
+    def nothing(self, direction: int, pdu: bytes, why: str = NOT_GIVEN) -> NasSeen:
+        return NasSeen(direction, pdu[0] >> 4, UNKNOWN, pdu[1:5].hex(), note=why)
 
-    # -- Security Mode Command, Service Request, all others
+    # -- Security Mode Command
 
     def command(self, side: NasSide, pdu: bytes, later: Later) -> NasSeen:
         """A Security Mode Command: its own octets tell algorithms and KSI; the KASME is the one under which its MAC is right."""
         plain, seq = pdu[6:], pdu[5]
-        octet, ksi = (plain[2], plain[3] & 7) if len(plain) >= 4 else (0x22, None)
+        octet, ksi = (plain[2], plain[3] & 7) if len(plain) >= 4 and plain[:2] == bytes([EMM, MODE_COMMAND]) else (0x22, None)
         eea, eia = octet >> 4 & 7, octet & 7
+        if eia == 0:
+            side.pending = NasContext(FOREIGN, eea, 0, ksi)
+            right = pdu[1:5] == bytes(4)
+            return self.found(side, side.pending, DOWN, pdu, seq) if right else self.refused(side.pending, DOWN, pdu, seq)
         fresh = [NasContext(kasme, eea, eia, ksi) for kasme in self.kasmes()]
-        context = next((one for one in fresh if eia in COMPUTED and self.mac(one, DOWN, seq, pdu[5:]) == pdu[1:5]), None)
+        context = next((one for one in fresh if self.judged(one) and self.has_mac(one, DOWN, seq, pdu)), None)
         old = self.contexts.get(context.kasme) if context else side.current
-        if old is not None and eia in COMPUTED:  # a context in use may go on under other algorithms: its COUNTs do too
-            renewed = replace(old, eea=eea, eia=eia, ksi=ksi)
-            count = self.opens(renewed, DOWN, pdu)
+        if old is not None and old.given and eia in COMPUTED:  # a context in use may go on under other algorithms: its COUNTs do too
+            count = self.opens(replace(old, eia=eia), DOWN, pdu)
             if count is not None:
-                side.pending = renewed
-                return self.found(side.pending, DOWN, pdu, count)
+                side.pending = replace(old, eea=eea, eia=eia, ksi=ksi, guessed=False)
+                return self.found(side, side.pending, DOWN, pdu, count)
         if context is not None:
             side.pending, self.turn = context, context.kasme + 1
-            return self.found(context, DOWN, pdu, seq)
+            return self.found(side, context, DOWN, pdu, seq)
+        return self.wrong_command(side, pdu, fresh, ksi, later)
+
+    def wrong_command(self, side: NasSide, pdu: bytes, fresh: list[NasContext], ksi: int | None, later: Later) -> NasSeen:
+        """A Command under no KASME that was given, unless what follows it stands under one."""
         context = next((one for one in fresh if self.evidence(one, later)), None)
-        side.pending = context
+        side.authenticated = False
         if context is None:
+            side.pending = NasContext(FOREIGN, fresh[0].eea if fresh else 2, fresh[0].eia if fresh else 2, ksi)
             return self.nothing(DOWN, pdu)
-        context.next[DOWN] = seq + 1
-        seen = self.refused(context, DOWN, pdu, seq)
-        if context.eia in COMPUTED:  # what a message with a wrong MAC says of its context is not believed
-            context.ksi, context.eea = None, context.eea if context.eea == 0 else context.eia
+        side.pending = context
+        context.next[DOWN] = pdu[5] + 1
+        seen = self.refused(context, DOWN, pdu, pdu[5])
+        if self.judged(context):  # what a message with a wrong MAC says of its context is not believed
+            context.ksi, context.guessed = None, True
         return seen
 
     def evidence(self, context: NasContext, later: Later) -> bool:
-        """Whether what comes later in the connection stands under this new context; a MAC that is right tells its algorithm."""
+        """Whether what comes later in the connection stands under this new context; a MAC that is right tells 128-EIA2."""
+        tried = replace(context, eia=2)
         for place, one in enumerate(later()):
             if place == AHEAD:
                 break
@@ -189,48 +260,124 @@ class NasBook:
                     return True
                 continue
             direction, pdu = one
-            if len(pdu) >= 7 and pdu[0] >> 4 == COMMAND:
+            if is_protected(pdu) and pdu[0] >> 4 == COMMAND:
                 break
-            if len(pdu) >= 7 and pdu[0] & 15 == 7 and 1 <= pdu[0] >> 4 <= 4:
-                right = self.under(context, direction, pdu[5], pdu)
-                if right is not None:
-                    context.eia = right.eia
-                    return True
+            if is_protected(pdu) and self.has_mac(tried, direction, pdu[5], pdu):
+                context.eia = 2
+                return True
         return False
 
-    def under(self, context: NasContext, direction: int, count: int, pdu: bytes) -> NasContext | None:
-        """The context with the integrity algorithm under which the MAC of a message is right: its own first, then the others."""
-        order = sorted(COMPUTED, key=lambda eia: eia != context.eia)
-        tried = (replace(context, eia=eia) for eia in order)
-        return next((one for one in tried if self.mac(one, direction, count, pdu[5:]) == pdu[1:5]), None)
+    # -- all others
 
     def protected(self, side: NasSide, direction: int, pdu: bytes, later: Later) -> NasSeen:
         complete = direction == UP and pdu[0] >> 4 == COMPLETE
         order = [side.pending, side.current] if complete else [side.current, side.pending]
         held = [context for context in order if context is not None]
         if not held:
-            held = self.likely(side, direction, pdu)
+            held = self.likely(side, direction, pdu, later)
         for context in held:
-            count = self.opens(context, direction, pdu) if context.eia in COMPUTED else None
+            count = self.opens(context, direction, pdu)
             if count is not None:
-                seen = self.found(context, direction, pdu, count)
-                self.takes(side, context, complete, direction, count, True)
-                return seen
-        fresh = self.uncommanded(pdu) if complete else None
-        if fresh is not None:
-            self.follows(side.current, fresh)
-            side.current = side.pending = fresh
-            seen = self.found(fresh, direction, pdu, pdu[5])
-            self.takes(side, fresh, complete, direction, pdu[5], True)
-            return seen
+                self.takes(side, context, complete, direction, (count,), True)
+                return self.settled(side, context, direction, pdu, count)
         if not held:
-            return self.nothing(direction, pdu)
-        context = held[0]
+            return self.without(side, direction, pdu, complete, later)
+        if all(not context.given for context in held) or complete and not held[0].given:
+            return self.foreign(side, held[0], direction, pdu, complete)
+        context = next(one for one in held if one.given)
+        if not self.judged(context):
+            count = estimate(context.next[direction], pdu[5])
+            self.takes(side, context, complete, direction, (count,), False)
+            return self.refused(context, direction, pdu, count)
+        return self.unopened(side, context, direction, pdu, complete, later)
+
+    def settled(self, side: NasSide, context: NasContext, direction: int, pdu: bytes, count: int, note: str = "") -> NasSeen:
+        """The finding for a right message, which may establish the secure exchange (TS 24.301 4.4.2.3)."""
+        seen = self.found(side, context, direction, pdu, count, note)
+        if direction == DOWN or pdu[0] >> 4 == COMPLETE:
+            side.established = True
+        return seen
+
+    def foreign(self, side: NasSide, context: NasContext, direction: int, pdu: bytes, complete: bool) -> NasSeen:
+        """A message under a KASME that was not given."""
+        self.takes(side, context, complete, direction, (), complete)
+        side.completed |= complete
+        return self.refused(context, direction, pdu, pdu[5]) if context.eia == 0 else self.nothing(direction, pdu)
+
+    def without(self, side: NasSide, direction: int, pdu: bytes, complete: bool, later: Later) -> NasSeen:
+        """A message of a connection that has no context so far and fits none."""
+        fresh = self.lost_mode(direction, pdu) if complete else None
+        if fresh is not None:
+            return self.renewed(side, *fresh, direction, pdu)
+        side.completed |= complete
+        side.missed += 1
+        return self.nothing(direction, pdu)
+
+    def lost_mode(self, direction: int, pdu: bytes) -> tuple[NasContext, int] | None:
+        """The new context of a message whose Security Mode exchange the trace lacks, and its COUNT: those of an authentication begin at 0."""
+        if pdu[5] >= NEW:
+            return None
+        fresh = (NasContext(kasme, guessed=True) for kasme in self.unused())
+        return next(((one, pdu[5]) for one in fresh if self.has_mac(one, direction, pdu[5], pdu)), None)
+
+    def renewed(self, side: NasSide, context: NasContext, count: int, direction: int, pdu: bytes) -> NasSeen:
+        """A message under a context whose Security Mode exchange the trace lacks, or only its Command."""
+        complete = direction == UP and pdu[0] >> 4 == COMPLETE
+        self.follows(side.current, context)
+        side.current, side.pending, side.authenticated = context, None, False
+        self.contexts[context.kasme] = context
+        side.trigger = Trigger(context, (count,) if complete else tuple(range(count if direction == UP else NEW)) or (0,), complete)
+        side.established = True
+        return self.settled(side, context, direction, pdu, count, "" if complete else LOST_MODE)
+
+    def unopened(self, side: NasSide, context: NasContext, direction: int, pdu: bytes, complete: bool, later: Later) -> NasSeen:
+        """A message that does not open near the COUNTs of the context in use: a fault, a gap in the trace, or another context."""
         count = estimate(context.next[direction], pdu[5])
-        self.takes(side, context, complete, direction, count, False)
+        same, other, failing = self.ahead(context, direction, pdu, later)
+        if not same:
+            fresh = self.lost_mode(direction, pdu) if not other or complete else None
+            if fresh is not None:
+                return self.renewed(side, *fresh, direction, pdu)
+            if side.pending is not None and not side.pending.given or not other and (side.authenticated or failing == {UP, DOWN}):
+                self.leaves(side, context, other)
+                return self.nothing(direction, pdu)
+            far = self.effort.find([context.kasme], pdu[5], WRAP, lambda _, tried: self.has_mac(context, direction, tried, pdu))
+            if far is not None:
+                self.takes(side, context, complete, direction, (far[1],), True)
+                return self.settled(side, context, direction, pdu, far[1])
+            if not self.effort.reached:
+                return self.nothing(direction, pdu, "its COUNT is not near the last one, and the search for it was ended")
+        self.takes(side, context, complete, direction, (count,), False)
         return self.refused(context, direction, pdu, count, self.whose(context, direction, pdu, count))
 
-    def takes(self, side: NasSide, context: NasContext, complete: bool, direction: int, count: int, sure: bool) -> None:
+    def leaves(self, side: NasSide, context: NasContext, stays: bool) -> None:
+        """The connection goes on under a KASME that was not given, until one that is known is in use again."""
+        if not stays and (side.pending is None or side.pending.given):
+            unknown = NasContext(FOREIGN)
+            self.follows(context, unknown)
+            side.current, side.trigger, side.authenticated = unknown, None, False
+
+    def ahead(self, context: NasContext, direction: int, pdu: bytes, later: Later) -> tuple[bool, bool, set[int]]:
+        """What comes later in the connection under a context: whether a message of the same direction is right, one of the other, and
+        the directions of those that are not, this one too."""
+        failing, tried = {direction}, 0
+        other = False
+        for one in later():
+            if isinstance(one, bytes) or not is_protected(one[1]):
+                continue
+            way, text = one
+            tried += 1
+            if text[0] >> 4 == COMMAND or tried > AHEAD:
+                break
+            if self.opens(context, way, text) is None:
+                failing.add(way)
+            elif way == direction:
+                return True, other, failing
+            else:
+                other = True
+        return False, other, failing
+
+    def takes(self, side: NasSide, context: NasContext, complete: bool, direction: int, counts: tuple[int, ...], sure: bool) -> None:
         """What a message changes: a Complete, or a right message under the pending context, puts that in use."""
         was_pending = context is side.pending
         if was_pending and (complete or sure):
@@ -238,45 +385,50 @@ class NasBook:
             side.current, side.pending = context, None
         elif side.current is None and not was_pending:
             side.current = context
-        if side.current is context:
+        if side.current is context and context.given:
             self.contexts[context.kasme] = context
+            context.capabilities = side.capabilities or context.capabilities
         if direction == UP and (complete or was_pending or side.initial and side.trigger is None):
-            side.trigger = Trigger(context, count, sure)
+            lost = side.messages > 1 and not complete and not was_pending  # what brought KeNB came before this message
+            side.trigger = Trigger(context, tuple(range(counts[0] + 1)) if lost and counts else counts, sure)
 
-    def likely(self, side: NasSide, direction: int, pdu: bytes) -> list[NasContext]:
+    # -- a connection that has no context so far
+
+    def likely(self, side: NasSide, direction: int, pdu: bytes, later: Later) -> list[NasContext]:
         """The contexts of a connection that has none yet: by identity, else by the MAC; at last as one that began before the trace."""
-        known = self.contexts.get(self.phones.get(side.tmsi, -1)) if side.tmsi is not None else None
-        if known is not None and self.opens(known, direction, pdu) is not None:
+        place = self.phones.get(side.tmsi) if side.tmsi is not None else None
+        known = self.contexts.get(place) if place is not None else None
+        others = [one for one in self.contexts.values() if one is not known] if side.missed < PATIENCE else []
+        order = [*([known] if known else []), *others]
+        right = next((one for one in order if self.opens(one, direction, pdu) is not None), None)
+        if right is not None:
+            return [right]
+        if known is not None and self.told_ksi(pdu) == known.ksi is not None:
             return [known]
-        right = [one for one in self.contexts.values() if self.opens(one, direction, pdu) is not None]
-        if right or known or side.missed >= PATIENCE:
-            return [*right, *([known] if known else [])]
-        for kasme in range(len(self.derivations.kasmes)):
-            for count in range(pdu[5], COLD * WRAP, WRAP):
-                context = self.under(NasContext(kasme), direction, count, pdu)
-                if context is not None:
-                    context.next[direction] = count
-                    self.guesses(context, direction, count, pdu)
-                    return [context]
-        side.missed += 1
-        return []
+        if place == FOREIGN or side.missed >= PATIENCE or pdu[0] >> 4 == COMPLETE and self.lost_mode(direction, pdu):
+            return []
+        return self.began_before(direction, pdu)
+
+    def told_ksi(self, pdu: bytes) -> int | None:
+        """The KSI that a first message tells: Attach Request, Tracking Area Update Request (TS 24.301 9.9.3.21)."""
+        return pdu[8] >> 4 & 7 if len(pdu) > 8 and pdu[0] >> 4 == 1 and pdu[6:8] in (b"\x07\x41", b"\x07\x48") else None
+
+    def began_before(self, direction: int, pdu: bytes) -> list[NasContext]:
+        """A context that began before the trace."""
+        tried = {kasme: NasContext(kasme, guessed=True) for kasme in self.unused()}
+        found = self.cold.find(list(tried), pdu[5], WRAP, lambda kasme, count: self.has_mac(tried[kasme], direction, count, pdu)) if tried else None
+        if found is None:
+            return []
+        tried[found[0]].next[direction] = found[1]
+        return [tried[found[0]]]
 
     def complete(self, side: NasSide) -> None:
         """The pending context is in use: KeNB is made at the COUNT of the Complete that the trace shows later, or lacks."""
         if side.pending is not None:
-            side.trigger = Trigger(side.pending, side.pending.next[UP], True)
+            side.trigger = Trigger(side.pending, (side.pending.next[UP],), True)
             self.follows(side.current, side.pending)
             side.current, side.pending = side.pending, None
             self.contexts[side.current.kasme] = side.current
-
-    def uncommanded(self, pdu: bytes) -> NasContext | None:
-        """The context of a Security Mode Complete whose Command the trace lacks."""
-        for kasme in range(len(self.derivations.kasmes)):
-            context = self.under(NasContext(kasme), UP, pdu[5], pdu)
-            if context is not None:
-                self.guesses(context, UP, pdu[5], pdu)
-                return context
-        return None
 
     def whose(self, context: NasContext, direction: int, pdu: bytes, count: int) -> str:
         """What else a wrong MAC is right for, in words, or nothing."""
@@ -284,83 +436,24 @@ class NasBook:
         for kasme in range(len(names)):
             other = self.contexts.get(kasme, NasContext(kasme))
             for tried in {count, pdu[5], estimate(other.next[direction], pdu[5])}:
-                if kasme != context.kasme and self.mac(other, direction, tried, pdu[5:]) == pdu[1:5]:
+                if kasme != context.kasme and self.has_mac(other, direction, tried, pdu):
                     return f"it is that of {names[kasme].name} at COUNT {tried}"
-        for tried in (*range(max(0, count - 300), count + 300),):
-            if self.mac(context, direction, tried, pdu[5:]) == pdu[1:5]:
+        for tried in range(max(0, count - 300), count + 300):
+            if self.has_mac(context, direction, tried, pdu):
                 return f"it is that of COUNT {tried}"
-        if self.mac(context, 1 - direction, count, pdu[5:]) == pdu[1:5]:
-            return "it is that of the other direction"
-        return ""
-
-    def short_mac(self, context: NasContext, count: int, pdu: bytes) -> bytes:
-        """The short MAC of a Service Request: the last two octets of the MAC over its first two (TS 24.301 9.9.3.28)."""
-        return self.mac(context, UP, count, pdu[:2])[2:4]
-
-    def service_request(self, side: NasSide, pdu: bytes, later: Later) -> NasSeen:
-        ksi, low = pdu[1] >> 5, pdu[1] & 31
-        chosen = self.serves(side, pdu, ksi, low, later)
-        if chosen is None:
-            return NasSeen(UP, pdu[0] >> 4, "unknown", pdu[2:4].hex(), plain=pdu, note="no KASME that was given fits")
-        context, count = chosen
-        wanted, side.current = self.short_mac(context, count, pdu), context
-        right = wanted == pdu[2:4]
-        self.contexts[context.kasme] = context
-        if side.tmsi is not None:
-            self.knows(side.tmsi, context.kasme)
-        side.trigger = Trigger(context, count, right)
-        note = self.accept(context, UP, count, pdu) if right else ""
-        seen = NasSeen(UP, pdu[0] >> 4, "right" if right else "wrong", pdu[2:4].hex(), count, wanted.hex(), context.kasme, pdu, note)
-        if context.eia not in COMPUTED:
-            seen.verdict, seen.note = "unknown", unchecked(context.eia)
-        if context.ksi is not None and context.ksi != ksi and right:
-            seen.ksi = (ksi, context.ksi)
-        context.ksi = ksi if context.ksi is None else context.ksi
-        return seen
-
-    def serves(self, side: NasSide, pdu: bytes, ksi: int, low: int, later: Later) -> tuple[NasContext, int] | None:
-        """The context and COUNT of a Service Request: the MAC has 16 bits, so identity, KSI and the KeNB that follows count too."""
-        known = side.current or self.contexts.get(self.phones.get(side.tmsi if side.tmsi is not None else -1, -1))
-        if known is not None:
-            count = estimate(known.next[UP], low, SHORT_WRAP)
-            if self.short_mac(known, count, pdu) == pdu[2:4]:
-                return known, count
-        tried = [(one, estimate(one.next[UP], low, SHORT_WRAP) + SHORT_WRAP * wrap) for wrap in range(TRIES) for one in self.contexts.values()]
-        right = [(one, count) for one, count in tried if self.short_mac(one, count, pdu) == pdu[2:4]]
-        proved = [pair for pair in right if self.gives(*pair, later)]  # by short MAC and KeNB both
-        if proved:
-            return proved[0]
-        for fits in (lambda one: one is known, lambda one: known is None and one.ksi == ksi, lambda one: known is None):
-            fitting = [pair for pair in right if fits(pair[0])]
-            if fitting:
-                return fitting[0]
-        followed = [pair for pair in tried if self.gives(*pair, later)]
-        if known is not None:
-            return next((pair for pair in followed if pair[0] is known), (known, estimate(known.next[UP], low, SHORT_WRAP)))
-        return followed[0] if followed else self.began_before(low, later)
-
-    def gives(self, context: NasContext, count: int, later: Later) -> bool:
-        """Whether the next KeNB of the connection is that of this COUNT."""
-        key = next((one for one in later() if isinstance(one, bytes)), None)
-        return key is not None and self.derivations.kenb(context.kasme, count).value == key
-
-    def began_before(self, low: int, later: Later) -> tuple[NasContext, int] | None:
-        """A Service Request of a context that began before the trace, by the KeNB that it brings."""
-        for kasme in range(len(self.derivations.kasmes)):
-            for count in range(low, COLD * WRAP, SHORT_WRAP):
-                context = self.contexts.get(kasme) or NasContext(kasme, next={UP: count, DOWN: 0})
-                if self.gives(context, count, later):
-                    return context, count
-        return None
+        return "it is that of the other direction" if self.has_mac(context, 1 - direction, count, pdu) else ""
 
     # -- identities
 
     def knows(self, tmsi: int, kasme: int) -> None:
+        before = self.phones.get(tmsi)
+        if before is not None and before != kasme:
+            self.tmsis.get(before, set()).discard(tmsi)
         self.phones[tmsi] = kasme
         self.tmsis.setdefault(kasme, set()).add(tmsi)
 
     def follows(self, old: NasContext | None, new: NasContext) -> None:
         """The phone of the old context has a new one: its identities go with it."""
-        if old is not None and old.kasme != new.kasme:
+        if old is not None and old.kasme != new.kasme and old.given:
             for tmsi in self.tmsis.pop(old.kasme, set()):
                 self.knows(tmsi, new.kasme)

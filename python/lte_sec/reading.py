@@ -3,7 +3,7 @@ from __future__ import annotations
 
 from collections.abc import Iterable
 
-from .captures import Message
+from .decoding import Message
 from .cells import Cells, Site
 from .terms import Derivations
 from .trace import Trace

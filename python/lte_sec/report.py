@@ -1,9 +1,22 @@
 """The lines of a report, each with its frame and verdict."""
 from __future__ import annotations
 
+from collections import Counter
+from collections.abc import Iterable
 from dataclasses import dataclass
+from enum import Enum
 
-RIGHT, DIFFERS, UNKNOWN, NOTE = "right", "differs", "not judged", "note"
+
+class Verdict(str, Enum):
+    """What a line says. A note judges nothing; a warning is one."""
+
+    RIGHT = "right"
+    DIFFERS = "differs"
+    UNKNOWN = "not judged"
+    NOTE = "note"
+
+
+RIGHT, DIFFERS, UNKNOWN, NOTE = Verdict.RIGHT, Verdict.DIFFERS, Verdict.UNKNOWN, Verdict.NOTE
 
 
 @dataclass
@@ -13,7 +26,7 @@ class Line:
     frame: str
     message: str
     what: str
-    verdict: str
+    verdict: Verdict
     text: str
     found: str = ""
     wanted: str = ""
@@ -24,15 +37,29 @@ class Line:
     wanted_ncc: int | None = None
     count: int | None = None
     plain: bytes | None = None
+    cell: tuple[int, int] | None = None  # PCI and EARFCN-DL
+    reason: str = ""
+    time: float | None = None
 
     def __str__(self) -> str:
         return self.text
 
 
-def status(lines: list[Line]) -> int:
+def status(lines: Iterable[Line]) -> int:
     """0: all agree. 1: something differs. 3: something could not be judged."""
     verdicts = {line.verdict for line in lines}
     return 1 if DIFFERS in verdicts else 3 if UNKNOWN in verdicts else 0
+
+
+def counts(lines: Iterable[Line]) -> dict[str, int]:
+    """How many lines have each verdict."""
+    found = Counter(line.verdict for line in lines)
+    return {verdict.value: found[verdict] for verdict in (RIGHT, DIFFERS, UNKNOWN)}
+
+
+def summary(lines: Iterable[Line]) -> str:
+    """The last line of a report."""
+    return ", ".join(f"{number} {verdict}" for verdict, number in counts(lines).items())
 
 
 def key_line(frame: str, message: str, what: str, found: str, wanted: str, differs: bool, ncc: tuple[int, int] | None = None, why: str = "") -> Line:
@@ -51,8 +78,13 @@ def key_line(frame: str, message: str, what: str, found: str, wanted: str, diffe
         parts.append(f"{what} is {found}")
     text = f"frame {frame} {message} " + "; ".join(parts) + (f" ({why})" if why else "")
     is_ncc, wanted_ncc = ncc if ncc else (None, None)
-    return Line(frame, message, what, verdict, text, found, wanted, ncc=is_ncc, wanted_ncc=wanted_ncc)
+    return Line(frame, message, what, verdict, text, found, wanted, ncc=is_ncc, wanted_ncc=wanted_ncc, reason=why)
 
 
 def unknown_line(frame: str, message: str, what: str, why: str, found: str = "") -> Line:
-    return Line(frame, message, what, UNKNOWN, f"frame {frame} {message} {what} not judged: " + (f"is {found}; " if found else "") + why, found)
+    text = f"frame {frame} {message} {what} not judged: " + (f"is {found}; " if found else "") + why
+    return Line(frame, message, what, UNKNOWN, text, found, reason=why)
+
+
+def note_line(frame: str, text: str) -> Line:
+    return Line(frame, "", "", NOTE, f"frame {frame} {text}", reason=text)

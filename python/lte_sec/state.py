@@ -7,24 +7,12 @@ from __future__ import annotations
 
 from dataclasses import dataclass, field, replace
 
-from .captures import Command
 from .contexts import NasSide
+from .decoding import Command
+from .report import Line
 from .terms import Derivations, Key
 
 CHAIN = 8  # NCC has three bits
-
-
-@dataclass(frozen=True)
-class Held:
-    """A station's key in use with its NCC, and the pair of NH and NCC that it has stored and not used."""
-
-    key: Key
-    ncc: int
-    pair: tuple[Key, int] | None = None
-
-    def base(self) -> tuple[Key, int]:
-        """What the next KeNB* is made from: the stored NH, or else the key in use (TS 33.401 7.2.8.4)."""
-        return self.pair or (self.key, self.ncc)
 
 
 @dataclass(frozen=True)
@@ -60,6 +48,27 @@ class Phone:
         return Phone(derivations.star(chain.sync, *cell), ncc, chain)
 
 
+@dataclass(frozen=True)
+class Held:
+    """A station's key in use with its NCC, and the pair of NH and NCC that it has stored and not used."""
+
+    key: Key
+    ncc: int
+    pair: tuple[Key, int] | None = None
+    phone: Phone | None = None  # the phone under this reading, where it is another than the connection's
+
+    def base(self) -> tuple[Key, int]:
+        """What the next KeNB* is made from: the stored NH, or else the key in use (TS 33.401 7.2.8.4)."""
+        return self.pair or (self.key, self.ncc)
+
+
+def refreshed(derivations: Derivations, one: Held, phone: Phone | None, cell: tuple[int, int]) -> Held:
+    """What a station has after a step to a cell of its own, with the phone: a handover within it, a re-establishment, a resumption."""
+    key, ncc = one.base()
+    before = one.phone or phone
+    return Held(derivations.star(key, *cell), ncc, None, before.takes(derivations, ncc, cell) if before else None)
+
+
 def renewed(derivations: Derivations, kenb: Key, cell: tuple[int, int] | None = None) -> Phone:
     """The phone that took a KeNB from its KASME: at a connection, or with a cell at a key change (TS 33.401 7.2.9.2)."""
     return Phone(derivations.star(kenb, *cell) if cell else kenb, 0, Chain(kenb.kasme, kenb))
@@ -83,6 +92,19 @@ class Attempt:
     told: bool = False  # the line on agreement stands
     aired: bool = False  # the command was seen over the air
     over: str = ""  # how it ended
+    bases: list[tuple[Key, int]] = field(default_factory=list)  # what the target's KeNB* was made from
+    before: Phone | None = None  # the phone before it
+    doubt: str = ""  # why it is not known whether phone and target have one key
+    capabilities: tuple[int, int] | None = None  # of the phone, as the target was told them
+
+
+@dataclass
+class Undecided:
+    """A line of an NH and an NCC of two numbers: either may be the fault, and the next answer tells which."""
+
+    line: Line
+    other: Line  # how the line reads if the chain goes on from `number`
+    number: int
 
 
 @dataclass
@@ -104,6 +126,10 @@ class Connection:
     before: tuple[list[Chain], dict[str, list[Held]], Phone | None] | None = None  # a key change that may fail
     algorithms: tuple[int, int] | None = None
     parted: bool = False  # phone and station have come apart
+    undecided: Undecided | None = None
+    resumed: bool = False  # the phone came back from suspension at its station
+    capabilities: tuple[int, int] | None = None  # of the phone, as the core told the station
+    forwarded: list[tuple[Key, int]] = field(default_factory=list)  # NH and NCC that another core was given for this handover
     keys: list[tuple[str, str, Key]] = field(default_factory=list)  # frame, holder and key, for Wireshark
 
     def open_attempts(self) -> list[Attempt]:

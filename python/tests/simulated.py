@@ -6,7 +6,7 @@ from __future__ import annotations
 
 from dataclasses import dataclass, field
 
-from lte_sec.captures import Command, Message
+from lte_sec.decoding import Command, Message
 from lte_sec.cells import Site
 
 from .standin import StandIn

@@ -27,38 +27,44 @@ def _boxes() -> bytes:
 BOX = _boxes()
 
 
+def _tables() -> list[list[int]]:
+    """SubBytes and MixColumns of one octet, for each place in a column (FIPS 197 5.1): a word of 32 bits each."""
+    first = []
+    for octet in BOX:
+        twice = octet << 1 if octet < 128 else (octet << 1) ^ 0x11B
+        first.append(twice << 24 | octet << 16 | octet << 8 | twice ^ octet)
+    return [[word >> 8 * place | (word & (1 << 8 * place) - 1) << 32 - 8 * place if place else word for word in first] for place in range(4)]
+
+
+TABLES = _tables()
+
+
 @functools.lru_cache(4096)
-def _round_keys(key: bytes) -> list[bytes]:
-    words = [key[place:place + 4] for place in range(0, 16, 4)]
+def _round_keys(key: bytes) -> list[int]:
+    words = [int.from_bytes(key[place:place + 4], "big") for place in range(0, 16, 4)]
     constant = 1
     for place in range(4, 44):
         word = words[-1]
         if place % 4 == 0:
-            word = bytes([BOX[word[1]] ^ constant, BOX[word[2]], BOX[word[3]], BOX[word[0]]])
+            turned = (word << 8 | word >> 24) & 0xFFFFFFFF
+            word = int.from_bytes(bytes(BOX[octet] for octet in turned.to_bytes(4, "big")), "big") ^ constant << 24
             constant = (constant << 1) ^ (0x11B if constant & 0x80 else 0)
-        words.append(bytes(a ^ b for a, b in zip(words[place - 4], word)))
-    return [b"".join(words[place:place + 4]) for place in range(0, 44, 4)]
-
-
-TWICE = bytes(octet << 1 if octet < 128 else (octet << 1) ^ 0x11B for octet in range(256))
-SHIFT = [0, 5, 10, 15, 4, 9, 14, 3, 8, 13, 2, 7, 12, 1, 6, 11]
+        words.append(words[-4] ^ word)
+    return words
 
 
 def aes(key: bytes, block: bytes) -> bytes:
     """AES-128 (FIPS 197)."""
-    keys = _round_keys(key)
-    state = [a ^ b for a, b in zip(block, keys[0])]
-    for place in range(1, 11):
-        state = [BOX[state[at]] for at in SHIFT]
-        if place < 10:
-            mixed = []
-            for at in range(0, 16, 4):
-                a, b, c, d = state[at:at + 4]
-                whole = a ^ b ^ c ^ d
-                mixed += [a ^ whole ^ TWICE[a ^ b], b ^ whole ^ TWICE[b ^ c], c ^ whole ^ TWICE[c ^ d], d ^ whole ^ TWICE[d ^ a]]
-            state = mixed
-        state = [a ^ b for a, b in zip(state, keys[place])]
-    return bytes(state)
+    keys, (t0, t1, t2, t3) = _round_keys(key), TABLES
+    a, b, c, d = (int.from_bytes(block[place:place + 4], "big") ^ keys[place // 4] for place in range(0, 16, 4))
+    for place in range(4, 40, 4):
+        a, b, c, d = (
+            t0[a >> 24] ^ t1[b >> 16 & 255] ^ t2[c >> 8 & 255] ^ t3[d & 255] ^ keys[place], t0[b >> 24] ^ t1[c >> 16 & 255] ^ t2[d >> 8 & 255] ^ t3[a & 255] ^ keys[place + 1],
+            t0[c >> 24] ^ t1[d >> 16 & 255] ^ t2[a >> 8 & 255] ^ t3[b & 255] ^ keys[place + 2], t0[d >> 24] ^ t1[a >> 16 & 255] ^ t2[b >> 8 & 255] ^ t3[c & 255] ^ keys[place + 3],
+        )
+    columns = ((a, b, c, d), (b, c, d, a), (c, d, a, b), (d, a, b, c))
+    last = ((BOX[w >> 24] << 24 | BOX[x >> 16 & 255] << 16 | BOX[y >> 8 & 255] << 8 | BOX[z & 255]) ^ keys[40 + place] for place, (w, x, y, z) in enumerate(columns))
+    return b"".join(word.to_bytes(4, "big") for word in last)
 
 
 def head(count: int, bearer: int, direction: int) -> bytes:
@@ -100,15 +106,22 @@ class StandIn:
     eia1, eia3 = staticmethod(ciphers.eia1), staticmethod(ciphers.eia3)
 
 
-def cmac(key: bytes, text: bytes) -> bytes:
-    """CMAC with AES-128 (NIST SP 800-38B)."""
+@functools.lru_cache(4096)
+def _masks(key: bytes) -> tuple[int, int]:
+    """The subkeys of CMAC (NIST SP 800-38B 6.1)."""
     def double(value: int) -> int:
         return (value << 1 ^ (0x87 if value >> 127 else 0)) & (1 << 128) - 1
 
-    mask = double(int.from_bytes(aes(key, bytes(16)), "big"))
+    first = double(int.from_bytes(aes(key, bytes(16)), "big"))
+    return first, double(first)
+
+
+def cmac(key: bytes, text: bytes) -> bytes:
+    """CMAC with AES-128 (NIST SP 800-38B)."""
     blocks = [text[place:place + 16] for place in range(0, len(text), 16)] or [b""]
+    mask = _masks(key)[len(blocks[-1]) < 16]
     if len(blocks[-1]) < 16:
-        mask, blocks[-1] = double(mask), (blocks[-1] + b"\x80").ljust(16, b"\0")
+        blocks[-1] = (blocks[-1] + b"\x80").ljust(16, b"\0")
     value = bytes(16)
     for place, block in enumerate(blocks):
         last = mask if place == len(blocks) - 1 else 0

@@ -6,7 +6,8 @@ import tempfile
 import unittest
 from pathlib import Path
 
-from lte_sec.captures import Command, Message, command, messages, pdu
+from lte_sec.captures import messages
+from lte_sec.decoding import Command, Message, command, pdu
 from lte_sec.cells import Cells, Site, read_cells, sites_of
 from lte_sec.terms import Derivations, TraceError
 from lte_sec.trace import Trace

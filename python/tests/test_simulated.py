@@ -6,7 +6,7 @@ import random
 import unittest
 from collections.abc import Callable
 
-from lte_sec.captures import Command
+from lte_sec.decoding import Command
 from lte_sec.cells import Cells
 from lte_sec.report import DIFFERS, UNKNOWN, Line
 from lte_sec.terms import Derivations, Kasme

@@ -7,7 +7,8 @@ import tempfile
 import unittest
 from pathlib import Path
 
-from lte_sec.captures import Message, read, read_all
+from lte_sec.captures import read, read_all
+from lte_sec.decoding import Message
 from lte_sec.cells import Cells, read_cells
 from lte_sec.report import DIFFERS, NOTE, Line, status
 from lte_sec.terms import Derivations, Kasme

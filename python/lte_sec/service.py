@@ -1,0 +1,130 @@
+"""Service Requests: whose each is (TS 24.301 5.6.1, 9.9.3.28).
+
+A short MAC has 16 bits, so that of another phone fits by chance. A request belongs to a context only where KSI and S-TMSI allow it and
+the KeNB that follows does not speak against it; a KeNB that fits is proof.
+"""
+from __future__ import annotations
+
+from collections.abc import Callable
+from dataclasses import dataclass
+
+from .contexts import FOREIGN, NasContext, NasSeen, NasSide, Trigger
+from .counts import SHORT_WRAP, near
+from .nas import NOT_GIVEN, Later, NasBook
+from .report import DIFFERS, RIGHT, UNKNOWN
+from .terms import UP
+
+SIZE = 4  # octets of a Service Request
+REJECT = b"\x07\x4e"  # a plain Service Reject
+
+
+@dataclass(frozen=True)
+class Owner:
+    """The context and COUNT of a Service Request, and whether its KeNB proves them."""
+
+    context: NasContext
+    count: int
+    proved: bool = False
+
+
+class ServiceBook(NasBook):
+    """The NAS contexts of a trace, for Service Requests too."""
+
+    def short_mac(self, context: NasContext, count: int, pdu: bytes) -> bytes:
+        """The short MAC of a Service Request: the last two octets of the MAC over its first two (TS 24.301 9.9.3.28)."""
+        return self.mac(context, UP, count, pdu[:2])[2:4]
+
+    def service_request(self, side: NasSide, pdu: bytes, later: Later) -> NasSeen:
+        header, told = pdu[0] >> 4, pdu[2:4].hex()
+        if len(pdu) != SIZE:
+            held = side.current is not None and side.current.given
+            why = f"a Service Request has {SIZE} octets, and this message {len(pdu)}"
+            return NasSeen(UP, header, DIFFERS if held else UNKNOWN, told, note="" if held else why, faults=[why] if held else [])
+        owner = self.owner(side, pdu, later)
+        if owner is None:
+            return NasSeen(UP, header, UNKNOWN, told, plain=pdu, note=NOT_GIVEN)
+        return self.served(side, pdu, owner)
+
+    def served(self, side: NasSide, pdu: bytes, owner: Owner) -> NasSeen:
+        """The finding for a request whose context is known."""
+        context, ksi = owner.context, pdu[1] >> 5
+        wanted, side.current = self.short_mac(context, owner.count, pdu) if self.judged(context) else b"", context
+        right = wanted == pdu[2:4]
+        self.contexts[context.kasme] = context
+        if side.tmsi is not None:
+            self.knows(side.tmsi, context.kasme)
+        side.trigger = Trigger(context, (owner.count,), right)
+        note = self.accept(context, UP, owner.count, pdu) if right else ""
+        seen = NasSeen(UP, pdu[0] >> 4, RIGHT if right else DIFFERS, pdu[2:4].hex(), owner.count, wanted.hex(), context.kasme, pdu, note)
+        if not self.judged(context):
+            seen.verdict, seen.note = UNKNOWN, f"128-EIA{context.eia} is not computed here"
+        elif context.ksi is not None and context.ksi != ksi and right:
+            seen.faults.append(f"KSI differs: is {ksi}, wanted {context.ksi}")
+            seen.verdict = DIFFERS
+        if note.startswith("COUNT"):
+            seen.note, seen.verdict = "", DIFFERS
+            seen.faults.append(note)
+        context.ksi = ksi if context.ksi is None else context.ksi
+        return seen
+
+    def owner(self, side: NasSide, pdu: bytes, later: Later) -> Owner | None:
+        """Whose a Service Request is: by the KeNB that follows, else by S-TMSI, KSI and short MAC."""
+        ksi, low = pdu[1] >> 5, pdu[1] & 31
+        key = next((one for one in later() if isinstance(one, bytes)), None)
+        place = self.phones.get(side.tmsi) if side.tmsi is not None else None
+        known = side.current if side.current and side.current.given else self.contexts.get(FOREIGN if place is None else place)
+        allowed = [known] if known else [one for one in self.contexts.values() if self.may_be(one, ksi, place)]
+        if key is not None:
+            fits = known is not None and known.ksi in (None, ksi) and self.right_near(known, pdu, low) is not None
+            others = [] if fits else [one for one in self.contexts.values() if one is not known]
+            proved = self.proved([*([known] if known else []), *others], low, key)
+            if proved is not None:
+                return proved
+        again = next((Owner(one, count, True) for one in allowed for count in near(one, UP, low, SHORT_WRAP) if one.seen.get((UP, count)) == pdu), None)
+        if again is not None:
+            return again
+        if known is not None and known.ksi in (None, ksi):
+            return self.known_owner(known, pdu, low, key, later)
+        return self.by_short_mac(allowed, pdu, low) if key is None else self.began(low, key)
+
+    def may_be(self, context: NasContext, ksi: int, place: int | None) -> bool:
+        """Whether S-TMSI and KSI of a request allow a context: its phone has no other S-TMSI, and this S-TMSI is of no other phone."""
+        return context.ksi in (None, ksi) and (place is None and not self.tmsis.get(context.kasme) or place == context.kasme)
+
+    def right_near(self, context: NasContext, pdu: bytes, low: int) -> int | None:
+        """The COUNT near the next one under which the short MAC is right."""
+        counts = near(context, UP, low, SHORT_WRAP) if self.judged(context) else []
+        return next((count for count in counts if self.short_mac(context, count, pdu) == pdu[2:4]), None)
+
+    def proved(self, contexts: list[NasContext], low: int, key: bytes) -> Owner | None:
+        """The context and COUNT whose KeNB follows."""
+        kenb, kasmes = self.derivations.calls.kenb, self.derivations.kasmes
+        tried = ((one, count) for one in contexts for count in near(one, UP, low, SHORT_WRAP))
+        return next((Owner(one, count, True) for one, count in tried if kenb(kasmes[one.kasme].value, count) == key), None)
+
+    def known_owner(self, known: NasContext, pdu: bytes, low: int, key: bytes | None, later: Later) -> Owner | None:
+        """A request of a phone that S-TMSI and KSI name, whose KeNB does not follow or does not fit."""
+        due, right = near(known, UP, low, SHORT_WRAP)[0], self.right_near(known, pdu, low)
+        if right is not None or not self.judged(known):
+            return Owner(known, due if right is None else right)
+        if key is None:  # what follows tells whether the phone has this context, and whether the core refused the request
+            same, other, _ = self.ahead(known, UP, pdu, later)
+            refused = any(not isinstance(one, bytes) and one[1][:2] == REJECT for one in later())
+            return Owner(known, due) if same or other or refused else None
+        far = self.effort.find([known.kasme], low, SHORT_WRAP, self.kenb_is(key))
+        return Owner(known, far[1], True) if far is not None else None
+
+    def by_short_mac(self, allowed: list[NasContext], pdu: bytes, low: int) -> Owner | None:
+        """A request that no KeNB follows: the short MAC at the COUNT that is due."""
+        due = [(one, near(one, UP, low, SHORT_WRAP)[0]) for one in allowed if self.judged(one)]
+        return next((Owner(one, count) for one, count in due if self.short_mac(one, count, pdu) == pdu[2:4]), None)
+
+    def kenb_is(self, key: bytes) -> Callable[[int, int], bool]:
+        kenb, kasmes = self.derivations.calls.kenb, self.derivations.kasmes
+        return lambda kasme, count: kenb(kasmes[kasme].value, count) == key
+
+    def began(self, low: int, key: bytes) -> Owner | None:
+        """A request of a context that began before the trace, by the KeNB that it brings."""
+        unused = self.unused()
+        found = self.cold.find(unused, low, SHORT_WRAP, self.kenb_is(key)) if unused else None
+        return None if found is None else Owner(NasContext(found[0], next={0: found[1], 1: 0}, guessed=True), found[1], True)
