@@ -1,6 +1,7 @@
 """The keys that the core sends against TS 33.401: KeNB, and NH with its NCC."""
 from __future__ import annotations
 
+import re
 
 from .cells import Cells
 from .contexts import NasContext, Trigger
@@ -9,12 +10,13 @@ from .nas import LOST_MODE, NOT_GIVEN
 from .report import Line, key_line, note_line, unknown_line
 from .search import Search
 from .service import ServiceBook
-from .state import CHAIN, Chain, Connection, Undecided
+from .state import CHAIN, Chain, Connection, Phone, Undecided
 from .terms import NONE, UP, Key
 
 FAR = 6  # so many steps of the chain ahead of the phone the core is warned of; at eight they come apart
 FEW = 4  # COUNTs of an uplink message by which a KeNB is made after a Security Mode exchange
 OTHERS = 16  # contexts of other phones whose KeNBs are at hand for the search
+LOST_CHANGE = "after a key change that the trace lacks"
 FIRST = (2, 1)  # the number of the first NH that a core sends: 2 by the note of TS 33.401 7.2.8.1.1, 1 of other cores
 
 
@@ -177,7 +179,43 @@ class ChainJudge:
         if matches:
             by_ncc = next((chain for chain in tried if chain.number % CHAIN == message.ncc and chain.kasme == matches[0].kasme), None)
             return self.two_numbers(connection, message, matches[0], by_ncc) if by_ncc else self.right_nh(connection, message, matches[0])
-        return self.overdue(connection, message) or self.other_nh(connection, message, tried)
+        return self.overdue(connection, message) or self.nh_of_change(connection, message) or self.other_nh(connection, message, tried)
+
+    # -- a key change that the trace lacks
+
+    def unseen_changes(self, connection: Connection) -> list[Key]:
+        """The KeNBs that a key change may have brought: of another KASME than that of the chain, which a Security Mode exchange brought."""
+        side = connection.side
+        contexts = [(side.trigger.context, side.trigger.counts)] if side.trigger is not None else []
+        contexts += [(side.pending, (side.pending.next[UP],))] if side.pending is not None else []
+        chain = connection.core[0].kasme if connection.core else None
+        return [self.derivations.kenb(one.kasme, count) for one, counts in contexts if one.given and chain not in (None, one.kasme) for count in counts]
+
+    def changed_unseen(self, connection: Connection, kenb: Key, phone: Phone) -> None:
+        if connection.side.pending is not None and connection.side.pending.kasme == kenb.kasme:
+            self.book.complete(connection.side)
+        self.used(connection)
+        connection.core, connection.asked, connection.missed, connection.phone = [Chain(kenb.kasme, kenb)], 0, set(), phone
+
+    def nh_of_change(self, connection: Connection, message: Message) -> list[tuple[Key, int]] | None:
+        """An NH of the chain that a key change began."""
+        for kenb in self.unseen_changes(connection):
+            begun = Chain(kenb.kasme, kenb)
+            for chain in (begun.step(self.derivations, steps) for steps in self.steps(connection, begun)):
+                if chain.sync.value == message.nh and chain.number % CHAIN == message.ncc:
+                    self.judged(message, "NH", chain.sync, chain.sync, (message.ncc, message.ncc), LOST_CHANGE)
+                    self.changed_unseen(connection, kenb, Phone(Key(b"", NONE), 0, begun, True))
+                    connection.core = [chain]
+                    return [(chain.sync, message.ncc)]
+        return None
+
+    def begins_at(self, connection: Connection, found: Key) -> None:
+        """A key that is not judged and whose derivation is found tells where the chain begins."""
+        if connection.core or not found.base.startswith("kenb("):
+            return
+        chain = Chain(found.kasme, self.derivations.kenb(found.kasme, int(found.base[5:-1])))
+        numbers = re.findall(r"nh\((\d+)\)", found.form)
+        connection.core = [chain.step(self.derivations, int(numbers[0]))] if numbers else [chain]
 
     def other_nh(self, connection: Connection, message: Message, tried: list[Chain]) -> list[tuple[Key, int]]:
         """An NH that is not the wanted one."""

@@ -45,12 +45,18 @@ class Handovers:
         self.connections.append(connection)
         return connection
 
-    def arrived(self, connection: Connection, station: str) -> None:
-        """The phone is at the target of a handover whose end the trace lacks."""
+    def arrived(self, connection: Connection, station: str, frame: str) -> None:
+        """The phone is at the target of a handover whose end the trace lacks, or where no handover that it shows leads to."""
+        if station == connection.station or not station:
+            return
         there = [attempt for attempt in connection.open_attempts() if attempt.station == station]
-        if station != connection.station and there:
+        if there:
             self.judge.moved(connection, there[-1])
             self.unasked(connection, there[-1])
+        elif connection.station:
+            self.judge.came_unseen(connection, frame, station)
+        else:
+            connection.station = station
 
     def unasked(self, connection: Connection, attempt: Attempt) -> None:
         """A handover over X2 is done and the trace shows no path switch for it yet: the core was asked all the same."""
@@ -78,7 +84,7 @@ class Handovers:
             return
         pairs = self.forwarded(connection, message) if connection.forwarded else self.judge.nh(connection, message)
         connection.forwarded = []
-        self.judge.capabilities(message, message.capabilities, connection.side.capabilities)
+        self.judge.capabilities(message, [connection.side.capabilities, connection.capabilities])
         connection.capabilities = message.capabilities or connection.capabilities
         station = self.cells.addresses.get(end) or self.cells.station(message.eci)
         attempt = Attempt("S1", message.frame, station, message.eci, [], [ncc for _, ncc in pairs], self.judge.cell(message.eci))
@@ -197,7 +203,7 @@ class Handovers:
         elif last is not None and last.over == "unasked":
             self.judge.elsewhere(connection, last, message.eci)
         told = connection.attempts[-1].capabilities if connection.attempts else None
-        self.judge.capabilities(message, message.capabilities, told or connection.capabilities)
+        self.judge.capabilities(message, [told or connection.capabilities])
         if connection.attempts and connection.attempts[-1].over == "unasked" and connection.attempts[-1].station == station:
             connection.attempts[-1].over = "done"
         else:
@@ -239,7 +245,7 @@ class Handovers:
         """A source hands its phone over, or its context to the station that the phone resumes at (TS 36.423 8.2.1, 8.3.13)."""
         connection = self.serving(message)
         made = self.judge.star(connection, message)
-        self.judge.capabilities(message, message.capabilities, connection.capabilities)
+        self.judge.capabilities(message, [connection.capabilities])
         attempt = self.judge.asked(connection, message, made, self.cells.station(message.eci) or self.cells.addresses.get(way[1], ""))
         self.judge.prepared(connection, message, made)
         connection.attempts.append(attempt)
@@ -269,7 +275,7 @@ class Handovers:
         found = [one for core, one in known.items() if not cores or core in cores] or list(known.values())
         there = [one for one in found if one.station == station] or (found if len(found) == 1 else [])
         connection = (self.fitting(there, message) if len(there) > 1 else there[0]) if there else self.new(station, message.source_eci)
-        self.arrived(connection, station)
+        self.arrived(connection, station, message.frame)
         return connection
 
     def fitting(self, connections: list[Connection], message: Message) -> Connection:

@@ -9,7 +9,7 @@ from .decoding import Command, Message
 from .report import DIFFERS, RIGHT, UNKNOWN, Line, unknown_line
 from .stars import Made, StarJudge
 from .state import Attempt, Connection, Held, Phone, refreshed, renewed
-from .terms import Key
+from .terms import NONE, Key
 
 GREATEST_PCI = 503
 ALGORITHMS = ("ciphering", "integrity")
@@ -64,17 +64,18 @@ class KeyJudge(StarJudge):
 
     # -- capabilities of the phone
 
-    def capabilities(self, message: Message, found: tuple[int, int] | None, wanted: tuple[int, int] | None, sure: bool = True) -> None:
+    def capabilities(self, message: Message, wanted: list[tuple[int, int] | None], sure: bool = True) -> None:
         """Compares the security capabilities of a message with those that its sender had (TS 33.401 7.2.4.2.2, 7.2.4.4)."""
-        if found is None or wanted is None or found == wanted:
+        found, known = message.capabilities, [one for one in wanted if one is not None]
+        if found is None or not known or found in known:
             return
-        parts = [f"{name} {is_:03b}, wanted {due:03b}" for name, is_, due in zip(ALGORITHMS, found, wanted) if is_ != due]
+        parts = [f"{name} {is_:03b}, wanted {due:03b}" for name, is_, due in zip(ALGORITHMS, found, known[0]) if is_ != due]
         shown = f"are {'; '.join(parts)} (bits for algorithms 1, 2, 3)"
         if not sure:
             self.lines.append(unknown_line(message.frame, title(message), "capabilities", f"{shown}, of an earlier connection"))
             return
         text = f"frame {message.frame} {title(message)} capabilities differ: {shown}"
-        self.lines.append(Line(message.frame, title(message), "capabilities", DIFFERS, text, f"{found[0]:03b} {found[1]:03b}", f"{wanted[0]:03b} {wanted[1]:03b}"))
+        self.lines.append(Line(message.frame, title(message), "capabilities", DIFFERS, text, f"{found[0]:03b} {found[1]:03b}", f"{known[0][0]:03b} {known[0][1]:03b}"))
 
     # -- the command, and what the phone takes
 
@@ -139,10 +140,12 @@ class KeyJudge(StarJudge):
         attempt.told = True
         station, phone = attempt.held[0].key, attempt.phone
         where = f"frame {attempt.frame} {'key change' if attempt.kind == 'change' else 'handover'} {'within' if attempt.kind in ('change', 'within') else 'to'} {attempt.station}"
-        if phone is None or attempt.doubt:
+        agree = phone is not None and phone.key.value == station.value
+        if phone is None or attempt.doubt or phone.lost and not agree:
             text = f"{where}: phone and {attempt.station} not judged" + (f": {attempt.doubt}" if attempt.doubt else "")
             self.lines.append(Line(attempt.frame, "handover", "agreement", UNKNOWN, text, station.form, cell=attempt.cell, reason=attempt.doubt))
-        elif phone.key.value == station.value:
+        elif agree:
+            attempt.phone = replace(phone, lost=False)
             text = f"{where}: phone and {attempt.station} agree on {self.show(station)}"
             self.lines.append(Line(attempt.frame, "handover", "agreement", RIGHT, text, station.form, phone.key.form, hex=station.value.hex(), cell=attempt.cell))
             connection.parted = False
@@ -209,6 +212,15 @@ class KeyJudge(StarJudge):
         made = [Held(self.derivations.star(one.base()[0], *cell), one.base()[1], None, one.phone) for one in held] if cell else []
         return Attempt("X2", "", station, eci, made, [made[0].ncc if made else 0], cell, told=True)
 
+    def came_unseen(self, connection: Connection, frame: str, station: str) -> None:
+        """The phone is at another station, and the trace shows nothing of how it came there: its key there is not known."""
+        connection.attempts.append(Attempt("unseen", frame, station, None, [], [], told=True, over="done"))
+        connection.station, connection.eci, connection.told_eci, connection.resumed = station, None, None, False
+        connection.held[station] = []
+        if connection.phone is not None:
+            connection.phone = replace(connection.phone, key=Key(b"", NONE), lost=True)
+        self.note(frame, f"the phone is at {station} now: a handover that the trace does not show")
+
     def asked(self, connection: Connection, message: Message, made: Made, station: str) -> Attempt:
         """A handover over X2 that a source asks for."""
         attempt = Attempt("X2", message.frame, station, message.eci, made.held, [one.ncc for one in made.held], self.cell(message.eci))
@@ -218,5 +230,5 @@ class KeyJudge(StarJudge):
 
     def given(self, connection: Connection, pairs: list[tuple[Key, int]], station: str) -> None:
         """A station stores NH and NCC for the next handover (7.2.8.4.1)."""
-        held = connection.held.get(station) or [Held(Key(b"", "none"), 0)]
+        held = connection.held.get(station) or [Held(Key(b"", NONE), 0)]
         connection.held[station] = [replace(one, pair=pair) for one in held for pair in pairs]

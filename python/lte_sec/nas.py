@@ -338,24 +338,25 @@ class NasBook:
             fresh = self.lost_mode(direction, pdu) if not other or complete else None
             if fresh is not None:
                 return self.renewed(side, *fresh, direction, pdu)
-            if side.pending is not None and not side.pending.given or not other and (side.authenticated or failing == {UP, DOWN}):
-                self.leaves(side, context, other)
+            if side.pending is not None and not side.pending.given:
                 return self.nothing(direction, pdu)
             far = self.effort.find([context.kasme], pdu[5], WRAP, lambda _, tried: self.has_mac(context, direction, tried, pdu))
             if far is not None:
                 self.takes(side, context, complete, direction, (far[1],), True)
                 return self.settled(side, context, direction, pdu, far[1])
+            if not other and (side.authenticated or failing == {UP, DOWN}):
+                self.leaves(side, context)
+                return self.nothing(direction, pdu)
             if not self.effort.reached:
                 return self.nothing(direction, pdu, "its COUNT is not near the last one, and the search for it was ended")
         self.takes(side, context, complete, direction, (count,), False)
         return self.refused(context, direction, pdu, count, self.whose(context, direction, pdu, count))
 
-    def leaves(self, side: NasSide, context: NasContext, stays: bool) -> None:
+    def leaves(self, side: NasSide, context: NasContext) -> None:
         """The connection goes on under a KASME that was not given, until one that is known is in use again."""
-        if not stays and (side.pending is None or side.pending.given):
-            unknown = NasContext(FOREIGN)
-            self.follows(context, unknown)
-            side.current, side.trigger, side.authenticated = unknown, None, False
+        unknown = NasContext(FOREIGN)
+        self.follows(context, unknown)
+        side.current, side.trigger, side.authenticated = unknown, None, False
 
     def ahead(self, context: NasContext, direction: int, pdu: bytes, later: Later) -> tuple[bool, bool, set[int]]:
         """What comes later in the connection under a context: whether a message of the same direction is right, one of the other, and

@@ -4,7 +4,7 @@ from __future__ import annotations
 from collections.abc import Iterator
 from dataclasses import dataclass, field, replace
 
-from .chains import ChainJudge, title
+from .chains import LOST_CHANGE, ChainJudge, title
 from .decoding import Message, Reestablishment
 from .report import DIFFERS, RIGHT, Line, unknown_line
 from .state import CHAIN, Connection, Held, Phone, refreshed, renewed
@@ -57,6 +57,7 @@ class StarJudge(ChainJudge):
             found = self.named(message.key, connection, [])
             why = "the trace does not show the key in use" if not bases else "the target cell is not known; name it with --cells"
             self.unjudged(message, "KeNB*", why if found.known or bases else "no KASME that was given fits", found)
+            self.begins_at(connection, found)
             return Made([Held(found, ncc)], doubt=why)
         wanted = [(self.derivations.star(key, *cell), number) for key, number in (one.base() for one in held)]
         match = next((one for one in wanted if one == (one[0], ncc) and one[0].value == message.key), None)
@@ -68,6 +69,11 @@ class StarJudge(ChainJudge):
             at_target = [Held(match[0], ncc)] if ncc == match[1] else [Held(match[0], ncc), Held(match[0], match[1])]
             return Made(at_target, [chosen[0].base()], chosen[0])
         first = next((one[0], one[1]) for one in [*(one for one in wanted if NONE not in one[0].form), wanted[0]])
+        if not connection.core and connection.asked and ncc != first[1]:
+            found = self.named(message.key, connection, [])
+            self.unjudged(message, "KeNB*", "its NH may have come in an answer that the trace lacks, and the trace does not show where the chain begins", found)
+            self.begins_at(connection, found)
+            return Made([Held(found, ncc)], doubt="the KeNB* is not judged")
         return self.star_of_unseen(connection, message, cell) or self.star_of_refreshed(connection, message, held, first, cell) or self.other_star(connection, message, held, first, cell)
 
     def goes_on(self, connection: Connection, chosen: Held, others: list[Held]) -> None:
@@ -96,16 +102,14 @@ class StarJudge(ChainJudge):
         return self.star_of_change(connection, message, cell)
 
     def star_of_change(self, connection: Connection, message: Message, cell: tuple[int, int]) -> Made | None:
-        trigger, own = connection.side.trigger, self.cell(connection.eci)
-        if trigger is None or own is None or not connection.core or not trigger.context.given or trigger.context.kasme == connection.core[0].kasme:
-            return None
-        for count in trigger.counts:
-            kenb = self.derivations.kenb(trigger.context.kasme, count)
+        """A KeNB* from the key of a key change that the trace lacks."""
+        own = self.cell(connection.eci)
+        for kenb in self.unseen_changes(connection) if own is not None and not message.ncc else []:
             phone = renewed(self.derivations, kenb, own)
             made = self.derivations.star(phone.key, *cell)
-            if made.value == message.key and not message.ncc:
-                self.judged(message, "KeNB*", made, made, (0, 0), "after a key change that the trace lacks", cell)
-                connection.core, connection.asked, connection.phone = self.chains(connection, [kenb]), 0, phone
+            if made.value == message.key:
+                self.judged(message, "KeNB*", made, made, (0, 0), LOST_CHANGE, cell)
+                self.changed_unseen(connection, kenb, phone)
                 source = Held(phone.key, 0)
                 connection.held[connection.station] = [source]
                 return Made([Held(made, 0)], [source.base()], source)

@@ -32,20 +32,21 @@ class Chain:
 
 @dataclass(frozen=True)
 class Phone:
-    """The phone's key in use with its NCC, and its own chain."""
+    """The phone's key in use with its NCC, and its own chain. A key without octets is not known."""
 
     key: Key
     ncc: int
     chain: Chain
+    lost: bool = False  # a handover was not seen, so that NCC and key may be others
 
     def takes(self, derivations: Derivations, ncc: int, cell: tuple[int, int]) -> Phone:
         """What the phone makes of a command with this NCC and cell (TS 33.401 7.2.8.4.2, TS 36.331 5.3.5.4)."""
         if ncc == self.ncc:
-            return replace(self, key=derivations.star(self.key, *cell))
+            return replace(self, key=derivations.star(self.key, *cell)) if self.key.value else self
         chain = self.chain.step(derivations)
         while chain.number % CHAIN != ncc % CHAIN:
             chain = chain.step(derivations)
-        return Phone(derivations.star(chain.sync, *cell), ncc, chain)
+        return Phone(derivations.star(chain.sync, *cell), ncc, chain, self.lost)
 
 
 @dataclass(frozen=True)

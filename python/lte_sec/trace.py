@@ -136,7 +136,7 @@ class Trace(Handovers):
             return
         self.binds(connection, leg, at_core)
         if message.name in ("UplinkNASTransport", "HandoverRequired", "PathSwitchRequestAcknowledge"):
-            self.arrived(connection, station)
+            self.arrived(connection, station, message.frame)
         if message.name == "UplinkNASTransport" and station == connection.station:
             connection.told_eci = message.eci
         handler = HANDLERS.get(message.name)
@@ -205,7 +205,7 @@ class Trace(Handovers):
         """The core tells a station what the phone can do, as the phone said in NAS (TS 33.401 7.2.4.2.1, 7.2.4.4)."""
         side = connection.side
         before = side.current.capabilities if side.current is not None else None
-        self.judge.capabilities(message, message.capabilities, side.capabilities or before, side.capabilities is not None)
+        self.judge.capabilities(message, [side.capabilities or before], side.capabilities is not None)
         connection.capabilities = message.capabilities or connection.capabilities
 
     def context_changed(self, connection: Connection, message: Message, station: str, at_core: Leg) -> None:
