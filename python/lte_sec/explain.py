@@ -1,50 +1,29 @@
 """Which derivation gives a key: for each key of a text the term, or `none`.
 
-Keys are 64 hex digits, or 32 (the half of an algorithm key that is used), or hexdumps of 16 octets a line, as products log them.
+Keys have 32 octets, or 16 (the half of an algorithm key that is used); `dumps` reads them.
 """
 from __future__ import annotations
 
-import re
-from collections.abc import Iterable, Iterator
+from collections.abc import Callable, Iterable, Iterator
 from dataclasses import dataclass
 
 from .cells import Cells
+from .dumps import Block, candidates, resolved
 from .search import Search
 from .terms import Derivations, Key
 
-TOKEN = re.compile(r"(?<![0-9a-fA-F])(?:[0-9a-fA-F]{64}|[0-9a-fA-F]{32})(?![0-9a-fA-F])")
-DUMP = re.compile(r"^(?:.*?[^0-9a-fA-F]|)((?:[0-9a-fA-F]{2}[ :]+){15}[0-9a-fA-F]{2})(?![0-9a-fA-F])")
 NAS_TYPES, STATION_TYPES, IDENTITIES = (1, 2), (3, 4, 5, 6), range(16)
 COMMON = range(4)  # identities that algorithms have today
 
 
 @dataclass(frozen=True)
 class Found:
+    """A key of a text, the line that it begins in, and its derivation."""
+
+    line: int
     value: bytes
     key: Key | None
     mixed: bool = False
-
-
-def keys_of(lines: Iterable[str]) -> list[bytes]:
-    """The keys of a text, in their order."""
-    found: list[bytes] = []
-    half: bytes | None = None
-    for line in lines:
-        tokens = TOKEN.findall(line)
-        dump = DUMP.match(line) if not tokens else None
-        if dump:
-            row = bytes.fromhex(re.sub(r"[ :]", "", dump[1]))
-            if half is None:
-                half = row
-            else:
-                found.append(half + row)
-                half = None
-            continue
-        if half is not None:
-            found.append(half)
-            half = None
-        found += [bytes.fromhex(token) for token in tokens]
-    return found + ([half] if half is not None else [])
 
 
 class Explanation:
@@ -56,17 +35,30 @@ class Explanation:
         self.found: dict[bytes, Key] = {}
         self.open: set[bytes] = set()
 
-    def find(self, keys: list[bytes]) -> list[Found]:
-        self.open = set(keys)
+    def find(self, text: list[Block]) -> list[Found]:
+        """The derivations of the keys of a text. Rows that may be halves of keys are sought by themselves where no whole key is found."""
+        self.seek({value for block in text for value in candidates(block)})
+        left = [block for block in text if not block.sure and not all(value in self.found for value in candidates(block)[::2])]
+        self.seek({row.value for block in left for row in block.rows})
+        found = [one for block in text for one in resolved(block, lambda value: value in self.found)]
+        return [Found(line, key, self.found.get(key), self.is_mixed(self.found.get(key))) for line, key in found]
+
+    def seek(self, keys: set[bytes]) -> None:
+        """Searches for all of these keys together."""
+        self.open = keys - set(self.found)
+        if not self.open:
+            return
         roots = [Key(kasme.value, "kasme", "", place) for place, kasme in enumerate(self.derivations.kasmes)]
         self.take([*roots, *(key for root in roots for key in self.algorithms(root, NAS_TYPES, IDENTITIES))])
         self.take(self.search.roots())
         self.spread()
-        for stage in (lambda: self.search.stars(self.search.roots(), 1), lambda: self.of(self.search.kenbs()), lambda: self.of(self.search.stars(self.search.roots(), 1))):
+        stages: list[Callable[[], Iterable[Key]]] = [
+            lambda: self.search.stars(self.search.roots(), 1), lambda: self.of(self.search.kenbs()), lambda: self.of(self.search.stars(self.search.roots(), 1)),
+        ]
+        for stage in stages:
             if self.open:
                 self.take(stage())
                 self.spread()
-        return [Found(key, self.found.get(key), self.is_mixed(self.found.get(key))) for key in keys]
 
     def is_mixed(self, key: Key | None) -> bool:
         """Whether a key is for a PCI and an EARFCN of two cells."""
@@ -109,11 +101,11 @@ class Explanation:
 
 
 def told(derivations: Derivations, found: Found) -> str:
-    """The line of a key: its octets, and the derivation with KeNB and KASME where they do not stand in it."""
-    key = found.key
+    """The line of a key: where it stands, its octets, and the derivation with KeNB and KASME where they do not stand in it."""
+    key, head = found.key, f"line {found.line}: {found.value.hex()}"
     if key is None:
-        return f"{found.value.hex()} none"
+        return f"{head} none"
     text = key.form + (f" on {key.base}" if key.base and key.base not in key.form else "")
     if len(derivations.kasmes) > 1:
         text += f" of {derivations.kasmes[key.kasme].name}"
-    return f"{found.value.hex()} {text}" + (" mixed cell" if found.mixed else "")
+    return f"{head} {text}" + (" mixed cell" if found.mixed else "")

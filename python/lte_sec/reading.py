@@ -3,10 +3,11 @@ from __future__ import annotations
 
 from collections.abc import Iterable
 
-from .decoding import Message
 from .cells import Cells, Site
+from .decoding import Message
 from .terms import Derivations
 from .trace import Trace
+from .handed import kasmes_in
 
 
 def learn(cells: Cells, messages: Iterable[Message]) -> None:
@@ -36,12 +37,14 @@ def learn(cells: Cells, messages: Iterable[Message]) -> None:
 def check(derivations: Derivations, cells: Cells, messages: list[Message], budget: int | None = None) -> Trace:
     """Reads a trace. Which NH a core sends first is seen in the whole trace: where both are, the more frequent one is wanted."""
     learn(cells, messages)
+    found, notes = kasmes_in(messages, derivations.kasmes)
+    derivations.kasmes += found
     budget = derivations.calls.budget if budget is None else budget
     trace = Trace(derivations, cells, {}, budget)
-    trace.read(messages)
+    trace.read(messages, notes)
     seen = trace.judge.seen_firsts
     if any(len(set(numbers)) > 1 for numbers in seen.values()):
         firsts = {mme: 1 if numbers.count(1) > numbers.count(2) else 2 for mme, numbers in seen.items()}
         trace = Trace(derivations, cells, firsts, budget)
-        trace.read(messages)
+        trace.read(messages, notes)
     return trace

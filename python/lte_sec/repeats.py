@@ -5,29 +5,94 @@ PDU after them, as `tshark -T fields` prints them. The same octets again are the
 """
 from __future__ import annotations
 
-from collections.abc import Iterable
+from collections.abc import Iterable, Iterator
+from dataclasses import dataclass, field
 
 from .terms import TraceError
 
 FIELDS = ("pdcp-lte.ueid", "pdcp-lte.security-config.bearer", "pdcp-lte.security-config.direction", "pdcp-lte.security-config.count")
+WAYS = {"uplink": "0", "up": "0", "ul": "0", "downlink": "1", "down": "1", "dl": "1"}
+NUMBER = 10  # the most digits of a number: what is longer is a key
+
+Use = tuple[str, str, str, int]
 
 
-def first_repeat(lines: Iterable[str]) -> str | None:
-    """The line that says which use came twice, or None. A use without octets that comes again counts as a second use."""
-    seen: dict[tuple[str, str, str, int], tuple[int, str]] = {}
-    for place, line in enumerate(lines, 1):
+@dataclass
+class Repeats:
+    """What was found: the line that says which use came twice, or nothing; PDUs without security context; lines that are not clear."""
+
+    text: str = ""
+    passed: int = 0
+    unclear: list[int] = field(default_factory=list)
+
+    @property
+    def status(self) -> int:
+        return 1 if self.text else 3 if self.unclear else 0
+
+    def __str__(self) -> str:
+        more = [f"{self.passed} PDU{'s' if self.passed > 1 else ''} without security context passed over"] if self.passed else []
+        more += [f"not judged: line{'s' if len(self.unclear) > 1 else ''} {', '.join(map(str, self.unclear))}, whose PDUs do not all have a security context"] if self.unclear else []
+        return "; ".join([self.text or "none", *more])
+
+
+def plain(word: str) -> str:
+    """A value in one spelling: `0x00` and `0`, `uplink` and `0` are the same."""
+    text = word.lower()
+    digits = text.removeprefix("0x")
+    if text.isdigit() and len(text) <= NUMBER or text.startswith("0x") and len(digits) <= NUMBER and not set(digits) - set("0123456789abcdef"):
+        return str(int(text, 0 if text.startswith("0x") else 10))
+    return WAYS.get(text, text.replace(":", ""))
+
+
+def pdus(line: str, place: int) -> tuple[list[list[str]], int] | None:
+    """The values of each PDU of a line, and how many have no security context; None where it is not clear which."""
+    tabs, commas = line.count("\t"), line.count(",")
+    if not tabs and (any(one.isspace() for one in line.strip()) or commas < len(FIELDS) - 1):
         words = line.replace(",", " ").split()
-        if not words or words[0].startswith("#"):
-            continue
         if len(words) not in (4, 5):
             raise TraceError(f"line {place}: a use is: key or UE id, bearer, direction, COUNT, and if wanted the octets of the PDU")
-        key, bearer, direction = words[0].lower(), words[1].lower(), words[2].lower()
-        try:
-            count = int(words[3], 0)
-        except ValueError:
-            raise TraceError(f"line {place}: COUNT is a number: {words[3]}") from None
-        octets = words[4].replace(":", "").lower() if len(words) == 5 else ""
-        before = seen.setdefault((key, bearer, direction, count), (place, octets))
-        if before[0] != place and not (octets and octets == before[1]):
-            return f"lines {before[0]} and {place}: key {key}, bearer {bearer}, direction {direction}, COUNT {count} are used twice"
-    return None
+        return [words], 0
+    cells = [[word.strip() for word in cell.split(",") if word.strip()] for cell in line.split("\t")] if tabs else [[word] if word else [] for word in line.strip().split(",")]
+    if len(cells) not in (4, 5):
+        raise TraceError(f"line {place}: it has {len(cells)} fields, and a use has 4 or 5: {', '.join(FIELDS)}, and the octets of the PDU")
+    found = max(len(cell) for cell in cells[1:4])
+    if found == 0:
+        return [], len(cells[0])
+    if any(len(cell) != found for cell in cells[1:4]) or not cells[0] or len(cells[0]) != found and len(set(cells[0])) > 1:
+        return None
+    keys = cells[0] if len(cells[0]) == found else cells[0][:1] * found
+    texts = cells[4] if len(cells) == 5 and len(cells[4]) == found else []
+    rows = [list(row) for row in zip(keys, *cells[1:4])]
+    return [[*row, *texts[number:number + 1]] for number, row in enumerate(rows)], max(0, len(cells[0]) - found)
+
+
+def uses(lines: Iterable[str], result: Repeats) -> Iterator[tuple[int, Use, str]]:
+    """Each use with its line and the octets of its PDU."""
+    for place, line in enumerate(lines, 1):
+        if not line.strip() or line.lstrip().startswith("#"):
+            continue
+        found = pdus(line.rstrip("\r\n"), place)
+        if found is None:
+            result.unclear.append(place)
+            continue
+        result.passed += found[1]
+        for words in found[0]:
+            count = plain(words[3])
+            if not count.isdigit():
+                raise TraceError(f"line {place}: COUNT is a number: {words[3]}")
+            yield place, (plain(words[0]), plain(words[1]), plain(words[2]), int(count)), words[4].replace(":", "").lower() if len(words) == 5 else ""
+
+
+def first_repeat(lines: Iterable[str]) -> Repeats:
+    """The first use that comes twice. A use without octets that comes again counts as a second use."""
+    seen: dict[Use, tuple[int, str]] = {}
+    result = Repeats()
+    for place, use, octets in uses(lines, result):
+        before = seen.get(use)
+        if before is None:
+            seen[use] = (place, octets)
+        elif not (octets and octets == before[1]):
+            key, bearer, direction, count = use
+            result.text = f"lines {before[0]} and {place}: key {key}, bearer {bearer}, direction {direction}, COUNT {count} are used twice"
+            break
+    return result

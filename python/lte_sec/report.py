@@ -46,8 +46,10 @@ class Line:
 
 
 def status(lines: Iterable[Line]) -> int:
-    """0: all agree. 1: something differs. 3: something could not be judged."""
+    """0: all agree. 1: something differs. 3: something could not be judged, or there is nothing to judge."""
     verdicts = {line.verdict for line in lines}
+    if not verdicts - {NOTE}:
+        return 3
     return 1 if DIFFERS in verdicts else 3 if UNKNOWN in verdicts else 0
 
 

@@ -108,12 +108,36 @@ class Derivations:
         return f" of {self.kasmes[key.kasme].name}" if key.known and key.kasme >= 0 and len(self.kasmes) > 1 else ""
 
 
+DIGITS = 64  # of a KASME
+HEX = frozenset("0123456789abcdefABCDEF")
+LIKE_A_KEY = 32  # so many digits of a word are no name of a file
+
+
+def is_kasme(word: str) -> bool:
+    """Whether a word is a KASME, with `NAME=` before it or not."""
+    digits = word.rpartition("=")[2]
+    return len(digits) == DIGITS and not set(digits) - HEX
+
+
+def kasme_fault(word: str) -> str:
+    """What is wrong with a word that was meant for a KASME, or nothing."""
+    digits = word.rpartition("=")[2]
+    bare = digits.replace(" ", "").replace(":", "").replace("-", "")
+    if digits[:2].lower() == "0x" and not set(digits[2:]) - HEX:
+        return f"write a KASME without 0x before its {DIGITS} hex digits: {word}"
+    if len(bare) < LIKE_A_KEY or set(bare) - HEX:
+        return ""
+    if bare != digits and len(bare) == DIGITS:
+        return f"write the {DIGITS} hex digits of a KASME without colons, hyphens or blanks between them: {word}"
+    return f"a KASME has {DIGITS} hex digits, and this word has {len(bare)}: {word}"
+
+
 def kasmes_of(words: Iterable[str]) -> list[Kasme]:
     """KASMEs from words: 64 hex digits each, or a name, `=` and 64 hex digits."""
     found: list[Kasme] = []
     for word in words:
         name, _, digits = word.rpartition("=")
-        if len(digits) != 64 or set(digits.lower()) - set("0123456789abcdef"):
-            raise TraceError(f"a KASME has 64 hex digits, with NAME= before them or not: {word}")
+        if not is_kasme(word):
+            raise TraceError(kasme_fault(word) or f"a KASME has {DIGITS} hex digits, with NAME= before them or not: {word}")
         found.append(Kasme(name or f"KASME {len(found) + 1}", bytes.fromhex(digits)))
     return found

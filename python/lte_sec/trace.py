@@ -52,8 +52,9 @@ class Trace(Handovers):
 
     # -- reading
 
-    def read(self, messages: list[Message]) -> None:
+    def read(self, messages: list[Message], notes: list[Line]) -> None:
         self.messages = messages
+        self.lines += notes
         for place, message in enumerate(messages):
             self.place(message)
             if message.link == "S1" and message.enb_id is not None:

@@ -9,23 +9,25 @@ from pathlib import Path
 from .captures import read_all
 from .cells import Cells, Site, read_cells
 from .derive import proved_calls
-from .explain import Explanation, keys_of, told
+from .dumps import HALF, KEY, blocks, has_hex
+from .explain import Explanation, told
 from .repeats import first_repeat
-from .report import NOTE, status
-from .terms import Derivations, TraceError, kasmes_of
+from .reading import check
+from .report import NOTE, status, summary
+from .terms import Derivations, TraceError, is_kasme, kasme_fault, kasmes_of
 from .trace import Trace
 from .vectors import MOST, SEEDS, USUAL, document
-from .reading import check
 from .wireshark import rows
+from .written import annotate, as_json
 
 USAGE = {
-    "check-trace": "check-trace [--plain] [--cells FILE] CAPTURE.. KASME..   judges each key and NAS message of a capture",
+    "check-trace": "check-trace [--plain] [--json] [--annotate FILE] [--cells FILE] CAPTURE.. KASME..   judges each key and NAS message of a capture",
     "explain": "explain [--cells FILE] [--cell PCI,EARFCN].. [--counts N] [--depth N] [--keys FILE] KASME..   says which derivation each key of a text is",
     "wireshark": "wireshark [--cells FILE] CAPTURE.. KASME..   prints the PDCP keys of a capture as Wireshark's table",
     "vectors": "vectors [--seed N] [--count N]   prints test vectors",
     "repeats": "repeats [FILE]   tells the first key, bearer, direction and COUNT that come twice",
 }
-READ, BAD_WORDS = 2, 2
+READ, BAD_WORDS, NOT_JUDGED = 2, 2, 3
 
 
 class Words:
@@ -49,6 +51,8 @@ class Words:
                 raise TraceError(f"there is no option {word}; there are: {' '.join([*valued, *flags])}")
             elif is_kasme(word):
                 self.kasmes.append(word)
+            elif kasme_fault(word) and not Path(word).exists():
+                raise TraceError(kasme_fault(word))
             else:
                 self.files.append(Path(word))
 
@@ -68,27 +72,31 @@ class Words:
         return Cells(sites)
 
 
-def is_kasme(word: str) -> bool:
-    digits = word.rpartition("=")[2]
-    return len(digits) == 64 and not set(digits.lower()) - set("0123456789abcdef")
-
-
 def traced(words: Words) -> Trace:
-    if not words.files or not words.kasmes:
+    if not words.files:
         raise TraceError("a capture and the KASMEs of its phones are wanted: CAPTURE KASME.., a KASME as 64 hex digits")
     messages = read_all(words.files)
-    return check(Derivations(proved_calls(), kasmes_of(words.kasmes)), words.cells(), messages)
+    kasmes = kasmes_of(words.kasmes)
+    if not kasmes and not any(message.kasmes for message in messages):
+        raise TraceError("the KASMEs of its phones are wanted, 64 hex digits each: the capture has no S6a and no GTPv2-C that tells one")
+    return check(Derivations(proved_calls(), kasmes), words.cells(), messages)
 
 
 def check_trace(words: list[str]) -> int:
-    given = Words(words, ("--cells",), ("--plain",))
+    given = Words(words, ("--cells", "--annotate"), ("--plain", "--json"))
     lines = traced(given).lines
-    for line in lines:
-        plain = f" plain {line.plain.hex()}" if "--plain" in given.options and line.plain is not None else ""
-        print(f"{line}{plain}")
-    if all(line.verdict == NOTE for line in lines):
+    empty = all(line.verdict == NOTE for line in lines)
+    for file in given.options.get("--annotate", []):
+        annotate(given.files[0], Path(file), lines)
+    if "--json" in given.options:
+        print(as_json(lines))
+    else:
+        for line in lines:
+            plain = f" plain {line.plain.hex()}" if "--plain" in given.options and line.plain is not None else ""
+            print(f"{line}{plain}")
+        print(summary(lines))
+    if empty:
         print("lte_sec: the capture has no key and no protected NAS message", file=sys.stderr)
-        return 3
     return status(lines)
 
 
@@ -98,9 +106,13 @@ def explain(words: list[str]) -> int:
         raise TraceError(f"a KASME is 64 hex digits: {given.files[0] if given.files else 'there is none'}")
     files = given.options.get("--keys", [])
     text = [line for file in files for line in opened(Path(file))] if files else sys.stdin.readlines()
+    keys = blocks(text)
+    if not keys and has_hex(text):
+        print(f"lte_sec: the text has hex and no key in it: a key has {2 * KEY} hex digits, or {2 * HALF}", file=sys.stderr)
+        return NOT_JUDGED
     derivations = Derivations(proved_calls(), kasmes_of(given.kasmes))
     explanation = Explanation(derivations, given.cells(), given.number("--counts", 300, (1 << 24) - 1), given.number("--depth", 16, 4096))
-    found = explanation.find(keys_of(text))
+    found = explanation.find(keys)
     for one in found:
         print(told(derivations, one))
     return 0 if all(one.key for one in found) else 1
@@ -117,8 +129,8 @@ def repeats(words: list[str]) -> int:
     if len(given.files) > 1 or given.kasmes:
         raise TraceError("repeats takes one file of uses, or none to read standard input")
     found = first_repeat(opened(given.files[0]) if given.files else sys.stdin)
-    print(found or "none")
-    return 1 if found else 0
+    print(found)
+    return found.status
 
 
 def vectors(words: list[str]) -> int:

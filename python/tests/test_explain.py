@@ -6,7 +6,8 @@ import unittest
 from pathlib import Path
 
 from lte_sec.cells import Cells, Site
-from lte_sec.explain import Explanation, Found, keys_of, told
+from lte_sec.dumps import blocks, candidates
+from lte_sec.explain import Explanation, Found, told
 from lte_sec.terms import Derivations, Kasme
 
 from .standin import StandIn
@@ -19,7 +20,7 @@ LOG_KASME = "6f1d9a0c55e2473bb8a4c07e12f3d96a80bc4e7719d2053fe6a1b8c4d7720e95"
 def explained(text: str, kasme: str, cells: list[tuple[int, int]]) -> tuple[Derivations, list[Found]]:
     derivations = Derivations(StandIn(), [Kasme("KASME 1", bytes.fromhex(kasme))])
     sites = Cells(Site(place, pci, earfcn) for place, (pci, earfcn) in enumerate(cells))
-    return derivations, Explanation(derivations, sites, 300, 16).find(keys_of(text.splitlines()))
+    return derivations, Explanation(derivations, sites, 300, 16).find(blocks(text.splitlines()))
 
 
 def forms(report: str) -> list[tuple[str, str]]:
@@ -51,19 +52,20 @@ class Explained(unittest.TestCase):
     def test_the_wrong_key_of_the_log(self) -> None:
         log = (TOP / "docs/cookbook/handover.log").read_text()
         derivations, found = explained(log, LOG_KASME, [(301, 1575), (87, 3100)])
-        self.assertEqual([told(derivations, one)[65:] for one in found][3:], [
+        self.assertEqual([told(derivations, one).split(maxsplit=3)[3] for one in found][3:], [
             "star(kenb(5),87,3100)", "star(kenb(5),87,3100)", "nh(2) on kenb(5)", "star(nh(2),301,3100) on kenb(5) mixed cell", "star(nh(2),301,1575) on kenb(5)",
         ])
 
     def test_a_key_that_nothing_gives(self) -> None:
         derivations, found = explained("00" * 32, LOG_KASME, [(10, 100)])
-        self.assertEqual(told(derivations, found[0]), "00" * 32 + " none")
+        self.assertEqual(told(derivations, found[0]), "line 1: " + "00" * 32 + " none")
 
     def test_deep_and_far_keys(self) -> None:
         calls, kasme = StandIn(), bytes.fromhex(LOG_KASME)
         key = calls.kenb(kasme, 299)
+        sync = key
         for _ in range(16):
-            sync = calls.nh(kasme, key if _ == 0 else sync)
+            sync = calls.nh(kasme, sync)
         far = calls.kenb_star(sync, 10, 100)
         half = calls.algorithm_key(calls.kenb_star(calls.kenb(kasme, 17), 10, 100), 4, 2)[16:]
         three = key
@@ -75,11 +77,43 @@ class Explained(unittest.TestCase):
             "star(nh(16),10,100)", "alg(star(kenb(17),10,100),4,2)", "kenb(299)", "star(star(star(kenb(299),10,100),11,100),10,100)",
         ])
 
-    def test_hexdumps_and_hex_in_a_text(self) -> None:
-        value = bytes(range(32))
-        dump = f"KeNB:\n  0000: {value[:16].hex(' ')}  |....|\n  0010: {value[16:].hex(' ')}  |....|\nnext {value.hex().upper()} half={value[:16].hex()} not {value.hex()}00"
-        self.assertEqual(keys_of(dump.splitlines()), [value, value, value[:16]])
-        self.assertEqual(keys_of([value[:16].hex(":"), "end"]), [value[:16]])
+    def test_logs_as_products_write_them(self) -> None:
+        value, other = bytes(range(0x53, 0x73)), bytes(range(0xA0, 0xC0))
+        rows = [value[place:place + 16] for place in (0, 16)]
+
+        def fours(row: bytes, by: int) -> str:
+            return " ".join(row[place:place + by].hex() for place in range(0, len(row), by))
+
+        whole = {
+            "64 digits": f"KeNB={value.hex().upper()} end", "blanks": value.hex(" "), "colons": "KeNB: " + value.hex(":"), "hyphens": value.hex("-"),
+            "a list": ", ".join(f"0x{octet:02x}" for octet in value), "a list of C": "{" + ",".join(f"0x{octet:02X}" for octet in value) + "};",
+            "dump": f"KeNB:\n  0000: {rows[0].hex(' ')}  |....|\n  0010: {rows[1].hex(' ')}  |....|",
+            "groups of four": f"0000: {fours(rows[0], 4)}  STUVWXYZ\n0010: {fours(rows[1], 4)}  face be.",
+            "xxd": f"00000000: {fours(rows[0], 2)}  STUVWXYZ[\\]^_`ab\n00000010: {fours(rows[1], 2)}  cdefghijklmnopqr",
+            "hexdump -C": "".join(f"{place:08x}  {row[:8].hex(' ')}  {row[8:].hex(' ')}  |face ad be beef.|\n" for place, row in zip((0, 16), rows)) + "00000020",
+            "8 octets a line": "\n".join(value[place:place + 8].hex(" ") for place in range(0, 32, 8)),
+            "8 octets with offsets": "\n".join(f"{place:04x} {value[place:place + 8].hex(' ')}" for place in range(0, 32, 8)),
+            "a word before": f"face {value.hex(' ')}", "two digits before": f"be {value.hex(' ')}", "a time before": f"10:36:15.410 [ad] key {value.hex(' ')}",
+        }
+        for name, text in whole.items():
+            with self.subTest(name):
+                self.assertEqual([candidates(block) for block in blocks(text.splitlines())], [[value]], text)
+        both = f"{value.hex()} {other.hex()}", value.hex(" ") + "\n" + other.hex(" "), "\n".join(f"{place % 32:04x}: {(value + other)[place:place + 16].hex(' ')}" for place in range(0, 64, 16))
+        for text in both:
+            with self.subTest("two keys", text=text):
+                self.assertEqual([one for block in blocks(text.splitlines()) for one in candidates(block)], [value, other])
+        halves = f"KRRCenc: {value[:16].hex(' ')}\nKRRCint: {other[:16].hex(' ')}\n\n{value.hex()}00 {value[:16].hex()}"
+        self.assertEqual([one for block in blocks(halves.splitlines()) for one in candidates(block)], [value[:16], other[:16], value[:16]])
+
+    def test_rows_without_offsets_are_keys_or_halves(self) -> None:
+        calls, kasme = StandIn(), bytes.fromhex(LOG_KASME)
+        kenb = calls.kenb(kasme, 3)
+        halves = [calls.algorithm_key(kenb, type, 2)[16:] for type in (3, 4, 5)]
+        rows = [halves[0], kenb[:16], kenb[16:], halves[1], halves[2]]
+        _, found = explained("\n".join(row.hex(" ") for row in rows), LOG_KASME, [(10, 100)])
+        self.assertEqual([(one.line, one.key.form if one.key else "none") for one in found], [(1, "alg(kenb(3),3,2)"), (2, "kenb(3)"), (4, "alg(kenb(3),4,2)"), (5, "alg(kenb(3),5,2)")])
+        _, found = explained(bytes(32).hex(" ", 16).replace(" ", "\n"), LOG_KASME, [(10, 100)])
+        self.assertEqual([one.key for one in found], [None])
 
 
 if __name__ == "__main__":

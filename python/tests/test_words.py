@@ -5,6 +5,8 @@ import contextlib
 import io
 import json
 import os
+import shutil
+import subprocess
 import sys
 import tempfile
 import textwrap
@@ -19,7 +21,7 @@ from lte_sec.terms import TraceError
 from lte_sec.wireshark import rows
 
 from .standin import StandIn
-from .test_traces import TRACES, traced
+from .test_traces import TRACES, TSHARK, traced
 
 KASME = json.loads((TRACES / "A.truth.json").read_text())["kasme"][0]["hex"]
 
@@ -66,14 +68,57 @@ class Words(unittest.TestCase):
         self.assertIn(" star(nh(2),301,3100) on kenb(5) mixed cell\n", out)
 
     def test_repeated_uses(self) -> None:
-        self.assertIsNone(first_repeat(["# a", "7 1 0 5", "7 1 1 5", "7,2,0,5", "8 1 0 5", ""]))
-        self.assertIsNone(first_repeat(["7 1 0 5 00:11", "7 1 0 0x5 0011"]))
-        self.assertEqual(first_repeat(["7 1 0 5 0011", "7 1 0 5 0012"]), "lines 1 and 2: key 7, bearer 1, direction 0, COUNT 5 are used twice")
-        for bad in ("7 1 0", "7 1 0 five"):
+        self.assertEqual(str(first_repeat(["# a", "7 1 0 5", "7 1 1 5", "7,2,0,5", "8 1 0 5", ""])), "none")
+        self.assertEqual(str(first_repeat(["7 1 0 5 00:11", "7 1 0 0x5 0011"])), "none")
+        self.assertEqual(str(first_repeat(["7 1 0 5 0011", "7 1 0 5 0012"])), "lines 1 and 2: key 7, bearer 1, direction 0, COUNT 5 are used twice")
+        for bad in ("7 1 0", "7 1 0 five", "7\t1\t0"):
             with self.assertRaises(TraceError):
                 first_repeat([bad])
         self.assertEqual(run("repeats", text="a 1 0 1\na 1 0 1\n")[0], 1)
         self.assertEqual(run("repeats", text="a 1 0 1\na 1 0 2\n")[:2], (0, "none\n"))
+
+    def test_uses_as_tshark_prints_them(self) -> None:
+        for lines, text, status in (
+            (["1\t0x00\t0x00\t5", "1\t\t\t", "1\t0\tuplink\t0x05"], "lines 1 and 3: key 1, bearer 0, direction 0, COUNT 5 are used twice; 1 PDU without security context passed over", 1),
+            (["1,1\t1,2\t0,0\t5,5", "1\t\t\t", "\t\t\t", "1,1\t\t\t"], "none; 3 PDUs without security context passed over", 0),
+            (["1,1\t1,1\t0,0\t5,5"], "lines 1 and 1: key 1, bearer 1, direction 0, COUNT 5 are used twice", 1),
+            (["1,1\t1,1\t0,0\t5,5\t00:11,00:11"], "none", 0), (["1,,,", "1,2,1,7", "1,2,down,7"], "lines 2 and 3: key 1, bearer 2, direction 1, COUNT 7 are used twice; 1 PDU without security context passed over", 1),
+            (["1,2\t1\t0\t5"], "none; not judged: line 1, whose PDUs do not all have a security context", 3),
+        ):
+            found = first_repeat(lines)
+            self.assertEqual((str(found), found.status), (text, status))
+
+    def test_a_text_with_hex_and_no_key(self) -> None:
+        self.assertEqual(run("explain", KASME, text="id 0x00112233 of 9988776655443322\n")[0], 3)
+        self.assertEqual(run("explain", KASME, text="nothing here\n")[0], 0)
+
+    def test_a_kasme_that_is_none_is_told_so(self) -> None:
+        there = str(TRACES / "A.json.gz")
+        for word, why in ((KASME[:62], "a KASME has 64 hex digits, and this word has 62"), ("0x" + KASME, "write a KASME without 0x"), (f"ue={KASME}0", "this word has 65"),
+                          (":".join(KASME[place:place + 2] for place in range(0, 64, 2)), "without colons")):
+            status, out, err = run("check-trace", there, word)
+            self.assertEqual((status, out), (2, ""))
+            self.assertIn(why, err)
+
+    def test_one_document_for_machines(self) -> None:
+        status, out, _ = run("check-trace", "--json", "--cells", str(TRACES / "B1-star-earfcn.cells.txt"), str(TRACES / "B1-star-earfcn.json.gz"), f"ue1={KASME}")
+        told = json.loads(out)
+        self.assertEqual((status, told["version"], told["status"], told["summary"]), (1, 1, 1, {"right": 12, "differs": 2, "not judged": 0}))
+        line = next(one for one in told["lines"] if one["what"] == "KeNB*" and one["verdict"] == "differs")
+        self.assertEqual({name: line[name] for name in ("frame", "message", "is", "wanted", "ncc", "wanted_ncc", "base", "kasme", "cell")}, {
+            "frame": "34", "message": "HandoverRequest", "is": "star(nh(2),10,6300)", "wanted": "star(nh(2),10,100)", "ncc": 2, "wanted_ncc": 2, "base": "kenb(0)", "kasme": "ue1", "cell": [10, 100],
+        } | {"message": line["message"]})
+        self.assertTrue(all(isinstance(one["time"], float) for one in told["lines"]))
+
+    @unittest.skipUnless(TSHARK and shutil.which("editcap"), "tshark and editcap are not here")
+    def test_a_copy_with_comments(self) -> None:
+        with tempfile.TemporaryDirectory() as room:
+            copy = Path(room) / "copy.pcapng"
+            status, out, err = run("check-trace", "--annotate", str(copy), "--cells", str(TRACES / "B1-star-earfcn.cells.txt"), str(TRACES / "B1-star-earfcn.pcapng"), KASME)
+            self.assertEqual((status, err), (1, ""))
+            shown = subprocess.run(["tshark", "-n", "-r", str(copy), "-Y", 'frame.comment contains "differs"', "-T", "fields", "-e", "frame.number"], capture_output=True, text=True)
+            self.assertEqual(shown.stdout.split(), ["34"])
+            self.assertEqual(out.splitlines()[-1], "12 right, 2 differs, 0 not judged")
 
     def test_the_table_has_the_keys_in_use(self) -> None:
         for name in ("A", "C"):
