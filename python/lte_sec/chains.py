@@ -114,6 +114,7 @@ class ChainJudge:
         self.used(connection)
         if why:
             self.unjudged(message, "KeNB", why if found.known or wanted else NOT_GIVEN, found)
+            connection.side.trigger = None if not found.known else connection.side.trigger
             return found, [found]
         self.judged(message, "KeNB", found, wanted[0])
         return wanted[0], [found, wanted[0]]

@@ -36,7 +36,8 @@ class KeyJudge(StarJudge):
         """UEContextModificationRequest with a key: KASME changes on the fly; the station makes KeNB* for the cell (7.2.9.2)."""
         connection.before = (connection.core, dict(connection.held), connection.phone)
         phone, keys = self.kenb(connection, message)
-        cell = self.cell(connection.eci if connection.told_eci is None else connection.told_eci)
+        connection.eci = connection.eci if connection.told_eci is None else connection.told_eci
+        cell = self.cell(connection.eci)
         connection.core, connection.asked, connection.missed, connection.undecided = self.chains(connection, keys), 0, set(), None
         if cell is None:
             connection.held, connection.phone = {}, None

@@ -7,10 +7,11 @@ from dataclasses import dataclass, field, replace
 from .chains import LOST_CHANGE, ChainJudge, title
 from .decoding import Message, Reestablishment
 from .report import DIFFERS, RIGHT, Line, unknown_line
-from .state import CHAIN, Connection, Held, Phone, refreshed, renewed
+from .state import CHAIN, Chain, Connection, Held, Phone, refreshed, renewed
 from .terms import NONE, RRC_INTEGRITY, Key
 
-DEEP, MANY, MIXED = 3, 16, 6  # refreshes in cells of a station that are tried: through so many cells, and so many times in its own
+MANY, MIXED, WIDE = 16, 6, 1024  # refreshes that are tried: so many in turn, in so many cells, through so many ways of them
+LOST_ANSWER = "its NH came in an answer that the trace lacks"
 ONES, BEARER_ONES, DIRECTION_ONE = (1 << 32) - 1, 31, 1  # COUNT, BEARER and DIRECTION of shortMAC-I (TS 36.331 5.3.7.4)
 
 
@@ -42,9 +43,8 @@ class StarJudge(ChainJudge):
             return held
         self.note(message.frame, f"the phone is in another cell of {connection.station} now: a handover within it that the trace does not show")
         moved = [refreshed(self.derivations, one, connection.phone, cell) for one in held]
-        if moved[0].phone is not None:
-            connection.phone = moved[0].phone
-        return [*moved, *held]
+        stayed = [replace(one, phone=one.phone or connection.phone) for one in held]
+        return [*moved, *stayed]
 
     def star(self, connection: Connection, message: Message) -> Made:
         """Judges a KeNB* and its NCC."""
@@ -82,20 +82,28 @@ class StarJudge(ChainJudge):
             connection.phone = chosen.phone
         connection.held[connection.station] = [replace(chosen, phone=None), *others]
 
+    def unseen_chains(self, connection: Connection, ncc: int) -> list[Chain]:
+        """The chains with this NCC that the source may have been told in answers that the trace lacks: no station makes an NH itself."""
+        chains = [self.numbered(connection, number) for number in sorted(connection.missed)]
+        for chain in connection.core:
+            for _ in range(CHAIN):
+                chain = chain.step(self.derivations)
+                chains.append(chain)
+        return [chain for chain in chains if chain is not None and chain.number % CHAIN == ncc]
+
+    def told_unseen(self, connection: Connection, chain: Chain) -> None:
+        """The source was told this NH."""
+        if chain.number not in connection.missed:
+            connection.core, connection.asked = [chain], 0
+        connection.missed.discard(chain.number)
+
     def star_of_unseen(self, connection: Connection, message: Message, cell: tuple[int, int]) -> Made | None:
         """A KeNB* from an NH that the source was to get, in an answer that the trace lacks, or after a key change that it lacks."""
-        chains = [self.numbered(connection, number) for number in sorted(connection.missed)]
-        if connection.asked:
-            chains += [chain.step(self.derivations, steps) for chain in connection.core for steps in self.steps(connection, chain)]
-        for chain in chains:
-            if chain is None:
-                continue
+        for chain in self.unseen_chains(connection, message.ncc or 0):
             made, number = self.derivations.star(chain.sync, *cell), chain.number % CHAIN
-            if made.value == message.key and number == message.ncc:
-                self.judged(message, "KeNB*", made, made, (number, number), "its NH came in an answer that the trace lacks", cell)
-                if chain.number not in connection.missed:
-                    connection.core, connection.asked = [chain], 0
-                connection.missed.discard(chain.number)
+            if made.value == message.key:
+                self.judged(message, "KeNB*", made, made, (number, number), LOST_ANSWER, cell)
+                self.told_unseen(connection, chain)
                 source = [replace(one, pair=(chain.sync, number)) for one in connection.held[connection.station]]
                 connection.held[connection.station] = source
                 return Made([Held(made, number)], [source[0].base()], source[0])
@@ -130,29 +138,39 @@ class StarJudge(ChainJudge):
         if not cells or self.cell(connection.eci) is None:
             return
         level: list[tuple[Held, list[tuple[int, int]]]] = [(one, []) for one in held]
-        for steps in range(1, MANY + 1):
-            ways = cells if steps <= DEEP else cells[:1]
-            sources = level if steps <= DEEP else [(one, path) for one, path in level if set(path) == {cells[0]}]
-            level = [(refreshed(self.derivations, one, connection.phone, cell), [*path, cell]) for one, path in sources for cell in ways]
+        for _ in range(MANY):
+            ways = cells
+            if len(level) * len(cells) > WIDE:  # from here on only in its own cell
+                level, ways = [(one, path) for one, path in level if set(path) == {cells[0]}], cells[:1]
+            level = [(refreshed(self.derivations, one, connection.phone, cell), [*path, cell]) for one, path in level for cell in ways]
             yield from ((one, path) for one, path in level if path[-1] == cells[0])
 
     def star_of_refreshed(self, connection: Connection, message: Message, held: list[Held], wanted: tuple[Key, int], cell: tuple[int, int]) -> Made | None:
         """A KeNB* that is right if the phone was refreshed in its cell before; nothing on S1 and X2 tells."""
-        for one, path in self.refreshes(connection, held):
-            made = self.derivations.star(one.key, *cell)
-            if made.value != message.key:
-                continue
-            once = set(path) == {path[-1]}
-            how = "refreshed in its cell before" + (f" ({len(path)} times)" if len(path) > 1 else "")
-            why = f"right if the phone was {how if once else 'in the cells ' + ' '.join(f'({pci},{earfcn})' for pci, earfcn in path) + ' before'}"
-            if message.ncc != one.ncc:
-                self.judged(message, "KeNB*", made, made, (message.ncc or 0, one.ncc), why, cell)
-            else:
-                self.unjudged(message, "KeNB*", f"{why}; else wanted {self.show(wanted[0], made)}", made)
-            rest = list(held)
-            connection.held[connection.station] = [one, *rest]
-            return Made([Held(made, message.ncc or 0), Held(wanted[0], wanted[1])], [one.base()], one, why, one.phone)
+        ncc = message.ncc or 0
+        unseen = [] if any(one.base()[1] == ncc for one in held) else self.unseen_chains(connection, ncc)
+        starts: list[tuple[list[Held], Chain | None]] = [(held, None), *(([replace(one, pair=(chain.sync, ncc)) for one in held], chain) for chain in unseen)]
+        for begun, chain in starts:
+            for one, path in self.refreshes(connection, begun):
+                made = self.derivations.star(one.key, *cell)
+                if made.value == message.key:
+                    if chain is not None:
+                        self.told_unseen(connection, chain)
+                    return self.refreshed_star(connection, message, held, wanted, one, path, made, LOST_ANSWER if chain else "")
         return None
+
+    def refreshed_star(self, connection: Connection, message: Message, held: list[Held], wanted: tuple[Key, int], one: Held, path: list[tuple[int, int]], made: Key, also: str) -> Made:
+        """The line of a KeNB* that is right if the phone was refreshed; NCC is judged all the same."""
+        times = f" ({len(path)} times)" if len(path) > 1 else ""
+        cells = " ".join(f"({pci},{earfcn})" for pci, earfcn in path)
+        how = f"refreshed in its cell before{times}" if set(path) == {path[-1]} else f"in the cells {cells} before"
+        why = f"right if the phone was {how}" + (f"; {also}" if also else "")
+        if message.ncc != one.ncc:
+            self.judged(message, "KeNB*", made, made, (message.ncc or 0, one.ncc), why)
+        else:
+            self.unjudged(message, "KeNB*", f"{why}; else wanted {self.show(wanted[0], made)}", made)
+        connection.held[connection.station] = [one, *held]
+        return Made([Held(made, message.ncc or 0), Held(wanted[0], wanted[1])], [one.base()], one, why, one.phone)
 
     def other_star(self, connection: Connection, message: Message, held: list[Held], wanted: tuple[Key, int], cell: tuple[int, int]) -> Made:
         """A KeNB* that is not the wanted one."""
