@@ -27,6 +27,10 @@ FROM_STATION = {  # S1AP messages that a station sends (TS 36.413 9.1)
 }
 FROM_PHONE = ("InitialUEMessage", "UplinkNASTransport")
 TELLS_CELL = ("InitialUEMessage", "UplinkNASTransport", "PathSwitchRequest", "HandoverNotify")
+SERVED = (  # only the station that serves the phone has these
+    "UplinkNASTransport", "HandoverRequired", "PathSwitchRequestAcknowledge", "UEContextSuspendRequest", "UEContextSuspendResponse",
+    "UEContextResumeRequest", "UEContextResumeResponse",
+)
 KEYS = ("KeNB", "KeNB*", "NH")
 EMERGENCY = 0  # an RRC Establishment Cause
 
@@ -136,7 +140,7 @@ class Trace(Handovers):
         if connection is None:
             return
         self.binds(connection, leg, at_core)
-        if message.name in ("UplinkNASTransport", "HandoverRequired", "PathSwitchRequestAcknowledge"):
+        if message.name in SERVED:
             self.arrived(connection, station, message.frame)
         if message.name == "UplinkNASTransport" and station == connection.station:
             connection.told_eci = message.eci
