@@ -19,7 +19,8 @@ LIBRARY = Path(os.environ.get("LTE_SEC_LIBRARY") or HERE.parent / "library/built
 
 def _project() -> dict[str, str]:
     """The words on the project in pyproject.toml."""
-    return tomllib.loads((HERE / "pyproject.toml").read_text())["project"]
+    project: dict[str, str] = tomllib.loads((HERE / "pyproject.toml").read_text())["project"]
+    return project
 
 
 def _record(name: str, content: bytes) -> str:

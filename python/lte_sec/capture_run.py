@@ -47,6 +47,7 @@ class Actor:
 
     def __init__(self, *words: str):
         self.program = subprocess.Popen([PROGRAM, "serve", *words], stdin=subprocess.DEVNULL, stdout=subprocess.PIPE, stderr=subprocess.DEVNULL)
+        assert self.program.stdout
         port = self.program.stdout.readline().strip()
         if not port.isdigit():
             wrong(1, f"./lte_sec serve {' '.join(words)} does not start")
@@ -56,7 +57,7 @@ class Actor:
     def told(self, body: bytes) -> frames.Reply:
         """The reply to a frame with this body."""
         self.connection.sendall(frames.framed(body))
-        return frames.read_reply(frames.read_frame(self.replies))
+        return frames.read_reply(frames.read_frame(self.replies) or b"")
 
     def stop(self) -> None:
         """Closes the connection, at which the actor ends."""
@@ -123,8 +124,9 @@ class System:
         _, sender, address, octets, opens = self.sent[at]
         tag = address[0]
         if tag in (0, 4):
-            name, from_station = ("phone", address[1:2]) if tag == 0 else (address[1], ())
-            self.tell(step, name, bytes([3, *from_station, *address[2:7]]) + octets, opens and tag == 0)
+            to: Name = "phone" if tag == 0 else address[1]
+            from_station = address[1:2] if tag == 0 else b""
+            self.tell(step, to, bytes([3, *from_station, *address[2:7]]) + octets, opens and tag == 0)
         else:
             name = {1: "phone", 2: "core", 3: "core"}.get(tag) or address[1] if tag != 5 else address[1]
             self.tell(step, name, {1: b"\2", 2: b"\2", 3: b"\4", 5: b"\4", 6: b"\5"}[tag] + octets)
@@ -143,7 +145,7 @@ class System:
 
 def act(event: dict[str, Any]) -> tuple[Name, bytes]:
     """The actor of an act, and its frame."""
-    do, station = event["do"], event.get("station")
+    do, station = event["do"], event.get("station", "")
     plain = {"service": ("phone", 0x10), "resend": ("phone", 0x11), "idle": ("phone", 0x12), "smc": ("core", 0x20), "release": ("core", 0x22), "command": (station, 0x31), "cancel": (station, 0x32), "ask": (station, 0x33)}
     if do in plain:
         name, kind = plain[do]
@@ -152,7 +154,7 @@ def act(event: dict[str, Any]) -> tuple[Name, bytes]:
         return "core", b"\x21" + cell(event["cell"])
     if do in ("x2", "s1", "intra"):
         return station, bytes([0x30, ("x2", "s1", "intra").index(do)]) + cell(event["cell"])
-    who = event.get("from", event.get("who"))
+    who = event.get("from", event.get("who", ""))
     name = station if who == "station" else who
     if do == "skip":
         return name, bytes([0x16, BEARERS[event["bearer"]]]) + number(event["n"], 4)

@@ -320,4 +320,4 @@ class ChainJudge:
 
 def title(message: Message) -> str:
     """The name of a message in a line: X2's have it before them, as some are named as S1's."""
-    return {"X2": f"X2 {message.name}", "RRC": "RRC"}.get(message.link, message.name)
+    return {"X2": f"X2 {message.name}", "RRC": "RRC", "S6a": f"S6a {message.name}", "GTPv2": f"GTPv2 {message.name}"}.get(message.link, message.name)

@@ -17,9 +17,9 @@ import signal
 import subprocess
 import sys
 import threading
-from typing import BinaryIO
+from typing import IO
 
-from lte_sec import frames, records
+from lte_sec import records
 
 VERSION = 1  # of the document that --json prints
 OPTIONS = {"--phone": "LTE_SEC_PHONE", "--station": "LTE_SEC_STATION", "--core": "LTE_SEC_CORE"}
@@ -66,7 +66,7 @@ class Driven:
         self.report: list[str] | None = [] if is_kept else None
         self.process = subprocess.Popen(command, stdout=subprocess.PIPE, stderr=subprocess.PIPE, env=os.environ | more, start_new_session=True)
 
-    def print_on(self, source: BinaryIO) -> None:
+    def print_on(self, source: IO[bytes]) -> None:
         """Hands on what the program prints, or keeps it, and its last line. Where that fails the program is to see it."""
         with contextlib.suppress(OSError), source:
             for line in source:
@@ -76,7 +76,7 @@ class Driven:
                 else:
                     self.report.append(line.decode().removesuffix("\n"))
 
-    def hear(self, source: BinaryIO) -> None:
+    def hear(self, source: IO[bytes]) -> None:
         """Hands on what is said on standard error, but for what is told of a reply that differs."""
         for line in source:
             if told := TOLD.fullmatch(line):

@@ -6,7 +6,7 @@ from __future__ import annotations
 
 import dataclasses
 import struct
-from typing import BinaryIO
+from typing import Any, BinaryIO
 
 BEARERS = {0x00: "nas", 0x01: "srb1", 0x02: "srb2", 0x81: "drb1", 0x82: "drb2", 0x83: "drb3", 0x84: "drb4"}
 RADIO, SRBS, DRBS = (0x01, 0x02, 0x81, 0x82, 0x83, 0x84), (0x01, 0x02), (0x81, 0x82, 0x83, 0x84)
@@ -186,7 +186,7 @@ PDU, CELL = ("pdu", LONGEST_RECORD), ("cell", cell)
 TEXT, PACKET = ("text", LONGEST_TEXT), ("text", LONGEST_PACKET)
 BARE = {"phone": {0x10: "ServiceRequest", 0x11: "ResendComplete", 0x12: "GoIdle"}, "core": {0x20: "StartSmc", 0x22: "Release"},
         "station": {0x31: "Command", 0x32: "Cancel", 0x33: "Ask"}}
-INPUTS: dict[str, dict[int, tuple]] = {
+INPUTS: dict[str, dict[int, tuple[Any, ...]]] = {
     "phone": {
         0x01: ("Auth", KSI, ("kasme", 32, None)),
         0x02: ("Nas", PDU),

@@ -141,12 +141,12 @@ class _Context:
     @property
     def send_count(self) -> int:
         """The next COUNT to send."""
-        return self._held.send
+        return int(self._held.send)
 
     @property
     def receive_count(self) -> int:
         """The next COUNT to receive."""
-        return self._held.receive
+        return int(self._held.receive)
 
     def _sends(self, call: str, numbers: tuple[int, ...], text: bytes, longer: int) -> bytes:
         out, written = ctypes.create_string_buffer(len(text) + longer), c_size_t()
@@ -258,7 +258,7 @@ def check_service_request(int_key: bytes, next: int, request: bytes, eia: int = 
     if status == MAC_FAILS:
         raise MacFails(found.count, bytes(found.wanted)[:2], bytes(found.got)[:2])
     raises(status)
-    return found.count
+    return int(found.count)
 
 
 def short_mac_i(int_key: bytes, input: bytes, eia: int = EIA2) -> bytes:

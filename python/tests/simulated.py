@@ -155,6 +155,11 @@ class World:
         self.down(phone, "UEContextReleaseCommand")
         self.up(phone, "UEContextReleaseComplete", mme_id=phone.mme_id, eci=None)
 
+    def again(self, phone: Phone, eci: int) -> None:
+        """A connection is released, and the phone comes back."""
+        self.release(phone)
+        self.service(phone, eci)
+
     def reauthenticate(self, phone: Phone, kasme: bytes) -> None:
         self.security_mode(phone, kasme, (phone.ksi + 1) % 7)
 

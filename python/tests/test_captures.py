@@ -7,7 +7,7 @@ import unittest
 from pathlib import Path
 
 from lte_sec.captures import messages
-from lte_sec.decoding import Command, Message, command, pdu
+from lte_sec.decoding import Command, Message, Pairs, Radio, command, pdu
 from lte_sec.cells import Cells, Site, read_cells, sites_of
 from lte_sec.terms import Derivations, TraceError
 from lte_sec.trace import Trace
@@ -53,14 +53,14 @@ class Captures(unittest.TestCase):
 
     def test_wide_earfcns_of_commands(self) -> None:
         inside = ("lte-rrc.mobilityControlInfo_element",)
-        radio = [(inside, "lte-rrc.targetPhysCellId", "77"), (inside, "lte-rrc.dl_CarrierFreq", "65535"), (inside, "lte-rrc.dl_CarrierFreq_v9e0", "66436"),
+        radio: Radio = [(inside, "lte-rrc.targetPhysCellId", "77"), (inside, "lte-rrc.dl_CarrierFreq", "65535"), (inside, "lte-rrc.dl_CarrierFreq_v9e0", "66436"),
                  (("lte-rrc.securityConfigHO_element",), "lte-rrc.nextHopChainingCount", "3"), (("lte-rrc.measConfig_element",), "lte-rrc.dl_CarrierFreq", "1")]
         self.assertEqual(command(radio, b"a"), Command(3, 77, 66436, False, b"a"))
         self.assertIsNone(command(radio[4:], b""))
 
     def test_several_nas_messages_of_one(self) -> None:
         items = [("s1ap.id", "24"), ("s1ap.item_element", [("s1ap.nAS_PDU", "27:01"), ("s1ap.nAS_PDU", "27:02")]), ("s1ap.ENB_UE_S1AP_ID", "7")]
-        tree = [("s1ap.S1AP_PDU_tree", [("s1ap.initiatingMessage_element", [("s1ap.value_element", [("s1ap.E_RABSetupRequest_element", items)])])])]
+        tree: Pairs = [("s1ap.S1AP_PDU_tree", [("s1ap.initiatingMessage_element", [("s1ap.value_element", [("s1ap.E_RABSetupRequest_element", items)])])])]
         found = list(pdu(Message("1", 0.0, "", ""), "s1ap", tree))
         self.assertEqual([(one.link, one.name, one.enb_id, one.nas) for one in found], [("S1", "E_RABSetupRequest", 7, [b"\x27\x01", b"\x27\x02"])])
 

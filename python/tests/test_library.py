@@ -112,10 +112,10 @@ class Ciphers(unittest.TestCase):
 class Pdus(unittest.TestCase):
     """Each kind made, opened and refused; its octets are laid out here again from the two ciphers."""
 
-    enc, int = library.algorithm_key(KASME, 1, 2), library.algorithm_key(KASME, 2, 2)
+    enc, integrity = library.algorithm_key(KASME, 1, 2), library.algorithm_key(KASME, 2, 2)
 
     def nas(self, **counts: int) -> library.NasContext:
-        return library.NasContext(self.enc, self.int, **counts)
+        return library.NasContext(self.enc, self.integrity, **counts)
 
     def test_nas(self) -> None:
         draw = random.Random(2)
@@ -124,7 +124,7 @@ class Pdus(unittest.TestCase):
             sent = library.eea2(self.enc[16:], count, 0, UP, text) if header in (2, 4) else text
             covered = bytes([count % 256]) + sent
             pdu = self.nas(send=count).seal(header, UP, text)
-            self.assertEqual(pdu, bytes([16 * header + 7]) + library.eia2(self.int[16:], count, 0, UP, covered) + covered)
+            self.assertEqual(pdu, bytes([16 * header + 7]) + library.eia2(self.integrity[16:], count, 0, UP, covered) + covered)
             self.assertEqual(self.nas(receive=max(count - 255, 0)).open(UP, pdu), library.Opened(text, count, header))
             self.assertEqual(self.nas().open_at(count, UP, pdu).text, text)
             at = draw.randrange(1, 5)
@@ -148,10 +148,10 @@ class Pdus(unittest.TestCase):
         for _ in range(200):
             count, bearer, text = draw.getrandbits(32), draw.randrange(32), draw.randbytes(draw.randrange(300))
             front = bytes([count % 32])
-            plain = text + library.eia2(self.int[16:], count, bearer, DOWN, front + text)
-            made = library.SrbContext(self.enc, self.int, bearer, send=count).send(DOWN, text)
+            plain = text + library.eia2(self.integrity[16:], count, bearer, DOWN, front + text)
+            made = library.SrbContext(self.enc, self.integrity, bearer, send=count).send(DOWN, text)
             self.assertEqual(made, front + library.eea2(self.enc[16:], count, bearer, DOWN, plain))
-            receiver = library.SrbContext(self.enc, self.int, bearer, receive=max(count - 31, 0))
+            receiver = library.SrbContext(self.enc, self.integrity, bearer, receive=max(count - 31, 0))
             self.assertEqual(receiver.open(DOWN, made), library.Opened(text, count, 0))
             receiver.accept(count)
             self.assertEqual(receiver.receive_count, count + 1)
@@ -212,15 +212,15 @@ class Pdus(unittest.TestCase):
     def test_short_macs(self) -> None:
         for count in (0, 31, 32, (1 << 24) - 1):
             front = bytes([0xC7, 32 * 3 + count % 32])
-            made = library.service_request(self.int, 3, count)
-            self.assertEqual(made, front + library.eia2(self.int[16:], count, 0, UP, front)[2:])
-            self.assertEqual(library.check_service_request(self.int, max(count - 31, 0), made), count)
-        self.assertRaises(library.MacFails, library.check_service_request, self.int, 0, made)
-        self.assertRaises(library.BadHeader, library.check_service_request, self.int, 0, b"\x17" + made[1:])
-        self.assertRaises(library.CountSpent, library.check_service_request, self.int, 1 << 24, made)
-        self.assertRaises(library.OutOfRange, library.service_request, self.int, 8, 0)
-        mac = library.eia2(self.int[16:], (1 << 32) - 1, 31, DOWN, b"seven o")
-        self.assertEqual(library.short_mac_i(self.int, b"seven o"), mac[2:])
+            made = library.service_request(self.integrity, 3, count)
+            self.assertEqual(made, front + library.eia2(self.integrity[16:], count, 0, UP, front)[2:])
+            self.assertEqual(library.check_service_request(self.integrity, max(count - 31, 0), made), count)
+        self.assertRaises(library.MacFails, library.check_service_request, self.integrity, 0, made)
+        self.assertRaises(library.BadHeader, library.check_service_request, self.integrity, 0, b"\x17" + made[1:])
+        self.assertRaises(library.CountSpent, library.check_service_request, self.integrity, 1 << 24, made)
+        self.assertRaises(library.OutOfRange, library.service_request, self.integrity, 8, 0)
+        mac = library.eia2(self.integrity[16:], (1 << 32) - 1, 31, DOWN, b"seven o")
+        self.assertEqual(library.short_mac_i(self.integrity, b"seven o"), mac[2:])
 
 
 class Chain(unittest.TestCase):

@@ -161,7 +161,7 @@ def at_second_handover(**planted: object) -> Callable[[], World]:
         assert side.pair is not None
         ways = {"nh": side.pair[0], "kenb": side.key}
         how = {name: (value(ways) if callable(value) else value) for name, value in planted.items()}
-        world.x2(phone, ENB1, **how)  # type: ignore[arg-type]
+        world.x2(phone, ENB1, **how)
         world.x2(phone, ENB2)
         world.x2(phone, ENB3)
         return world
@@ -333,7 +333,7 @@ class Simulated(unittest.TestCase):
             for _ in range(40):
                 phone = chance.choice(phones)
                 ecis = [site.eci for site in CELLS if site.station != cell_of(phone.eci).station]
-                acts = (world.x2, world.s1, lambda one, eci: world.nas_up(one), lambda one, eci: (world.release(one), world.service(one, eci)))
+                acts: list[Callable[[Phone, int], object]] = [world.x2, world.s1, lambda one, eci: world.nas_up(one), world.again]
                 chance.choice(acts)(phone, chance.choice(ecis))
             lines = lines_of(world)
             self.assertEqual(self.told(lines), ([], []), (seed, [str(line) for line in lines if line.verdict == DIFFERS]))

@@ -5,19 +5,18 @@ The names are those of the table on docs/TRACES.md.
 from __future__ import annotations
 
 import copy
-import re
 import unittest
 from collections.abc import Callable
 from dataclasses import dataclass
 from pathlib import Path
 
 from lte_sec.cells import Cells
-from lte_sec.decoding import Message
+from lte_sec.decoding import Command, Message
 from lte_sec.reading import check
 from lte_sec.report import DIFFERS, UNKNOWN, Line
 from lte_sec.terms import Derivations, Kasme
 
-from .rarer import ABLE, ATTACH_REQUEST, RarerWorld
+from .rarer import ATTACH_REQUEST, RarerWorld
 from .simulated import CALLS, CELLS, ENDS, Phone, World, cell_of
 
 ENB1, ENB2, ENB2_SECOND, ENB3, ENB3_SECOND = (site.eci for site in CELLS)
@@ -427,7 +426,6 @@ def command_without_ncc(broken: bool) -> Made:
         answer = [one for one in world.messages if one.name == "HandoverRequestAcknowledge"][0]
         if broken:
             assert answer.command is not None
-            from lte_sec.decoding import Command
             answer.command = Command(5, answer.command.pci, answer.command.earfcn, False, b"")
             world.fault(answer)
             world.apart.append(str(int(answer.frame) - 1))

@@ -12,7 +12,7 @@ from pathlib import Path
 from lte_sec.captures import messages
 from lte_sec.decoding import Message
 from lte_sec.cells import Cells, read_cells
-from lte_sec.report import DIFFERS, NOTE, Line
+from lte_sec.report import NOTE, Line
 from lte_sec.terms import Derivations, Kasme
 from lte_sec.reading import check
 

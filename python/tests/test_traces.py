@@ -6,11 +6,12 @@ import shutil
 import tempfile
 import unittest
 from pathlib import Path
+from typing import Any
 
 from lte_sec.captures import read, read_all
 from lte_sec.decoding import Message
 from lte_sec.cells import Cells, read_cells
-from lte_sec.report import DIFFERS, NOTE, Line, status
+from lte_sec.report import DIFFERS, Line, status
 from lte_sec.terms import Derivations, Kasme
 from lte_sec.trace import Trace
 from lte_sec.reading import check
@@ -22,8 +23,9 @@ NAMES = ("A", "B1-star-earfcn", "B2-nh-twice", "C", "A-1-1", "C-3-3")
 TSHARK = shutil.which("tshark") is not None
 
 
-def truth_of(name: str) -> dict:
-    return json.loads((TRACES / f"{name}.truth.json").read_text(encoding="utf-8"))
+def truth_of(name: str) -> dict[str, Any]:
+    truth: dict[str, Any] = json.loads((TRACES / f"{name}.truth.json").read_text(encoding="utf-8"))
+    return truth
 
 
 def traced(name: str, found: list[Message], cells: bool = True) -> Trace:
@@ -32,6 +34,8 @@ def traced(name: str, found: list[Message], cells: bool = True) -> Trace:
 
 
 class Truth(unittest.TestCase):
+    traces: dict[str, Trace]
+
     def lines(self, name: str, what: str) -> dict[str, Line]:
         found = [line for line in self.traces[name].lines if line.what in what.split()]
         self.assertEqual(len(found), len({line.frame for line in found}))

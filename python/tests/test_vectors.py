@@ -1,8 +1,11 @@
 """The test vectors against the calls in pure Python: each output is equal, each invalid test is refused for the reason of its flag."""
+from __future__ import annotations
+
 import contextlib
 import io
 import json
 import unittest
+from typing import Any
 
 from lte_sec import vectors, words
 from lte_sec.terms import TraceError
@@ -13,7 +16,7 @@ PURE = StandIn()
 ENCIPHER = {"1": ciphers.eea1, "2": PURE.eea2, "3": ciphers.eea3}
 MAC = {"1": ciphers.eia1, "2": PURE.eia2, "3": ciphers.eia3}
 HEADERS = {7: 1, 12: 2, 15: 2, 18: 3}
-Test = dict[str, dict]
+Test = dict[str, dict[str, Any]]
 
 
 def key_of(key: str, kind: int, identity: int) -> bytes:
@@ -21,27 +24,27 @@ def key_of(key: str, kind: int, identity: int) -> bytes:
     return PURE.algorithm_key(bytes.fromhex(key), kind, identity)[16:]
 
 
-def ciphered(key: str, kind: int, given: dict, count: int, bearer: int, text: bytes) -> bytes:
+def ciphered(key: str, kind: int, given: dict[str, Any], count: int, bearer: int, text: bytes) -> bytes:
     eea = given["eea"].partition("/")[0]
     return ENCIPHER[eea](key_of(key, kind, int(eea)), count, bearer, way(given), text) if eea != "0" else text
 
 
-def mac(key: str, kind: int, given: dict, count: int, bearer: int, text: bytes) -> bytes:
+def mac(key: str, kind: int, given: dict[str, Any], count: int, bearer: int, text: bytes) -> bytes:
     eia = given["eea"].partition("/")[2]
     return MAC[eia](key_of(key, kind, int(eia)), count, bearer, way(given), text)
 
 
-def way(given: dict) -> int:
+def way(given: dict[str, Any]) -> int:
     return int(given["direction"] == "downlink")
 
 
-def count_of(given: dict, sequence: int, bits: int, most: int) -> int | None:
+def count_of(given: dict[str, Any], sequence: int, bits: int, most: int) -> int | None:
     """The least COUNT from the given one on that has this sequence number."""
     count = given["count"] + (sequence - given["count"]) % 2**bits
     return count if count <= most else None
 
 
-def nas(given: dict) -> dict:
+def nas(given: dict[str, Any]) -> dict[str, Any]:
     pdu = bytes.fromhex(given["pdu"])
     if len(pdu) < 6:
         return {"refused": "short"}
@@ -55,7 +58,7 @@ def nas(given: dict) -> dict:
     return {"type": kind, "count": count, "text": text.hex()}
 
 
-def srb(given: dict) -> dict:
+def srb(given: dict[str, Any]) -> dict[str, Any]:
     pdu = bytes.fromhex(given["pdu"])
     if len(pdu) < 5:
         return {"refused": "short"}
@@ -68,7 +71,7 @@ def srb(given: dict) -> dict:
     return {"count": count, "text": plain[:-4].hex()}
 
 
-def drb(given: dict) -> dict:
+def drb(given: dict[str, Any]) -> dict[str, Any]:
     pdu, header = bytes.fromhex(given["pdu"]), HEADERS[given["bits"]]
     if len(pdu) < header:
         return {"refused": "short"}
@@ -78,7 +81,7 @@ def drb(given: dict) -> dict:
     return {"count": count, "text": ciphered(given["key"], 5, given, count, given["bearer"], pdu[header:]).hex()}
 
 
-def reach(given: dict) -> dict:
+def reach(given: dict[str, Any]) -> dict[str, Any]:
     key, kasme, sync = (bytes.fromhex(given[name]) for name in ("key", "kasme", "sync"))
     steps = (given["ncc"] - given["ncc-in-use"]) % 8
     for _ in range(steps):
@@ -87,12 +90,12 @@ def reach(given: dict) -> dict:
     return {"way": "vertical" if steps else "horizontal", "steps": steps, "nh": sync.hex(), "kenb-star": star.hex()}
 
 
-def kasme(given: dict) -> bytes:
+def kasme(given: dict[str, Any]) -> bytes:
     """KASME (TS 33.401 A.2)."""
     return kdf(bytes.fromhex(given["ck"] + given["ik"]), 0x10, bytes.fromhex(given["plmn"]), bytes.fromhex(given["sqn-xor-ak"]))
 
 
-def text(given: dict) -> tuple:
+def text(given: dict[str, Any]) -> tuple[Any, ...]:
     return bytes.fromhex(given["key"]), given["count"], given["bearer"], way(given), bytes.fromhex(given["text"])
 
 
