@@ -7,12 +7,21 @@ from __future__ import annotations
 
 import itertools
 from collections.abc import Iterable, Iterator
+from dataclasses import dataclass
 
 from .cells import Cells
 from .terms import Derivations, Key
 
 PCIS, EARFCNS = 504, 65536
+KEPT = 4096  # chains that are kept
 FEW = 6  # of the keys at hand, so many are taken further
+
+
+@dataclass
+class Budget:
+    """How many derivations searches may still make together."""
+
+    left: int
 
 
 class Search:
@@ -21,7 +30,7 @@ class Search:
     def __init__(self, derivations: Derivations, cells: Cells, counts: int = 300, depth: int = 16, deep: int = 3, budget: int = 0):
         self.derivations, self.cells = derivations, cells
         self.counts, self.depth, self.deep = counts, depth, deep
-        self.budget, self.reserve = budget, budget // 2
+        self.budget, self.idle = Budget(budget), Budget(budget // 4)
         self._chains: dict[tuple[int, bytes], list[Key]] = {}
 
     # -- candidates
@@ -30,6 +39,8 @@ class Search:
         """The NHs from a KeNB, or from what was taken for one."""
         found = self._chains.get((kasme, base.value))
         if found is None:
+            if len(self._chains) > KEPT:
+                self._chains.clear()
             found, sync = [], base
             for _ in range(self.depth):
                 sync = self.derivations.next_nh(kasme, sync)
@@ -107,16 +118,23 @@ class Search:
     def find(self, value: bytes, at_hand: Iterable[Key], target: int | None = None, judged: bool = True) -> Key | None:
         """The first derivation that gives these octets, or None; `target` is the PCI that a KeNB* is for.
 
-        Half of the budget is kept for keys that are judged, so that phones without their KASME do not spend it.
+        Keys that are not judged, as those of phones without their KASME, have a budget of their own.
         """
         keys = list({key.value: key for key in at_hand if key.known}.values())
-        found = next((key for key in self.near(keys) if key.value == value), None)
+        found = next((key for key in keys if key.value == value), None)
         if found is not None:
             return found
-        for key in itertools.chain(self.swept(keys, target), self.far(keys)):
-            if self.budget <= (0 if judged else self.reserve):
+        if not judged:
+            return self.sought(value, itertools.chain(self.near(keys), self.far(keys)), self.idle)
+        found = next((key for key in self.near(keys) if key.value == value), None)
+        return found or self.sought(value, itertools.chain(self.swept(keys, target), self.far(keys)), self.budget)
+
+    def sought(self, value: bytes, candidates: Iterable[Key], budget: Budget) -> Key | None:
+        """The first of these that is the key, as far as the budget goes."""
+        for key in candidates:
+            if budget.left <= 0:
                 return None
-            self.budget -= 1
+            budget.left -= 1
             if key.value == value:
                 return key
         return None

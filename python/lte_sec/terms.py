@@ -51,6 +51,7 @@ class Key:
 
 
 NONE = "none"
+KEPT = 65_536  # KeNBs that are kept
 
 
 @dataclass(frozen=True)
@@ -70,6 +71,8 @@ class Derivations:
     def kenb(self, kasme: int, count: int) -> Key:
         key = self._kenbs.get((kasme, count))
         if key is None:
+            if len(self._kenbs) > KEPT:
+                self._kenbs.clear()
             form = f"kenb({count})"
             key = self._kenbs[kasme, count] = Key(self.calls.kenb(self.kasmes[kasme].value, count), form, form, kasme)
         return key
