@@ -521,6 +521,11 @@ class Situations(unittest.TestCase):
         self.assertEqual([line.text for line in lines if "warning" in line.text], ["frame 2 warning: EIA0 outside an emergency call, which TS 33.401 5.1.4.2 does not allow"])
         self.assertNotIn("warning", "\n".join(map(str, lines_of(null_integrity(True, False)()))))
 
+    def test_the_page_names_each_situation(self) -> None:
+        rows = [line.split("|") for line in PAGE.read_text(encoding="utf-8").partition("## Situations")[2].partition("## The search")[0].splitlines() if line.startswith("|")]
+        named = [name.strip().replace("\\*", "*") for row in rows[2:] for name in row[4].split(";") if name.strip()]
+        self.assertEqual(sorted(name for name in named if not name.startswith("`")), sorted(SITUATIONS))
+
 
 if __name__ == "__main__":
     unittest.main()
