@@ -4,10 +4,14 @@ A document is read whole, or its first fault is told. Scalar values are read by 
 tomllib tells no places, and since the program reads TOML 1.1, in which an inline table may go over lines and may end with
 a comma.
 """
+from __future__ import annotations
+
 import dataclasses
 import functools
 import re
 import tomllib
+from collections.abc import Callable
+from typing import Any
 
 BLANK = re.compile(r"[ \t]*")
 SPACE = re.compile(r"(?:[ \t\n]|\r\n|#[^\x00-\x08\x0a-\x1f\x7f]*)*")
@@ -33,10 +37,10 @@ class Value:
     """A value and where it begins; of an array its values, of a table its entries."""
 
     place: int
-    is_: object
+    is_: Any
     closed: bool = True  # whether a later header or key may add to it
 
-    def entries(self) -> dict:
+    def entries(self) -> dict[str, Entry]:
         return self.is_ if isinstance(self.is_, dict) else {}
 
 
@@ -54,7 +58,7 @@ def place_of(text: str, offset: int) -> tuple[int, int]:
 
 
 @functools.lru_cache(4096)
-def scalar_of(token: str):
+def scalar_of(token: str) -> Any:
     """The value of a token by tomllib, which does not know the escapes \\e and \\x."""
     if token.startswith('"'):
         token = ESCAPE.sub(lambda it: "\\u001b" if it[1] == "e" else "\\u00" + it[1][1:] if it[1][0] == "x" else it[0], token)
@@ -70,8 +74,9 @@ class Reader:
     def fault(self, reason: str, place: int | None = None) -> Fault:
         return Fault(self.at if place is None else place, reason)
 
-    def skip(self, blanks: re.Pattern) -> None:
-        self.at = blanks.match(self.text, self.at).end()
+    def skip(self, blanks: re.Pattern[str]) -> None:
+        found = blanks.match(self.text, self.at)  # no blanks match too
+        self.at = found.end() if found else self.at
         control = CONTROL.match(self.text, self.at)
         if control and not self.text.startswith("\r\n", self.at):
             raise self.fault(f"octet {ord(control[0]):02x} is a control character, which may not stand here")
@@ -83,7 +88,7 @@ class Reader:
 
     # Values.
 
-    def scalar(self, token: str, place: int):
+    def scalar(self, token: str, place: int) -> Any:
         """The value of a token."""
         try:
             value = scalar_of(token)
@@ -115,7 +120,7 @@ class Reader:
         self.at = found.end()
         return Value(place, self.scalar(found[0], place))
 
-    def nested(self, reads, place: int) -> Value:
+    def nested(self, reads: Callable[[int], object], place: int) -> Value:
         self.deep += 1
         if self.deep > DEEPEST:
             raise self.fault(f"values nest more than {DEEPEST} deep here", place)
@@ -123,8 +128,8 @@ class Reader:
         self.deep -= 1
         return made
 
-    def array(self, place: int) -> list:
-        values = []
+    def array(self, place: int) -> list[Value]:
+        values: list[Value] = []
         while True:
             self.skip(SPACE)
             if self.takes("]"):
@@ -138,7 +143,7 @@ class Reader:
                 self.not_at_end("]", place)
                 raise self.fault("a comma or ] is missing before this")
 
-    def inline(self, place: int) -> dict:
+    def inline(self, place: int) -> dict[str, Entry]:
         table = Value(place, {}, closed=False)
         while True:
             self.skip(SPACE)
@@ -153,7 +158,7 @@ class Reader:
                 self.not_at_end("}", place)
                 raise self.fault("a comma or } is missing before this")
         close(table)
-        return table.is_
+        return table.entries()
 
     def not_at_end(self, mark: str, place: int) -> None:
         if self.at >= len(self.text):
@@ -161,7 +166,7 @@ class Reader:
 
     # Keys.
 
-    def key(self, blanks: re.Pattern) -> list[tuple[int, str]]:
+    def key(self, blanks: re.Pattern[str]) -> list[tuple[int, str]]:
         """A key and the keys that dots join to it, each with its place."""
         parts = []
         while True:
@@ -179,7 +184,7 @@ class Reader:
             if not self.takes("."):
                 return parts
 
-    def pair(self, table: Value, blanks: re.Pattern) -> None:
+    def pair(self, table: Value, blanks: re.Pattern[str]) -> None:
         """`key = value`, into the table."""
         parts = self.key(blanks)
         if not self.takes("="):
@@ -203,7 +208,7 @@ class Reader:
 
     # The document.
 
-    def header(self, top: Value, named: dict) -> Value:
+    def header(self, top: Value, named: dict[int, Value]) -> Value:
         """`[a.b]` or `[[a.b]]`: the table that the lines after it belong to."""
         many = self.takes("[")
         parts = self.key(BLANK)
@@ -234,7 +239,7 @@ class Reader:
 
     def document(self) -> Value:
         top = table = Value(0, {}, closed=False)
-        named = {}
+        named: dict[int, Value] = {}
         while True:
             self.skip(SPACE)
             if self.at >= len(self.text):

@@ -5,7 +5,7 @@ A test compares them with the page.
 import dataclasses
 
 from document import Value
-from kinds import Cell, Cells, Hex, Integer, NewStation, Number, Priority, Station, Words
+from kinds import Cell, Cells, Hex, Integer, Kind, NewStation, Number, Priority, Station, Words
 
 NUMBER = 2**32 - 1
 
@@ -16,16 +16,16 @@ class Field:
     words of that which call for it."""
 
     name: str
-    kind: object
+    kind: Kind | tuple[str, dict[str, Words]]
     may_lack: bool = False
     when: tuple[str, tuple[str, ...]] | None = None
 
-    def kind_in(self, table: Value) -> object:
+    def kind_in(self, table: Value) -> Kind:
         if not isinstance(self.kind, tuple):
             return self.kind
         by, kinds = self.kind
         other = table.entries().get(by)
-        return kinds.get(other.value.is_ if other and isinstance(other.value.is_, str) else None) or next(iter(kinds.values()))
+        return kinds.get(other.value.is_ if other and isinstance(other.value.is_, str) else "") or next(iter(kinds.values()))
 
 
 NAS, SRBS, DRBS = ("nas",), ("srb1", "srb2"), ("drb1", "drb2", "drb3", "drb4")
@@ -41,7 +41,7 @@ STATIONS = [Field("id", NewStation()), *NUMBERS, Field("cells", Cells())]
 THE_FLEET = [Field("phones", Number(1, 256))]
 OF_CORE = Field("core", Number(0, 1), may_lack=True)
 
-STEPS = {
+STEPS: dict[str, list[Field]] = {
     "auth": [Field("ksi", Number(0, 6)), Field("kasme", Hex(32)), Field("caps", Hex(2), may_lack=True)],
     "smc": [],
     "connect": [CELL],

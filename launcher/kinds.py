@@ -3,7 +3,11 @@
 Of each kind: what may stand (`may`), the numbers with which docs/SCENARIOS.md says it (`numbers`), and what is wrong with a
 value in a scenario with this setup (`wrong`, or None). What is right of the number and the cells of a station joins the setup.
 """
+from __future__ import annotations
+
 import dataclasses
+from collections.abc import Sequence
+from typing import ClassVar, Protocol
 
 from document import Value
 
@@ -15,8 +19,20 @@ class Setup:
 
     def __init__(self) -> None:
         self.stations: list[int] = []
-        self.cells: set[tuple] = set()
+        self.cells: set[tuple[int, ...]] = set()
         self.phones = 1
+
+
+class Kind(Protocol):
+    """A kind of values."""
+
+    @property
+    def may(self) -> str: ...
+
+    @property
+    def numbers(self) -> Sequence[int]: ...
+
+    def wrong(self, value: Value, setup: Setup) -> str | None: ...
 
 
 def one_of(words: list[str], last: str = "or") -> str:
@@ -60,7 +76,8 @@ class Number:
 
 @dataclasses.dataclass(frozen=True)
 class Integer:
-    may, numbers = "a number, counted from 0, or back from the newest, which is -1", []
+    may: ClassVar[str] = "a number, counted from 0, or back from the newest, which is -1"
+    numbers: ClassVar[Sequence[int]] = []
 
     def wrong(self, value: Value, setup: Setup) -> str | None:
         return None if type(value.is_) is int else f"is {shown(value)}"
@@ -95,7 +112,7 @@ class Hex:
 @dataclasses.dataclass(frozen=True)
 class Words:
     words: tuple[str, ...]
-    numbers = ()
+    numbers: ClassVar[Sequence[int]] = ()
 
     @property
     def may(self) -> str:
@@ -107,7 +124,8 @@ class Words:
 
 @dataclasses.dataclass(frozen=True)
 class Priority:
-    may, numbers = "one or two different ones of 0 (EEA0) and 2 (128-EEA2), as [2, 0]", [0, 2]
+    may: ClassVar[str] = "one or two different ones of 0 (EEA0) and 2 (128-EEA2), as [2, 0]"
+    numbers: ClassVar[Sequence[int]] = [0, 2]
 
     def wrong(self, value: Value, setup: Setup) -> str | None:
         algorithms = [it.is_ for it in value.is_ if type(it.is_) is int] if isinstance(value.is_, list) else []
@@ -116,7 +134,8 @@ class Priority:
 
 @dataclasses.dataclass(frozen=True)
 class Cell:
-    may, numbers = f"[PCI, EARFCN], PCI 0 to {PCI} and EARFCN 0 to {EARFCN}", []
+    may: ClassVar[str] = f"[PCI, EARFCN], PCI 0 to {PCI} and EARFCN 0 to {EARFCN}"
+    numbers: ClassVar[Sequence[int]] = []
 
     def wrong(self, value: Value, setup: Setup) -> str | None:
         pair = value.is_ if isinstance(value.is_, list) else []
@@ -130,7 +149,8 @@ class Cell:
 
 @dataclasses.dataclass(frozen=True)
 class Cells:
-    may, numbers = f"1 to {MOST_CELLS} cells [PCI, EARFCN] that no station has yet, PCI 0 to {PCI} and EARFCN 0 to {EARFCN}", [1, MOST_CELLS, 0, PCI, 0, EARFCN]
+    may: ClassVar[str] = f"1 to {MOST_CELLS} cells [PCI, EARFCN] that no station has yet, PCI 0 to {PCI} and EARFCN 0 to {EARFCN}"
+    numbers: ClassVar[Sequence[int]] = [1, MOST_CELLS, 0, PCI, 0, EARFCN]
 
     def wrong(self, value: Value, setup: Setup) -> str | None:
         if not isinstance(value.is_, list) or not 1 <= len(value.is_) <= MOST_CELLS:
@@ -148,7 +168,8 @@ class Cells:
 
 @dataclasses.dataclass(frozen=True)
 class NewStation:
-    may, numbers = "a number 0 to 7 that no station before it has", [0, 7]
+    may: ClassVar[str] = "a number 0 to 7 that no station before it has"
+    numbers: ClassVar[Sequence[int]] = [0, 7]
 
     def wrong(self, value: Value, setup: Setup) -> str | None:
         if not is_whole(value, 0, 7) or value.is_ in setup.stations:
@@ -159,7 +180,8 @@ class NewStation:
 
 @dataclasses.dataclass(frozen=True)
 class Station:
-    may, numbers = "a station of the scenario", []
+    may: ClassVar[str] = "a station of the scenario"
+    numbers: ClassVar[Sequence[int]] = []
 
     def wrong(self, value: Value, setup: Setup) -> str | None:
         if type(value.is_) is int and value.is_ in setup.stations:

@@ -22,7 +22,7 @@ class Ladder:
 
     def __init__(self) -> None:
         self.rows: list[tuple[str, int]] = []
-        self.lines: dict[tuple, int] = {}
+        self.lines: dict[tuple[object, ...], int] = {}
         self.roots: set[str] = set()
 
     def take(self, words: list[str]) -> None:
@@ -39,7 +39,7 @@ class Ladder:
         getattr(self, kind)(*numbers)
         self.add((kind, *numbers), kind, self.rows[numbers[0]][1])
 
-    def add(self, line: tuple, kind: str, root: int) -> None:
+    def add(self, line: tuple[object, ...], kind: str, root: int) -> None:
         if line not in self.lines:
             self.lines[line] = len(self.rows)
             self.rows.append((kind, root))

@@ -8,7 +8,7 @@ from collections.abc import Iterator
 
 from document import Entry, Value
 from fields import CORE, Field, OF_CORE, PHONE, STATIONS, STEPS, THE_FLEET
-from kinds import Number, Setup, Words, one_of, shown
+from kinds import Kind, Number, Setup, Words, one_of, shown
 
 RUN, FLEET, TWO = "run", "fleet", "two"
 MOST_STEPS, MOST_STATIONS = 200_000, 8
@@ -61,7 +61,7 @@ class Table:
             if self.applies(field):
                 yield from self.fault_of(field, entries.get(field.name), field.kind_in(self.table))
 
-    def fault_of(self, field: Field, entry: Entry | None, kind: object) -> Iterator[Fault]:
+    def fault_of(self, field: Field, entry: Entry | None, kind: Kind) -> Iterator[Fault]:
         if entry is None:
             if not field.may_lack:
                 yield Fault(f"{self.line} missing {field.name}", self.table.place, f"{self.name} has no {field.name}, which is {kind.may}")
@@ -71,7 +71,7 @@ class Table:
     def ruled_out(self, key: str) -> str:
         """Why a key that is a field of such tables stands here in vain."""
         field = next((field for field in self.fields if field.name == key and field.when), None)
-        return f" where {field.when[0]} is {shown(self.table.entries()[field.when[0]].value)}" if field else ""
+        return f" where {field.when[0]} is {shown(self.table.entries()[field.when[0]].value)}" if field and field.when else ""
 
 
 def section(top: Value, name: str, fields: list[Field], setup: Setup, may_lack: bool = False) -> Iterator[Fault]:
@@ -96,7 +96,8 @@ def station_faults(top: Value, kind: str, setup: Setup) -> Iterator[Fault]:
     entry = top.entries().get("station")
     tables = tables_of(entry)
     if tables is None:
-        yield Fault("refused setup wrong station", entry.value.place, f"station is {shown(entry.value)}; each station is a table [[station]]")
+        if entry is not None:
+            yield Fault("refused setup wrong station", entry.value.place, f"station is {shown(entry.value)}; each station is a table [[station]]")
     elif not tables:
         yield Fault("refused setup missing station", entry.value.place if entry else 0, "there is no station, as [[station]] id = 0, cells = [[10, 100]]")
     elif len(tables) > MOST_STATIONS:
@@ -111,7 +112,8 @@ def step_faults(top: Value, kind: str, setup: Setup) -> Iterator[Fault]:
     entry = top.entries().get("step")
     tables = tables_of(entry)
     if tables is None:
-        yield Fault("refused setup wrong step", entry.value.place, f"step is {shown(entry.value)}; each step is a table [[step]]")
+        if entry is not None:
+            yield Fault("refused setup wrong step", entry.value.place, f"step is {shown(entry.value)}; each step is a table [[step]]")
     elif len(tables) > MOST_STEPS:
         yield Fault("refused steps", tables[MOST_STEPS].place, f"there are {len(tables):,} steps; there may be {MOST_STEPS:,}")
     else:
