@@ -210,6 +210,10 @@ class ChainJudge:
                     return [(chain.sync, message.ncc)]
         return None
 
+    def is_foreign(self, connection: Connection) -> bool:
+        """Whether a KASME that was not given is in use for NAS, so that a key change may bring it for the keys of stations."""
+        return any(context is not None and not context.given for context in (connection.side.current, connection.side.pending))
+
     def begins_at(self, connection: Connection, found: Key) -> None:
         """A key that is not judged and whose derivation is found tells where the chain begins."""
         if connection.core or not found.base.startswith("kenb("):
@@ -224,6 +228,10 @@ class ChainJudge:
         found = self.named(message.nh, connection, [chain.sync for chain in tried])
         number = int(found.form[3:-1]) if found.form.startswith("nh(") else 0
         connection.asked = 0
+        if self.is_foreign(connection):
+            self.unjudged(message, "NH", NOT_GIVEN, found)
+            connection.core, connection.phone = [], None
+            return [(found, message.ncc)]
         if not tried:
             self.unjudged(message, "NH", "the trace does not show where the chain begins" if found.known else NOT_GIVEN, found)
             connection.core = [Chain(found.kasme, found, number)] if number else []

@@ -66,6 +66,7 @@ class NasSide:
     messages: int = 0  # of NAS, so far
     missed: int = 0  # messages for which no KASME was found
     established: bool = False  # the secure exchange of NAS messages (TS 24.301 4.4.2.3), by a MAC that is right
+    ciphered: bool = False  # ciphering has begun (4.4.5)
     completed: bool = False  # a Complete came that could not be judged
     authenticated: bool = False  # an authentication whose Security Mode exchange did not come yet
     told: bytes | None = None  # EEA, EIA, UEA and UIA of the phone's own Attach or Tracking Area Update Request

@@ -142,7 +142,7 @@ def pdu(base: Message, layer: str, value: Pairs) -> Iterator[Message]:
     body = child(child(tree, *(f"{layer}.{outcome}" for outcome in OUTCOMES)), f"{layer}.value_element")
     name, fields = next(((name, below) for name, below in body if name.endswith("_element") and is_tree(below)), ("", []))
     if not name:
-        return
+        raise ValueError("no message of it is decoded")
     name = name.removeprefix(f"{layer}.").removesuffix("_element")
     message = fresh(base, "S1" if layer == "s1ap" else "X2", name)
     fill(message, fields)  # type: ignore[arg-type]

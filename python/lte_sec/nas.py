@@ -177,7 +177,7 @@ class NasBook:
         if text and header in (COMMAND, COMPLETE, PARTLY):
             return 1 if direction == UP and not side.established else 2
         told = context.eea and not context.guessed
-        return 2 if header == 1 and direction == DOWN and side.established and told else header
+        return 2 if header == 1 and direction == DOWN and side.ciphered and told else header
 
     def learn(self, side: NasSide, context: NasContext, direction: int, plain: bytes) -> None:
         learn(side, direction, plain)
@@ -265,6 +265,8 @@ class NasBook:
             if is_protected(pdu) and self.has_mac(tried, direction, pdu[5], pdu):
                 context.eia = 2
                 return True
+            if is_protected(pdu) and direction == UP and pdu[0] >> 4 == COMPLETE:
+                break  # the Complete of another KASME: what comes behind it stands under that
         return False
 
     # -- all others
@@ -296,6 +298,7 @@ class NasBook:
         seen = self.found(side, context, direction, pdu, count, note)
         if direction == DOWN or pdu[0] >> 4 == COMPLETE:
             side.established = True
+            side.ciphered |= pdu[0] >> 4 in CIPHERED
         return seen
 
     def foreign(self, side: NasSide, context: NasContext, direction: int, pdu: bytes, complete: bool) -> NasSeen:

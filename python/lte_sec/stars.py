@@ -74,7 +74,8 @@ class StarJudge(ChainJudge):
             self.unjudged(message, "KeNB*", "its NH may have come in an answer that the trace lacks, and the trace does not show where the chain begins", found)
             self.begins_at(connection, found)
             return Made([Held(found, ncc)], doubt="the KeNB* is not judged")
-        return self.star_of_unseen(connection, message, cell) or self.star_of_refreshed(connection, message, held, first, cell) or self.other_star(connection, message, held, first, cell)
+        made = self.star_of_unseen(connection, message, cell) or self.star_of_refreshed(connection, message, held, first, cell)
+        return made or self.star_of_foreign(connection, message, held) or self.other_star(connection, message, held, first, cell)
 
     def goes_on(self, connection: Connection, chosen: Held, others: list[Held]) -> None:
         """A reading of what the source has fits: it is likelier than the others from here on."""
@@ -108,6 +109,19 @@ class StarJudge(ChainJudge):
                 connection.held[connection.station] = source
                 return Made([Held(made, number)], [source[0].base()], source[0])
         return self.star_of_change(connection, message, cell)
+
+    def star_of_foreign(self, connection: Connection, message: Message, held: list[Held]) -> Made | None:
+        """A KeNB* of a phone whose KASME was not given: a key change that the trace lacks may have brought its key, and NCC 0."""
+        begun = not message.ncc and all(one.base()[1] for one in held)
+        if connection.phone is not None and not begun and not self.is_foreign(connection):
+            return None
+        found, why = self.named(message.key or b"", connection, []), "the trace may lack a key change to a KASME that was not given"
+        if begun and connection.phone is not None and found.known:
+            return None
+        self.unjudged(message, "KeNB*", why, found)
+        connection.core, connection.asked, connection.phone = [], 0, None
+        self.begins_at(connection, found)
+        return Made([Held(found, message.ncc or 0)], doubt=why)
 
     def star_of_change(self, connection: Connection, message: Message, cell: tuple[int, int]) -> Made | None:
         """A KeNB* from the key of a key change that the trace lacks."""
