@@ -163,14 +163,20 @@ class StarJudge(ChainJudge):
         """A KeNB* that is right if the phone was refreshed in its cell before; nothing on S1 and X2 tells."""
         ncc = message.ncc or 0
         unseen = [] if any(one.base()[1] == ncc for one in held) else self.unseen_chains(connection, ncc)
-        starts: list[tuple[list[Held], Chain | None]] = [(held, None), *(([replace(one, pair=(chain.sync, ncc)) for one in held], chain) for chain in unseen)]
-        for begun, chain in starts:
-            for one, path in self.refreshes(connection, begun):
+        starts: list[tuple[list[Held], Chain | None, str]] = [(held, None, "")]
+        starts += [([replace(one, pair=(chain.sync, ncc)) for one in held], chain, LOST_ANSWER) for chain in unseen]
+        for kenb in self.unseen_changes(connection):
+            begun = Chain(kenb.kasme, kenb)
+            starts.append(([Held(kenb, 0, None, Phone(kenb, 0, begun))], begun, LOST_CHANGE))
+        for sources, chain, also in starts:
+            for one, path in self.refreshes(connection, sources):
                 made = self.derivations.star(one.key, *cell)
                 if made.value == message.key:
-                    if chain is not None:
+                    if chain is not None and chain.number:
                         self.told_unseen(connection, chain)
-                    return self.refreshed_star(connection, message, held, wanted, one, path, made, LOST_ANSWER if chain else "")
+                    elif chain is not None and one.phone is not None:
+                        self.changed_unseen(connection, chain.sync, one.phone)
+                    return self.refreshed_star(connection, message, held, wanted, one, path, made, also)
         return None
 
     def refreshed_star(self, connection: Connection, message: Message, held: list[Held], wanted: tuple[Key, int], one: Held, path: list[tuple[int, int]], made: Key, also: str) -> Made:
