@@ -2,6 +2,7 @@
 from __future__ import annotations
 
 import re
+from dataclasses import replace
 
 from .cells import Cells
 from .contexts import NasContext, Trigger
@@ -197,6 +198,7 @@ class ChainJudge:
             self.book.complete(connection.side)
         self.used(connection)
         connection.core, connection.asked, connection.missed, connection.phone = [Chain(kenb.kasme, kenb)], 0, set(), phone
+        connection.held = {station: [replace(one, phone=None) for one in held] for station, held in connection.held.items()}
 
     def nh_of_change(self, connection: Connection, message: Message) -> list[tuple[Key, int]] | None:
         """An NH of the chain that a key change began."""
