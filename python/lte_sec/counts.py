@@ -2,9 +2,11 @@
 from __future__ import annotations
 
 from collections.abc import Callable, Iterator
+from typing import TypeVar
 
 from .contexts import NasContext
 
+Place = TypeVar("Place")
 WRAP, SHORT_WRAP = 256, 32  # of a sequence number, and of that of a Service Request
 LIMIT = 1 << 24
 TRIES = 8  # wraps of the sequence number that are always tried: a trace may lack messages, or show them late
@@ -30,8 +32,8 @@ class Effort:
     def __init__(self, left: int, part: int = 2):
         self.left, self.part, self.reached = left, part, True
 
-    def find(self, places: list[int], low: int, wrap: int, fits: Callable[[int, int], bool]) -> tuple[int, int] | None:
-        """The first place (a KASME) and COUNT with these low bits that fit, from the lowest COUNT on.
+    def find(self, places: list[Place], low: int, wrap: int, fits: Callable[[Place, int], bool]) -> tuple[Place, int] | None:
+        """The first place (a KASME, or one with an algorithm) and COUNT with these low bits that fit, from the lowest COUNT on.
 
         None if nothing fits or the work does not reach: `reached` says which.
         """
@@ -47,5 +49,5 @@ class Effort:
                 return place, count
         return None
 
-    def tried(self, places: list[int], low: int, wrap: int) -> Iterator[tuple[int, int]]:
+    def tried(self, places: list[Place], low: int, wrap: int) -> Iterator[tuple[int, Place]]:
         return ((count, place) for count in range(low, LIMIT, wrap) for place in places)

@@ -19,7 +19,7 @@ import sys
 import threading
 from typing import IO
 
-from lte_sec import records
+from lte_sec import frames, records
 
 VERSION = 1  # of the document that --json prints
 OPTIONS = {"--phone": "LTE_SEC_PHONE", "--station": "LTE_SEC_STATION", "--core": "LTE_SEC_CORE"}

@@ -236,7 +236,7 @@ def read_input(role: str, first: bool, body: bytes) -> Input:
     """What the kind and the body of a frame tell the phone, a station or the core: a Setup first and only first."""
     octets = Octets(body)
     kind = octets.number(1)
-    if kind not in (SETUPS if first else INPUTS)[role]:
+    if kind not in (SETUPS[role] if first else INPUTS[role]):
         raise BadFrame(0, f"{kind:02x} is not a kind of frame for the {role} here")
     if first:
         return read_setup(role, kind, octets)

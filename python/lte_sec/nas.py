@@ -6,20 +6,20 @@ also looks at the COUNTs before and after that, since a trace may lack messages 
 from __future__ import annotations
 
 import re
-from collections.abc import Callable, Iterable
+from collections.abc import Callable, Collection, Iterable
 from dataclasses import replace
 
 from .contexts import CIPHERED, COMMAND, COMPLETE, FOREIGN, NAMES, PARTLY, PLAIN, SERVICE_REQUEST, NasContext, NasSeen, NasSide, Trigger
 from .counts import WRAP, Effort, estimate, near
 from .plain import EMM, ESM, MODE_COMMAND, capability_fault, learn, of_octets, plain_verdict, replayed
 from .report import DIFFERS, RIGHT, UNKNOWN
-from .terms import DOWN, NAS_ENCRYPTION, NAS_INTEGRITY, UP, Derivations
+from .terms import COMPUTED, DOWN, NAS_ENCRYPTION, NAS_INTEGRITY, UP, Derivations
 
 GUTI = re.compile(rb"\x0b\xf6.{6}(.{4})", re.DOTALL)  # TS 24.301 9.9.3.12, with its length
 WITH_GUTI = (b"\x07\x42", b"\x07\x49", b"\x07\x50")
 HEADERS = {0x5D: COMMAND, 0x5E: COMPLETE}  # the header types that these messages have (TS 24.301 5.4.3)
 CONTROL_SERVICE = 0x4D  # Control Plane Service Request, whose text is ciphered in part
-COMPUTED = (0, 2)  # the identities of algorithms that are computed here
+RARE = 64  # the part of the work that goes to other algorithms than the usual one
 PATIENCE = 3  # messages of a connection for which a beginning before the trace is sought
 AHEAD = 16  # messages of a connection that are looked at for a KASME
 NEW = 16  # COUNTs of a context whose Security Mode exchange a trace lacks
@@ -41,6 +41,7 @@ class NasBook:
         self.derivations = derivations
         effort = 10 * derivations.calls.budget if effort is None else effort
         self.effort, self.cold = Effort(effort), Effort(effort, 4)  # for contexts that are known, and for those that began before the trace
+        self.rare = Effort(effort // RARE, 4)  # for these under another algorithm than the usual one
         self.contexts: dict[int, NasContext] = {}
         self.phones: dict[int, int] = {}  # KASME by M-TMSI
         self.tmsis: dict[int, set[int]] = {}
@@ -61,8 +62,8 @@ class NasBook:
         """The MAC of a message; EIA0 has zeros (TS 33.401 B.1)."""
         if context.eia == 0:
             return bytes(4)
-        key = self.derivations.nas_key(context.kasme, NAS_INTEGRITY, 2)
-        return self.derivations.calls.eia2(key, count, 0, direction, body)
+        key = self.derivations.nas_key(context.kasme, NAS_INTEGRITY, context.eia)
+        return self.derivations.macs[context.eia](key, count, 0, direction, body)
 
     def has_mac(self, context: NasContext, direction: int, count: int, pdu: bytes) -> bool:
         return self.mac(context, direction, count, pdu[5:]) == pdu[1:5]
@@ -74,24 +75,27 @@ class NasBook:
             self.guess(context, direction, count, pdu)
         if header not in (*CIPHERED, PARTLY) or context.eea == 0:
             return pdu[6:]
-        return self.deciphered(context, direction, count, pdu) if header != PARTLY and context.eea == 2 and context.given else None
+        return self.deciphered(context, direction, count, pdu) if header != PARTLY and context.eea in COMPUTED and context.given else None
 
     def deciphered(self, context: NasContext, direction: int, count: int, pdu: bytes) -> bytes:
-        key = self.derivations.nas_key(context.kasme, NAS_ENCRYPTION, 2)
-        return self.derivations.calls.eea2(key, count, 0, direction, pdu[6:])
+        key = self.derivations.nas_key(context.kasme, NAS_ENCRYPTION, context.eea)
+        return self.derivations.enciphers[context.eea](key, count, 0, direction, pdu[6:])
 
     def guess(self, context: NasContext, direction: int, count: int, pdu: bytes) -> None:
-        """The ciphering of a context whose Command the trace lacks: that under which the text is a NAS message."""
-        def is_message(text: bytes) -> bool:
-            return len(text) > 1 and (text[0] == EMM and text[1] in NAMES or text[0] & 15 == ESM)
+        """The ciphering of a context whose Command the trace lacks: that under which the text reads as a NAS message (9.2)."""
+        def is_message(text: bytes, kinds: Collection[int]) -> bool:
+            return len(text) > 1 and (text[0] == EMM and text[1] in kinds or text[0] & 15 == ESM and text[0] != EMM)
 
-        context.eea, context.guessed = 2, False
-        if is_message(pdu[6:]) and not is_message(self.deciphered(context, direction, count, pdu)):
-            context.eea = 0
+        context.guessed = False
+        for kinds in (NAMES, range(256)):
+            for context.eea in (*COMPUTED, 0):
+                if is_message(self.deciphered(context, direction, count, pdu) if context.eea else pdu[6:], kinds):
+                    return
+        context.eea = COMPUTED[0]
 
     def judged(self, context: NasContext) -> bool:
         """Whether the MACs of a context are computed here."""
-        return context.eia in COMPUTED and (context.given or context.eia == 0)
+        return context.eia in COMPUTED and context.given or context.eia == 0
 
     def opens(self, context: NasContext, direction: int, pdu: bytes) -> int | None:
         """The COUNT near the next one under which the MAC is right, or None."""
@@ -250,8 +254,7 @@ class NasBook:
         return seen
 
     def evidence(self, context: NasContext, later: Later) -> bool:
-        """Whether what comes later in the connection stands under this new context; a MAC that is right tells 128-EIA2."""
-        tried = replace(context, eia=2)
+        """Whether what comes later in the connection stands under this new context; a MAC that is right tells its algorithm."""
         for place, one in enumerate(later()):
             if place == AHEAD:
                 break
@@ -262,12 +265,18 @@ class NasBook:
             direction, pdu = one
             if is_protected(pdu) and pdu[0] >> 4 == COMMAND:
                 break
-            if is_protected(pdu) and self.has_mac(tried, direction, pdu[5], pdu):
-                context.eia = 2
+            right = self.under(context, direction, pdu[5], pdu) if is_protected(pdu) else None
+            if right is not None:
+                context.eia = right.eia
                 return True
             if is_protected(pdu) and direction == UP and pdu[0] >> 4 == COMPLETE:
                 break  # the Complete of another KASME: what comes behind it stands under that
         return False
+
+    def under(self, context: NasContext, direction: int, count: int, pdu: bytes) -> NasContext | None:
+        """The context with the integrity algorithm under which the MAC of a message is right: its own first, then the others."""
+        order = sorted(COMPUTED, key=lambda eia: eia != context.eia)
+        return next((one for one in (replace(context, eia=eia) for eia in order) if self.has_mac(one, direction, count, pdu)), None)
 
     # -- all others
 
@@ -320,8 +329,8 @@ class NasBook:
         """The new context of a message whose Security Mode exchange the trace lacks, and its COUNT: those of an authentication begin at 0."""
         if pdu[5] >= NEW:
             return None
-        fresh = (NasContext(kasme, guessed=True) for kasme in self.unused())
-        return next(((one, pdu[5]) for one in fresh if self.has_mac(one, direction, pdu[5], pdu)), None)
+        found = (self.under(NasContext(kasme, guessed=True), direction, pdu[5], pdu) for kasme in self.unused())
+        return next(((one, pdu[5]) for one in found if one is not None), None)
 
     def renewed(self, side: NasSide, context: NasContext, count: int, direction: int, pdu: bytes) -> NasSeen:
         """A message under a context whose Security Mode exchange the trace lacks, or only its Command."""
@@ -419,12 +428,15 @@ class NasBook:
 
     def began_before(self, direction: int, pdu: bytes) -> list[NasContext]:
         """A context that began before the trace."""
-        tried = {kasme: NasContext(kasme, guessed=True) for kasme in self.unused()}
-        found = self.cold.find(list(tried), pdu[5], WRAP, lambda kasme, count: self.has_mac(tried[kasme], direction, count, pdu)) if tried else None
+        def fits(context: NasContext, count: int) -> bool:
+            return self.has_mac(context, direction, count, pdu)
+
+        usual, others = ([NasContext(kasme, eia=eia, guessed=True) for eia in eias for kasme in self.unused()] for eias in (COMPUTED[:1], COMPUTED[1:]))
+        found = (self.cold.find(usual, pdu[5], WRAP, fits) or self.rare.find(others, pdu[5], WRAP, fits)) if usual else None
         if found is None:
             return []
-        tried[found[0]].next[direction] = found[1]
-        return [tried[found[0]]]
+        found[0].next[direction] = found[1]
+        return [found[0]]
 
     def complete(self, side: NasSide) -> None:
         """The pending context is in use: KeNB is made at the COUNT of the Complete that the trace shows later, or lacks."""
@@ -438,7 +450,7 @@ class NasBook:
         """What else a wrong MAC is right for, in words, or nothing."""
         names = self.derivations.kasmes
         for kasme in range(len(names)):
-            other = self.contexts.get(kasme, NasContext(kasme))
+            other = replace(self.contexts.get(kasme, NasContext(kasme)), eia=context.eia)
             for tried in {count, pdu[5], estimate(other.next[direction], pdu[5])}:
                 if kasme != context.kasme and self.has_mac(other, direction, tried, pdu):
                     return f"it is that of {names[kasme].name} at COUNT {tried}"

@@ -8,7 +8,7 @@ from .chains import LOST_CHANGE, ChainJudge, title
 from .decoding import Message, Reestablishment
 from .report import DIFFERS, RIGHT, Line, unknown_line
 from .state import CHAIN, Chain, Connection, Held, Phone, refreshed, renewed
-from .terms import NONE, RRC_INTEGRITY, Key
+from .terms import COMPUTED, NONE, RRC_INTEGRITY, Key
 
 MANY, MIXED, WIDE = 16, 6, 1024  # refreshes that are tried: so many in turn, in so many cells, through so many ways of them
 LOST_ANSWER = "its NH came in an answer that the trace lacks"
@@ -228,20 +228,20 @@ class StarJudge(ChainJudge):
         pci = source[0] if source else message.source_pci
         keys = [held.key for held in connection.held.get(connection.station, []) if held.key.value]
         why = ""
-        if algorithms is None or algorithms[1] != 2:
+        if algorithms is None or algorithms[1] not in COMPUTED:
             why = "the algorithm is not told, or not computed here"
         elif pci is None or message.rnti is None or not keys:
             why = "the source cell, the C-RNTI or the key in use is not known"
-        if why or pci is None or message.rnti is None:
+        if why or pci is None or message.rnti is None or algorithms is None:
             self.lines.append(unknown_line(message.frame, title(message), f"short MAC {name}", why))
             return
-        macs = [self.computed_short_mac(key, one.eci, pci, message.rnti) for key in keys]
+        macs = [self.computed_short_mac(key, algorithms[1], one.eci, pci, message.rnti) for key in keys]
         right, head = one.short_mac in macs, f"frame {message.frame} {title(message)} short MAC {name} "
         text = f"right: {one.short_mac.hex()}" if right else f"differs: is {one.short_mac.hex()}, wanted {macs[0].hex()}"
         self.lines.append(Line(message.frame, title(message), f"short MAC {name}", RIGHT if right else DIFFERS, head + text, one.short_mac.hex(), macs[0].hex()))
 
-    def computed_short_mac(self, key: Key, eci: int, pci: int, rnti: bytes) -> bytes:
+    def computed_short_mac(self, key: Key, eia: int, eci: int, pci: int, rnti: bytes) -> bytes:
         """shortMAC-I over VarShortMAC-Input: cell identity (28 bits), PCI (9) of the source, C-RNTI (16), filled to seven octets (TS 36.331 5.3.7.4)."""
         text = ((eci << 25 | pci << 16 | int.from_bytes(rnti, "big")) << 3).to_bytes(7, "big")
-        integrity = self.derivations.algorithm(key, RRC_INTEGRITY, 2).value[16:]
-        return self.derivations.calls.eia2(integrity, ONES, BEARER_ONES, DIRECTION_ONE, text)[2:]
+        integrity = self.derivations.algorithm(key, RRC_INTEGRITY, eia).value[16:]
+        return self.derivations.macs[eia](integrity, ONES, BEARER_ONES, DIRECTION_ONE, text)[2:]

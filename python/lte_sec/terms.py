@@ -7,7 +7,7 @@
 """
 from __future__ import annotations
 
-from collections.abc import Iterable
+from collections.abc import Callable, Iterable
 from dataclasses import dataclass
 from typing import Protocol
 
@@ -60,11 +60,17 @@ class Kasme:
     value: bytes
 
 
+Cipher = Callable[[bytes, int, int, int, bytes], bytes]
+COMPUTED = (2, 1, 3)  # the algorithms that are computed here, by identity, in the order in which they are tried (TS 33.401 Annex B)
+
+
 class Derivations:
     """The derivations of Annex A from the KASMEs given, each made once."""
 
     def __init__(self, calls: Calls, kasmes: Iterable[Kasme]):
         self.calls, self.kasmes = calls, list(kasmes)
+        self.enciphers: dict[int, Cipher] = {1: calls.eea1, 2: calls.eea2, 3: calls.eea3}
+        self.macs: dict[int, Cipher] = {1: calls.eia1, 2: calls.eia2, 3: calls.eia3}
         self._kenbs: dict[tuple[int, int], Key] = {}
         self._nas_keys: dict[tuple[int, int, int], bytes] = {}
 

@@ -13,7 +13,7 @@ from .answers import Answer, NoParts, from_json, merged, table, to_json
 from .courses import ProgramFails
 from .matrix import draw
 from .outcomes import RANK, USUAL_BAD
-from .scenarios import NoScenario, Scenario, read
+from .scenarios import NoScenario, read
 from .spread import Gathering, Share
 from .study import Choice, Study
 from .variants import KINDS, Coincidence

@@ -186,18 +186,18 @@ class Pdus(unittest.TestCase):
     def test_each_algorithm(self) -> None:
         for eea in range(4):
             for eia in range(4):
-                sender, receiver = (library.NasContext(self.enc, self.int, eea, eia=eia) for _ in range(2))
+                sender, receiver = (library.NasContext(self.enc, self.integrity, eea, eia=eia) for _ in range(2))
                 pdu = sender.seal(2, UP, b"a text")
                 self.assertEqual(receiver.open(UP, pdu), library.Opened(b"a text", 0, 2, checked=eia != library.EIA0))
-                bearer = library.SrbContext(self.enc, self.int, 1, eea, eia=eia)
+                bearer = library.SrbContext(self.enc, self.integrity, 1, eea, eia=eia)
                 made = bearer.send(DOWN, b"a text")
                 self.assertEqual(bearer.open(DOWN, made), library.Opened(b"a text", 0, 0, checked=eia != library.EIA0))
-                request = library.service_request(self.int, 3, 40, eia)
-                self.assertEqual(library.check_service_request(self.int, 32, request, eia), 40)
+                request = library.service_request(self.integrity, 3, 40, eia)
+                self.assertEqual(library.check_service_request(self.integrity, 32, request, eia), 40)
             key = self.enc[16:]
             wanted = b"a text" if eea == 0 else getattr(library, f"eea{eea}")(key, 0, 0, UP, b"a text")
             self.assertEqual(pdu[6:], wanted)
-        self.assertEqual(library.NasContext(self.enc, self.int, eia=library.EIA0).seal(1, UP, b"")[1:5], bytes(4))
+        self.assertEqual(library.NasContext(self.enc, self.integrity, eia=library.EIA0).seal(1, UP, b"")[1:5], bytes(4))
 
     def test_rlc_am(self) -> None:
         sender, receiver = (library.DrbContext(self.enc, 0, 12) for _ in range(2))

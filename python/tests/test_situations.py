@@ -38,7 +38,7 @@ class Situation:
 
 def lines_of(world: World, kasmes: tuple[int, ...] = (0, 1, 2, 3)) -> list[Line]:
     named = [Kasme(f"k{place}", KASMES[place]) for place in kasmes]
-    return check(Derivations(CALLS, named), Cells(CELLS), copy.deepcopy(world.messages), budget=20_000).lines
+    return check(Derivations(CALLS, named), Cells(CELLS), copy.deepcopy(world.messages), budget=4_000).lines
 
 
 SITUATIONS: dict[str, Situation] = {
