@@ -31,7 +31,7 @@ def attached(first: int = 2, eea: int = 2) -> tuple[World, Phone]:
 
 def lines_of(world: World, kasmes: list[bytes] | None = None) -> list[Line]:
     named = [Kasme(f"k{place}", kasme) for place, kasme in enumerate(kasmes or KASMES)]
-    return check(Derivations(CALLS, named), Cells(CELLS), copy.deepcopy(world.messages), budget=4_000).lines
+    return check(Derivations(CALLS, named), Cells(CELLS), copy.deepcopy(world.messages), budget=20_000).lines
 
 
 # -- what keeps the standard
