@@ -21,8 +21,8 @@ use std::alloc::Global;
 
 /// Lets these events happen to a system, and writes the exact audit of its keys, each line by one `write_all`: which
 /// station can derive which key by itself, and on which path, when a check of its own has accepted it. At
-/// a coincidence it writes only that line, and the answer is whether there was one. `Memory` if memory runs
-/// out, and `WriteFault` if the output fails; a prefix is then written.
+/// a coincidence it writes only that line, and the answer is whether there was one. `Memory` if std refuses
+/// memory, and `WriteFault` if the output fails; a prefix is then written.
 #[tactic(auto, using(crate::proofs::Together::each_alone))]
 pub fn write_audit<W: Sink>(
     alloc: Global,

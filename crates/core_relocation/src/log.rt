@@ -1,5 +1,6 @@
 // What happened so far.
-ghost use Rattle.std.specs.Prelude.{◌≡◌, ◌<◌, [], ◌∷◌, ◌++◌, ◌^◌, length, OnOk};
+ghost use Rattle.growth.specs.Growth.{WasRefused};
+ghost use Rattle.std.specs.Prelude.{◌≡◌, ◌<◌, [], ◌∷◌, ◌++◌, ◌^◌, length, OnErr, OnOk};
 ghost use Rattle.core_relocation.specs.Holder.{sent_by, station_in};
 
 use crate::senders::{Sender, station_in};
@@ -41,15 +42,16 @@ impl Log {
         }
     }
 
-    // Makes room for one event and one record more.
+    // Makes room for one event and one record more, unless std refuses it.
     pub fn reserve(&mut self) -> Result<(), AllocError>
         ensures events { self.new.events ≡ self.old.events }
         ensures senders { self.new.senders ≡ self.old.senders }
         ensures event_room { OnOk result (0 < self.new.event_room) }
         ensures sender_room { OnOk result (0 < self.new.sender_room) }
+        ensures refused { OnErr result WasRefused }
     {
         self.events.reserve()?;
-        self.senders.reserve(1)
+        growth::reserve(&mut self.senders, 1)
     }
 
     // Puts an event at the end.

@@ -16,7 +16,7 @@ use std::alloc::Global;
 
 /// Lets these events happen to a system with two cores, and writes the report of them: that of `run`, with the number of the
 /// core in each line of a core, and a line for each event that asks a core which does not hold the context. A coincidence
-/// ends the report, and the answer is whether there was one. `Memory` where memory runs out, and `WriteFault` where the
+/// ends the report, and the answer is whether there was one. `Memory` where std refuses memory, and `WriteFault` where the
 /// output fails; a prefix is then written.
 pub fn write_two<W: Sink>(
     alloc: Global,

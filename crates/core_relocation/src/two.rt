@@ -1,4 +1,5 @@
 // A system with two cores.
+ghost use Rattle.growth.specs.Growth.{WasRefused};
 ghost use Rattle.std.specs.Prelude.{◌≡◌, ◌≢◌, ◌<◌, ◌≤◌, [], ◌∷◌, ◌++◌, All, length, Err, IfOk, IsOkUnless, OnOk, OnErr, option_map};
 ghost use Rattle.lte_machine.specs.Ranges.{AllOf, IsEvent, IsSetup};
 ghost use Rattle.lte_world.specs.Whole.{CanBegin, begun, run_of, told_of};
@@ -38,11 +39,12 @@ impl Model for Two {
 
 impl Two {
     /// Two cores in which nothing has happened. Core 0 holds the context. The core of each station is 0 or 1. `Memory`
-    /// where memory runs out.
+    /// where std refuses memory.
     pub fn new(alloc: Global, setup: &Setup, core_of: &[u8; 8]) -> Result<Two, WorldFault>
         requires begins { CanBegin setup.now }
         requires two { All (λ core. core ≤ 1) core_of.now }
         ensures memory { IsOkUnless result WorldFault.Memory }
+        ensures refused { OnErr result WasRefused }
         ensures setup { IfOk result (λ t. t.world.setup ≡ setup.now) }
         ensures core_of { IfOk result (λ t. t.cores.core_of ≡ core_of.now) }
         ensures events { IfOk result (λ t. t.events ≡ []) }
@@ -64,10 +66,11 @@ impl Two {
     }
 
     /// Takes one event. It goes to the system, or asks a core that does not hold the context, and then the system does not see
-    /// it. Where memory runs out nothing changes. A coincidence of the system is answered as it answers it.
+    /// it. Where std refuses memory nothing changes. A coincidence of the system is answered as it answers it.
     pub fn apply(&mut self, event: &Event) -> Result<TwoLine, WorldFault>
         requires { CanTake self.old event.now }
         ensures memory { result ≡ Err WorldFault.Memory → self.new ≡ self.old }
+        ensures refused { result ≡ Err WorldFault.Memory → WasRefused }
         // By what the system tells of the event, and where the context is.
         ensures says { result ≢ Err WorldFault.Memory → result ≡ answer_in self.old.cores (state_of self.old) (run_of self.old.world) (told_of self.old.world event.now) event.now }
         ensures state { OnOk result (state_of self.new ≡ state_in self.old.cores (state_of self.old) (run_of self.old.world) (told_of self.old.world event.now) event.now) }

@@ -16,6 +16,7 @@ use Rattle.report_text.specs.Chance.{HasString}
 use Rattle.run_report.specs.Events.{HasCounts}
 use Rattle.run_report.specs.Report.{Report}
 use Rattle.run_report.specs.Written.{WritesReport}
+use Rattle.growth.specs.Growth.{WasRefused}
 use Rattle.run_report.proofs.Partly.{unreported}
 use Rattle.run_report.specs.declared.unwritten.Unwritten.{Unwritten}
 use Rattle.run_report.specs.declared.unwritten.Unwritten.TheVariants as unwritten
@@ -68,15 +69,15 @@ fault_shown v p e (fault.Chance q proof) none is h can answered counts =
 pub fault_reported : (v : Fleeted) (p : ℕ) (e : Event) (f : FleetFault) (step own : ℕ) (result : Result Bool Unwritten) (before after : Told)
     → (◌≢◌ {A = Result FleetLine FleetFault} (Err f) (Err fault.Memory) → Err f ≡ answer_of v p e)
     → (f ≢ fault.Memory → WritesReport (record { text = output_text (answer_output step own (Err f)); coincides = true }) result before after)
-    → (f ≡ fault.Memory → (result ≡ Err unwritten.Memory) × (after ≡ before)) → IsTrue before.ready
+    → (f ≡ fault.Memory → (result ≡ Err unwritten.Memory) × (after ≡ before)) → (f ≡ fault.Memory → WasRefused) → IsTrue before.ready
     → WritesReport (record { text = output_text (answer_output step own (answer_of v p e)); coincides = ends_it (answer_of v p e) }) result before after
-fault_reported v p e fault.Memory step own result before after says report memory ready =
+fault_reported v p e fault.Memory step own result before after says report memory refused ready =
     let nothing = memory refl in
     let whole : Report = record { text = output_text (answer_output step own (answer_of v p e)); coincides = ends_it (answer_of v p e) } in
-    subst (λ r. WritesReport whole r before after) (sym nothing.0) (subst (λ t. WritesReport whole (Err unwritten.Memory) before t) (sym nothing.1) (unreported whole before ready))
-fault_reported v p e (fault.Chance q proof) step own result before after says report memory ready =
+    subst (λ r. WritesReport whole r before after) (sym nothing.0) (subst (λ t. WritesReport whole (Err unwritten.Memory) before t) (sym nothing.1) (unreported whole before (refused refl) ready))
+fault_reported v p e (fault.Chance q proof) step own result before after says report memory refused ready =
     subst (λ a. WritesReport (record { text = output_text (answer_output step own a); coincides = ends_it a }) result before after) (says (λ same. cc)) (report (λ same. cc))
-fault_reported v p e (fault.Cross phone row other other_row) step own result before after says report memory ready =
+fault_reported v p e (fault.Cross phone row other other_row) step own result before after says report memory refused ready =
     subst (λ a. WritesReport (record { text = output_text (answer_output step own a); coincides = ends_it a }) result before after) (says (λ same. cc)) (report (λ same. cc))
 
 -- which is not that of a line

@@ -1,4 +1,5 @@
-ghost use Rattle.std.specs.Prelude.{◌≡◌, ◌≢◌, ℕ, ◌≤◌, List, true, false, None, Ok, Err, length, All, IfOk, IsTrue};
+ghost use Rattle.growth.specs.Growth.{WasRefused};
+ghost use Rattle.std.specs.Prelude.{◌≡◌, ◌≢◌, ℕ, ◌≤◌, List, true, false, None, Ok, Err, length, All, IfOk, OnErr, IsTrue};
 ghost use Rattle.edge_io.specs.Lines.{EndsLine};
 ghost use Rattle.lte_world.specs.Whole.{most_events, run_of};
 ghost use Rattle.run_report.specs.Ready.{ReadyBy};
@@ -21,7 +22,7 @@ use std::alloc::Global;
 
 /// Lets these events happen to a fleet of 1 to 256 phones and writes their report, each line by one
 /// `write_all`: a line for each event, and after the last the end of each phone's own report. A coincidence ends
-/// the report, and the answer is whether there was one. `Memory` if memory runs out, and `WriteFault` if the
+/// the report, and the answer is whether there was one. `Memory` if std refuses memory, and `WriteFault` if the
 /// output fails; a prefix is then written.
 pub fn write_fleet<W: Sink>(
     alloc: Global,
@@ -90,6 +91,7 @@ fn write_fault<W: Sink>(
 ) -> Result<bool, Unwritten>
     requires out_ready { IsTrue (W.told out.old).ready }
     requires shown { HasItsCounts fault → IsShown fault }
+    requires refused { fault ≡ FleetFault.Memory → WasRefused }
     ensures report { fault ≢ FleetFault.Memory → WritesReport (record { text = output_text (answer_output step own (Err fault)); coincides = true }) result (W.told out.old) (W.told out.new) }
     ensures memory { fault ≡ FleetFault.Memory → (result ≡ Err Unwritten.Memory) × (out.new ≡ out.old) }
     ensures ends { IfOk result (λ coincides. coincides ≡ true) }
@@ -180,6 +182,7 @@ fn write_line<W: Sink>(
 ) -> Result<(), Unwritten>
     requires ready { IsTrue (W.told out.old).ready }
     requires ends { IfOk line (λ t. EndsLine t.items) }
+    requires refused { OnErr line WasRefused }
     ensures { (octets : List ℕ) → IfOk line (λ t. t.items ≡ octets) → WritesText (phone_text phone octets) result (W.told out.old) (W.told out.new) }
 {
     match line {

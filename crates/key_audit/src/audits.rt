@@ -1,4 +1,5 @@
-ghost use Rattle.std.specs.Prelude.{◌≡◌, ℕ, ◌<◌, ◌≤◌, Bool, true, false, length, slice_get, slice_index_or, IfOk, Some, None};
+ghost use Rattle.growth.specs.Growth.{WasRefused};
+ghost use Rattle.std.specs.Prelude.{◌≡◌, ℕ, ◌<◌, ◌≤◌, Bool, true, false, length, slice_get, slice_index_or, IfOk, Some, None, OnErr};
 ghost use Rattle.key_terms.specs.declared.row.LadderRow.{LadderRow};
 ghost use Rattle.key_terms.specs.Ladder.{IsLadder, IsMade};
 ghost use Rattle.key_audit.specs.Exact.{Exact};
@@ -86,6 +87,7 @@ impl From<TextMemory> for AuditMemory {
 pub fn audit_of(alloc: Global, ladder: &Ladder) -> Result<Audit, AuditMemory>
     ensures exact { IfOk result (λ audit. Exact ladder.now.rows audit.rows.items) }
     ensures ladder { IsLadder ladder.now.rows }
+    ensures refused { OnErr result WasRefused }
 {
     let rows = fill(alloc, ladder)?;
     Ok(Audit { rows })
@@ -95,11 +97,12 @@ pub fn audit_of(alloc: Global, ladder: &Ladder) -> Result<Audit, AuditMemory>
 fn fill(alloc: Global, ladder: &Ladder) -> Result<Vec<AuditRow>, AllocError>
     ensures exact { IfOk result (λ audit. Exact ladder.now.rows audit.items) }
     ensures ladder { IsLadder ladder.now.rows }
+    ensures refused { OnErr result WasRefused }
 {
-    let mut rows = Vec::with_capacity(alloc, ladder.len())?;
+    let mut rows = growth::with_capacity(alloc, ladder.len())?;
     for k in 0..ladder.len() {
         let row = audit_row(ladder, &rows, k as u32);
-        rows.push(row)?;
+        growth::push(&mut rows, row)?;
     }
     Ok(rows)
 }

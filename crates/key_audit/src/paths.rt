@@ -1,4 +1,5 @@
-ghost use Rattle.std.specs.Prelude.{◌≡◌, ◌<◌, ◌∷◌, ◌++◌, codes, length, IfOk, OnOk, IfSome};
+ghost use Rattle.growth.specs.Growth.{WasRefused};
+ghost use Rattle.std.specs.Prelude.{◌≡◌, ◌<◌, ◌∷◌, ◌++◌, codes, length, IfOk, OnOk, IfSome, OnErr};
 ghost use Rattle.std.specs.Fmt.{decimal};
 ghost use Rattle.std.specs.String.{string_bytes};
 ghost use Rattle.key_terms.specs.Ladder.{IsLadder};
@@ -17,7 +18,8 @@ pub(crate) fn path_text(
 ) -> Result<Vec<u8>, AllocError>
     requires ladder { IsLadder ladder.now.rows }
     requires stands { k < length ladder.now.rows }
-    ensures { IfOk result (λ text. text.items ≡ path_text ladder.now.rows from k) }
+    ensures text { IfOk result (λ text. text.items ≡ path_text ladder.now.rows from k) }
+    ensures refused { OnErr result WasRefused }
 {
     let mut path = way_up(alloc, ladder, from, k)?;
     path.reverse();
@@ -28,12 +30,13 @@ pub(crate) fn path_text(
 fn way_up(alloc: Global, ladder: &Ladder, to: u32, k: u32) -> Result<Vec<u32>, AllocError>
     requires ladder { IsLadder ladder.now.rows }
     requires stands { k < length ladder.now.rows }
-    ensures { IfOk result (λ way. way.items ≡ way_up ladder.now.rows to k) }
+    ensures way { IfOk result (λ way. way.items ≡ way_up ladder.now.rows to k) }
+    ensures refused { OnErr result WasRefused }
 {
     let mut way = Vec::new(alloc);
     let mut next = Some(k);
     while let Some(row) = next {
-        way.push(row)?;
+        growth::push(&mut way, row)?;
         next = next_up(ladder, to, row);
     }
     Ok(way)
@@ -57,11 +60,12 @@ fn next_up(ladder: &Ladder, to: u32, row: u32) -> Option<u32>
 
 // Numbers, joined by `>`.
 fn joined(alloc: Global, path: &[u32]) -> Result<Vec<u8>, AllocError>
-    ensures { IfOk result (λ text. text.items ≡ joined path.now) }
+    ensures text { IfOk result (λ text. text.items ≡ joined path.now) }
+    ensures refused { OnErr result WasRefused }
 {
     let mut text = Vec::new(alloc);
     if let [first, rest @ ..] = path {
-        text.extend_from_slice(first.to_string(alloc)?.as_bytes())?;
+        growth::extend_from_slice(&mut text, growth::format(alloc, first)?.as_bytes())?;
         add_further(alloc, &mut text, rest)?;
     }
     Ok(text)
@@ -69,16 +73,18 @@ fn joined(alloc: Global, path: &[u32]) -> Result<Vec<u8>, AllocError>
 
 // Appends numbers, each behind a `>`.
 fn add_further(alloc: Global, text: &mut Vec<u8>, path: &[u32]) -> Result<(), AllocError>
-    ensures { OnOk result (text.new.items ≡ text.old.items ++ further path.now) }
+    ensures text { OnOk result (text.new.items ≡ text.old.items ++ further path.now) }
+    ensures refused { OnErr result WasRefused }
 {
     for row in path {
-        text.extend_from_slice(step_text(alloc, *row)?.as_bytes())?;
+        growth::extend_from_slice(text, step_text(alloc, *row)?.as_bytes())?;
     }
     Ok(())
 }
 
 fn step_text(alloc: Global, row: u32) -> Result<String, AllocError>
-    ensures { IfOk result (λ text. string_bytes text ≡ codes ">" ++ decimal row) }
+    ensures text { IfOk result (λ text. string_bytes text ≡ codes ">" ++ decimal row) }
+    ensures refused { OnErr result WasRefused }
 {
-    format!(in alloc; ">{row}")
+    growth::format(alloc, format_args!(">{row}"))
 }

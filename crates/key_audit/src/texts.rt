@@ -1,4 +1,5 @@
-ghost use Rattle.std.specs.Prelude.{◌≡◌, ◌<◌, ◌∷◌, ◌++◌, [], Bool, Some, length, slice_get, IfOk, OnOk};
+ghost use Rattle.growth.specs.Growth.{WasRefused};
+ghost use Rattle.std.specs.Prelude.{◌≡◌, ◌<◌, ◌∷◌, ◌++◌, [], Bool, Some, length, slice_get, IfOk, OnOk, OnErr};
 ghost use Rattle.std.specs.String.{string_bytes};
 ghost use Rattle.key_terms.specs.Ladder.{IsLadder};
 ghost use Rattle.report_text.specs.Ladder.{without_comma};
@@ -16,20 +17,22 @@ use std::alloc::{AllocError, Global};
 /// that it was checked. The one error is want of memory.
 pub fn audit_text(alloc: Global, ladder: &Ladder, audit: &Audit) -> Result<Vec<u8>, AuditMemory>
     requires { Exact ladder.now.rows audit.now.rows.items }
-    ensures { IfOk result (λ text. text.items ≡ audit_text ladder.now.rows) }
+    ensures text { IfOk result (λ text. text.items ≡ audit_text ladder.now.rows) }
+    ensures refused { OnErr result WasRefused }
 {
     let mut text = first_line(alloc, ladder)?;
     for k in 0..ladder.len() {
         let line = row_line(alloc, ladder, audit, Row(k as u32))?;
-        text.extend_from_slice(&line)?;
+        growth::extend_from_slice(&mut text, &line)?;
     }
-    text.extend_from_slice(last_line())?;
+    growth::extend_from_slice(&mut text, last_line())?;
     Ok(text)
 }
 
 /// The first line of that text. The one error is want of memory.
 pub fn first_line(alloc: Global, ladder: &Ladder) -> Result<Vec<u8>, AuditMemory>
-    ensures { IfOk result (λ text. text.items ≡ first_line (length ladder.now.rows)) }
+    ensures text { IfOk result (λ text. text.items ≡ first_line (length ladder.now.rows)) }
+    ensures refused { OnErr result WasRefused }
 {
     let text = whole_first(alloc, ladder.len())?;
     Ok(text.into_bytes())
@@ -37,9 +40,10 @@ pub fn first_line(alloc: Global, ladder: &Ladder) -> Result<Vec<u8>, AuditMemory
 
 #[tactic(auto, unfolding(crate::specs::Text::first_line))]
 fn whole_first(alloc: Global, rows: usize) -> Result<String, AllocError>
-    ensures { IfOk result (λ text. string_bytes text ≡ first_line rows) }
+    ensures text { IfOk result (λ text. string_bytes text ≡ first_line rows) }
+    ensures refused { OnErr result WasRefused }
 {
-    format!(in alloc; "audit {rows}\n")
+    growth::format(alloc, format_args!("audit {rows}\n"))
 }
 
 /// The last line of it.
@@ -59,7 +63,8 @@ pub fn row_line(
     requires exact { Exact ladder.now.rows audit.now.rows.items }
     requires ladder { IsLadder ladder.now.rows }
     requires stands { row.0 < length ladder.now.rows }
-    ensures { IfOk result (λ text. text.items ≡ row_line ladder.now.rows (exact_mark ladder.now.rows) row.0) }
+    ensures text { IfOk result (λ text. text.items ≡ row_line ladder.now.rows (exact_mark ladder.now.rows) row.0) }
+    ensures refused { OnErr result WasRefused }
 {
     let line = marked_line(alloc, ladder, &audit.rows, row)?;
     Ok(line)
@@ -75,7 +80,8 @@ fn marked_line(
     requires ladder { IsLadder ladder.now.rows }
     requires stands { row.0 < length ladder.now.rows }
     requires as_many { length audit.now ≡ length ladder.now.rows }
-    ensures { IfOk result (λ text. text.items ≡ row_line ladder.now.rows (mark_at audit.now) row.0) }
+    ensures text { IfOk result (λ text. text.items ≡ row_line ladder.now.rows (mark_at audit.now) row.0) }
+    ensures refused { OnErr result WasRefused }
 {
     let marks = audit[row.0 as usize];
     let form = form(alloc, ladder, row)?;
@@ -93,22 +99,24 @@ fn line_of(
     names: &[u8],
     paths: &[u8],
 ) -> Result<Vec<u8>, AllocError>
-    ensures { IfOk result (λ text. text.items ≡ line_of k form.now names.now paths.now) }
+    ensures text { IfOk result (λ text. text.items ≡ line_of k form.now names.now paths.now) }
+    ensures refused { OnErr result WasRefused }
 {
     let mut line = row_head(alloc, k)?.into_bytes();
-    line.extend_from_slice(form)?;
-    line.extend_from_slice(b" ")?;
-    line.extend_from_slice(without_comma(names))?;
-    line.extend_from_slice(paths)?;
-    line.extend_from_slice(b"\n")?;
+    growth::extend_from_slice(&mut line, form)?;
+    growth::extend_from_slice(&mut line, b" ")?;
+    growth::extend_from_slice(&mut line, without_comma(names))?;
+    growth::extend_from_slice(&mut line, paths)?;
+    growth::extend_from_slice(&mut line, b"\n")?;
     Ok(line)
 }
 
 #[tactic(auto, unfolding(crate::specs::Text::row_head))]
 fn row_head(alloc: Global, k: u32) -> Result<String, AllocError>
-    ensures { IfOk result (λ text. string_bytes text ≡ row_head k) }
+    ensures text { IfOk result (λ text. string_bytes text ≡ row_head k) }
+    ensures refused { OnErr result WasRefused }
 {
-    format!(in alloc; "row {k} ")
+    growth::format(alloc, format_args!("row {k} "))
 }
 
 fn without_comma(names: &[u8]) -> &[u8]
@@ -122,18 +130,20 @@ fn without_comma(names: &[u8]) -> &[u8]
 
 // The stations that can derive a row, each behind a comma.
 fn names_text(alloc: Global, marks: &AuditRow) -> Result<Vec<u8>, AllocError>
-    ensures { IfOk result (λ text. text.items ≡ names_text (λ s. mark_of s (Some marks.now))) }
+    ensures text { IfOk result (λ text. text.items ≡ names_text (λ s. mark_of s (Some marks.now))) }
+    ensures refused { OnErr result WasRefused }
 {
     let mut text = Vec::new(alloc);
     for station in 0..8 {
         let name = name_if(alloc, marks.mark(station), station)?;
-        text.extend_from_slice(&name)?;
+        growth::extend_from_slice(&mut text, &name)?;
     }
     Ok(text)
 }
 
 fn name_if(alloc: Global, mark: Option<u32>, station: usize) -> Result<Vec<u8>, AllocError>
-    ensures { IfOk result (λ text. text.items ≡ name_if mark station) }
+    ensures text { IfOk result (λ text. text.items ≡ name_if mark station) }
+    ensures refused { OnErr result WasRefused }
 {
     match mark {
         None => Ok(Vec::new(alloc)),
@@ -143,9 +153,10 @@ fn name_if(alloc: Global, mark: Option<u32>, station: usize) -> Result<Vec<u8>, 
 
 #[tactic(auto, unfolding(crate::specs::Text::name_text))]
 fn name_text(alloc: Global, station: usize) -> Result<String, AllocError>
-    ensures { IfOk result (λ text. string_bytes text ≡ name_text station) }
+    ensures text { IfOk result (λ text. string_bytes text ≡ name_text station) }
+    ensures refused { OnErr result WasRefused }
 {
-    format!(in alloc; ",S{station}")
+    growth::format(alloc, format_args!(",S{station}"))
 }
 
 // The path on which each of them can.
@@ -157,12 +168,13 @@ fn paths_text(
 ) -> Result<Vec<u8>, AllocError>
     requires ladder { IsLadder ladder.now.rows }
     requires stands { k < length ladder.now.rows }
-    ensures { IfOk result (λ text. text.items ≡ paths_text ladder.now.rows k (λ s. mark_of s (Some marks.now))) }
+    ensures text { IfOk result (λ text. text.items ≡ paths_text ladder.now.rows k (λ s. mark_of s (Some marks.now))) }
+    ensures refused { OnErr result WasRefused }
 {
     let mut text = Vec::new(alloc);
     for station in 0..8 {
         let by = by_if(alloc, ladder, k, marks.mark(station), station)?;
-        text.extend_from_slice(&by)?;
+        growth::extend_from_slice(&mut text, &by)?;
     }
     Ok(text)
 }
@@ -176,7 +188,8 @@ fn by_if(
 ) -> Result<Vec<u8>, AllocError>
     requires ladder { IsLadder ladder.now.rows }
     requires stands { k < length ladder.now.rows }
-    ensures { IfOk result (λ text. text.items ≡ by_if ladder.now.rows k mark station) }
+    ensures text { IfOk result (λ text. text.items ≡ by_if ladder.now.rows k mark station) }
+    ensures refused { OnErr result WasRefused }
 {
     match mark {
         None => Ok(Vec::new(alloc)),
@@ -193,16 +206,18 @@ fn by_text(
 ) -> Result<Vec<u8>, AllocError>
     requires ladder { IsLadder ladder.now.rows }
     requires stands { k < length ladder.now.rows }
-    ensures { IfOk result (λ text. text.items ≡ by_text ladder.now.rows k station from) }
+    ensures text { IfOk result (λ text. text.items ≡ by_text ladder.now.rows k station from) }
+    ensures refused { OnErr result WasRefused }
 {
     let mut text = by_head(alloc, station)?.into_bytes();
-    text.extend_from_slice(&path_text(alloc, ladder, from, k)?)?;
+    growth::extend_from_slice(&mut text, &path_text(alloc, ladder, from, k)?)?;
     Ok(text)
 }
 
 #[tactic(auto, unfolding(crate::specs::Text::by_head))]
 fn by_head(alloc: Global, station: usize) -> Result<String, AllocError>
-    ensures { IfOk result (λ text. string_bytes text ≡ by_head station) }
+    ensures text { IfOk result (λ text. string_bytes text ≡ by_head station) }
+    ensures refused { OnErr result WasRefused }
 {
-    format!(in alloc; " by S{station} ")
+    growth::format(alloc, format_args!(" by S{station} "))
 }

@@ -1,3 +1,4 @@
+ghost use Rattle.growth.specs.Growth.{WasRefused};
 ghost use Rattle.std.specs.Prelude.{◌≡◌, ◌≢◌, ◌↔◌, ℕ, List, false, Some, None, [], IfSome, IsTrue};
 ghost use Rattle.edge_io.specs.Cause.{NoFault, NoCountFell, Rose};
 ghost use Rattle.edge_io.specs.Used.{UsedAsSource, UsedAsSink};
@@ -92,6 +93,9 @@ pub fn run<R: Source, W: Sink, P: Peers, L: Port>(
     ensures generated_complete { (steps seed : ℕ) → named words.now ≡ Some (Command.Gen steps seed) → WritingIsComplete (gen_output steps seed) result (W.told out.old) (W.told out.new) }
     ensures generated_input { (steps seed : ℕ) → named words.now ≡ Some (Command.Gen steps seed) → input.new ≡ input.old }
     ensures generated_headline { (steps seed : ℕ) → named words.now ≡ Some (Command.Gen steps seed) → Headline generated_setup (generated steps seed) }
+
+    // Where memory is wanted std refused a list or a text room. Of `ladder`, and of the start of a peer by `drive`, this is not said.
+    ensures memory { named words.now ≢ Some (Command.Text TextCommand.Ladder) → named words.now ≢ Some Command.Drive → result ≡ Status.Memory → WasRefused }
 
     // An input that was not read within the limit has no output.
     ensures unread { result ≡ Status.ReadFault → out.new ≡ out.old }

@@ -1,3 +1,4 @@
+ghost use Rattle.growth.specs.Growth.{WasRefused};
 ghost use Rattle.std.specs.Prelude.{◌≡◌, ◌≢◌, IsTrue};
 ghost use Rattle.edge_io.specs.Cause.{NoFault};
 ghost use Rattle.edge_io.specs.Used.{UsedAsSink};
@@ -16,6 +17,7 @@ pub(crate) fn report_audit<W: Sink>(alloc: Global, octets: &[u8], out: &mut W) -
     requires { IsTrue (W.told out.old).ready }
     ensures text { WritesAt (audit_output octets.now) result (W.told out.old) (W.told out.new) }
     ensures holds { WhereRun (HasAudit octets.now) result }
+    ensures memory { result ≡ Status.Memory → WasRefused }
     ensures no_refusal { result ≡ Status.Memory → (audit_output octets.now).ends ≡ Status.Refused → out.new ≡ out.old }
     ensures no_fault { result ≢ Status.WriteFault → NoFault (W.told out.old) (W.told out.new) }
     ensures out { UsedAsSink (W.told out.old) (W.told out.new) }

@@ -1,3 +1,4 @@
+ghost use Rattle.growth.specs.Growth.{WasRefused};
 ghost use Rattle.std.specs.Prelude.{◌≡◌, ◌≢◌, ◌≤◌, IsTrue};
 ghost use Rattle.edge_io.specs.Cause.{NoFault};
 ghost use Rattle.edge_io.specs.Used.{UsedAsSink};
@@ -23,6 +24,7 @@ pub(crate) fn report_gen<W: Sink>(alloc: Global, steps: u32, seed: u32, out: &mu
     ensures text { WritesAt (gen_output steps seed) result (W.told out.old) (W.told out.new) }
     ensures complete { WritingIsComplete (gen_output steps seed) result (W.told out.old) (W.told out.new) }
     ensures headline { Headline generated_setup (generated steps seed) }
+    ensures memory { result ≡ Status.Memory → WasRefused }
     ensures no_fault { result ≢ Status.WriteFault → NoFault (W.told out.old) (W.told out.new) }
     ensures out { UsedAsSink (W.told out.old) (W.told out.new) }
 {

@@ -1,3 +1,4 @@
+ghost use Rattle.growth.specs.Growth.{WasRefused};
 ghost use Rattle.std.specs.Prelude.{◌≡◌, ◌≢◌, ◌≤◌, ℕ, List, Err, length, IfOk, IfErr, IfSome, IsTrue, OnOk};
 ghost use Rattle.edge_io.specs.Cause.{NoFault};
 ghost use Rattle.edge_io.specs.Told.{Told, HasEnded};
@@ -20,6 +21,7 @@ pub(crate) fn read_text<R: Source>(alloc: Global, input: &mut R) -> Result<Vec<u
     ensures within { IfOk result (λ text. length text.items ≤ most_octets) }
     ensures unread { IfErr result (λ status. (output : List ℕ → Output) (out : Told) → CommandAt output status (R.told input.old) (R.told input.new) out out) }
     ensures which { IfErr result IsUnread }
+    ensures memory { IfErr result (λ status. status ≡ Status.Memory → WasRefused) }
     ensures holds { IfErr result (λ status. (command : TextCommand) → HoldsOf command status (R.told input.old)) }
     ensures no_fault { result ≢ Err Status.ReadFault → NoFault (R.told input.old) (R.told input.new) }
     ensures input { UsedAsSource (R.told input.old) (R.told input.new) }

@@ -1,3 +1,4 @@
+ghost use Rattle.growth.specs.Growth.{WasRefused};
 ghost use Rattle.std.specs.Prelude.{◌≡◌, ◌≢◌, ◌↔◌, ℕ, List, Ok, Err, IfOk, IfErr, IsTrue};
 ghost use Rattle.edge_io.specs.Cause.{NoFault};
 ghost use Rattle.edge_io.specs.Used.{UsedAsSink};
@@ -17,6 +18,7 @@ pub(crate) fn report_run<W: Sink>(alloc: Global, octets: &[u8], out: &mut W) -> 
     requires { IsTrue (W.told out.old).ready }
     ensures text { WritesAt (run_output octets.now) result (W.told out.old) (W.told out.new) }
     ensures headline { WhereRun (HasHeadline octets.now) result }
+    ensures memory { result ≡ Status.Memory → WasRefused }
     ensures no_refusal { result ≡ Status.Memory → (run_output octets.now).ends ≡ Status.Refused → out.new ≡ out.old }
     ensures no_fault { result ≢ Status.WriteFault → NoFault (W.told out.old) (W.told out.new) }
     ensures out { UsedAsSink (W.told out.old) (W.told out.new) }
@@ -33,11 +35,13 @@ pub(crate) fn unless_refused<T, W: Sink>(
     reading: Result<T, ScenarioFault>,
     out: &mut W,
 ) -> Result<T, Status>
-    requires { IsTrue (W.told out.old).ready }
+    requires ready { IsTrue (W.told out.old).ready }
+    requires memory { IfErr reading (λ fault. fault ≡ ScenarioFault.Memory → WasRefused) }
     ensures read { IfOk result (λ scenario. (reading ≡ Ok scenario) × (out.new ≡ out.old)) }
     ensures refused { IfErr result (λ status. IsRefused reading status (W.told out.old) (W.told out.new)) }
     ensures memory { (result ≡ Err Status.Memory) ↔ (reading ≡ Err ScenarioFault.Memory) }
     ensures memory_out { result ≡ Err Status.Memory → out.new ≡ out.old }
+    ensures memory_refused { IfErr result (λ status. status ≡ Status.Memory → WasRefused) }
     ensures holds { IfErr result (λ status. (command : TextCommand) (octets : List ℕ) → WhereRun (Holds command octets) status) }
     ensures no_fault { IfErr result (λ status. status ≢ Status.WriteFault → NoFault (W.told out.old) (W.told out.new)) }
     ensures out { UsedAsSink (W.told out.old) (W.told out.new) }
@@ -67,7 +71,8 @@ fn write_refusal<W: Sink>(fault: &ScenarioFault, out: &mut W) -> Status
 
 // The status with which a report ends.
 pub(crate) fn status_of(written: Result<bool, Unwritten>) -> Status
-    ensures { result ≡ status_of written }
+    ensures value { result ≡ status_of written }
+    ensures memory { result ≡ Status.Memory → written ≡ Err Unwritten.Memory }
 {
     match written {
         Ok(false) => Status::Done,

@@ -17,6 +17,7 @@ pub(crate) fn serve<W: Sink, L: Port>(role: Role, out: &mut W, port: &mut L) -> 
     requires role { IsRole role }
     ensures at { ServeAt role result (L.told port.old) (L.told port.new) (W.told out.old) (W.told out.new) }
     ensures complete { ServeIsComplete role result (L.told port.old) (L.told port.new) }
+    ensures no_memory { result ≢ Status.Memory }
     ensures no_port_fault { result ≢ Status.PeerFault → NoFault (L.told port.old) (L.told port.new) }
     ensures port { NoCountFell (L.told port.old) (L.told port.new) }
     ensures no_write_fault { result ≢ Status.WriteFault → NoFault (W.told out.old) (W.told out.new) }
@@ -38,6 +39,7 @@ pub(crate) fn serve<W: Sink, L: Port>(role: Role, out: &mut W, port: &mut L) -> 
 fn say_bad_frame<W: Sink>(place: u64, number: u8, out: &mut W) -> Status
     requires { IsTrue (W.told out.old).ready }
     ensures said { SaidAt (bad_frame_text place number) result (W.told out.old) (W.told out.new) }
+    ensures no_memory { result ≢ Status.Memory }
     ensures no_write_fault { result ≢ Status.WriteFault → NoFault (W.told out.old) (W.told out.new) }
     ensures out { UsedAsSink (W.told out.old) (W.told out.new) }
 {

@@ -5,7 +5,7 @@ ghost use Rattle.std.specs.Prelude.{◌≡◌};
 pub enum Status {
     /// The whole report was written.
     Done,
-    /// Memory ran out.
+    /// Memory ran out: std refused room.
     Memory,
     /// The words are not a command of the program.
     BadWords,

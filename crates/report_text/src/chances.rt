@@ -1,4 +1,5 @@
-ghost use Rattle.std.specs.Prelude.{◌≡◌, IfOk};
+ghost use Rattle.growth.specs.Growth.{WasRefused};
+ghost use Rattle.std.specs.Prelude.{◌≡◌, IfOk, OnErr};
 ghost use Rattle.std.specs.String.{string_bytes};
 ghost use Rattle.hmac_kdf.specs.Kdf.{IsKdfInput};
 ghost use Rattle.report_text.specs.Chance.{rows_text, root_text, tuples_text, direction_name, use_text, sender_text, proof_text, chance_text, HasString};
@@ -13,7 +14,8 @@ use std::alloc::{AllocError, Global};
 /// derivation in the proof is in its range. The one error is want of memory.
 pub fn chance(alloc: Global, step: u32, proof: &Proof) -> Result<Vec<u8>, TextMemory>
     requires { HasString proof.now }
-    ensures { IfOk result (λ text. text.items ≡ chance_text step proof.now) }
+    ensures text { IfOk result (λ text. text.items ≡ chance_text step proof.now) }
+    ensures refused { OnErr result WasRefused }
 {
     let text = whole(alloc, step, proof)?;
     Ok(text.into_bytes())
@@ -22,15 +24,17 @@ pub fn chance(alloc: Global, step: u32, proof: &Proof) -> Result<Vec<u8>, TextMe
 #[tactic(auto, unfolding(crate::specs::Chance::chance_text))]
 fn whole(alloc: Global, step: u32, proof: &Proof) -> Result<String, AllocError>
     requires { HasString proof.now }
-    ensures { IfOk result (λ text. string_bytes text ≡ chance_text step proof.now) }
+    ensures text { IfOk result (λ text. string_bytes text ≡ chance_text step proof.now) }
+    ensures refused { OnErr result WasRefused }
 {
     let proof = proof_text(alloc, proof)?;
-    format!(in alloc; "{step} coincidence {proof}\n")
+    growth::format(alloc, format_args!("{step} coincidence {proof}\n"))
 }
 
 fn proof_text(alloc: Global, proof: &Proof) -> Result<String, AllocError>
     requires { HasString proof.now }
-    ensures { IfOk result (λ text. string_bytes text ≡ proof_text proof.now) }
+    ensures text { IfOk result (λ text. string_bytes text ≡ proof_text proof.now) }
+    ensures refused { OnErr result WasRefused }
 {
     match proof {
         Proof::Rows(row, made) => rows_text(alloc, *row, made),
@@ -43,51 +47,56 @@ fn proof_text(alloc: Global, proof: &Proof) -> Result<String, AllocError>
 #[tactic(auto, unfolding(crate::specs::Chance::rows_text))]
 fn rows_text(alloc: Global, row: Row, made: &Derived) -> Result<String, AllocError>
     requires { IsKdfInput made.now.input }
-    ensures { IfOk result (λ text. string_bytes text ≡ rows_text row made.now) }
+    ensures text { IfOk result (λ text. string_bytes text ≡ rows_text row made.now) }
+    ensures refused { OnErr result WasRefused }
 {
     let row = row.0;
-    let key = hex::encode(alloc, &made.key)?;
-    let string = hex::encode(alloc, made.input.string().as_slice())?;
-    format!(in alloc; "rows {row} {key} {string}")
+    let key = growth::encode(alloc, &made.key)?;
+    let string = growth::encode(alloc, made.input.string().as_slice())?;
+    growth::format(alloc, format_args!("rows {row} {key} {string}"))
 }
 
 // A root that has a row's octets.
 #[tactic(auto, unfolding(crate::specs::Chance::root_text))]
 fn root_text(alloc: Global, row: Row) -> Result<String, AllocError>
-    ensures { IfOk result (λ text. string_bytes text ≡ root_text row) }
+    ensures text { IfOk result (λ text. string_bytes text ≡ root_text row) }
+    ensures refused { OnErr result WasRefused }
 {
     let row = row.0;
-    format!(in alloc; "root {row}")
+    growth::format(alloc, format_args!("root {row}"))
 }
 
 // The use of the sender, and that of the receiver.
 #[tactic(auto, unfolding(crate::specs::Chance::tuples_text))]
 fn tuples_text(alloc: Global, sender: &Option<Use>, receiver: &Use) -> Result<String, AllocError>
-    ensures { IfOk result (λ text. string_bytes text ≡ tuples_text sender.now receiver.now) }
+    ensures text { IfOk result (λ text. string_bytes text ≡ tuples_text sender.now receiver.now) }
+    ensures refused { OnErr result WasRefused }
 {
     let sender = sender_text(alloc, sender)?;
     let receiver = use_text(alloc, receiver)?;
-    format!(in alloc; "tuples {sender} {receiver}")
+    growth::format(alloc, format_args!("tuples {sender} {receiver}"))
 }
 
 fn sender_text(alloc: Global, sender: &Option<Use>) -> Result<String, AllocError>
-    ensures { IfOk result (λ text. string_bytes text ≡ sender_text sender.now) }
+    ensures text { IfOk result (λ text. string_bytes text ≡ sender_text sender.now) }
+    ensures refused { OnErr result WasRefused }
 {
     match sender {
-        None => format!(in alloc; "nobody"),
+        None => growth::format(alloc, format_args!("nobody")),
         Some(used) => use_text(alloc, used),
     }
 }
 
 #[tactic(auto, unfolding(crate::specs::Chance::use_text))]
 fn use_text(alloc: Global, used: &Use) -> Result<String, AllocError>
-    ensures { IfOk result (λ text. string_bytes text ≡ use_text used.now) }
+    ensures text { IfOk result (λ text. string_bytes text ≡ use_text used.now) }
+    ensures refused { OnErr result WasRefused }
 {
-    let key = hex::encode(alloc, &used.key)?;
+    let key = growth::encode(alloc, &used.key)?;
     let count = used.count;
     let bearer = used.bearer;
     let direction = direction_name(used.dir);
-    format!(in alloc; "{key}/{count}/{bearer}/{direction}")
+    growth::format(alloc, format_args!("{key}/{count}/{bearer}/{direction}"))
 }
 
 fn direction_name(dir: Dir) -> &'static str

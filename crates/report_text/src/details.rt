@@ -1,5 +1,6 @@
 // The values that an answer keeps.
-ghost use Rattle.std.specs.Prelude.{◌≡◌, IfOk};
+ghost use Rattle.growth.specs.Growth.{WasRefused};
+ghost use Rattle.std.specs.Prelude.{◌≡◌, IfOk, OnErr};
 ghost use Rattle.std.specs.String.{string_bytes};
 ghost use Rattle.report_text.specs.Details.{algs_digits, fault_number, fault_place, caps_text, mac_text, details_text};
 
@@ -9,37 +10,47 @@ use rec_base::RecFault;
 use std::alloc::{AllocError, Global};
 
 pub(crate) fn details_text(alloc: Global, answer: &Answer) -> Result<String, AllocError>
-    ensures { IfOk result (λ text. string_bytes text ≡ details_text answer.now) }
+    ensures text { IfOk result (λ text. string_bytes text ≡ details_text answer.now) }
+    ensures refused { OnErr result WasRefused }
 {
     match *answer {
-        Answer::WrongKsi(held, got) => format!(in alloc; " held={held} got={got}"),
+        Answer::WrongKsi(held, got) => growth::format(
+            alloc,
+            format_args!(" held={held} got={got}"),
+        ),
         Answer::CapsMismatch(own, got) => caps_text(alloc, own, got),
         Answer::AlgUnsupported(algs) => {
             let algs = algs_digits(algs);
-            format!(in alloc; " algs={algs}")
+            growth::format(alloc, format_args!(" algs={algs}"))
         }
         Answer::MacFails(count, wanted, got) => mac_text(alloc, count, wanted, got),
         Answer::BadRecord(fault) => {
             let number = fault_number(fault);
             let place = fault_place(fault);
-            format!(in alloc; " fault={number} place={place}")
+            growth::format(alloc, format_args!(" fault={number} place={place}"))
         }
         Answer::BadHeader(octet) => {
-            let hex = hex::encode(alloc, &[octet])?;
-            format!(in alloc; " octet={hex}")
+            let hex = growth::encode(alloc, &[octet])?;
+            growth::format(alloc, format_args!(" octet={hex}"))
         }
         Answer::WrongKind(kind) => {
-            let hex = hex::encode(alloc, &[kind])?;
-            format!(in alloc; " kind={hex}")
+            let hex = growth::encode(alloc, &[kind])?;
+            growth::format(alloc, format_args!(" kind={hex}"))
         }
         Answer::Stale(outstanding, got) => {
-            format!(in alloc; " outstanding={outstanding} got={got}")
+            growth::format(alloc, format_args!(" outstanding={outstanding} got={got}"))
         }
-        Answer::OldConnection(held, got) => format!(in alloc; " held={held} got={got}"),
-        Answer::AttemptOpen(number) => format!(in alloc; " number={number}"),
-        Answer::Repeated(seen, got) => format!(in alloc; " seen={seen} got={got}"),
-        Answer::Sent(record) => format!(in alloc; " record={record}"),
-        Answer::RepeatedRoot(row) => format!(in alloc; " row={row}"),
+        Answer::OldConnection(held, got) => growth::format(
+            alloc,
+            format_args!(" held={held} got={got}"),
+        ),
+        Answer::AttemptOpen(number) => growth::format(alloc, format_args!(" number={number}")),
+        Answer::Repeated(seen, got) => growth::format(
+            alloc,
+            format_args!(" seen={seen} got={got}"),
+        ),
+        Answer::Sent(record) => growth::format(alloc, format_args!(" record={record}")),
+        Answer::RepeatedRoot(row) => growth::format(alloc, format_args!(" row={row}")),
         Answer::Done
         | Answer::NoContext
         | Answer::CountSpent
@@ -67,20 +78,25 @@ pub(crate) fn details_text(alloc: Global, answer: &Answer) -> Result<String, All
 
 #[tactic(auto, unfolding(crate::specs::Details::caps_text))]
 fn caps_text(alloc: Global, own: Caps, got: Caps) -> Result<String, AllocError>
-    ensures { IfOk result (λ text. string_bytes text ≡ caps_text own got) }
+    ensures text { IfOk result (λ text. string_bytes text ≡ caps_text own got) }
+    ensures refused { OnErr result WasRefused }
 {
-    let own = hex::encode(alloc, &[own.eea, own.eia])?;
-    let got = hex::encode(alloc, &[got.eea, got.eia])?;
-    format!(in alloc; " own={own} got={got}")
+    let own = growth::encode(alloc, &[own.eea, own.eia])?;
+    let got = growth::encode(alloc, &[got.eea, got.eia])?;
+    growth::format(alloc, format_args!(" own={own} got={got}"))
 }
 
 #[tactic(auto, unfolding(crate::specs::Details::mac_text))]
 fn mac_text(alloc: Global, count: u32, wanted: [u8; 4], got: [u8; 4]) -> Result<String, AllocError>
-    ensures { IfOk result (λ text. string_bytes text ≡ mac_text count wanted got) }
+    ensures text { IfOk result (λ text. string_bytes text ≡ mac_text count wanted got) }
+    ensures refused { OnErr result WasRefused }
 {
-    let wanted = hex::encode(alloc, &wanted)?;
-    let got = hex::encode(alloc, &got)?;
-    format!(in alloc; " count={count} wanted={wanted} got={got}")
+    let wanted = growth::encode(alloc, &wanted)?;
+    let got = growth::encode(alloc, &got)?;
+    growth::format(
+        alloc,
+        format_args!(" count={count} wanted={wanted} got={got}"),
+    )
 }
 
 // The octet of the algorithms in a record.

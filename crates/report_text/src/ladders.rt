@@ -1,4 +1,5 @@
-ghost use Rattle.std.specs.Prelude.{◌≡◌, ℕ, ◌<◌, ◌∷◌, ◌++◌, [], Some, length, slice_get, IfOk, OnOk};
+ghost use Rattle.growth.specs.Growth.{WasRefused};
+ghost use Rattle.std.specs.Prelude.{◌≡◌, ℕ, ◌<◌, ◌∷◌, ◌++◌, [], Some, length, slice_get, IfOk, OnOk, OnErr};
 ghost use Rattle.std.specs.String.{string_bytes};
 ghost use Rattle.key_terms.specs.Ladder.{row_of};
 ghost use Rattle.report_text.specs.Ladder.{of_two, of_three, sync_row, input_text, form_text, form_at, if_held, each_holder, without_comma, row_head, row_text, ladder_text};
@@ -11,7 +12,8 @@ use std::alloc::{AllocError, Global};
 /// The lines of a report for the rows of a ladder, in ASCII, each with the LF that ends it. The one error is want
 /// of memory.
 pub fn ladder_text(alloc: Global, ladder: &Ladder) -> Result<Vec<u8>, TextMemory>
-    ensures { IfOk result (λ text. text.items ≡ ladder_text ladder.now.rows) }
+    ensures text { IfOk result (λ text. text.items ≡ ladder_text ladder.now.rows) }
+    ensures refused { OnErr result WasRefused }
 {
     let mut text = Vec::new(alloc);
     for k in 0..ladder.len() {
@@ -24,7 +26,8 @@ pub fn ladder_text(alloc: Global, ladder: &Ladder) -> Result<Vec<u8>, TextMemory
 /// error is want of memory.
 pub fn form(alloc: Global, ladder: &Ladder, row: Row) -> Result<Vec<u8>, TextMemory>
     requires { row.0 < length ladder.now.rows }
-    ensures { IfOk result (λ text. text.items ≡ form_at ladder.now.rows row.0) }
+    ensures text { IfOk result (λ text. text.items ≡ form_at ladder.now.rows row.0) }
+    ensures refused { OnErr result WasRefused }
 {
     let text = form_text(alloc, ladder, &ladder.row(row).origin)?;
     Ok(text.into_bytes())
@@ -34,7 +37,8 @@ pub fn form(alloc: Global, ladder: &Ladder, row: Row) -> Result<Vec<u8>, TextMem
 /// is want of memory.
 pub fn row_line(alloc: Global, ladder: &Ladder, row: Row) -> Result<Vec<u8>, TextMemory>
     requires { row.0 < length ladder.now.rows }
-    ensures { IfOk result (λ text. (r : LadderRow) → slice_get ladder.now.rows row.0 ≡ Some r → text.items ≡ row_text ladder.now.rows row.0 r) }
+    ensures text { IfOk result (λ text. (r : LadderRow) → slice_get ladder.now.rows row.0 ≡ Some r → text.items ≡ row_text ladder.now.rows row.0 r) }
+    ensures refused { OnErr result WasRefused }
 {
     let mut text = Vec::new(alloc);
     add_row(alloc, &mut text, ladder, row)?;
@@ -44,7 +48,8 @@ pub fn row_line(alloc: Global, ladder: &Ladder, row: Row) -> Result<Vec<u8>, Tex
 // Appends the line of a row.
 fn add_row(alloc: Global, text: &mut Vec<u8>, ladder: &Ladder, row: Row) -> Result<(), AllocError>
     requires { row.0 < length ladder.now.rows }
-    ensures { OnOk result ((r : LadderRow) → slice_get ladder.now.rows row.0 ≡ Some r → text.new.items ≡ text.old.items ++ row_text ladder.now.rows row.0 r) }
+    ensures text { OnOk result ((r : LadderRow) → slice_get ladder.now.rows row.0 ≡ Some r → text.new.items ≡ text.old.items ++ row_text ladder.now.rows row.0 r) }
+    ensures refused { OnErr result WasRefused }
 {
     let stands = ladder.row(row);
     let head = row_head(alloc, ladder, row.0, &stands)?;
@@ -54,29 +59,32 @@ fn add_row(alloc: Global, text: &mut Vec<u8>, ladder: &Ladder, row: Row) -> Resu
 
 // Appends the two parts of a line, and the LF that ends it.
 fn add_line(text: &mut Vec<u8>, head: &[u8], holders: &[u8]) -> Result<(), AllocError>
-    ensures { OnOk result (text.new.items ≡ text.old.items ++ (head.now ++ (holders.now ++ 10 ∷ []))) }
+    ensures text { OnOk result (text.new.items ≡ text.old.items ++ (head.now ++ (holders.now ++ 10 ∷ []))) }
+    ensures refused { OnErr result WasRefused }
 {
-    text.extend_from_slice(head)?;
-    text.extend_from_slice(holders)?;
-    text.extend_from_slice(b"\n")
+    growth::extend_from_slice(text, head)?;
+    growth::extend_from_slice(text, holders)?;
+    growth::extend_from_slice(text, b"\n")
 }
 
 // The line of a row up to its holders.
 #[tactic(auto, unfolding(crate::specs::Ladder::row_head))]
 fn row_head(alloc: Global, ladder: &Ladder, k: u32, row: &LadderRow) -> Result<String, AllocError>
-    ensures { IfOk result (λ text. string_bytes text ≡ row_head ladder.now.rows k row.now) }
+    ensures text { IfOk result (λ text. string_bytes text ≡ row_head ladder.now.rows k row.now) }
+    ensures refused { OnErr result WasRefused }
 {
     let form = form_text(alloc, ladder, &row.origin)?;
-    let octets = hex::encode(alloc, &row.octets)?;
-    format!(in alloc; "row {k} {form} {octets} ")
+    let octets = growth::encode(alloc, &row.octets)?;
+    growth::format(alloc, format_args!("row {k} {form} {octets} "))
 }
 
 // What a row is: a root, or a derivation.
 fn form_text(alloc: Global, ladder: &Ladder, origin: &Origin) -> Result<String, AllocError>
-    ensures { IfOk result (λ text. string_bytes text ≡ form_text ladder.now.rows origin.now) }
+    ensures text { IfOk result (λ text. string_bytes text ≡ form_text ladder.now.rows origin.now) }
+    ensures refused { OnErr result WasRefused }
 {
     match origin {
-        Origin::Root => format!(in alloc; "root"),
+        Origin::Root => growth::format(alloc, format_args!("root")),
         Origin::From(key, input) => input_text(alloc, ladder, *key, input),
     }
 }
@@ -87,7 +95,8 @@ fn input_text(
     key: Row,
     input: &KdfInput,
 ) -> Result<String, AllocError>
-    ensures { IfOk result (λ text. string_bytes text ≡ input_text ladder.now.rows key input.now) }
+    ensures text { IfOk result (λ text. string_bytes text ≡ input_text ladder.now.rows key input.now) }
+    ensures refused { OnErr result WasRefused }
 {
     match input {
         KdfInput::Kenb(count) => of_two(alloc, "kenb", key.0, *count),
@@ -111,22 +120,25 @@ fn sync_row(ladder: &Ladder, sync: &[u8; 32]) -> u32
 
 #[tactic(auto, unfolding(crate::specs::Ladder::of_two))]
 fn of_two(alloc: Global, name: &str, a: u32, b: u32) -> Result<String, AllocError>
-    ensures { IfOk result (λ text. string_bytes text ≡ of_two name.now a b) }
+    ensures text { IfOk result (λ text. string_bytes text ≡ of_two name.now a b) }
+    ensures refused { OnErr result WasRefused }
 {
-    format!(in alloc; "{name}({a},{b})")
+    growth::format(alloc, format_args!("{name}({a},{b})"))
 }
 
 #[tactic(auto, unfolding(crate::specs::Ladder::of_three))]
 fn of_three(alloc: Global, name: &str, a: u32, b: u32, c: u32) -> Result<String, AllocError>
-    ensures { IfOk result (λ text. string_bytes text ≡ of_three name.now a b c) }
+    ensures text { IfOk result (λ text. string_bytes text ≡ of_three name.now a b c) }
+    ensures refused { OnErr result WasRefused }
 {
-    format!(in alloc; "{name}({a},{b},{c})")
+    growth::format(alloc, format_args!("{name}({a},{b},{c})"))
 }
 
 // The holders of a row, each behind a comma.
 #[tactic(auto, unfolding(crate::specs::Ladder::each_holder))]
 pub(crate) fn each_holder(alloc: Global, row: &LadderRow) -> Result<String, AllocError>
-    ensures { IfOk result (λ text. string_bytes text ≡ each_holder row.now) }
+    ensures text { IfOk result (λ text. string_bytes text ≡ each_holder row.now) }
+    ensures refused { OnErr result WasRefused }
 {
     let phone = if_held(row.phone, ",P");
     let core = if_held(row.core, ",C");
@@ -138,7 +150,10 @@ pub(crate) fn each_holder(alloc: Global, row: &LadderRow) -> Result<String, Allo
     let s5 = if_held(row.stations[5], ",S5");
     let s6 = if_held(row.stations[6], ",S6");
     let s7 = if_held(row.stations[7], ",S7");
-    format!(in alloc; "{phone}{core}{s0}{s1}{s2}{s3}{s4}{s5}{s6}{s7}")
+    growth::format(
+        alloc,
+        format_args!("{phone}{core}{s0}{s1}{s2}{s3}{s4}{s5}{s6}{s7}"),
+    )
 }
 
 fn if_held(held: bool, name: &'static str) -> &'static str

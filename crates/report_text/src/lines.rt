@@ -1,4 +1,5 @@
-ghost use Rattle.std.specs.Prelude.{◌≡◌, IfOk};
+ghost use Rattle.growth.specs.Growth.{WasRefused};
+ghost use Rattle.std.specs.Prelude.{◌≡◌, IfOk, OnErr};
 ghost use Rattle.std.specs.String.{string_bytes};
 ghost use Rattle.report_text.specs.Line.{who_text, class_name, sent_text, opened_text, way_name, key_note_text, note_text, alarm_text, line_text};
 
@@ -10,7 +11,8 @@ use std::alloc::{AllocError, Global};
 
 /// The line of a report for an event, in ASCII, with the LF that ends it. The one error is want of memory.
 pub fn line(alloc: Global, line: &Line) -> Result<Vec<u8>, TextMemory>
-    ensures { IfOk result (λ text. text.items ≡ line_text line.now) }
+    ensures text { IfOk result (λ text. text.items ≡ line_text line.now) }
+    ensures refused { OnErr result WasRefused }
 {
     let text = whole(alloc, line)?;
     Ok(text.into_bytes())
@@ -18,7 +20,8 @@ pub fn line(alloc: Global, line: &Line) -> Result<Vec<u8>, TextMemory>
 
 #[tactic(auto, unfolding(crate::specs::Line::line_text))]
 fn whole(alloc: Global, line: &Line) -> Result<String, AllocError>
-    ensures { IfOk result (λ text. string_bytes text ≡ line_text line.now) }
+    ensures text { IfOk result (λ text. string_bytes text ≡ line_text line.now) }
+    ensures refused { OnErr result WasRefused }
 {
     let step = line.step;
     let who = who_text(alloc, line.who)?;
@@ -28,31 +31,36 @@ fn whole(alloc: Global, line: &Line) -> Result<String, AllocError>
     let opened = opened_text(alloc, &line.opened)?;
     let note = note_text(alloc, &line.note)?;
     let alarm = alarm_text(line.alarm);
-    format!(in alloc; "{step} {who} {answer}{details}{sent}{opened}{note}{alarm}\n")
+    growth::format(
+        alloc,
+        format_args!("{step} {who} {answer}{details}{sent}{opened}{note}{alarm}\n"),
+    )
 }
 
 // Who acted.
 fn who_text(alloc: Global, who: Who) -> Result<String, AllocError>
-    ensures { IfOk result (λ text. string_bytes text ≡ who_text who) }
+    ensures text { IfOk result (λ text. string_bytes text ≡ who_text who) }
+    ensures refused { OnErr result WasRefused }
 {
     match who {
-        Who::Both => format!(in alloc; "both"),
-        Who::World => format!(in alloc; "world"),
-        Who::Phone => format!(in alloc; "phone"),
-        Who::Core => format!(in alloc; "core"),
-        Who::Station(id) => format!(in alloc; "station {id}"),
+        Who::Both => growth::format(alloc, format_args!("both")),
+        Who::World => growth::format(alloc, format_args!("world")),
+        Who::Phone => growth::format(alloc, format_args!("phone")),
+        Who::Core => growth::format(alloc, format_args!("core")),
+        Who::Station(id) => growth::format(alloc, format_args!("station {id}")),
     }
 }
 
 // The record sent.
 fn sent_text(alloc: Global, sent: Option<(u32, Class)>) -> Result<String, AllocError>
-    ensures { IfOk result (λ text. string_bytes text ≡ sent_text sent) }
+    ensures text { IfOk result (λ text. string_bytes text ≡ sent_text sent) }
+    ensures refused { OnErr result WasRefused }
 {
     match sent {
         None => Ok(String::new(alloc)),
         Some((record, class)) => {
             let class = class_name(class);
-            format!(in alloc; " sent={record}:{class}")
+            growth::format(alloc, format_args!(" sent={record}:{class}"))
         }
     }
 }
@@ -70,20 +78,22 @@ fn class_name(class: Class) -> &'static str
 
 // The text that was opened, which may be empty.
 fn opened_text(alloc: Global, opened: &Option<UserText>) -> Result<String, AllocError>
-    ensures { IfOk result (λ text. string_bytes text ≡ opened_text opened.now) }
+    ensures text { IfOk result (λ text. string_bytes text ≡ opened_text opened.now) }
+    ensures refused { OnErr result WasRefused }
 {
     match opened {
         None => Ok(String::new(alloc)),
         Some(octets) => {
-            let hex = hex::encode(alloc, octets.as_slice())?;
-            format!(in alloc; " text={hex}")
+            let hex = growth::encode(alloc, octets.as_slice())?;
+            growth::format(alloc, format_args!(" text={hex}"))
         }
     }
 }
 
 // What is told of a key.
 fn note_text(alloc: Global, note: &Option<KeyNote>) -> Result<String, AllocError>
-    ensures { IfOk result (λ text. string_bytes text ≡ note_text note.now) }
+    ensures text { IfOk result (λ text. string_bytes text ≡ note_text note.now) }
+    ensures refused { OnErr result WasRefused }
 {
     match note {
         None => Ok(String::new(alloc)),
@@ -93,12 +103,13 @@ fn note_text(alloc: Global, note: &Option<KeyNote>) -> Result<String, AllocError
 
 #[tactic(auto, unfolding(crate::specs::Line::key_note_text))]
 fn key_note_text(alloc: Global, note: &KeyNote) -> Result<String, AllocError>
-    ensures { IfOk result (λ text. string_bytes text ≡ key_note_text note.now) }
+    ensures text { IfOk result (λ text. string_bytes text ≡ key_note_text note.now) }
+    ensures refused { OnErr result WasRefused }
 {
     let ncc = note.ncc;
     let way = way_name(note.way);
-    let key = hex::encode(alloc, &note.key)?;
-    format!(in alloc; " ncc={ncc} way={way} key={key}")
+    let key = growth::encode(alloc, &note.key)?;
+    growth::format(alloc, format_args!(" ncc={ncc} way={way} key={key}"))
 }
 
 fn way_name(way: Way) -> &'static str

@@ -1,4 +1,5 @@
-ghost use Rattle.std.specs.Prelude.{◌≡◌, ◌+◌, ◌<◌, ◌^◌, [], ◌∷◌, ◌++◌, List, IfOk};
+ghost use Rattle.growth.specs.Growth.{WasRefused};
+ghost use Rattle.std.specs.Prelude.{◌≡◌, ◌+◌, ◌<◌, ◌^◌, [], ◌∷◌, ◌++◌, List, IfOk, OnErr};
 ghost use Rattle.std.specs.String.{string_bytes};
 ghost use Rattle.lte_events.specs.declared.lines.Line.{Line};
 ghost use Rattle.report_text.specs.Summary.{is_refused, is_handover, is_vertical, tally_of, figures, name_of, number_of, figure_text};
@@ -141,7 +142,8 @@ pub fn summary_line(
     rows: u32,
     figure: Figure,
 ) -> Result<Vec<u8>, TextMemory>
-    ensures { IfOk result (λ text. text.items ≡ figure_text tally.now rows figure) }
+    ensures text { IfOk result (λ text. text.items ≡ figure_text tally.now rows figure) }
+    ensures refused { OnErr result WasRefused }
 {
     let text = figure_text(alloc, tally, rows, figure)?;
     Ok(text.into_bytes())
@@ -154,11 +156,12 @@ fn figure_text(
     rows: u32,
     figure: Figure,
 ) -> Result<String, AllocError>
-    ensures { IfOk result (λ text. string_bytes text ≡ figure_text tally.now rows figure) }
+    ensures text { IfOk result (λ text. string_bytes text ≡ figure_text tally.now rows figure) }
+    ensures refused { OnErr result WasRefused }
 {
     let name = figure.name();
     let number = tally.number(rows, figure);
-    format!(in alloc; "{name} {number}\n")
+    growth::format(alloc, format_args!("{name} {number}\n"))
 }
 
 fn is_refused(line: &Line) -> bool

@@ -7,6 +7,7 @@ use Rattle.edge_io.specs.Told.{Told}
 use Rattle.edge_io.specs.Cause.{NoFault}
 use Rattle.edge_io.specs.Octets.{Grows, GrowsByPrefix, GrowsByProperPrefix}
 use Rattle.edge_io.specs.Used.{UsedAsSink}
+use Rattle.growth.specs.Growth.{WasRefused}
 use Rattle.run_report.specs.declared.unwritten.Unwritten.{Unwritten}
 use Rattle.run_report.specs.declared.unwritten.Unwritten.TheVariants.{Memory, WriteFault}
 use Rattle.run_report.specs.Report.{Report, before}
@@ -85,13 +86,19 @@ pub all_written : {A : Type 0} {done : A} {whole rest : List ℕ} {first now : T
 all_written {whole} {first} {now} s none = record {
   written = subst (Grows first.written now.written) (sym (s.parts ∙ ap (λ r. s.front ++ r) none ∙ append-nil s.front)) s.grown;
   no_fault = λ differs. s.no_fault;
+  refused = λ e. cc;
   used = s.used;
 }
 
 -- a piece that was cut
 pub cut_written : {A B : Type 0} {fault : Unwritten} {whole rest piece left : List ℕ} {first mid now : Told} → Partly whole rest first mid → Begins rest piece left → WritesText {A = A} piece (Err fault) mid now
     → WritesText {A = B} whole (Err fault) first now
-cut_written {A} {B} {fault} {whole} {rest} {piece} {left} {first} {mid} {now} s begins w = record { written = by fault w.written; no_fault = λ differs. no_fault_on s.no_fault (w.no_fault (clear fault differs)); used = used_on s.used w.used }
+cut_written {A} {B} {fault} {whole} {rest} {piece} {left} {first} {mid} {now} s begins w = record {
+  written = by fault w.written;
+  no_fault = λ differs. no_fault_on s.no_fault (w.no_fault (clear fault differs));
+  refused = λ e. w.refused (same fault e);
+  used = used_on s.used w.used;
+}
   where
     parts : whole ≡ (s.front ++ piece) ++ left
     parts = s.parts ∙ ap (λ r. s.front ++ r) begins.is ∙ sym (append_assoc s.front piece left)
@@ -106,6 +113,10 @@ cut_written {A} {B} {fault} {whole} {rest} {piece} {left} {first} {mid} {now} s 
     clear : (f : Unwritten) → ◌≢◌ {A = Result B Unwritten} (Err f) (Err WriteFault) → ◌≢◌ {A = Result A Unwritten} (Err f) (Err WriteFault)
     clear Memory differs = λ e. cc
     clear WriteFault differs = absurd (differs refl)
+
+    same : (f : Unwritten) → ◌≡◌ {A = Result B Unwritten} (Err f) (Err Memory) → ◌≡◌ {A = Result A Unwritten} (Err f) (Err Memory)
+    same Memory e = refl
+    same WriteFault e = cc
 
 -- the last piece
 pub last_written : {A B : Type 0} {done : A} {more : B} {whole rest : List ℕ} {first mid now : Told} → Partly whole rest first mid → WritesText rest (Ok done) mid now → WritesText whole (Ok more) first now
@@ -123,8 +134,8 @@ pub first_cut : {A B : Type 0} {fault : Unwritten} {first now : Told} (one two :
 first_cut {first} one two ready cut = cut_written (none_written (one ++ two) first ready) (two_left one two) cut
 
 -- nothing, for want of memory
-pub unwritten : {A : Type 0} (text : List ℕ) (now : Told) → IsTrue now.ready → WritesText {A = A} text (Err Memory) now now
-unwritten text now ready = record { written = none_of now.written text; no_fault = λ differs. record { reads = refl; writes = refl; opens = refl }; used = unused now ready }
+pub unwritten : {A : Type 0} (text : List ℕ) (now : Told) → WasRefused → IsTrue now.ready → WritesText {A = A} text (Err Memory) now now
+unwritten text now refused ready = record { written = none_of now.written text; no_fault = λ differs. record { reads = refl; writes = refl; opens = refl }; refused = λ e. refused; used = unused now ready }
 
 -- A REPORT
 
@@ -175,8 +186,8 @@ cut_reported {rest} {piece} {left} s follows w =
     record { text = cut_written s.text begins w.text; coincidence = tt }
 
 -- nothing, for want of memory
-pub unreported : (report : Report) (now : Told) → IsTrue now.ready → WritesReport report (Err Memory) now now
-unreported report now ready = record { text = unwritten report.text now ready; coincidence = tt }
+pub unreported : (report : Report) (now : Told) → WasRefused → IsTrue now.ready → WritesReport report (Err Memory) now now
+unreported report now refused ready = record { text = unwritten report.text now refused ready; coincidence = tt }
 
 -- its end
 pub end_reported : {A : Type 0} {done : A} {whole rest : Report} {text : List ℕ} {first mid now : Told} → ReportPartly whole rest first mid → rest ≡ record { text = text; coincides = false } → WritesText text (Ok done) mid now
@@ -191,7 +202,7 @@ end_cut {whole} {first} {mid} s is w = record { text = last_cut (subst (λ r. Pa
 -- a report of one piece
 pub one_piece : {A : Type 0} {done : A} {b : Bool} {report : Report} {text : List ℕ} {first now : Told} → report ≡ record { text = text; coincides = b } → WritesText text (Ok done) first now → WritesReport report (Ok b) first now
 one_piece {b} {first} {now} is w =
-    subst (λ r. WritesReport r (Ok b) first now) (sym is) (record { text = record { written = w.written; no_fault = λ differs. w.no_fault (λ e. cc); used = w.used }; coincidence = refl })
+    subst (λ r. WritesReport r (Ok b) first now) (sym is) (record { text = record { written = w.written; no_fault = λ differs. w.no_fault (λ e. cc); refused = λ e. cc; used = w.used }; coincidence = refl })
 
 pub one_cut : {A : Type 0} {fault : Unwritten} {b : Bool} {report : Report} {text : List ℕ} {first now : Told} → report ≡ record { text = text; coincides = b } → IsTrue first.ready → WritesText {A = A} text (Err fault) first now
     → WritesReport report (Err fault) first now

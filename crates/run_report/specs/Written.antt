@@ -4,6 +4,7 @@ use Rattle.edge_io.specs.Told.{Told}
 use Rattle.edge_io.specs.Cause.{NoFault, Rose}
 use Rattle.edge_io.specs.Octets.{Grows, GrowsByPrefix, GrowsByProperPrefix}
 use Rattle.edge_io.specs.Used.{UsedAsSink}
+use Rattle.growth.specs.Growth.{WasRefused}
 use Rattle.run_report.specs.declared.unwritten.Unwritten.{Unwritten}
 use Rattle.run_report.specs.declared.unwritten.Unwritten.TheVariants.{Memory, WriteFault}
 use Rattle.run_report.specs.Report.{Report}
@@ -14,10 +15,11 @@ Written text (Ok done) out out' = Grows out.written out'.written text
 Written text (Err Memory) out out' = GrowsByPrefix out.written out'.written text
 Written text (Err WriteFault) out out' = Rose out.write_faults out'.write_faults × GrowsByProperPrefix out.written out'.written text
 
--- What a call did that writes a text to a sink. Only where it answers so did the sink fail.
+-- What a call did that writes a text to a sink. Only where it answers so did the sink fail, or std refuse memory.
 pub record WritesText {A : Type 0} (text : List ℕ) (result : Result A Unwritten) (out out' : Told) : Type 0 where
   pub written : Written text result out out'
   pub no_fault : result ≢ Err WriteFault → NoFault out out'
+  pub refused : result ≡ Err Memory → WasRefused
   pub used : UsedAsSink out out'
 
 -- And one that writes a report: its answer is whether a coincidence ends it.

@@ -1,5 +1,6 @@
 // A run, to its end or to the first coincidence.
-ghost use Rattle.std.specs.Prelude.{◌≡◌, [], IfOk, OnOk, OnErr};
+ghost use Rattle.growth.specs.Growth.{WasRefused};
+ghost use Rattle.std.specs.Prelude.{◌≡◌, [], Err, IfOk, OnOk, OnErr};
 ghost use Rattle.lte_world.specs.Whole.{begun, run_of};
 ghost use Rattle.report_text.specs.Summary.{tally_of};
 ghost use Rattle.run_report.specs.Counted.{ComesOut, Tells};
@@ -21,7 +22,7 @@ pub enum Course {
 }
 
 /// Lets these events happen to a system that has just begun, one after the other, to the first coincidence, and
-/// counts their lines. `Memory` where memory runs out.
+/// counts their lines. `Memory` where std refuses memory.
 pub fn run_through(
     world: &mut World,
     events: &Events,
@@ -30,7 +31,8 @@ pub fn run_through(
     requires begun { world.old ≡ begun world.old.setup }
     requires ready { Ready world.old.setup events.now.items }
     requires none { tally.old ≡ tally_of [] }
-    ensures { IfOk result (ComesOut world.old.setup events.now.items tally.new (run_of world.new)) }
+    ensures comes_out { IfOk result (ComesOut world.old.setup events.now.items tally.new (run_of world.new)) }
+    ensures refused { OnErr result WasRefused }
 {
     for number in 0..events.len() {
         let event = events.at(number);
@@ -52,6 +54,7 @@ pub(crate) fn happen(world: &mut World, event: &Event) -> Result<Line, WorldFaul
     ensures tells { Tells (told_of (run_of world.old) event.now) result }
     ensures takes { OnOk result (Takes world.old event.now world.new) }
     ensures same { OnErr result (world.new.journal ≡ world.old.journal) }
+    ensures refused { result ≡ Err WorldFault.Memory → WasRefused }
 {
     match world.reserve() {
         Ok(()) => {}

@@ -1,4 +1,5 @@
-ghost use Rattle.std.specs.Prelude.{◌≡◌, ◌≤◌, ℕ, List, true, false, Ok, length, IfOk, IsTrue};
+ghost use Rattle.growth.specs.Growth.{WasRefused};
+ghost use Rattle.std.specs.Prelude.{◌≡◌, ◌≤◌, ℕ, List, true, false, Ok, length, IfOk, OnErr, IsTrue};
 ghost use Rattle.edge_io.specs.Lines.{are_lines};
 ghost use Rattle.lte_world.specs.Whole.{most_events, run_of};
 ghost use Rattle.report_text.specs.Chance.{chance_text};
@@ -19,7 +20,7 @@ use std::alloc::Global;
 
 /// Lets these events happen to a system, and writes the report of them: a line for each event by one
 /// `write_all`, and after the last how many events, records and rows there were, and the rows. A coincidence
-/// ends the report, and the answer is whether there was one. `Memory` if memory runs out, and `WriteFault`
+/// ends the report, and the answer is whether there was one. `Memory` if std refuses memory, and `WriteFault`
 /// if the output fails; a prefix is then written.
 pub fn write_run<W: Sink>(
     alloc: Global,
@@ -120,11 +121,12 @@ pub fn write_end<W: Sink>(alloc: Global, world: &World, out: &mut W) -> Result<(
     }
 }
 
-/// Writes a text, which is whole lines. `Memory` where there was none for the text, and `WriteFault` where the
+/// Writes a text, which is whole lines. `Memory` where std refused it to the text, and `WriteFault` where the
 /// output fails.
 pub fn write_text<W: Sink, E: Drop>(text: Result<Vec<u8>, E>, out: &mut W) -> Result<(), Unwritten>
     requires out_ready { IsTrue (W.told out.old).ready }
     requires lines { IfOk text (λ t. are_lines t.items ≡ true) }
+    requires refused { OnErr text WasRefused }
     ensures { (octets : List ℕ) → IfOk text (λ t. t.items ≡ octets) → WritesText octets result (W.told out.old) (W.told out.new) }
 {
     match text {

@@ -16,7 +16,7 @@ use std::alloc::Global;
 
 /// Lets these events happen to a system, and writes the summary of them, each of its lines by one `write_all`.
 /// At a coincidence it writes only that line, and the answer is whether there was one. `Memory`
-/// if memory runs out, and `WriteFault` if the output fails; a prefix is then written.
+/// if std refuses memory, and `WriteFault` if the output fails; a prefix is then written.
 pub fn write_summary<W: Sink>(
     alloc: Global,
     setup: &Setup,

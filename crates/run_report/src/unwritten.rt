@@ -1,7 +1,7 @@
 /// Why a text was not written to its end.
 #[derive(Clone, Copy, Debug, Drop, PartialEq, Eq)]
 pub enum Unwritten {
-    /// Memory ran out.
+    /// Std refused memory.
     Memory,
     /// The output failed.
     WriteFault,

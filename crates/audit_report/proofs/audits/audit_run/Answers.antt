@@ -10,33 +10,33 @@ use Rattle.audit_report.proofs.audits.audit_run.Goals as goal
 
 pub returns-in-Ok-clause-report : goal.returns-in-Ok-clause-report
 returns-in-Ok-clause-report g c =
-    let ended = subst (ComesOut c.args.world.now.setup c.args.events.now.items c.run_through.new.tally (run_of c.run_through.new.world)) c.in-Ok-Ended.field-0-is c.in-Ok-Ended.ensures in
+    let ended = subst (ComesOut c.args.world.now.setup c.args.events.now.items c.run_through.new.tally (run_of c.run_through.new.world)) c.in-Ok-Ended.field-0-is c.in-Ok-Ended.ensures.comes_out in
     one_piece (audit_ended c.ladder.result.now.rows c.requires.ready ended c.ladder.ensures) c.in-Ok.ensures.text
 
 pub returns-in-Err-write_ladder-clause-report : goal.returns-in-Err-write_ladder-clause-report
 returns-in-Err-write_ladder-clause-report g c =
-    let ended = subst (ComesOut c.args.world.now.setup c.args.events.now.items c.run_through.new.tally (run_of c.run_through.new.world)) c.in-Ok-Ended.field-0-is c.in-Ok-Ended.ensures in
+    let ended = subst (ComesOut c.args.world.now.setup c.args.events.now.items c.run_through.new.tally (run_of c.run_through.new.world)) c.in-Ok-Ended.field-0-is c.in-Ok-Ended.ensures.comes_out in
     one_cut (audit_ended c.ladder.result.now.rows c.requires.ready ended c.ladder.ensures) c.requires.out_ready c.in-Err-write_ladder.ensures.text
 
 pub returns-in-Ok-write_chance-clause-report : goal.returns-in-Ok-write_chance-clause-report
 returns-in-Ok-write_chance-clause-report g c =
-    let chance = subst (ComesOut c.args.world.now.setup c.args.events.now.items c.run_through.new.tally (run_of c.run_through.new.world)) c.in-Ok-Chance.field-0-is c.in-Ok-Chance.ensures in
+    let chance = subst (ComesOut c.args.world.now.setup c.args.events.now.items c.run_through.new.tally (run_of c.run_through.new.world)) c.in-Ok-Chance.field-0-is c.in-Ok-Chance.ensures.comes_out in
     one_piece (audit_chance c.in-Ok-Chance.step c.in-Ok-Chance.proof c.requires.ready chance.0) c.in-Ok-write_chance.ensures
 
 pub returns-in-Err-write_chance-clause-report : goal.returns-in-Err-write_chance-clause-report
 returns-in-Err-write_chance-clause-report g c =
-    let chance = subst (ComesOut c.args.world.now.setup c.args.events.now.items c.run_through.new.tally (run_of c.run_through.new.world)) c.in-Ok-Chance.field-0-is c.in-Ok-Chance.ensures in
+    let chance = subst (ComesOut c.args.world.now.setup c.args.events.now.items c.run_through.new.tally (run_of c.run_through.new.world)) c.in-Ok-Chance.field-0-is c.in-Ok-Chance.ensures.comes_out in
     one_cut (audit_chance c.in-Ok-Chance.step c.in-Ok-Chance.proof c.requires.ready chance.0) c.requires.out_ready c.in-Err-write_chance.ensures
 
 pub returns-in-Ok-clause-exact : goal.returns-in-Ok-clause-exact
 returns-in-Ok-clause-exact g c = λ _.
     let run = run_of c.run_through.new.world in
-    let ended = subst (ComesOut c.args.world.now.setup c.args.events.now.items c.run_through.new.tally run) c.in-Ok-Ended.field-0-is c.in-Ok-Ended.ensures in
+    let ended = subst (ComesOut c.args.world.now.setup c.args.events.now.items c.run_through.new.tally run) c.in-Ok-Ended.field-0-is c.in-Ok-Ended.ensures.comes_out in
     exact_in c.ladder.result.now.rows run (octet_run c.args.world.now.setup c.args.events.now.items) ended.state c.ladder.ensures c.write_ladder.ensures.exact
 
 pub returns-in-Ok-clause-of_run : goal.returns-in-Ok-clause-of_run
 returns-in-Ok-clause-of_run g c = λ _.
     let setup = c.args.world.now.setup in
     let run = run_of c.run_through.new.world in
-    let ended = subst (ComesOut setup c.args.events.now.items c.run_through.new.tally run) c.in-Ok-Ended.field-0-is c.in-Ok-Ended.ensures in
+    let ended = subst (ComesOut setup c.args.events.now.items c.run_through.new.tally run) c.in-Ok-Ended.field-0-is c.in-Ok-Ended.ensures.comes_out in
     audit_of_run setup c.args.events.now.items run c.ladder.result.now.rows c.requires.ready ended.state c.ladder.ensures c.write_ladder.ensures.ladder

@@ -17,15 +17,15 @@ write_chance-requires-clause-string g c =
     (chance_told (away v.cores (station_in v.senders e) e) (acting v.cores (station_in v.senders e)) (length v.events) (told_of v.world e) c.in-Err-Chance.field-0 c.in-Err-Chance.proof c.in-Err-Chance.field-0-is c.in-Err-Chance.ensures.says)
 
 pub write_text-requires-clause-lines : goal.write_text-requires-clause-lines
-write_text-requires-clause-lines g c = text_is _ _ _ c.two_text.ensures (is_lines _ (two_ends c.len-step.result c.in-Ok.line))
+write_text-requires-clause-lines g c = text_is _ _ _ c.two_text.ensures.text (is_lines _ (two_ends c.len-step.result c.in-Ok.line))
 
 pub returns-in-Ok-write_text-clause-report : goal.returns-in-Ok-write_text-clause-report
 returns-in-Ok-write_text-clause-report g c =
-    one_piece (λ j. answer_report (sym (c.len-step.ensures ∙ ap length c.events.ensures) j) (sym (c.in-Ok.ensures.written c.requires.runs (λ same. cc)) j)) (c.in-Ok-write_text.ensures _ c.two_text.ensures)
+    one_piece (λ j. answer_report (sym (c.len-step.ensures ∙ ap length c.events.ensures) j) (sym (c.in-Ok.ensures.written c.requires.runs (λ same. cc)) j)) (c.in-Ok-write_text.ensures _ c.two_text.ensures.text)
 
 pub returns-in-Err-clause-report : goal.returns-in-Err-clause-report
 returns-in-Err-clause-report g c =
-    one_cut (λ j. answer_report (sym (c.len-step.ensures ∙ ap length c.events.ensures) j) (sym (c.in-Ok.ensures.written c.requires.runs (λ same. cc)) j)) c.requires.out_ready (c.in-Err.ensures _ c.two_text.ensures)
+    one_cut (λ j. answer_report (sym (c.len-step.ensures ∙ ap length c.events.ensures) j) (sym (c.in-Ok.ensures.written c.requires.runs (λ same. cc)) j)) c.requires.out_ready (c.in-Err.ensures _ c.two_text.ensures.text)
 
 pub returns-in-Ok-write_chance-clause-report : goal.returns-in-Ok-write_chance-clause-report
 returns-in-Ok-write_chance-clause-report g c =

@@ -24,7 +24,7 @@ loop-number-preserved g c =
     let below : k < length rows = omega (arith, c.loop-number-test.true, c.len-number-end.ensures.len) in
     let r = get_or rows k (unheld Origin.Root []) in
     let at : slice_get rows k ≡ Some r = slice_get-get_or rows k (unheld Origin.Root []) below in
-    let line = if_ok _ (λ t. t.items ≡ row_text rows k r) c.row_line.result (λ t is. is r at) c.row_line.ensures in
+    let line = if_ok _ (λ t. t.items ≡ row_text rows k r) c.row_line.result (λ t is. is r at) c.row_line.ensures.text in
     more_written c.loop-number.invariant (row_next c.args.phone rows k r at) (c.in-Ok.ensures (row_text rows k r) line)
 
 pub returns-in-Err : goal.returns-in-Err
@@ -34,7 +34,7 @@ returns-in-Err g c =
     let below : k < length rows = omega (arith, c.loop-number-test.true, c.len-number-end.ensures.len) in
     let r = get_or rows k (unheld Origin.Root []) in
     let at : slice_get rows k ≡ Some r = slice_get-get_or rows k (unheld Origin.Root []) below in
-    let line = if_ok _ (λ t. t.items ≡ row_text rows k r) c.row_line.result (λ t is. is r at) c.row_line.ensures in
+    let line = if_ok _ (λ t. t.items ≡ row_text rows k r) c.row_line.result (λ t is. is r at) c.row_line.ensures.text in
     cut_written c.loop-number.invariant (row_next c.args.phone rows k r at) (c.in-Err.ensures (row_text rows k r) line)
 
 pub returns : goal.returns
@@ -49,4 +49,4 @@ write_line-requires-clause-ends g c =
     let below : k < length rows = omega (arith, c.loop-number-test.true, c.len-number-end.ensures.len) in
     let r = get_or rows k (unheld Origin.Root []) in
     let at : slice_get rows k ≡ Some r = slice_get-get_or rows k (unheld Origin.Root []) below in
-    if_ok _ (λ t. EndsLine t.items) c.row_line.result (λ t is. subst EndsLine (sym (is r at)) (row_ends rows k r)) c.row_line.ensures
+    if_ok _ (λ t. EndsLine t.items) c.row_line.result (λ t is. subst EndsLine (sym (is r at)) (row_ends rows k r)) c.row_line.ensures.text

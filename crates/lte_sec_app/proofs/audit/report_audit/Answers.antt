@@ -15,7 +15,7 @@ returns-in-Ok-clause-holds g c =
     let read = c.read.ensures in
     let setup = c.in-Ok.scenario.setup in
     let events = c.in-Ok.scenario.events.items in
-    subst (WhereRun (HasAudit c.args.octets.now)) (sym c.status_of.ensures)
+    subst (WhereRun (HasAudit c.args.octets.now)) (sym c.status_of.ensures.value)
     (audited c.args.octets.now setup events (IfOk-at_ok _ is read.scenario)
     (headline_of setup events (IfOk-at_ok _ is read.can_start) (IfOk-at_ok _ is read.setup_fits) (IfOk-at_ok _ is read.can_happen) (IfOk-at_ok _ is read.events_fit))
     c.write_audit.ensures.alone c.write_audit.result (λ ok. (c.write_audit.ensures.exact ok, c.write_audit.ensures.of_run ok)) c.write_audit.ensures.report.coincidence)

@@ -40,8 +40,8 @@ loop-number-preserved c =
       counted = next_counted (run_of c.happen.new.world) c.count.new.self e c.in-Ok.line so_far.counted left c.in-Ok.ensures.tells c.count.ensures.lines takes.run;
     }
 
-pub returns-in-Err-Chance : goal.returns-in-Err-Chance
-returns-in-Err-Chance c =
+pub returns-in-Err-Chance-clause-comes_out : goal.returns-in-Err-Chance-clause-comes_out
+returns-in-Err-Chance-clause-comes_out c =
     let so_far = c.loop-number.invariant in
     let events = c.args.events.now.items in
     let i = c.loop-number.number in
@@ -53,5 +53,5 @@ returns-in-Err-Chance c =
     let found = coincides_at c.len-step.result e c.in-Err-Chance.proof so_far.counted left step tells in
     subst (λ p. (outcome_from [] (octet_report c.args.world.now.setup events) ≡ Coincides c.len-step.result p) × CanShow p) (sym c.in-Err-Chance.proof-is) found
 
-pub returns : goal.returns
-returns c = all_counted c.loop-number.invariant.counted c.loop-number.invariant.took.goes (omega (arith, c.loop-number-test.false, c.len-number-end.ensures))
+pub returns-clause-comes_out : goal.returns-clause-comes_out
+returns-clause-comes_out c = all_counted c.loop-number.invariant.counted c.loop-number.invariant.took.goes (omega (arith, c.loop-number-test.false, c.len-number-end.ensures))

@@ -13,10 +13,10 @@ pub overflow_cast-events : goal.overflow_cast-events
 overflow_cast-events g c = let same = ap length c.journal.ensures in omega (arith, c.len-events.ensures, same, c.requires.few)
 
 pub write_text-requires-clause-lines : goal.write_text-requires-clause-lines
-write_text-requires-clause-lines g c = text_is _ _ _ c.end.ensures (is_lines _ (end_ends _ _ _))
+write_text-requires-clause-lines g c = text_is _ _ _ c.end.ensures.text (is_lines _ (end_ends _ _ _))
 
 pub write_text-requires-in-Ok-clause-lines : goal.write_text-requires-in-Ok-clause-lines
-write_text-requires-in-Ok-clause-lines g c = text_is _ _ _ c.ladder_text.ensures (ladder_is _)
+write_text-requires-in-Ok-clause-lines g c = text_is _ _ _ c.ladder_text.ensures.text (ladder_is _)
 
 pub write_text-requires-in-Ok-clause-out_ready : goal.write_text-requires-in-Ok-clause-out_ready
 write_text-requires-in-Ok-clause-out_ready g c = (c.in-Ok.ensures (end_text (length c.args.world.now.journal) c.records.result (length c.ladder.result.now.rows)) (search rules)).used.ready

@@ -9,17 +9,17 @@ use Rattle.run_report.proofs.Telling.{a_line, a_chance, can_show}
 use Rattle.run_report.proofs.reports.write_event.Goals as goal
 
 pub write_text-requires-clause-lines : goal.write_text-requires-clause-lines
-write_text-requires-clause-lines g c = text_is _ _ _ c.line.ensures (is_lines _ (line_ends _))
+write_text-requires-clause-lines g c = text_is _ _ _ c.line.ensures.text (is_lines _ (line_ends _))
 
 pub returns-in-Ok-write_text-clause-report : goal.returns-in-Ok-write_text-clause-report
 returns-in-Ok-write_text-clause-report g c =
     let told = told_of (run_of c.args.world.now) c.args.event.now in
-    one_piece (a_line told c.in-Ok.told (length c.args.world.now.journal) c.in-Ok.ensures.tells) (c.in-Ok-write_text.ensures _ c.line.ensures)
+    one_piece (a_line told c.in-Ok.told (length c.args.world.now.journal) c.in-Ok.ensures.tells) (c.in-Ok-write_text.ensures _ c.line.ensures.text)
 
 pub returns-in-Err-clause-report : goal.returns-in-Err-clause-report
 returns-in-Err-clause-report g c =
     let told = told_of (run_of c.args.world.now) c.args.event.now in
-    one_cut (a_line told c.in-Ok.told (length c.args.world.now.journal) c.in-Ok.ensures.tells) c.requires.out_ready (c.in-Err.ensures _ c.line.ensures)
+    one_cut (a_line told c.in-Ok.told (length c.args.world.now.journal) c.in-Ok.ensures.tells) c.requires.out_ready (c.in-Err.ensures _ c.line.ensures.text)
 
 pub write_chance-requires-clause-string : goal.write_chance-requires-clause-string
 write_chance-requires-clause-string g c =

@@ -7,20 +7,20 @@ use Rattle.run_report.proofs.summaries.summarise.Goals as goal
 
 pub returns-in-Ok : goal.returns-in-Ok
 returns-in-Ok g c =
-    let ended = subst (ComesOut c.args.world.now.setup c.args.events.now.items c.run_through.new.tally (run_of c.run_through.new.world)) c.in-Ok-Ended.field-0-is c.in-Ok-Ended.ensures in
+    let ended = subst (ComesOut c.args.world.now.setup c.args.events.now.items c.run_through.new.tally (run_of c.run_through.new.world)) c.in-Ok-Ended.field-0-is c.in-Ok-Ended.ensures.comes_out in
     one_piece (summary_ended c.ladder.result.now.rows c.len-rows.result c.len-rows.ensures.len c.requires.ready ended c.ladder.ensures) c.in-Ok.ensures
 
 pub returns-in-Err-write_figures : goal.returns-in-Err-write_figures
 returns-in-Err-write_figures g c =
-    let ended = subst (ComesOut c.args.world.now.setup c.args.events.now.items c.run_through.new.tally (run_of c.run_through.new.world)) c.in-Ok-Ended.field-0-is c.in-Ok-Ended.ensures in
+    let ended = subst (ComesOut c.args.world.now.setup c.args.events.now.items c.run_through.new.tally (run_of c.run_through.new.world)) c.in-Ok-Ended.field-0-is c.in-Ok-Ended.ensures.comes_out in
     one_cut (summary_ended c.ladder.result.now.rows c.len-rows.result c.len-rows.ensures.len c.requires.ready ended c.ladder.ensures) c.requires.out_ready c.in-Err-write_figures.ensures
 
 pub returns-in-Ok-write_chance : goal.returns-in-Ok-write_chance
 returns-in-Ok-write_chance g c =
-    let chance = subst (ComesOut c.args.world.now.setup c.args.events.now.items c.run_through.new.tally (run_of c.run_through.new.world)) c.in-Ok-Chance.field-0-is c.in-Ok-Chance.ensures in
+    let chance = subst (ComesOut c.args.world.now.setup c.args.events.now.items c.run_through.new.tally (run_of c.run_through.new.world)) c.in-Ok-Chance.field-0-is c.in-Ok-Chance.ensures.comes_out in
     one_piece (summary_chance c.in-Ok-Chance.step c.in-Ok-Chance.proof c.requires.ready chance.0) c.in-Ok-write_chance.ensures
 
 pub returns-in-Err-write_chance : goal.returns-in-Err-write_chance
 returns-in-Err-write_chance g c =
-    let chance = subst (ComesOut c.args.world.now.setup c.args.events.now.items c.run_through.new.tally (run_of c.run_through.new.world)) c.in-Ok-Chance.field-0-is c.in-Ok-Chance.ensures in
+    let chance = subst (ComesOut c.args.world.now.setup c.args.events.now.items c.run_through.new.tally (run_of c.run_through.new.world)) c.in-Ok-Chance.field-0-is c.in-Ok-Chance.ensures.comes_out in
     one_cut (summary_chance c.in-Ok-Chance.step c.in-Ok-Chance.proof c.requires.ready chance.0) c.requires.out_ready c.in-Err-write_chance.ensures
