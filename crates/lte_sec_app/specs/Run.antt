@@ -41,13 +41,14 @@ pub record Answers (output : List ℕ → Output) (ends : Status) (octets : List
 abbrev pub Answered : (List ℕ → Output) → Status → Told → Told → Told → Told → Type 0
 Answered output ends input input' out out' = HasEnded input' × IfSome input.left (λ octets. Answers output ends octets out out')
 
--- what is written is a prefix of the output
+-- what is written is a prefix of the output for a text within the limit, or nothing
 abbrev pub WritesPrefix : (List ℕ → Output) → Told → Told → Told → Type 0
-WritesPrefix output input out out' = IfSome input.left (λ octets. GrowsByPrefix out.written out'.written (output octets).text)
+WritesPrefix output input out out' =
+    (out'.written ≡ out.written) ⊎ IfSome input.left (λ octets. (length octets ≤ most_octets) × GrowsByPrefix out.written out'.written (output octets).text)
 
--- and something of it was still to be written
+-- it is a prefix of that for a text within the limit, and something of it was still to be written
 abbrev pub WritesShort : (List ℕ → Output) → Told → Told → Told → Type 0
-WritesShort output input out out' = IfSome input.left (λ octets. GrowsByProperPrefix out.written out'.written (output octets).text)
+WritesShort output input out out' = IfSome input.left (λ octets. (length octets ≤ most_octets) × GrowsByProperPrefix out.written out'.written (output octets).text)
 
 -- What is so of such a command at each status, by the input and the output before and after; no other status comes. A read
 -- fails before the end of the input was met, and a write before all was written.
