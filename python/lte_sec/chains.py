@@ -18,7 +18,7 @@ FAR = 6  # so many steps of the chain ahead of the phone the core is warned of; 
 FEW = 4  # COUNTs of an uplink message by which a KeNB is made after a Security Mode exchange
 OTHERS = 16  # contexts of other phones whose KeNBs are at hand for the search
 LOST_CHANGE = "after a key change that the trace lacks"
-FIRST = (2, 1)  # the number of the first NH that a core sends: 2 by the note of TS 33.401 7.2.8.1.1, 1 of other cores
+FIRST = (2, 1)  # the number of the first NH that a core sends: 2 by TS 33.401 7.2.8.1.1 and 7.2.8.4.2, 1 of other cores
 
 
 class ChainJudge:

@@ -226,7 +226,7 @@ class DrbContext(_Context):
         return self._sends("send", (direction,), text, 3)
 
     def receive(self, direction: int, pdu: bytes) -> Opened:
-        """Opens a PDU under the least COUNT at or above the next one to receive, and takes that COUNT. Nothing is verified."""
+        """Opens a PDU under the least COUNT at or above the next one to receive, as on RLC UM, and takes that COUNT. Nothing is verified."""
         return self._opens("receive", (direction,), pdu)
 
     def receive_am(self, last: int, direction: int, pdu: bytes) -> Opened:

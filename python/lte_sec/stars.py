@@ -146,7 +146,7 @@ class StarJudge(ChainJudge):
         return ([own] if own else []) + [one for one in others if one is not None][:MIXED]
 
     def refreshes(self, connection: Connection, held: list[Held]) -> Iterator[tuple[Held, list[tuple[int, int]]]]:
-        """What the source may have after steps to cells of its own: re-establishments and handovers within it (TS 33.401 7.2.8.4.2,
+        """What the source may have after steps to cells of its own: re-establishments and handovers within it (TS 33.401 7.2.8.4.1,
         7.2.9.3, TS 36.331 5.3.7). They end in the phone's own cell."""
         cells = self.own_cells(connection)
         if not cells or self.cell(connection.eci) is None:

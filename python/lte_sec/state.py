@@ -40,7 +40,7 @@ class Phone:
     lost: bool = False  # a handover was not seen, so that NCC and key may be others
 
     def takes(self, derivations: Derivations, ncc: int, cell: tuple[int, int]) -> Phone:
-        """What the phone makes of a command with this NCC and cell (TS 33.401 7.2.8.4.2, TS 36.331 5.3.5.4)."""
+        """What the phone makes of a command with this NCC and cell (TS 33.401 7.2.8.4.4, TS 36.331 5.3.5.4)."""
         if ncc == self.ncc:
             return replace(self, key=derivations.star(self.key, *cell)) if self.key.value else self
         chain = self.chain.step(derivations)

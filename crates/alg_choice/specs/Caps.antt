@@ -1,4 +1,4 @@
--- The algorithms that a phone supports (TS 24.301 9.9.3.34).
+-- The algorithms that a phone supports (TS 24.301 9.9.3.36).
 use Rattle.std.specs.Prelude.{Bool}
 use Rattle.alg_choice.specs.declared.algs.Eea.{Eea}
 use Rattle.alg_choice.specs.declared.caps.Caps.{Caps}

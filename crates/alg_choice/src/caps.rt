@@ -4,7 +4,7 @@ ghost use Rattle.alg_choice.specs.Bits.{has_bit};
 use crate::Eea;
 
 /// The security capabilities of a phone: the algorithms that it supports, two octets of TS 24.301
-/// 9.9.3.34. In each the algorithm with identity 0 has the highest bit.
+/// 9.9.3.36. In each the algorithm with identity 0 has the highest bit.
 #[derive(Clone, Copy, Debug, Default, PartialEq, Eq)]
 pub struct Caps {
     /// EEA0 to EEA7.

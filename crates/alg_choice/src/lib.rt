@@ -1,6 +1,6 @@
 //! The ciphering and integrity algorithms of LTE: what a phone is capable of, the priority list of a
 //! core or a base station, and the choice between them (TS 33.401 7.2.4.2 and 7.2.4.3, TS 24.301
-//! 9.9.3.34).
+//! 9.9.3.36).
 #![tactic(auto)]
 
 mod algs;

@@ -36,7 +36,7 @@ by_macs false wanted got text = Differs wanted got
 abbrev pub decided : List ℕ → List ℕ → List ℕ → Outcome
 decided wanted got text = by_macs (bytes_eq wanted got) wanted got text
 
--- the MAC that the receiver of a NAS message computes (TS 24.301 4.4.4.3)
+-- the MAC that the receiver of a NAS message computes (TS 24.301 4.4.3.3)
 abbrev pub nas_wanted : {K : Type 0} → Ciphers K → KeyUse K → List ℕ → List ℕ
 nas_wanted c u pdu = c.mac u (covered_in pdu)
 

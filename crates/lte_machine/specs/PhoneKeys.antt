@@ -116,7 +116,7 @@ authenticated ksi s (Some root) = (record s { partial = Some (record { ksi = ksi
 abbrev pub auth_does : {K C : Type 0} → AuthRow → Option K → Phone K C → PhoneDone K C
 auth_does (Authenticated ksi) root s = authenticated ksi s root
 
--- a SECURITY MODE REJECT as it is, after an octet of security header type 0 (TS 24.301 4.4.4.2 and 9.3.1)
+-- a SECURITY MODE REJECT as it is, after an octet of security header type 0 (TS 24.301 4.4.4.3 and 9.3.1)
 abbrev pub plain_reject : ℕ → List ℕ
 plain_reject cause = first_octet 0 ∷ nas_spelling (nas.TheVariants.SecurityModeReject cause)
 

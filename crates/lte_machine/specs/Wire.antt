@@ -34,7 +34,7 @@ ciphering_if false e = None
 pub data Outgoing (K C : Type 0) : Type 0 where
   -- a NAS message under protection: header type, integrity use, ciphering if there is one, text (TS 24.301 4.4)
   SealedNas : Dir → ℕ → KeyUse K → Option (Ciphering K) → List ℕ → Outgoing K C
-  -- a NAS message as it is, from the phone (TS 24.301 4.4.4.2)
+  -- a NAS message as it is, from the phone (TS 24.301 4.4.4.3)
   PlainNas : List ℕ → Outgoing K C
   -- an RRC text on an SRB of a station and air address (TS 36.323 5.6 and 5.7)
   SealedRrc : Dir → ℕ → ℕ → Srb → KeyUse K → Option (Ciphering K) → List ℕ → Outgoing K C

@@ -115,13 +115,13 @@ typedef struct {
     uint32_t eia;        /* LTESEC_EIA0 to LTESEC_EIA3 */
 } ltesec_nas;
 
-/* Protects a text under the next COUNT to send, and takes that COUNT (4.4.4.2, 4.4.5). header: the security header type, 1 to 4;
+/* Protects a text under the next COUNT to send, and takes that COUNT (4.4.3.3, 4.4.3.4). header: the security header type, 1 to 4;
  * 2 and 4 are ciphered. The message, *written octets, is six longer than the text; what is behind it in `pdu` stays.
  * DONE, else the first of OUT_OF_RANGE, COUNT_SPENT, NO_ROOM. */
 uint32_t ltesec_nas_seal(ltesec_nas *context, uint32_t header, uint32_t direction, const uint8_t *text,
                          size_t text_length, uint8_t *pdu, size_t pdu_room, size_t *written);
 
-/* Opens a message under the least COUNT at or above the next one to receive with its sequence number (4.4.3.1, 4.4.4.3, 4.4.5). The
+/* Opens a message under the least COUNT at or above the next one to receive with its sequence number (4.4.3.1, 4.4.3.3, 4.4.3.4). The
  * context stays: `ltesec_nas_accept` takes the COUNT. The text is six octets shorter than the message; what is behind it in `text`
  * stays. DONE, else the first of OUT_OF_RANGE, NO_ROOM, SHORT, BAD_HEADER, COUNT_SPENT, MAC_FAILS. */
 uint32_t ltesec_nas_open(const ltesec_nas *context, uint32_t direction, const uint8_t *pdu, size_t pdu_length,
@@ -192,7 +192,9 @@ uint32_t ltesec_drb_send(ltesec_drb *context, uint32_t direction, const uint8_t 
                          uint8_t *pdu, size_t pdu_room, size_t *written);
 
 /* Opens a PDU under the least COUNT at or above the next one to receive with its sequence number, and takes that COUNT: the one after
- * it is the next to receive. Nothing is verified: any PDU with a good header opens to some text. D/C has to be 1 and each reserved
+ * it is the next to receive. This is the rule of RLC UM (TS 36.323 5.1.2.1.3), for each length of sequence numbers. Those of 15 and 18
+ * bits, and mostly those of 12, are of RLC AM, where a PDU may come late: here it would be taken a whole turn of the sequence numbers
+ * too high, and there ltesec_drb_receive_am is right. Nothing is verified: any PDU with a good header opens to some text. D/C has to be 1 and each reserved
  * bit 0; P, at 18 bits, is either. DONE, else the first of OUT_OF_RANGE, NO_ROOM, SHORT, BAD_HEADER, COUNT_SPENT. */
 uint32_t ltesec_drb_receive(ltesec_drb *context, uint32_t direction, const uint8_t *pdu, size_t pdu_length,
                             uint8_t *text, size_t text_room, ltesec_found *found);

@@ -68,7 +68,7 @@ pub extern "C" fn ltesec_drb_send(
 }
 
 /// Opens a PDU under the least COUNT at or above the next one to receive with its sequence number, and takes that COUNT: the
-/// one after it is the next to receive. Nothing is verified on a DRB.
+/// one after it is the next to receive. This is the rule of RLC UM (5.1.2.1.3). Nothing is verified on a DRB.
 #[unsafe(no_mangle)]
 pub extern "C" fn ltesec_drb_receive(
     context: &mut DrbContext,

@@ -31,7 +31,7 @@ pub struct NasContext {
     pub eia: u32,
 }
 
-/// Protects a text under the next COUNT, which it takes (4.4.4.2 and 4.4.5).
+/// Protects a text under the next COUNT, which it takes (4.4.3.3 and 4.4.3.4).
 #[unsafe(no_mangle)]
 pub extern "C" fn ltesec_nas_seal(
     context: &mut NasContext,
@@ -73,7 +73,7 @@ pub extern "C" fn ltesec_nas_seal(
 }
 
 /// Opens a message under the least COUNT at or above the next one to receive with its sequence number, and leaves the context
-/// as it is (4.4.3.1, 4.4.4.3 and 4.4.5).
+/// as it is (4.4.3.1, 4.4.3.3 and 4.4.3.4).
 #[unsafe(no_mangle)]
 pub extern "C" fn ltesec_nas_open(
     context: &NasContext,

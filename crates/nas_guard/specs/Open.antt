@@ -39,7 +39,7 @@ sent_in pdu = drop 6 pdu
 abbrev pub is_protected : ℕ → Bool
 is_protected octet = (octet % 16 == 7) && (nat_le 1 (octet / 16) && nat_le (octet / 16) 4)
 
--- the MAC that a receiver computes at a COUNT (4.4.4.3)
+-- the MAC that a receiver computes at a COUNT (4.4.3.3)
 abbrev pub mac_at : Keys (List ℕ) → Dir → List ℕ → ℕ → List ℕ
 mac_at keys dir pdu count = mac_of keys.int count nas_bearer dir (covered_in pdu)
 

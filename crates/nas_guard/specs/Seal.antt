@@ -18,7 +18,7 @@ sent_text keys header count dir text =
     if is_ciphered header then ciphered keys.algs.eea keys.enc count nas_bearer dir text else text
 
 -- what the MAC covers: the sequence number, which is the lowest octet of COUNT, and the text as sent
--- (4.4.4.2)
+-- (4.4.3.3)
 abbrev pub covered : Keys (List ℕ) → ℕ → ℕ → Dir → List ℕ → List ℕ
 covered keys header count dir text = count % 256 ∷ sent_text keys header count dir text
 

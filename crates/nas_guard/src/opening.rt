@@ -38,7 +38,7 @@ pub enum OpenFault {
 }
 
 /// Opens a protected NAS message under the least COUNT at or above the next one with its sequence
-/// number, and leaves the receiver's COUNT as it is (TS 24.301 4.4.3.1, 4.4.4.3 and 4.4.5).
+/// number, and leaves the receiver's COUNT as it is (TS 24.301 4.4.3.1, 4.4.3.3 and 4.4.3.4).
 ///
 /// The message has at most 1,536 octets. Where causes stand together the answer is the first of `Short`,
 /// `BadHeader`, `CountSpent` and `MacFails`.

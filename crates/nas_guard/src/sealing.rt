@@ -11,7 +11,7 @@ use rec_base::{Bounded, Dir};
 pub type NasPdu = Bounded<256>;
 
 /// Protects a text under the next COUNT, which it takes, and answers with the octets as sent and that
-/// COUNT (TS 24.301 4.4.4.2 and 4.4.5).
+/// COUNT (TS 24.301 4.4.3.3 and 4.4.3.4).
 ///
 /// `header` is the security header type, 1 to 4, and the text has at most 201 octets. Where the next COUNT
 /// would be 2^24 the answer is `CountSpent`, and the sender's COUNT stays as it is.

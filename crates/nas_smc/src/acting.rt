@@ -37,7 +37,7 @@ impl PhoneNas {
     }
 
     // Refuses a SECURITY MODE COMMAND with a SECURITY MODE REJECT: under the context in use, or as it is
-    // where there is none (TS 24.301 4.4.4.2 and 5.4.3.5).
+    // where there is none (TS 24.301 4.4.4.3 and 5.4.3.5).
     fn reject(&mut self, answer: Answer, accepted: Option<Use>) -> NasOut
         ensures { (radio : Radio (List ℕ) ℕ) →
             done_by self.old radio (record { verdict = Rejected answer; accepted = accepted }) ≡ phone_after self.new result radio }
@@ -131,7 +131,7 @@ fn cause(answer: &Answer) -> u8
     }
 }
 
-// A message that is not protected, after an octet of header type 0 (TS 24.301 4.4.4.2 and 9.3.1).
+// A message that is not protected, after an octet of header type 0 (TS 24.301 4.4.4.3 and 9.3.1).
 fn plain(told: &NasRecord) -> NasPdu
     requires { InRange told.now }
     ensures { result ≡ first_octet 0 ∷ spelling_of told.now }

@@ -41,7 +41,7 @@ impl Model for Context {
 
 impl Context {
     // Sends a message of the phone under the next uplink COUNT, which it takes, and answers with that
-    // COUNT too, or sends nothing where none is left (TS 24.301 4.4.4.2 and 4.4.5).
+    // COUNT too, or sends nothing where none is left (TS 24.301 4.4.3.3 and 4.4.3.4).
     pub(crate) fn seal(&mut self, header: u8, told: &NasRecord) -> Option<(NasOut, u32)>
         requires above_plain { 1 ≤ header }
         requires at_most_four { header ≤ 4 }

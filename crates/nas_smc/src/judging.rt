@@ -103,7 +103,7 @@ impl PhoneNas {
         }
     }
 
-    // A message with header type 1 or 2, under the context in use (TS 24.301 4.4.3.1 and 4.4.4.3).
+    // A message with header type 1 or 2, under the context in use (TS 24.301 4.4.3.1 and 4.4.4.2).
     fn message(&self, header: u8, pdu: &[u8]) -> Judged
         requires long { 6 ≤ length pdu.now }
         requires length { length pdu.now ≤ 1536 }

@@ -35,7 +35,7 @@ impl Macs {
     }
 }
 
-// Opens a message at its COUNT: the text, or the MAC computed and the MAC received (TS 24.301 4.4.4.3).
+// Opens a message at its COUNT: the text, or the MAC computed and the MAC received (TS 24.301 4.4.3.3).
 #[tactic(auto, using(crate::proofs::Sealing::opens_so, crate::proofs::Sealing::fails_so))]
 pub(crate) fn opened(
     keys: &NasKeys,

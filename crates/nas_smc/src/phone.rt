@@ -138,7 +138,7 @@ impl PhoneNas {
         NasOut::of(Answer::Done)
     }
 
-    /// The phone's security capabilities (TS 24.301 9.9.3.34).
+    /// The phone's security capabilities (TS 24.301 9.9.3.36).
     pub fn caps(&self) -> Caps
         ensures { result ≡ self.now.caps }
     {

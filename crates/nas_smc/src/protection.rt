@@ -17,7 +17,7 @@ use nas_rec::NasRecord;
 use rec_base::{Dir, Use};
 
 // Sends a message under the next COUNT, which it takes, and answers with that COUNT too, or sends nothing
-// where none is left (TS 24.301 4.4.4.2 and 4.4.5).
+// where none is left (TS 24.301 4.4.3.3 and 4.4.3.4).
 #[tactic(auto, using(crate::proofs::Sealing::sealed_is))]
 pub(crate) fn protect(
     keys: &NasKeys,

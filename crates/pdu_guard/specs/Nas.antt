@@ -18,7 +18,7 @@ unfoldable pub nas_sent : NasKeys → ℕ → ℕ → Dir → List ℕ → List 
 nas_sent keys header count dir text =
     if is_ciphered header then ciphered_by keys.eea keys.enc count nas_bearer dir text else text
 
--- the MAC over the sequence number and the text as sent (4.4.4.2)
+-- the MAC over the sequence number and the text as sent (4.4.3.3)
 abbrev pub nas_mac_of : NasKeys → ℕ → Dir → List ℕ → List ℕ
 nas_mac_of keys count dir covered = mac_by keys.eia keys.int count nas_bearer dir covered
 
@@ -47,7 +47,7 @@ nas_head_of next pdu =
 abbrev pub nas_wanted : NasKeys → ℕ → Dir → List ℕ → List ℕ
 nas_wanted keys count dir pdu = nas_mac_of keys count dir (covered_in pdu)
 
--- whether the MAC of a message is right at a COUNT (4.4.4.3)
+-- whether the MAC of a message is right at a COUNT (4.4.3.3)
 unfoldable pub mac_checked : NasKeys → ℕ → Dir → List ℕ → Result (Unit {0}) OpenFault
 mac_checked keys count dir pdu =
     if is_taken keys.eia (nas_wanted keys count dir pdu) (mac_in pdu) then Ok tt

@@ -131,7 +131,7 @@ pub fn seal_drb(keys: &DrbKeys, count: u32, dir: Dir, text: &[u8], pdu: &mut [u8
     cipher(keys.eea, &keys.enc, count, keys.bearer, dir, sent);
 }
 
-/// The COUNT of a PDU: the least at or above `next`, of at most 2^32, with its sequence number (TS 36.323 5.1.2.1).
+/// The COUNT of a PDU: the least at or above `next`, of at most 2^32, with its sequence number (TS 36.323 5.1.2.1.3).
 ///
 /// The answer is `Short` where the header is not whole, else `BadHeader` where D/C is 0 or a reserved bit is set, else
 /// `CountSpent` where that COUNT is 2^32 or more.
@@ -152,7 +152,7 @@ pub fn drb_count(next: u64, numbers: Numbers, pdu: &[u8]) -> Result<u32, PdcpFau
 }
 
 /// Opens a PDU of any length at the least COUNT at or above `next`, of at most 2^32, with its sequence number (TS 36.323
-/// 5.1.2.1): its text, shorter by the header, goes into `text`.
+/// 5.1.2.1.3): its text, shorter by the header, goes into `text`.
 ///
 /// Nothing is verified on a DRB: any PDU with a good header opens to some text. Where causes of refusal stand together the answer
 /// is the first of `Short`, `BadHeader` and `CountSpent`, and `text` is as it was.

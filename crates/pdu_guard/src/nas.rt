@@ -32,7 +32,7 @@ pub struct NasHead {
     pub count: u32,
 }
 
-/// Protects a text of any length at a COUNT of 24 bits (TS 24.301 4.4.4.2 and 4.4.5): the octets as sent, six more than the
+/// Protects a text of any length at a COUNT of 24 bits (TS 24.301 4.4.3.3 and 4.4.3.4): the octets as sent, six more than the
 /// text's, go into `pdu`.
 ///
 /// `header` is the security header type, 1 to 4.
@@ -117,7 +117,7 @@ pub struct NasFound {
 }
 
 /// Opens a protected NAS message of any length at the least COUNT at or above `next`, of at most 2^24, with its sequence number
-/// (TS 24.301 4.4.3.1, 4.4.4.3 and 4.4.5): its text, six octets shorter, goes into `text`.
+/// (TS 24.301 4.4.3.1, 4.4.3.3 and 4.4.3.4): its text, six octets shorter, goes into `text`.
 ///
 /// Where causes stand together the answer is the first of `Short`, `BadHeader`, `CountSpent` and `MacFails`, and `text` is as it
 /// was. Under EIA0 any MAC is taken (TS 33.401 B.0), and the answer says that it was not compared.

@@ -43,7 +43,7 @@ algs_at octets place =
     let n = number_at octets place 1 in
     if n == 0x02 then Ok (record { eea = Eea0 }) else (if n == 0x22 then Ok (record { eea = Eea2 }) else Err (BadField place))
 
--- EEA0 to EEA7, and EIA0 to EIA7 (TS 24.301 9.9.3.34)
+-- EEA0 to EEA7, and EIA0 to EIA7 (TS 24.301 9.9.3.36)
 unfoldable pub caps_at : List ℕ → ℕ → Caps
 caps_at octets place = record { eea = number_at octets place 1; eia = number_at octets (place + 1) 1 }
 

@@ -83,7 +83,7 @@ pub fn algs_at(octets: &[u8], place: u8) -> Result<Algs, RecFault>
     }
 }
 
-/// The capabilities of a phone, two octets (TS 24.301 9.9.3.34).
+/// The capabilities of a phone, two octets (TS 24.301 9.9.3.36).
 #[tactic(auto, unfolding(crate::specs::Field::caps_at))]
 pub fn caps_at(octets: &[u8], place: u8) -> Caps
     requires { place + 2 ≤ length octets.now }

@@ -28,7 +28,7 @@ coded_at codes octets place =
 unfoldable pub key_at : List ℕ → ℕ → Result (List ℕ) ℕ
 key_at octets place = if nat_lt (length octets) (place + 32) then Err (length octets) else Ok (field_at octets place 32)
 
--- the capabilities of a phone (TS 24.301 9.9.3.34)
+-- the capabilities of a phone (TS 24.301 9.9.3.36)
 unfoldable pub caps_at : List ℕ → ℕ → Result Caps ℕ
 caps_at octets place =
     if nat_lt (length octets) (place + 2) then Err (length octets)

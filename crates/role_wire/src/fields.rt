@@ -202,7 +202,7 @@ pub(crate) fn key_at(octets: &[u8], place: usize) -> Result<[u8; 32], u16>
     Ok(rec_base::key_at(octets, place))
 }
 
-// The capabilities of a phone (TS 24.301 9.9.3.34).
+// The capabilities of a phone (TS 24.301 9.9.3.36).
 #[tactic(auto, unfolding(crate::specs::Field::caps_at))]
 pub(crate) fn caps_at(octets: &[u8], place: usize) -> Result<Caps, u16>
     requires body { length octets.now ≤ body_limit }

@@ -36,7 +36,7 @@ impl Model for Phone {
 }
 
 impl Phone {
-    /// A phone that was never authenticated, with these security capabilities (TS 24.301 9.9.3.34).
+    /// A phone that was never authenticated, with these security capabilities (TS 24.301 9.9.3.36).
     pub fn new(caps: Caps) -> Phone
         ensures { result ≡ first_phone caps }
     {
