@@ -1,11 +1,22 @@
-"""The crates by the layers of docs/MAP.md. Those of the layer Tests stand on what they try; their lines are left out."""
+"""The crates by the layers of docs/MAP.md, each layer a box. Lines join crates of one layer; those of other layers that a crate stands on are named in it."""
 import math
 import re
+import textwrap
 
 from lte_sec.picture import PALE, Picture
 
-CRATE, LANE_OF_LINES, ROW, TESTS = 122, 15, 56, "Tests"  # the width of a crate's place and of a line's, the height of a row
-BANDS = ["#f3f0b5", "#cfe3ff", "#c9eef0", "#cdeed6", "#e3d9f7", "#f6d5e6", "#ffe8c7", "#d9e8c4", "#f5cfc5", "#e4e7eb"]
+CRATE, BETWEEN, LANE = 138, 14, 16  # the widths of a crate, of the room between two, and of a line that passes a row
+NAME, WORDS, LETTERS = 22, 11, 24  # the heights of a crate's name and of a line of small words, and the letters of such a line
+ROWS_APART, TITLE, EDGE = 30, 30, 14  # the room between rows, that of a layer's title, and that around and inside a layer
+FILLS = ["#f3f0b5", "#cfe3ff", "#c9eef0", "#cdeed6", "#e3d9f7", "#f6d5e6", "#ffe8c7", "#d9e8c4", "#f5cfc5", "#e4e7eb"]
+# How the layers lie: parts side by side, the lower layer left, or parts from the lowest up
+PLACES = ("up", [
+    ("across", ["Outside", "Keys and ciphers"]),
+    ("across", ["Protection and chain", ("up", ["Records", ("across", ["Machine", "Actors"])])]),
+    ("across", ["World", "Texts"]),
+    ("across", ["Commands", "Tests"]),
+])
+WIDEST = {"Tests": 4}  # so many crates in a row; elsewhere 6
 
 
 def named_by(text):
@@ -35,15 +46,13 @@ def layers_of(page):
     return layers
 
 
-def rows_from_below(layers, stands):
-    """The rows of the picture, from the lowest up, each with its layer and five crates at most, that stand above all that they stand on."""
-    rows = []
-    for layer, crates in layers.items():
-        left = crates
-        while left:
-            row = [name for name in left if not set(stands[name]) & set(left)][:5]
-            rows.append((layer, row))
-            left = [name for name in left if name not in row]
+def rows_from_below(crates, stands, widest):
+    """The rows of a layer, from the lowest up: each crate above all of the layer that it stands on."""
+    rows, left = [], crates
+    while left:
+        row = [name for name in left if not set(stands[name]) & set(left)][:widest]
+        rows.append(row)
+        left = [name for name in left if name not in row]
     return rows
 
 
@@ -63,19 +72,33 @@ def set_out(wanted, widths):
     return places
 
 
+def closed(x_of, widths):
+    """The same places, with the room taken out that no row uses."""
+    places, end, out = {}, None, 0.0
+    for point in sorted(x_of, key=lambda point: x_of[point] - widths[point] / 2):
+        left = x_of[point] - widths[point] / 2
+        if end is not None and left > end:
+            out += left - end
+        places[point] = x_of[point] - out
+        end = max(end or left, x_of[point] + widths[point] / 2)
+    return places
+
+
 def lines_between(rows, stands):
-    """The lines from each row to the one below, between crates (name, row) and places where a line passes a row."""
-    row_of = {name: at for at, (_, row) in enumerate(rows) for name in row}
+    """The lines from each row of a layer to the one below, between crates (name, row) and places where a line passes a row."""
+    row_of = {name: at for at, row in enumerate(rows) for name in row}
     lines = set()
-    for name, others in stands.items():
-        for other in others:
+    for name in row_of:
+        for other in set(stands[name]) & set(row_of):
             for at in range(row_of[name], row_of[other], -1):
                 lines.add(((name if at == row_of[name] else other, at), (other, at - 1)))
     return sorted(lines)
 
 
 def fault_of(layers, named):
-    """Why the map does not fit crates.txt, or None."""
+    """Why the map does not fit crates.txt or this picture, or None."""
+    if sorted(layers) != sorted(leaves(PLACES)):
+        return "its layers are others than those of docs/drawing/crates.py"
     order = {name: place for place, crates in enumerate(layers.values()) for name in crates}
     for name in sorted(set(order) ^ set(named)):
         return f"{name} has no layer there" if name in named else f"{name} of docs/MAP.md is missing"
@@ -94,41 +117,112 @@ def draw(text, page):
 
 
 def picture_of(layers, stands):
-    rows = rows_from_below(layers, stands)
-    lines = lines_between(rows, {name: others for name, others in stands.items() if name not in layers[TESTS]})
-    crates = {(name, at) for at, (_, row) in enumerate(rows) for name in row}
-    points = sorted(crates.union(*lines))
-    widths = {point: CRATE if point in crates else LANE_OF_LINES for point in points}
-    near = {point: [b if a == point else a for a, b in lines if point in (a, b)] for point in points}
-    x_of = {}
-    for at in range(len(rows)):
-        row = [point for point in points if point[1] == at]
-        x_of.update(set_out({point: CRATE * (place - len(row) / 2) for place, point in enumerate(row)}, widths))
-    for turn in range(200):
-        for at in range(len(rows)) if turn % 2 == 0 else reversed(range(len(rows))):
-            row = [point for point in points if point[1] == at]
-            wanted = {point: math.fsum(x_of[other] for other in near[point]) / len(near[point]) if near[point] else x_of[point] for point in row}
-            x_of.update(set_out(wanted, widths))
-    return drawn(rows, layers, lines, crates, x_of)
-
-
-def drawn(rows, layers, lines, crates, x_of):
-    picture, shift = Picture(), 190 - min(x - CRATE / 2 for x in x_of.values())
-    right = shift + max(x + CRATE / 2 for x in x_of.values()) + 10
+    boxes = {name: Layer(name, crates, stands, fill) for (name, crates), fill in zip(layers.items(), FILLS)}
+    picture, (width, height) = Picture(), size_of(PLACES, boxes)
     picture.text(20, 26, "The crates by layer", 16, weight="bold")
-    picture.text(20, 45, "A crate stands on those to which lines go down from it, and on all below them. Tests stand on what they try.", 11, colour="#52606d")
-    height = {at: 62 + ROW * (len(rows) - at) - ROW / 2 for at in range(len(rows))}
-    for fill, layer in zip(BANDS, layers):
-        own = [height[at] for at, (name, _) in enumerate(rows) if name == layer]
-        picture.box(14, min(own) - ROW / 2 + 2, right - 14, max(own) - min(own) + ROW - 4, fill + "55", "none")
-        picture.text(24, min(own) - 4, layer, 12, weight="bold")
-    for upper, lower in lines:
-        (top, down), x, below = (height[upper[1]], height[lower[1]]), round(x_of[upper] + shift), round(x_of[lower] + shift)
-        passes = [(below, down - 11)] + ([] if lower in crates else [(below, down + 11)])
-        picture.line([(x, top + 11), *passes], PALE, arrow=False, width=0.9)
-    for name, at in sorted(crates):
-        fill = BANDS[list(layers).index(rows[at][0])]
-        x = round(x_of[name, at] + shift)
-        picture.box(x - 56, height[at] - 11, 112, 22, fill)
-        picture.text(x, height[at] + 4, name, 11, anchor="middle")
+    picture.text(20, 45, "A line goes down to a crate of the same layer that a crate stands on. Small words name those of lower layers, which are below or to the left.", 11, colour="#52606d")
+    picture.text(20, 60, "What a crate stands on only through another one is left out.", 11, colour="#52606d")
+    place(PLACES, boxes, picture, (14, 74, width, height))
     return picture.svg("The crates by layer")
+
+
+# -- how the layers lie
+
+
+def leaves(part):
+    return [part] if isinstance(part, str) else [name for one in part[1] for name in leaves(one)]
+
+
+def size_of(part, boxes):
+    if isinstance(part, str):
+        return boxes[part].width, boxes[part].height
+    sizes, gaps = [size_of(one, boxes) for one in part[1]], EDGE * (len(part[1]) - 1)
+    if part[0] == "across":
+        return sum(width for width, _ in sizes) + gaps, max(height for _, height in sizes)
+    return max(width for width, _ in sizes), sum(height for _, height in sizes) + gaps
+
+
+def place(part, boxes, picture, room):
+    """Draws layers into a room, left, top, width and height. What room is left over is shared."""
+    left, top, width, height = room
+    if isinstance(part, str):
+        boxes[part].draw(picture, room)
+        return
+    own, sizes = size_of(part, boxes), [size_of(one, boxes) for one in part[1]]
+    gaps = EDGE * (len(sizes) - 1)
+    if part[0] == "across":
+        share = (width - gaps) / (own[0] - gaps)
+        for one, (wide, _) in zip(part[1], sizes):
+            place(one, boxes, picture, (left, top, wide * share, height))
+            left += wide * share + EDGE
+    else:
+        share = (height - gaps) / (own[1] - gaps)
+        for one, (_, high) in reversed(list(zip(part[1], sizes))):
+            place(one, boxes, picture, (left, top, width, high * share))
+            top += high * share + EDGE
+
+
+# -- a layer
+
+
+class Layer:
+    """A layer: its rows from the lowest up, its lines, and where its crates and lines lie from left to right."""
+
+    def __init__(self, name, crates, stands, fill):
+        self.name, self.fill = name, fill
+        self.rows = rows_from_below(crates, stands, WIDEST.get(name, 6))
+        self.lines = lines_between(self.rows, stands)
+        self.others = {one: textwrap.wrap(", ".join(other for other in stands[one] if other not in crates), LETTERS) for one in crates}
+        self.crates = {(one, at) for at, row in enumerate(self.rows) for one in row}
+        self.x_of = self.set_out()
+        first = min(self.x_of[one] for one in self.crates)
+        self.x_of = {one: x - first for one, x in self.x_of.items()}
+        self.inner = max(self.x_of[one] for one in self.crates) + CRATE
+        self.heights = [NAME + 4 + WORDS * max(len(self.others[one]) for one in row) for row in self.rows]
+        self.width, self.height = self.inner + 2 * EDGE, TITLE + EDGE + sum(self.heights) + ROWS_APART * (len(self.rows) - 1)
+
+    def set_out(self):
+        points = sorted(self.crates.union(*self.lines))
+        widths = {point: CRATE + BETWEEN if point in self.crates else LANE for point in points}
+        near = {point: [b if a == point else a for a, b in self.lines if point in (a, b)] for point in points}
+        levels = [[point for point in points if point[1] == at] for at in range(len(self.rows))]
+        x_of = {}
+        for row in levels:
+            x_of.update(set_out({point: CRATE * (place - len(row) / 2) for place, point in enumerate(row)}, widths))
+        for turn in range(200):
+            for row in levels if turn % 2 == 0 else levels[::-1]:
+                wanted = {point: math.fsum(x_of[other] for other in near[point]) / len(near[point]) if near[point] else x_of[point] for point in row}
+                x_of.update(set_out(wanted, widths))
+        return closed(x_of, widths)
+
+    def draw(self, picture, room):
+        left, top, width, height = room
+        picture.box(round(left), round(top), round(width), round(height), self.fill + "55", "none")
+        picture.text(round(left) + 10, round(top) + 18, self.name, 12, weight="bold")
+        shift, below = left + (width - self.inner) / 2 + CRATE / 2, top + height - EDGE - (height - self.height) / 2
+        tops = []
+        for high in self.heights:
+            tops.append(round(below - high))
+            below -= high + ROWS_APART
+        for upper, lower in self.lines:
+            (x, low), (end, high) = ((round(self.x_of[one] + shift), self.edge_of(one, tops, side)) for one, side in ((upper, "bottom"), (lower, "top")))
+            passes = [] if lower in self.crates else [(end, tops[lower[1]] + self.heights[lower[1]])]
+            picture.line([(x, low), (end, high), *passes], PALE, arrow=False, width=1.1)
+        for name, at in sorted(self.crates):
+            self.draw_crate(picture, name, round(self.x_of[name, at] + shift), tops[at])
+
+    def height_of(self, name):
+        return NAME + (4 + WORDS * len(self.others[name]) if self.others[name] else 0)
+
+    def edge_of(self, point, tops, side):
+        """Where a line leaves a point of a row below, or meets it above."""
+        name, at = point
+        if side == "top":
+            return tops[at]
+        return tops[at] + (self.height_of(name) if point in self.crates else self.heights[at])
+
+    def draw_crate(self, picture, name, x, top):
+        picture.box(x - CRATE // 2, top, CRATE, self.height_of(name), self.fill)
+        picture.text(x, top + 15, name, 11, anchor="middle")
+        for place, words in enumerate(self.others[name]):
+            picture.text(x, top + NAME + 7 + WORDS * place, words, 9, anchor="middle", colour="#52606d")
