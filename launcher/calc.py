@@ -3,10 +3,9 @@ import dataclasses
 import re
 from collections.abc import Callable
 
-from kinds import EARFCN, PCI, one_of
-from scenario import nearest
+from kinds import EARFCN, PCI, nearest, one_of
 
-NUMBER = re.compile(r"0|[1-9][0-9]*")
+DECIMAL = re.compile(r"0|[1-9][0-9]*")
 
 
 @dataclasses.dataclass(frozen=True)
@@ -56,7 +55,7 @@ def text(most: int | None = None, exactly: int | None = None) -> Check:
 def number(low: int, high: int) -> Check:
     """A number in a range."""
     def check(word: str) -> str | None:
-        if NUMBER.fullmatch(word) and len(word) <= 10 and low <= int(word) <= high:
+        if DECIMAL.fullmatch(word) and len(word) <= 10 and low <= int(word) <= high:
             return None
         return f"is '{word}'; it must be {low} to {high}, in decimal without sign or leading zero"
     return check

@@ -10,46 +10,37 @@ import dataclasses
 import functools
 import re
 import tomllib
-from collections.abc import Callable
+from collections.abc import Callable, Iterator
 from typing import Any
 
 BLANK = re.compile(r"[ \t]*")
 SPACE = re.compile(r"(?:[ \t\n]|\r\n|#[^\x00-\x08\x0a-\x1f\x7f]*)*")
-CONTROL = re.compile(r"[\x00-\x08\x0b-\x1f\x7f]")
+CONTROL = re.compile(r"(?!\r\n)[\x00-\x08\x0b-\x1f\x7f]")
 BARE_KEY = re.compile(r"[A-Za-z0-9_-]+")
 STRING = re.compile(r'"""(?:[^\\]|\\.)*?"{3,5}|\'\'\'.*?\'{3,5}|"(?:[^"\\\n]|\\.)*"|\'[^\'\n]*\'', re.DOTALL)
 PLAIN = re.compile(r"\d{4}-\d{2}-\d{2} \d{2}:[^\s,\]}#]*|[^\s,\[\]{}#=\"']+")
-END_OF_LINE = re.compile(r"\r?\n|#")
+ENDED = re.compile(r"\r?\n|#|\Z")
 ESCAPE = re.compile(r"\\(e|x[0-9A-Fa-f]{2}|.)", re.DOTALL)
 DEEPEST = 80
 
 
 class Fault(Exception):
-    """Why a text is not a document: a reason, and its place as an offset."""
+    """Why a text is not what it must be: the reason, its place as an offset, and the line that the program prints for it."""
 
-    def __init__(self, place: int, reason: str):
+    def __init__(self, place: int, reason: str, line: str = "refused text"):
         super().__init__(reason)
-        self.place, self.reason = place, reason
+        self.place, self.reason, self.line = place, reason, line
 
 
 @dataclasses.dataclass
 class Value:
-    """A value and where it begins; of an array its values, of a table its entries."""
+    """A value, where it begins, and where its key does; of an array its values, of a table the value of each key."""
 
     place: int
     is_: Any
-    closed: bool = True  # whether a later header or key may add to it
-
-    def entries(self) -> dict[str, Entry]:
-        return self.is_ if isinstance(self.is_, dict) else {}
-
-
-@dataclasses.dataclass
-class Entry:
-    """A key of a table: where it stands, and its value."""
-
-    place: int
-    value: Value
+    key: int = 0
+    closed: bool = False  # whether no later header or key may add to it
+    named: bool = False  # whether a header names it
 
 
 def place_of(text: str, offset: int) -> tuple[int, int]:
@@ -65,200 +56,162 @@ def scalar_of(token: str) -> Any:
     return tomllib.loads(f"x = {token}")["x"]
 
 
+def no_value(token: str) -> str:
+    """Why a token is no value."""
+    if re.fullmatch(r"[+-]?0\d+", token):
+        return f"{token} has a leading zero"
+    if re.fullmatch(r"[A-Za-z_][\w-]*", token):
+        return f'{token} is not a value; a text stands in quotes, as "{token}"'
+    return f"{token} is not a value"
+
+
 class Reader:
     """A text, and how far it is read."""
 
     def __init__(self, text: str):
         self.text, self.at, self.deep = text, 0, 0
 
-    def fault(self, reason: str, place: int | None = None) -> Fault:
-        return Fault(self.at if place is None else place, reason)
-
     def skip(self, blanks: re.Pattern[str]) -> None:
         found = blanks.match(self.text, self.at)  # no blanks match too
         self.at = found.end() if found else self.at
-        control = CONTROL.match(self.text, self.at)
-        if control and not self.text.startswith("\r\n", self.at):
-            raise self.fault(f"octet {ord(control[0]):02x} is a control character, which may not stand here")
+        if control := CONTROL.match(self.text, self.at):
+            raise Fault(self.at, f"octet {ord(control[0]):02x} is a control character, which may not stand here")
 
     def takes(self, mark: str) -> bool:
         found = self.text.startswith(mark, self.at)
         self.at += len(mark) if found else 0
         return found
 
+    def twice(self, place: int, what: str, first: int) -> Fault:
+        return Fault(place, f"{what} is given twice; first in line {place_of(self.text, first)[0]}")
+
     # Values.
 
     def scalar(self, token: str, place: int) -> Any:
-        """The value of a token."""
         try:
             value = scalar_of(token)
-        except (tomllib.TOMLDecodeError, ValueError, KeyError):
-            raise self.fault(self.no_value(token), place) from None
+        except (ValueError, KeyError):
+            raise Fault(place, no_value(token)) from None
         if isinstance(value, int) and not -(2**63) <= value < 2**63:
-            raise self.fault(f"{token} is too large for a number", place)
+            raise Fault(place, f"{token} is too large for a number")
         return value
 
-    def no_value(self, token: str) -> str:
-        if re.fullmatch(r"[+-]?0\d+", token):
-            return f"{token} has a leading zero"
-        if re.fullmatch(r"[A-Za-z_][\w-]*", token):
-            return f'{token} is not a value; a text stands in quotes, as "{token}"'
-        return f"{token} is not a value"
-
-    def value(self) -> Value:
-        place, at_end = self.at, self.at >= len(self.text)
+    def value(self, key: int = 0) -> Value:
+        """A value; its place is where it begins."""
+        place = self.at
         if self.takes("["):
-            return self.nested(self.array, place)
+            values: list[Value] = []
+            self.items(place, "]", lambda: values.append(self.value()))
+            return Value(place, values, key, True)
         if self.takes("{"):
-            return self.nested(self.inline, place)
-        found = STRING.match(self.text, self.at)
-        if not found and self.text[self.at:self.at + 1] in ('"', "'") and not at_end:
-            raise self.fault("this text does not end: its closing quote is missing")
-        found = found or PLAIN.match(self.text, self.at)
-        if not found:
-            raise self.fault("a value is missing here")
+            table = Value(place, {}, key)
+            self.items(place, "}", lambda: self.pair(table, SPACE))
+            close(table)
+            return table
+        found = STRING.match(self.text, place)
+        if not found and self.text.startswith(('"', "'"), place):
+            raise Fault(place, "this text does not end: its closing quote is missing")
+        if not (found := found or PLAIN.match(self.text, place)):
+            raise Fault(place, "a value is missing here")
         self.at = found.end()
-        return Value(place, self.scalar(found[0], place))
+        return Value(place, self.scalar(found[0], place), key, True)
 
-    def nested(self, reads: Callable[[int], object], place: int) -> Value:
+    def items(self, place: int, mark: str, item: Callable[[], None]) -> None:
+        """What stands, parted by commas, between the bracket at a place and this one."""
         self.deep += 1
         if self.deep > DEEPEST:
-            raise self.fault(f"values nest more than {DEEPEST} deep here", place)
-        made = Value(place, reads(place))
+            raise Fault(place, f"values nest more than {DEEPEST} deep here")
+        self.skip(SPACE)
+        comma = True
+        while not self.takes(mark):
+            if self.at >= len(self.text):
+                raise Fault(place, f"the text ends before the {mark} that belongs to this")
+            if not comma:
+                raise Fault(self.at, f"a comma or {mark} is missing before this")
+            item()
+            self.skip(SPACE)
+            comma = self.takes(",")
+            self.skip(SPACE)
         self.deep -= 1
-        return made
-
-    def array(self, place: int) -> list[Value]:
-        values: list[Value] = []
-        while True:
-            self.skip(SPACE)
-            if self.takes("]"):
-                return values
-            self.not_at_end("]", place)
-            values.append(self.value())
-            self.skip(SPACE)
-            if not self.takes(","):
-                if self.takes("]"):
-                    return values
-                self.not_at_end("]", place)
-                raise self.fault("a comma or ] is missing before this")
-
-    def inline(self, place: int) -> dict[str, Entry]:
-        table = Value(place, {}, closed=False)
-        while True:
-            self.skip(SPACE)
-            if self.takes("}"):
-                break
-            self.not_at_end("}", place)
-            self.pair(table, SPACE)
-            self.skip(SPACE)
-            if not self.takes(","):
-                if self.takes("}"):
-                    break
-                self.not_at_end("}", place)
-                raise self.fault("a comma or } is missing before this")
-        close(table)
-        return table.entries()
-
-    def not_at_end(self, mark: str, place: int) -> None:
-        if self.at >= len(self.text):
-            raise self.fault(f"the text ends before the {mark} that belongs to this", place)
 
     # Keys.
 
-    def key(self, blanks: re.Pattern[str]) -> list[tuple[int, str]]:
+    def keys(self, blanks: re.Pattern[str]) -> Iterator[tuple[int, str]]:
         """A key and the keys that dots join to it, each with its place."""
-        parts = []
         while True:
             self.skip(blanks)
-            place, found = self.at, BARE_KEY.match(self.text, self.at)
-            if found:
-                name = found[0]
-            elif (found := STRING.match(self.text, self.at)) and not found[0].startswith(('"""', "'''")):
-                name = self.scalar(found[0], place)
-            else:
-                raise self.fault("a key is missing here")
+            place = self.at
+            bare = BARE_KEY.match(self.text, place)
+            found = bare or STRING.match(self.text, place)
+            if not found or found[0].startswith(('"""', "'''")):
+                raise Fault(place, "a key is missing here")
             self.at = found.end()
-            parts.append((place, name))
+            yield place, found[0] if bare else self.scalar(found[0], place)
             self.skip(blanks)
             if not self.takes("."):
-                return parts
+                return
+
+    def inner(self, table: Value, place: int, name: str, many: bool) -> Value:
+        """The table under a key of a table, which is made where it is not there; the last of many, where that is asked for."""
+        value: Value = table.is_.setdefault(name, Value(place, {}, place))
+        found = value
+        if many and isinstance(value.is_, list) and value.is_:
+            found = value.is_[-1]
+        if not isinstance(found.is_, dict) or found.closed:
+            raise self.twice(place, f"the key {name}", value.key)
+        return found
 
     def pair(self, table: Value, blanks: re.Pattern[str]) -> None:
         """`key = value`, into the table."""
-        parts = self.key(blanks)
+        *outer, (place, name) = self.keys(blanks)
         if not self.takes("="):
-            raise self.fault(f"= is missing after {parts[-1][1]}")
+            raise Fault(self.at, f"= is missing after {name}")
         self.skip(blanks)
-        for place, name in parts[:-1]:
-            entry = table.is_.setdefault(name, Entry(place, Value(place, {}, closed=False)))
-            table = self.open(entry, place, name)
-        place, name = parts[-1]
+        for key in outer:
+            table = self.inner(table, *key, many=False)
         if name in table.is_:
-            raise self.twice(place, f"the key {name}", table.is_[name].place)
-        table.is_[name] = Entry(place, self.value())
+            raise self.twice(place, f"the key {name}", table.is_[name].key)
+        table.is_[name] = self.value(place)
 
-    def open(self, entry: Entry, place: int, name: str) -> Value:
-        if not isinstance(entry.value.is_, dict) or entry.value.closed:
-            raise self.twice(place, f"the key {name}", entry.place)
-        return entry.value
-
-    def twice(self, place: int, what: str, first: int) -> Fault:
-        return self.fault(f"{what} is given twice; first in line {place_of(self.text, first)[0]}", place)
-
-    # The document.
-
-    def header(self, top: Value, named: dict[int, Value]) -> Value:
+    def header(self, table: Value) -> Value:
         """`[a.b]` or `[[a.b]]`: the table that the lines after it belong to."""
-        many = self.takes("[")
-        parts = self.key(BLANK)
-        if not self.takes("]]" if many else "]"):
-            raise self.fault("]] is missing here" if many else "] is missing here")
-        table = top
-        for place, name in parts[:-1]:
-            entry = table.is_.setdefault(name, Entry(place, Value(place, {}, closed=False)))
-            last = entry.value.is_[-1] if isinstance(entry.value.is_, list) and entry.value.is_ else None
-            table = self.open(Entry(entry.place, last or entry.value), place, name)
-        place, name = parts[-1]
-        entry = table.is_.get(name)
-        made = Value(place, {}, closed=False)
-        if many:
-            if entry is None:
-                entry = table.is_[name] = Entry(place, Value(place, [], closed=False))
-            elif not isinstance(entry.value.is_, list) or entry.value.closed:
-                raise self.twice(place, f"the key {name}", entry.place)
-            entry.value.is_.append(made)
-        elif entry is None:
-            table.is_[name] = Entry(place, made)
-        else:
-            made = entry.value
-            if not isinstance(made.is_, dict) or made.closed or id(made) in named:
-                raise self.twice(place, f"the table {name}", entry.place)
-        named[id(made)] = made
-        return made
+        mark = "]]" if self.takes("[") else "]"
+        *outer, (place, name) = self.keys(BLANK)
+        if not self.takes(mark):
+            raise Fault(self.at, f"{mark} is missing here")
+        for key in outer:
+            table = self.inner(table, *key, many=True)
+        made = Value(place, {}, place)
+        there: Value = table.is_.setdefault(name, made if mark == "]" else Value(place, [], place))
+        if not isinstance(there.is_, list if mark == "]]" else dict) or there.closed or there.named:
+            raise self.twice(place, f"the {'table' if mark == ']' else 'key'} {name}", there.key)
+        if mark == "]]":
+            there.is_.append(made)
+            return made
+        there.named = True
+        return there
 
     def document(self) -> Value:
-        top = table = Value(0, {}, closed=False)
-        named: dict[int, Value] = {}
+        top = table = Value(0, {})
         while True:
             self.skip(SPACE)
             if self.at >= len(self.text):
                 return top
             if self.takes("["):
-                table = self.header(top, named)
+                table = self.header(top)
             else:
                 self.pair(table, BLANK)
             self.skip(BLANK)
-            if self.at < len(self.text) and not END_OF_LINE.match(self.text, self.at):
-                raise self.fault("this line goes on where it must end")
+            if not ENDED.match(self.text, self.at):
+                raise Fault(self.at, "this line goes on where it must end")
 
 
 def close(table: Value) -> None:
     """No later key may add to this table, nor to one that dotted keys made in it."""
     table.closed = True
-    for entry in table.is_.values():
-        if isinstance(entry.value.is_, dict) and not entry.value.closed:
-            close(entry.value)
+    for value in table.is_.values():
+        if isinstance(value.is_, dict) and not value.closed:
+            close(value)
 
 
 def text_of(octets: bytes) -> str:
@@ -266,11 +219,11 @@ def text_of(octets: bytes) -> str:
     return octets.decode(errors="replace").removeprefix("\ufeff")
 
 
+@functools.lru_cache(1)
 def read(octets: bytes) -> Value:
     """The table at the top of a document; a fault if the text is not one."""
     try:
         octets.decode()
     except UnicodeDecodeError as wrong:
-        place = len(text_of(octets[:wrong.start]))
-        raise Fault(place, f"octet {octets[wrong.start]:02x} is not UTF-8 text") from None
+        raise Fault(len(text_of(octets[:wrong.start])), f"octet {octets[wrong.start]:02x} is not UTF-8 text") from None
     return Reader(text_of(octets)).document()

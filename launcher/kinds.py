@@ -1,42 +1,42 @@
-"""The kinds of values that fields of a scenario may have.
-
-Of each kind: what may stand (`may`), the numbers with which docs/SCENARIOS.md says it (`numbers`), and what is wrong with a
-value in a scenario with this setup (`wrong`, or None). What is right of the number and the cells of a station joins the setup.
-"""
+"""The kinds of values that stand in a scenario and in lines: of each what may stand, as messages and docs/SCENARIOS.md say it, and
+what is wrong with another value."""
 from __future__ import annotations
 
 import dataclasses
-from collections.abc import Sequence
-from typing import ClassVar, Protocol
+import difflib
+import re
+from collections.abc import Callable
 
 from document import Value
 
 MOST_CELLS, PCI, EARFCN = 4, 503, 262143
 
 
+@dataclasses.dataclass
 class Setup:
-    """What the setup of a scenario has: its stations and their cells, and the phones of a fleet."""
+    """What the setup of a scenario has so far: its stations, and the cells of all."""
 
-    def __init__(self) -> None:
-        self.stations: list[int] = []
-        self.cells: set[tuple[int, ...]] = set()
-        self.phones = 1
+    stations: list[int] = dataclasses.field(default_factory=list)
+    cells: set[tuple[int, ...]] = dataclasses.field(default_factory=set)
 
 
-class Kind(Protocol):
-    """A kind of values."""
+@dataclasses.dataclass(frozen=True)
+class Kind:
+    """What may stand, and what is wrong with a value in a scenario with this setup, which is nothing of a right one. The number
+    and the cells of a station join the setup."""
 
-    @property
-    def may(self) -> str: ...
-
-    @property
-    def numbers(self) -> Sequence[int]: ...
-
-    def wrong(self, value: Value, setup: Setup) -> str | None: ...
+    may: str
+    wrong: Callable[[Value, Setup], str]
 
 
 def one_of(words: list[str], last: str = "or") -> str:
     return words[0] if len(words) == 1 else f"{', '.join(words[:-1])} {last} {words[-1]}"
+
+
+def nearest(word: str, words: list[str]) -> str:
+    """The word that may have been meant, as the end of a sentence."""
+    found = difflib.get_close_matches(word.lower(), words, 1)
+    return f"; did you mean {found[0]}?" if found else ""
 
 
 def shown(value: Value) -> str:
@@ -46,10 +46,8 @@ def shown(value: Value) -> str:
         return "a table"
     if isinstance(it, list):
         text = "[" + ", ".join(map(shown, it[:5])) + (", .." if len(it) > 5 else "") + "]"
-    elif isinstance(it, str):
-        text = f'"{it}"'
     else:
-        text = str(it).lower() if isinstance(it, bool) else str(it)
+        text = f'"{it}"' if isinstance(it, str) else str(it).lower() if isinstance(it, bool) else str(it)
     return text if len(text) <= 44 else text[:40] + " .."
 
 
@@ -57,134 +55,69 @@ def is_whole(value: Value, low: int, high: int) -> bool:
     return type(value.is_) is int and low <= value.is_ <= high
 
 
-@dataclasses.dataclass(frozen=True)
-class Number:
-    low: int
-    high: int
-
-    @property
-    def may(self) -> str:
-        return f"a number {self.low} to {self.high}" if self.low < self.high else f"the number {self.low}"
-
-    @property
-    def numbers(self) -> list[int]:
-        return [self.low, self.high]
-
-    def wrong(self, value: Value, setup: Setup) -> str | None:
-        return None if is_whole(value, self.low, self.high) else f"is {shown(value)}"
+def kind(may: str, is_right: Callable[[Value, Setup], bool]) -> Kind:
+    return Kind(may, lambda value, setup: "" if is_right(value, setup) else f"is {shown(value)}")
 
 
-@dataclasses.dataclass(frozen=True)
-class Integer:
-    may: ClassVar[str] = "a number, counted from 0, or back from the newest, which is -1"
-    numbers: ClassVar[Sequence[int]] = []
-
-    def wrong(self, value: Value, setup: Setup) -> str | None:
-        return None if type(value.is_) is int else f"is {shown(value)}"
+def number(low: int, high: int) -> Kind:
+    may = f"a number {low} to {high}" if high - low > 1 else one_of([str(it) for it in range(low, high + 1)])
+    return kind(may, lambda value, _: is_whole(value, low, high))
 
 
-@dataclasses.dataclass(frozen=True)
-class Hex:
+def words(*these: str) -> Kind:
+    return kind(one_of([f'"{word}"' for word in these]), lambda value, _: value.is_ in these)
+
+
+def octets(count: int, exactly: bool = True) -> Kind:
     """Octets in hex: just so many, or at most so many."""
-
-    octets: int
-    exactly: bool = True
-
-    @property
-    def may(self) -> str:
-        return f"{2 * self.octets} hex digits in quotes" if self.exactly else f"hex digits in quotes, two for each of at most {self.octets:,} octets"
-
-    @property
-    def numbers(self) -> list[int]:
-        return [2 * self.octets if self.exactly else self.octets]
-
-    def wrong(self, value: Value, setup: Setup) -> str | None:
+    def wrong(value: Value, setup: Setup) -> str:
         if not isinstance(value.is_, str):
             return f"is {shown(value)}"
-        other = [letter for letter in value.is_ if letter not in "0123456789abcdefABCDEF"]
+        other, digits = re.search("[^0-9a-fA-F]", value.is_), len(value.is_)
         if other:
             return f"has '{other[0]}', which is not a hex digit"
-        if len(value.is_) % 2 or (len(value.is_) != 2 * self.octets if self.exactly else len(value.is_) > 2 * self.octets):
-            return f"has {len(value.is_)} hex digits"
-        return None
+        return f"has {digits} hex digits" if digits % 2 or digits > 2 * count or exactly and digits < 2 * count else ""
+    return Kind(f"{2 * count} hex digits in quotes" if exactly else f"hex digits in quotes, two for each of at most {count:,} octets", wrong)
 
 
-@dataclasses.dataclass(frozen=True)
-class Words:
-    words: tuple[str, ...]
-    numbers: ClassVar[Sequence[int]] = ()
-
-    @property
-    def may(self) -> str:
-        return one_of([f'"{word}"' for word in self.words])
-
-    def wrong(self, value: Value, setup: Setup) -> str | None:
-        return None if isinstance(value.is_, str) and value.is_ in self.words else f"is {shown(value)}"
+def wrong_cell(value: Value, setup: Setup) -> str:
+    pair = value.is_ if isinstance(value.is_, list) and len(value.is_) == 2 else []
+    parts = zip(("PCI", "EARFCN"), pair, (PCI, EARFCN))
+    return next((f"has {name} {shown(part)}" for name, part, most in parts if not is_whole(part, 0, most)), "" if pair else f"is {shown(value)}")
 
 
-@dataclasses.dataclass(frozen=True)
-class Priority:
-    may: ClassVar[str] = "one or two different ones of 0 (EEA0) and 2 (128-EEA2), as [2, 0]"
-    numbers: ClassVar[Sequence[int]] = [0, 2]
-
-    def wrong(self, value: Value, setup: Setup) -> str | None:
-        algorithms = [it.is_ for it in value.is_ if type(it.is_) is int] if isinstance(value.is_, list) else []
-        return None if algorithms in ([0], [2], [0, 2], [2, 0]) and len(algorithms) == len(value.is_) else f"is {shown(value)}"
-
-
-@dataclasses.dataclass(frozen=True)
-class Cell:
-    may: ClassVar[str] = f"[PCI, EARFCN], PCI 0 to {PCI} and EARFCN 0 to {EARFCN}"
-    numbers: ClassVar[Sequence[int]] = []
-
-    def wrong(self, value: Value, setup: Setup) -> str | None:
-        pair = value.is_ if isinstance(value.is_, list) else []
-        if len(pair) != 2:
-            return f"is {shown(value)}"
-        for name, number, most in (("PCI", pair[0], PCI), ("EARFCN", pair[1], EARFCN)):
-            if not is_whole(number, 0, most):
-                return f"has {name} {shown(number)}"
-        return None
+def wrong_cells(value: Value, setup: Setup) -> str:
+    if not isinstance(value.is_, list):
+        return f"is {shown(value)}"
+    for cell in value.is_ if 1 <= len(value.is_) <= MOST_CELLS else []:
+        pair = () if wrong_cell(cell, setup) else tuple(it.is_ for it in cell.is_)
+        if not pair or pair in setup.cells:
+            return f"has the cell {shown(cell)}{' a second time' if pair else ''}"
+        setup.cells.add(pair)
+    return "" if 1 <= len(value.is_) <= MOST_CELLS else f"has {len(value.is_)} cells"
 
 
-@dataclasses.dataclass(frozen=True)
-class Cells:
-    may: ClassVar[str] = f"1 to {MOST_CELLS} cells [PCI, EARFCN] that no station has yet, PCI 0 to {PCI} and EARFCN 0 to {EARFCN}"
-    numbers: ClassVar[Sequence[int]] = [1, MOST_CELLS, 0, PCI, 0, EARFCN]
-
-    def wrong(self, value: Value, setup: Setup) -> str | None:
-        if not isinstance(value.is_, list) or not 1 <= len(value.is_) <= MOST_CELLS:
-            return f"is {shown(value)}" if not isinstance(value.is_, list) else f"has {len(value.is_)} cells"
-        for cell in value.is_:
-            wrong = Cell().wrong(cell, setup)
-            if wrong:
-                return f"has the cell {shown(cell)}"
-            pair = tuple(it.is_ for it in cell.is_)
-            if pair in setup.cells:
-                return f"has the cell {shown(cell)} a second time"
-            setup.cells.add(pair)
-        return None
+def is_new_station(value: Value, setup: Setup) -> bool:
+    is_new = is_whole(value, 0, 7) and value.is_ not in setup.stations
+    setup.stations += [value.is_] if is_new else []
+    return is_new
 
 
-@dataclasses.dataclass(frozen=True)
-class NewStation:
-    may: ClassVar[str] = "a number 0 to 7 that no station before it has"
-    numbers: ClassVar[Sequence[int]] = [0, 7]
-
-    def wrong(self, value: Value, setup: Setup) -> str | None:
-        if not is_whole(value, 0, 7) or value.is_ in setup.stations:
-            return f"is {shown(value)}"
-        setup.stations.append(value.is_)
-        return None
+def wrong_station(value: Value, setup: Setup) -> str:
+    stations = [str(number) for number in setup.stations]
+    those = f"{'the stations are' if len(stations) > 1 else 'the only station is'} {one_of(stations, 'and')}"
+    return "" if type(value.is_) is int and value.is_ in setup.stations else f"is {shown(value)}, and {those}"
 
 
-@dataclasses.dataclass(frozen=True)
-class Station:
-    may: ClassVar[str] = "a station of the scenario"
-    numbers: ClassVar[Sequence[int]] = []
+def is_priority(value: Value, setup: Setup) -> bool:
+    algorithms = value.is_ if isinstance(value.is_, list) else []
+    return [it.is_ for it in algorithms] in ([0], [2], [0, 2], [2, 0]) and all(type(it.is_) is int for it in algorithms)
 
-    def wrong(self, value: Value, setup: Setup) -> str | None:
-        if type(value.is_) is int and value.is_ in setup.stations:
-            return None
-        stations = [str(number) for number in setup.stations]
-        return f"is {shown(value)}, and {'the stations are' if len(stations) > 1 else 'the only station is'} {one_of(stations, 'and')}"
+
+PAIR = f"PCI 0 to {PCI} and EARFCN 0 to {EARFCN}"
+PRIORITY = kind("one or two different ones of 0 (EEA0) and 2 (128-EEA2), as [2, 0]", is_priority)
+CELL = Kind(f"[PCI, EARFCN], {PAIR}", wrong_cell)
+CELLS = Kind(f"1 to {MOST_CELLS} cells [PCI, EARFCN] that no station has yet, {PAIR}", wrong_cells)
+NEW_STATION = kind("a number 0 to 7 that no station before it has", is_new_station)
+STATION = Kind("a station of the scenario", wrong_station)
+INTEGER = kind("a number, counted from 0, or back from the newest, which is -1", lambda value, _: type(value.is_) is int)

@@ -1,158 +1,102 @@
-"""The first fault of a document that is not a scenario, as the program looks for it.
-
-A fault is the line that the program prints for it, the place in the text, and the reason.
-"""
+"""The first fault of a document that is not a scenario, as the program looks for it."""
 import dataclasses
-import difflib
-from collections.abc import Iterator
 
-from document import Entry, Value
-from fields import CORE, Field, OF_CORE, PHONE, STATIONS, STEPS, THE_FLEET
-from kinds import Kind, Number, Setup, Words, one_of, shown
+from document import Fault, Value
+from fields import MOST_STATIONS, MOST_STEPS, OF_CORE, SETUP, STEPS, Field, of_phone
+from kinds import Setup, nearest, one_of, shown, words
 
 RUN, FLEET, TWO = "run", "fleet", "two"
-MOST_STEPS, MOST_STATIONS = 200_000, 8
 
 
 @dataclasses.dataclass(frozen=True)
-class Fault:
-    """The program's line, where the fault stands, and why it is one."""
-
-    line: str
-    place: int
-    reason: str
-
-
-def nearest(word: str, words: list[str]) -> str:
-    """The word that may have been meant, as the end of a sentence."""
-    found = difflib.get_close_matches(word.lower(), words, 1)
-    return f"; did you mean {found[0]}?" if found else ""
-
-
-def only(where: str | None) -> str:
-    """The only place where a key may stand, as the end of a sentence."""
-    return f"; only {where} has it" if where else ""
-
-
 class Table:
-    """A table of the document with the fields that it may have, and the words of the program for a fault in it."""
+    """A table of the document with the fields that it may have, its names in messages and in the program's lines, and a key that
+    it has only in what."""
 
-    def __init__(self, name: str, line: str, table: Value, fields: list[Field], setup: Setup):
-        self.name, self.line, self.table, self.fields, self.setup = name, line, table, fields, setup
+    name: str
+    line: str
+    of: Value
+    fields: list[Field]
+    setup: Setup
+    only: tuple[str, str] = ("", "")
 
     def applies(self, field: Field) -> bool:
         """Whether the table may have the field: no other field, whose value is right, rules it out."""
-        if not field.when:
-            return True
-        name, words = field.when
-        other = next(it for it in self.fields if it.name == name)
-        entry = self.table.entries().get(name)
-        return entry is None or other.kind_in(self.table).wrong(entry.value, self.setup) is not None or entry.value.is_ in words
+        name, *calling = field.when or ("",)
+        other = self.of.is_.get(name) if field.when else None
+        return other is None or other.is_ in calling or any(it.kind.wrong(other, self.setup) for it in self.fields if it.name == name and self.applies(it))
 
-    def faults(self, elsewhere: dict[str, str] | None = None) -> Iterator[Fault]:
-        """Keys that are not fields, and then the fields in order; `elsewhere` says which keys other tables have."""
-        entries = self.table.entries()
-        known = [field.name for field in self.fields if self.applies(field)]
-        for key, entry in entries.items():
-            if key not in known:
-                more = self.ruled_out(key) or only((elsewhere or {}).get(key)) or nearest(key, known)
-                yield Fault(f"{self.line} unknown", entry.place, f"{self.name} takes no {key}{more}")
+    def judge(self) -> None:
+        """Keys that are not fields come first, and then the fields in order."""
+        known = [field for field in self.fields if self.applies(field)]
+        for key, value in self.of.is_.items():
+            if key not in [field.name for field in known]:
+                raise Fault(value.key, f"{self.name} takes no {key}{self.instead(key, known)}", f"{self.line} unknown")
+        for field in known:
+            given = self.of.is_.get(field.name)
+            if given is None and not field.left_out:
+                raise Fault(self.of.place, f"{self.name} has no {field.name}, which is {field.kind.may}", f"{self.line} missing {field.name}")
+            if given and (wrong := field.kind.wrong(given, self.setup)):
+                raise Fault(given.place, f"{self.name}: {field.name} {wrong}; it must be {field.kind.may}", f"{self.line} wrong {field.name}")
+
+    def instead(self, key: str, known: list[Field]) -> str:
+        """Why a key stands here in vain, or which may have been meant, as the end of a sentence."""
         for field in self.fields:
-            if self.applies(field):
-                yield from self.fault_of(field, entries.get(field.name), field.kind_in(self.table))
-
-    def fault_of(self, field: Field, entry: Entry | None, kind: Kind) -> Iterator[Fault]:
-        if entry is None:
-            if not field.may_lack:
-                yield Fault(f"{self.line} missing {field.name}", self.table.place, f"{self.name} has no {field.name}, which is {kind.may}")
-        elif wrong := kind.wrong(entry.value, self.setup):
-            yield Fault(f"{self.line} wrong {field.name}", entry.value.place, f"{self.name}: {field.name} {wrong}; it must be {kind.may}")
-
-    def ruled_out(self, key: str) -> str:
-        """Why a key that is a field of such tables stands here in vain."""
-        field = next((field for field in self.fields if field.name == key and field.when), None)
-        return f" where {field.when[0]} is {shown(self.table.entries()[field.when[0]].value)}" if field and field.when else ""
+            if field.name == key:
+                return f" where {field.when[0]} is {shown(self.of.is_[field.when[0]])}"
+        return f"; only {self.only[1]} has it" if key == self.only[0] else nearest(key, [field.name for field in known])
 
 
-def section(top: Value, name: str, fields: list[Field], setup: Setup, may_lack: bool = False) -> Iterator[Fault]:
-    """The faults of a table of the setup."""
-    entry = top.entries().get(name)
-    if entry is None:
-        if not may_lack:
-            yield Fault(f"refused setup missing {name}", 0, f"there is no table [{name}], as [{name}] {fields[0].name} = ..")
-    elif not isinstance(entry.value.is_, dict):
-        yield Fault(f"refused setup wrong {name}", entry.value.place, f"{name} is {shown(entry.value)}; it must be a table")
-    else:
-        yield from Table(f"[{name}]", "refused setup", entry.value, fields, setup).faults()
+def judge_section(top: Value, name: str, setup: Setup) -> None:
+    """A table of the setup."""
+    given = top.is_.get(name)
+    if given is None and name != "core":
+        raise Fault(0, f"there is no table [{name}], as [{name}] {SETUP[name][0].name} = ..", f"refused setup missing {name}")
+    if given and not isinstance(given.is_, dict):
+        raise Fault(given.place, f"{name} is {shown(given)}; it must be a table", f"refused setup wrong {name}")
+    if given:
+        Table(f"[{name}]", "refused setup", given, SETUP[name], setup).judge()
 
 
-def tables_of(entry: Entry | None) -> list[Value] | None:
-    """The tables of an array of tables, none where there is no entry, and None where it is another value."""
-    tables = entry.value.is_ if entry else []
-    return tables if isinstance(tables, list) and all(isinstance(it.is_, dict) for it in tables) else None
+def tables(top: Value, name: str) -> list[Value]:
+    """The tables of stations or steps, which are an array and not too many."""
+    given = top.is_.get(name) or Value(0, [])
+    if not isinstance(given.is_, list) or not all(isinstance(it.is_, dict) for it in given.is_):
+        raise Fault(given.place, f"{name} is {shown(given)}; each {name} is a table [[{name}]]", f"refused setup wrong {name}")
+    if name == "station" and not given.is_:
+        raise Fault(given.place, "there is no station, as [[station]] id = 0, cells = [[10, 100]]", "refused setup missing station")
+    most, may, line = (MOST_STATIONS, "1 to ", "refused setup wrong station") if name == "station" else (MOST_STEPS, "", "refused steps")
+    if len(given.is_) > most:
+        raise Fault(given.is_[most].place, f"there are {len(given.is_):,} {name}s; there may be {may}{most:,}", line)
+    return given.is_
 
 
-def station_faults(top: Value, kind: str, setup: Setup) -> Iterator[Fault]:
-    entry = top.entries().get("station")
-    tables = tables_of(entry)
-    if tables is None:
-        if entry is not None:
-            yield Fault("refused setup wrong station", entry.value.place, f"station is {shown(entry.value)}; each station is a table [[station]]")
-    elif not tables:
-        yield Fault("refused setup missing station", entry.value.place if entry else 0, "there is no station, as [[station]] id = 0, cells = [[10, 100]]")
-    elif len(tables) > MOST_STATIONS:
-        yield Fault("refused setup wrong station", tables[MOST_STATIONS].place, f"there are {len(tables)} stations; there may be 1 to {MOST_STATIONS}")
-    else:
-        fields = STATIONS + ([OF_CORE] if kind == TWO else [])
-        for table in tables:
-            yield from Table("[[station]]", "refused setup", table, fields, setup).faults({"core": "a scenario of two cores"})
+def judge_step(number: int, table: Value, whose: list[Field], setup: Setup) -> None:
+    """`do` comes first, and then the fields that go with it, those of a fleet before the others."""
+    line, given = f"refused step {number}", table.is_.get("do")
+    if given is None:
+        raise Fault(table.place, f"step {number} has no do, which says what happens", f"{line} missing do")
+    do = given.is_ if isinstance(given.is_, str) else ""
+    if do not in STEPS:
+        meant = nearest(do, list(STEPS)) or f"; it must be {one_of(list(STEPS))}"
+        raise Fault(given.place, f"step {number}: do is {shown(given)}{meant}", f"{line} wrong do")
+    fields = [Field("do", words(do)), *whose, *STEPS[do]]
+    Table(f"step {number} ({do})", line, table, fields, setup, ("phone", "a step of a fleet")).judge()
 
 
-def step_faults(top: Value, kind: str, setup: Setup) -> Iterator[Fault]:
-    entry = top.entries().get("step")
-    tables = tables_of(entry)
-    if tables is None:
-        if entry is not None:
-            yield Fault("refused setup wrong step", entry.value.place, f"step is {shown(entry.value)}; each step is a table [[step]]")
-    elif len(tables) > MOST_STEPS:
-        yield Fault("refused steps", tables[MOST_STEPS].place, f"there are {len(tables):,} steps; there may be {MOST_STEPS:,}")
-    else:
-        whose = [Field("phone", Number(0, setup.phones - 1), may_lack=True)] if kind == FLEET else []
-        for number, table in enumerate(tables):
-            yield from faults_of_step(number, table, whose, setup)
-
-
-def faults_of_step(number: int, table: Value, whose: list[Field], setup: Setup) -> Iterator[Fault]:
-    """The faults of one step: `do` first, and then the fields that go with it, those of a fleet before the others."""
-    entry, line = table.entries().get("do"), f"refused step {number}"
-    do = entry.value.is_ if entry else None
-    if entry is None:
-        yield Fault(f"{line} missing do", table.place, f"step {number} has no do, which says what happens")
-    elif not isinstance(do, str) or do not in STEPS:
-        meant = nearest(do, list(STEPS)) if isinstance(do, str) else ""
-        yield Fault(f"{line} wrong do", entry.value.place, f"step {number}: do is {shown(entry.value)}{meant or '; it must be ' + one_of(list(STEPS))}")
-    else:
-        fields = [Field("do", Words((do,))), *whose, *STEPS[do]]
-        yield from Table(f"step {number} ({do})", line, table, fields, setup).faults({"phone": "a step of a fleet"})
-
-
-def faults(top: Value, kind: str) -> Iterator[Fault]:
-    """The faults of a document as a scenario of this kind, in the order in which the program looks for them. Only the first
-    is asked for: what is read after it takes what comes before it to be right."""
-    setup = Setup()
-    known = ["phone", "core", "station", "step"] + (["fleet"] if kind == FLEET else [])
-    for key, entry in top.entries().items():
+def judge(top: Value, kind: str) -> None:
+    """Raises the first fault of a document as a scenario of this kind, in the order in which the program looks for them."""
+    sections = ["fleet", "phone", "core"] if kind == FLEET else ["phone", "core"]
+    setup, known = Setup(), [*sections, "station", "step"]
+    for key, value in top.is_.items():
         if key not in known:
-            more = only("a scenario of a fleet" if key == "fleet" else None) or nearest(key, known)
-            yield Fault("refused setup unknown", entry.place, f"there is no {key} at the top of this scenario{more}")
-    if kind == FLEET:
-        yield from section(top, "fleet", THE_FLEET, setup)
-        setup.phones = top.entries()["fleet"].value.entries()["phones"].value.is_
-    yield from section(top, "phone", PHONE, setup)
-    yield from section(top, "core", CORE, setup, may_lack=True)
-    yield from station_faults(top, kind, setup)
-    yield from step_faults(top, kind, setup)
-
-
-def first_fault(top: Value, kind: str) -> Fault | None:
-    return next(faults(top, kind), None)
+            more = "; only a scenario of a fleet has it" if key == "fleet" else nearest(key, known)
+            raise Fault(value.key, f"there is no {key} at the top of this scenario{more}", "refused setup unknown")
+    for name in sections:
+        judge_section(top, name, setup)
+    fields = SETUP["station"] + ([OF_CORE] if kind == TWO else [])
+    for table in tables(top, "station"):
+        Table("[[station]]", "refused setup", table, fields, setup, ("core", "a scenario of two cores")).judge()
+    whose = [of_phone(top.is_["fleet"].is_["phones"].is_)] if kind == FLEET else []
+    for number, table in enumerate(tables(top, "step")):
+        judge_step(number, table, whose, setup)

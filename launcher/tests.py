@@ -17,7 +17,6 @@ import document  # noqa: E402
 import fields  # noqa: E402
 import ladder  # noqa: E402
 import scenario  # noqa: E402
-from kinds import Kind  # noqa: E402
 
 EXAMPLES = TOP / "examples"
 SETUP = 'phone = { caps = "a020" }\nstation = [{ id = 0, cells = [[10, 100]] }, { id = 1, cells = [[11, 101]] }]\n'
@@ -43,13 +42,8 @@ def mistakes() -> list[tuple[str, str, str, str]]:
 
 def plain(value: document.Value) -> object:
     if isinstance(value.is_, dict):
-        return {name: plain(entry.value) for name, entry in value.is_.items()}
+        return {name: plain(each) for name, each in value.is_.items()}
     return [plain(it) for it in value.is_] if isinstance(value.is_, list) else value.is_
-
-
-def kinds_of(field: fields.Field) -> list[Kind]:
-    """The kinds that a field may have."""
-    return list(field.kind[1].values()) if isinstance(field.kind, tuple) else [field.kind]
 
 
 class Mistakes(unittest.TestCase):
@@ -94,15 +88,16 @@ class Texts(unittest.TestCase):
     def test_examples_have_no_fault(self) -> None:
         for room, kind in (("run", scenario.RUN), ("worked", scenario.RUN), ("fleet", scenario.FLEET), ("two", scenario.TWO)):
             for file in EXAMPLES.glob(f"{room}/*.toml"):
-                self.assertIsNone(scenario.first_fault(document.read(file.read_bytes()), kind), file)
+                scenario.judge(document.read(file.read_bytes()), kind)
         for name in ("first", "chain", "algorithms"):
-            self.assertIsNone(ladder.first_fault((EXAMPLES / "ladder" / f"{name}.txt").read_bytes()), name)
+            ladder.judge((EXAMPLES / "ladder" / f"{name}.txt").read_bytes())
 
     def test_a_ladder_text_has_4096_lines_at_most(self) -> None:
         text = b"root " + b"0" * 64 + b"\n" + b"".join(b"kenb 0 %d\n" % count for count in range(4096))
-        fault = ladder.first_fault(text)
-        self.assertEqual("refused line 4097", fault and fault.line)
-        self.assertIsNone(ladder.first_fault(text[:text.rindex(b"kenb")]))
+        with self.assertRaises(document.Fault) as caught:
+            ladder.judge(text)
+        self.assertEqual("refused line 4097", caught.exception.line)
+        ladder.judge(text[:text.rindex(b"kenb")])
 
 
 class Lines(unittest.TestCase):
@@ -154,50 +149,59 @@ class Lines(unittest.TestCase):
 
 
 class Page(unittest.TestCase):
-    """The table of fields says what docs/SCENARIOS.md does."""
+    """The tables of docs/SCENARIOS.md say what may stand in each field, and what holds where it is left out, as messages do."""
 
-    def rows(self, head: str) -> list[list[str]]:
-        page = (TOP / "docs" / "SCENARIOS.md").read_text()
-        lines = page[page.index(head):].split("\n\n")[0].splitlines()[2:]
+    PAGE = (TOP / "docs" / "SCENARIOS.md").read_text()
+    PLAIN = PAGE.replace("`", "")
+
+    def rows(self, head: str, before: str = "") -> list[list[str]]:
+        """The rows of the first table with this head behind a text, without marks of code."""
+        text = self.PLAIN[self.PLAIN.index(before):]
+        lines = text[text.index(head):].split("\n\n")[0].splitlines()[2:]
         return [[cell.strip() for cell in line.strip("|").split(" | ")] for line in lines]
 
-    def tell(self, told: list[fields.Field], cell: str, where: str) -> None:
-        """A cell of the page names these fields in order, and for each that it says more of its words and numbers."""
-        names = [field.name for field in told]
-        named = [code for code in dict.fromkeys(re.findall(r"`(\w+)`", cell)) if code in names]
-        words = {word for field in told for kind in kinds_of(field) for word in getattr(kind, "words", ())}
-        ordered = [name for name in names if name not in words]  # `station` is a word of other fields, too
-        self.assertEqual((set(names), ordered), (set(named), [name for name in named if name not in words]), where)
-        for part in cell.split(";"):
-            codes = re.findall(r"`(\w+)`", part)
-            numbers = [int(number.replace(",", "")) for number in re.findall(r"\b\d[\d,]*", re.sub(r"`[^`]*`", "", part))]
-            of = [number for field in told if field.name in codes for kind in kinds_of(field) for number in kind.numbers]
-            self.assertLessEqual({code for code in codes if code not in names}, words | set(fields.STEPS), where)
-            self.assertIn(numbers, ([], of), where)
-            self.assertEqual("or those of" in part, any(field.may_lack for field in told if field.name in codes), where)
+    def tell(self, told: list[fields.Field], cell: str) -> None:
+        """A cell names these fields in order, each in a part of its own, with what may stand there and when."""
+        shared = self.PLAIN[self.PLAIN.index("A station is"):self.PLAIN.index("| do | what happens | fields")]
+        parts = {names.split()[0].strip(","): names for names in re.sub(r"(\w+) and (\w+) (as for \w+)", r"\1 \3; \2 \3", cell).split("; ") if names}
+        self.assertEqual(list(dict.fromkeys(field.name for field in told)), list(parts))
+        for field in told:
+            part, may = parts[field.name], field.kind.may.replace("a number ", "").replace(" in quotes", "").replace('"', "")
+            other = fields.STEPS[part.split(" as for ")[1]] if " as for " in part else []
+            self.assertTrue(may in part + shared or field.name in [it.name for it in other if it.kind.may == field.kind.may], (part, may))
+            self.assertIn(f"or {field.left_out}" if field.left_out else "", part)
+            self.assertTrue(not field.when or other or field.name == "bearer" or f" {field.when[0]} is " in part, part)
 
     def test_each_step_has_the_fields_of_the_page(self) -> None:
         seen = []
-        for words, _, cell in self.rows("| `do` | what happens | fields"):
-            for word in re.findall(r"`(\w+)`", words):
+        for words, _, cell in self.rows("| do | what happens | fields"):
+            for word in words.split(", "):
                 seen.append(word)
-                self.tell(fields.STEPS[word], cell, word)
+                with self.subTest(word):
+                    self.tell(fields.STEPS[word], cell)
         self.assertEqual(sorted(fields.STEPS), sorted(seen))
 
     def test_the_setup_has_the_fields_of_the_page(self) -> None:
-        tables = {"[phone]": fields.PHONE, "[core]": fields.CORE, "[[station]]": fields.STATIONS}
+        tables = {f"[{name}]": told for name, told in fields.SETUP.items()} | {"of phone": [fields.of_phone(2)], "of core": [fields.OF_CORE]}
         seen: dict[str, list[str]] = {name: [] for name in tables}
-        table = ""
-        for name, field, cell, lacking in self.rows("| table | field | value"):
-            table = next((it for it in [*tables, "[[step]]"] if it in name), table)
-            if table == "[[step]]":
-                continue
-            of = next(it for it in tables[table] if f"`{it.name}`" == field)
-            seen[table].append(of.name)
-            self.assertEqual("refused" not in lacking, of.may_lack, field)
-            if "as for" not in cell and of.name != "caps":
-                self.assertLessEqual(set(map(str, kinds_of(of)[0].numbers)), set(re.findall(r"\d+", cell)), field)
+        for where, extra in (("", ""), ("## Scenarios of a fleet", "of phone"), ("## Scenarios of two cores", "of core")):
+            table = extra
+            for name, field, cell, left_out in self.rows("| table | field | value", where):
+                table = next((it for it in tables if name and it in name), table) if name != "[[step]]" and extra != "of core" else extra
+                if field == "do":
+                    continue
+                of = next(it for it in tables[table] if it.name == field)
+                seen[table].append(field)
+                self.assertEqual(of.left_out or "refused", left_out, field)
+                may = of.kind.may.replace("a number ", "").replace(" in quotes", "")
+                self.assertTrue(may in cell or extra == "of phone" or cell == "as for the core" and of in fields.SETUP["core"], (field, may))
         self.assertEqual({name: [field.name for field in told] for name, told in tables.items()}, seen)
+
+    def test_the_page_tells_how_many_there_may_be_and_the_lines_of_a_ladder(self) -> None:
+        for told in (f"[[station]], 1 to {fields.MOST_STATIONS} |", f"[[step]], at most {fields.MOST_STEPS:,} |", f"at most {ladder.MOST_LINES:,} lines"):
+            self.assertIn(told, self.PLAIN)
+        rows = self.rows("| line | needs | derives")
+        self.assertEqual([f"{kind} {' '.join(names)}" for kind, names in ladder.LINES.items()], [line for line, _, _ in rows])
 
 
 class Verdicts(unittest.TestCase):

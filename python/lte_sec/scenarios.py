@@ -62,7 +62,7 @@ def by_launcher(octets: bytes, fault: str) -> dict[str, Any]:
 def plain(it: Any) -> Any:
     """A value of that reader without its place."""
     if isinstance(it.is_, dict):
-        return {name: plain(entry.value) for name, entry in it.is_.items()}
+        return {name: plain(each) for name, each in it.is_.items()}
     return [plain(each) for each in it.is_] if isinstance(it.is_, list) else it.is_
 
 
