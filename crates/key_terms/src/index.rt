@@ -2,6 +2,7 @@ ghost use Rattle.std.specs.Prelude.{◌≡◌, [], ◌∷◌, ◌++◌, false, l
 ghost use Rattle.std.specs.List.{list_any};
 ghost use Rattle.std.specs.Str.{bytes_eq};
 
+use crate::words::Words;
 use indexmap::IndexSet;
 use std::alloc::{AllocError, Global};
 use std::marker::Model;
@@ -10,15 +11,18 @@ use std::marker::Model;
 // contract sees it as the list.
 #[derive(Drop)]
 pub(crate) struct Index {
-    keys: IndexSet<[u8; 32]>,
+    keys: IndexSet<Words>,
 }
 
 impl Model for Index {
-    ghost use Rattle.std.specs.Prelude.{List, ℕ};
+    ghost use Rattle.std.specs.Prelude.{List, ℕ, All, map};
+    ghost use Rattle.key_terms.specs.Words.{octets_of, AreWords};
 
     ghost Value = { List (List ℕ) };
 
-    ghost view = { λ i. i.keys.keys };
+    ghost view = { λ i. map octets_of i.keys.keys };
+
+    ghost invariant = { λ i. All AreWords i.keys.keys };
 }
 
 impl Index {
@@ -37,7 +41,7 @@ impl Index {
         ensures ok { OnOk result (self.new ≡ self.old ++ octets ∷ []) }
         ensures err { OnErr result (self.new ≡ self.old) }
     {
-        self.keys.insert(octets)?;
+        self.keys.insert(Words::of(&octets))?;
         Ok(())
     }
 
@@ -45,7 +49,7 @@ impl Index {
     pub fn number_of(&self, octets: &[u8; 32]) -> Option<usize>
         ensures { result ≡ position (bytes_eq octets.now) self.now }
     {
-        self.keys.get_index_of(octets)
+        self.keys.get_index_of(&Words::of(octets))
     }
 
     // How many keys there are.

@@ -5,6 +5,7 @@ mod index;
 mod ladder;
 mod proof;
 mod row;
+mod words;
 
 pub use ladder::{Ladder, LadderFault};
 pub use proof::Proof;
