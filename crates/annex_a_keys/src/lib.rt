@@ -7,6 +7,7 @@ mod cell;
 mod derived;
 mod kasme;
 mod kenb;
+mod keyed_kasme;
 mod nh;
 mod star;
 
@@ -14,7 +15,8 @@ pub use alg_key::AlgKey;
 pub use alg_type::AlgType;
 pub use cell::{Cell, CellFault, GREATEST_EARFCN, GREATEST_PCI};
 pub use derived::Derived;
-pub use kasme::{Kasme, KeyedKasme};
+pub use kasme::Kasme;
 pub use kenb::{Kenb, KeyedKenb};
+pub use keyed_kasme::KeyedKasme;
 pub use nh::Nh;
 pub use star::Star;

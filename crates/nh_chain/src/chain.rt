@@ -9,7 +9,7 @@ ghost use Rattle.nh_chain.specs.Chain.{begun, climbed, nhs_made, number_after, s
 ghost use Rattle.nh_chain.specs.Climb.{nh_reached};
 ghost use Rattle.key_model.specs.Derivation.{derived_of};
 
-use annex_a_keys::{Derived, Kasme, Kenb, Nh};
+use annex_a_keys::{Derived, Kasme, Kenb, KeyedKasme, Nh};
 use arrayvec::ArrayVec;
 use std::marker::Model;
 
@@ -25,7 +25,7 @@ pub(crate) enum SyncInput {
 // KASME, the SYNC-input of the next NH, and the NCC of that input.
 #[derive(Debug, Drop)]
 pub(crate) struct Chain {
-    root: Kasme,
+    root: KeyedKasme,
     sync: SyncInput,
     ncc: u8,
 }
@@ -44,11 +44,11 @@ impl Model for Chain {
 
 impl Chain {
     // The chain of a KeNB.
-    pub(crate) fn new(root: &Kasme, kenb: &Kenb) -> Chain
-        ensures { result ≡ begun octet_reading root.now kenb.now }
+    pub(crate) fn new(root: KeyedKasme, kenb: &Kenb) -> Chain
+        ensures { result ≡ begun octet_reading root kenb.now }
     {
         Chain {
-            root: *root,
+            root,
             sync: SyncInput::First(*kenb),
             ncc: 0,
         }
@@ -58,7 +58,7 @@ impl Chain {
     pub(crate) fn is_of(&self, root: &Kasme) -> bool
         ensures { result ≡ octet_reading.same root.now self.now.root }
     {
-        *root == self.root
+        *root == self.root.kasme()
     }
 
     // The NCC of the present key, 0 to 7.

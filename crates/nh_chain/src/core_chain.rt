@@ -42,6 +42,7 @@ impl CoreChain {
             (result.0 ≡ chain_in_octets (chain_at r count 0)) × (result.1 ≡ value_of (initial_key r count).key) }
         ensures input { IsKdfInput result.2.input }
     {
+        let root = root.keyed();
         let (kenb, derived) = root.kenb(count);
         let chain = Chain::new(root, &kenb);
         (CoreChain { chain }, kenb, derived)

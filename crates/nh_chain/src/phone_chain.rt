@@ -43,7 +43,7 @@ impl PhoneChain {
             result ≡ chain_in_octets (chain_at r n 0) }
     {
         PhoneChain {
-            chain: Chain::new(root, kenb),
+            chain: Chain::new(root.keyed(), kenb),
         }
     }
 
