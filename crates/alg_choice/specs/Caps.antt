@@ -1,9 +1,13 @@
 -- The algorithms that a phone supports (TS 24.301 9.9.3.36).
-use Rattle.std.specs.Prelude.{Bool}
+use Rattle.std.specs.Prelude.{◌<◌, Bool}
 use Rattle.alg_choice.specs.declared.algs.Eea.{Eea}
 use Rattle.alg_choice.specs.declared.caps.Caps.{Caps}
 use Rattle.alg_choice.specs.Bits.{has_bit}
 use Rattle.alg_choice.specs.Algs.{identity_of, eia2_identity}
+
+-- capabilities, two octets
+abbrev pub IsCaps : Caps → Type 0
+IsCaps caps = (caps.eea < 256) × (caps.eia < 256)
 
 -- whether an encryption algorithm is among them
 abbrev pub holds_eea : Caps → Eea → Bool

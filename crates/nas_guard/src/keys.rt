@@ -1,4 +1,5 @@
 ghost use Rattle.std.specs.Prelude.{◌≡◌, ◌≤◌, ◌∷◌, length};
+ghost use Rattle.rec_base.specs.Lengths.{longest_record};
 ghost use Rattle.annex_a_keys.specs.AlgType.{IsOfNas};
 ghost use Rattle.nas_guard.specs.Cipher.{mac_of};
 ghost use Rattle.nas_guard.specs.Keys.{key_of};
@@ -75,7 +76,7 @@ impl NasKeys {
 
     // The text as sent of a text, and the text of a text as sent.
     pub(crate) fn sent_text(&self, header: u8, count: u32, dir: Dir, text: &[u8]) -> Octets
-        requires { length text.now ≤ 1536 }
+        requires { length text.now ≤ longest_record }
         ensures value { result ≡ sent_text self.now header count dir text.now }
         ensures length { length result ≡ length text.now }
     {

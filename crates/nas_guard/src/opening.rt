@@ -1,4 +1,5 @@
 ghost use Rattle.std.specs.Prelude.{◌≡◌, ◌≤◌, IfErr, IfOk, length};
+ghost use Rattle.rec_base.specs.Lengths.{longest_record};
 ghost use Rattle.nas_guard.specs.Open.{Opens, Refuses, opened};
 ghost use Rattle.nas_guard.specs.Seal.{sealed};
 
@@ -44,7 +45,7 @@ pub enum OpenFault {
 /// `BadHeader`, `CountSpent` and `MacFails`.
 #[tactic(auto, unfolding(crate::specs::Open::opened))]
 pub fn open(keys: &NasKeys, rx: &RxCount, dir: Dir, pdu: &[u8]) -> Result<Opened, OpenFault>
-    requires { length pdu.now ≤ 1536 }
+    requires { length pdu.now ≤ longest_record }
     ensures value { result ≡ opened keys.now rx.now dir pdu.now }
     ensures opens { IfOk result (Opens keys.now rx.now dir pdu.now) }
     ensures refused { IfErr result (Refuses keys.now rx.now dir pdu.now) }

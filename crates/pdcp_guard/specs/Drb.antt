@@ -1,8 +1,8 @@
 -- PDUs of data radio bearers with a sequence number of 12 bits (TS 36.323 5.6 and 6.2.3).
 use Rattle.std.specs.Prelude.{◌≡◌, ℕ, ◌+◌, ◌*◌, ◌/◌, ◌%◌, ◌<◌, ◌≤◌, ◌==◌, nat_lt, if◌then◌else◌, List, ◌∷◌, drop, length, slice_index, Result, Ok, Err}
+pub use Rattle.rec_base.specs.Bearer.{IsDrb}
 use Rattle.rec_base.specs.Bearer.{bearer5_of}
 use Rattle.rec_base.specs.declared.bearers.Bearer.{Bearer}
-use Rattle.rec_base.specs.declared.bearers.Bearer.TheVariants.{Drb1, Drb2, Drb3, Drb4}
 use Rattle.rec_base.specs.declared.uses.Dir.{Dir}
 use Rattle.key_model.specs.Least.{least}
 use Rattle.nas_guard.specs.Cipher.{ciphered}
@@ -12,14 +12,6 @@ use Rattle.pdcp_guard.specs.declared.pdus.PdcpFault.{PdcpFault}
 use Rattle.pdcp_guard.specs.declared.pdus.PdcpFault.TheVariants.{CountSpent, Short, BadHeader, MacFails}
 use Rattle.pdcp_guard.specs.AsKeys.{AsKeys}
 use Rattle.pdcp_guard.specs.Counts.{count_limit, in_32_bits}
-
--- a data radio bearer
-abbrev pub IsDrb : Bearer → Type 0
-IsDrb Drb1 = Unit {0}
-IsDrb Drb2 = Unit {0}
-IsDrb Drb3 = Unit {0}
-IsDrb Drb4 = Unit {0}
-IsDrb other = ⊥
 
 -- the first header octet: the bit D/C, which is 1, three zero bits, and the upper 4 bits of the sequence
 -- number (6.2.3, 6.3.7)

@@ -1,9 +1,9 @@
 -- PDUs of signalling radio bearers (TS 36.323 5.6, 5.7 and 6.2.2).
 use Rattle.std.specs.Prelude.{◌≡◌, ◌≢◌, ℕ, ◌-◌, ◌%◌, ◌<◌, ◌≤◌, nat_lt, Bool, if◌then◌else◌, List, ◌∷◌, ◌++◌, drop, length, slice_index, take, Result, Ok, Err}
 use Rattle.std.specs.Str.{bytes_eq}
+pub use Rattle.rec_base.specs.Bearer.{IsSrb}
 use Rattle.rec_base.specs.Bearer.{bearer5_of}
 use Rattle.rec_base.specs.declared.bearers.Bearer.{Bearer}
-use Rattle.rec_base.specs.declared.bearers.Bearer.TheVariants.{Srb1, Srb2}
 use Rattle.rec_base.specs.declared.uses.Dir.{Dir}
 use Rattle.key_model.specs.Least.{least}
 use Rattle.nas_guard.specs.Cipher.{ciphered, mac_of}
@@ -13,12 +13,6 @@ use Rattle.pdcp_guard.specs.declared.pdus.PdcpFault.{PdcpFault}
 use Rattle.pdcp_guard.specs.declared.pdus.PdcpFault.TheVariants.{CountSpent, Short, BadHeader, MacFails}
 use Rattle.pdcp_guard.specs.AsKeys.{AsKeys}
 use Rattle.pdcp_guard.specs.Counts.{count_limit, in_32_bits}
-
--- a signalling radio bearer
-abbrev pub IsSrb : Bearer → Type 0
-IsSrb Srb1 = Unit {0}
-IsSrb Srb2 = Unit {0}
-IsSrb other = ⊥
 
 -- the header octet: three zero bits and the sequence number, the lowest 5 bits of COUNT (6.2.2, 6.3.5)
 abbrev pub srb_header : ℕ → ℕ

@@ -1,7 +1,9 @@
 ghost use Rattle.std.specs.Prelude.{◌≡◌, ℕ, ◌+◌, ◌-◌, ◌/◌, ◌%◌, ◌<◌, ◌≤◌, ◌↔◌, drop, IfErr, IfOk, IsErr, List, OnErr, length};
 ghost use Rattle.pdcp_guard.specs.Counts.{after_receive, after_send, expects_next, new_bearer, send_count, sends_next, skipped};
 ghost use Rattle.key_model.specs.Least.{least};
-ghost use Rattle.pdcp_guard.specs.Drb.{IsDrb, DrbOpens, DrbRefuses, drb_ciphered, drb_count, drb_first, drb_opened, drb_opened_at, drb_sealed, drb_sent_by, drb_sn};
+ghost use Rattle.rec_base.specs.Bearer.{IsDrb};
+ghost use Rattle.rec_base.specs.Lengths.{longest_record};
+ghost use Rattle.pdcp_guard.specs.Drb.{DrbOpens, DrbRefuses, drb_ciphered, drb_count, drb_first, drb_opened, drb_opened_at, drb_sealed, drb_sent_by, drb_sn};
 ghost use Rattle.pdcp_guard.specs.Counts.{count_limit};
 
 use crate::counting::Counts;
@@ -24,7 +26,7 @@ impl Model for Drb {
 
     ghost Value = { BearerState };
 
-    ghost use Rattle.pdcp_guard.specs.Drb.{IsDrb};
+    ghost use Rattle.rec_base.specs.Bearer.{IsDrb};
 
     ghost view = { λ b. record { bearer = b.bearer; counts = b.counts } };
 
@@ -78,7 +80,7 @@ impl Drb {
     /// The PDU has at most 1,536 octets. Where causes of refusal stand together, the first of `Short`,
     /// `BadHeader` and `CountSpent` is the answer, and the bearer stays as it is.
     pub fn receive(&mut self, keys: &AsKeys, dir: Dir, pdu: &[u8]) -> Result<PdcpOpened, PdcpFault>
-        requires { length pdu.now ≤ 1536 }
+        requires { length pdu.now ≤ longest_record }
         ensures value { result ≡ drb_opened keys.now self.old.bearer self.old.counts.receive dir pdu.now }
         ensures new { self.new ≡ after_receive self.old (drb_count self.old.counts.receive pdu.now) }
         ensures opens { IfOk result (DrbOpens keys.now self.old.bearer self.old.counts.receive dir pdu.now) }
@@ -145,7 +147,7 @@ fn sealed(keys: &AsKeys, bearer: Bearer, count: u32, dir: Dir, text: &[u8]) -> O
 #[tactic(auto, unfolding(crate::specs::Drb::drb_opened_at))]
 fn opened_at(keys: &AsKeys, bearer: Bearer, count: u32, dir: Dir, pdu: &[u8]) -> PdcpOpened
     requires long { 2 ≤ length pdu.now }
-    requires length { length pdu.now ≤ 1536 }
+    requires length { length pdu.now ≤ longest_record }
     ensures value { result ≡ drb_opened_at keys.now bearer count dir pdu.now }
     ensures count { result.count ≡ count }
     ensures text { result.text ≡ drb_ciphered keys.now bearer count dir (drop 2 pdu.now) }

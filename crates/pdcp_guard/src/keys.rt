@@ -3,6 +3,7 @@ ghost use Rattle.annex_a_keys.specs.AlgType.{IsOfAs};
 ghost use Rattle.key_model.specs.Reading.{octet_reading};
 ghost use Rattle.nas_guard.specs.Cipher.{ciphered};
 ghost use Rattle.rec_base.specs.Bearer.{bearer5_of};
+ghost use Rattle.rec_base.specs.Lengths.{longest_record};
 ghost use Rattle.pdcp_guard.specs.AsKeys.{as_derivations, as_key, as_keys_of};
 ghost use Rattle.key_model.specs.Derivation.{derived_of};
 ghost use Rattle.pdcp_guard.specs.Srb.{srb_ciphered, srb_mac};
@@ -100,7 +101,7 @@ impl AsKeys {
         dir: Dir,
         octets: &[u8],
     ) -> Octets
-        requires { length octets.now ≤ 1536 }
+        requires { length octets.now ≤ longest_record }
         ensures value { result ≡ srb_ciphered self.now ciphers bearer count dir octets.now }
         ensures length { length result ≡ length octets.now }
     {
@@ -115,7 +116,7 @@ impl AsKeys {
     // The text of a DRB's PDU, ciphered or deciphered.
     #[tactic(auto, unfolding(crate::specs::Drb::drb_ciphered))]
     pub(crate) fn drb_ciphered(&self, bearer: Bearer, count: u32, dir: Dir, text: &[u8]) -> Octets
-        requires { length text.now ≤ 1536 }
+        requires { length text.now ≤ longest_record }
         ensures value { result ≡ drb_ciphered self.now bearer count dir text.now }
         ensures length { length result ≡ length text.now }
     {
@@ -125,7 +126,7 @@ impl AsKeys {
 
 // A text under an encryption algorithm.
 fn ciphered(eea: Eea, key: &AlgKey, bearer: Bearer, count: u32, dir: Dir, text: &[u8]) -> Octets
-    requires { length text.now ≤ 1536 }
+    requires { length text.now ≤ longest_record }
     ensures value { result ≡ ciphered eea key.now count (bearer5_of bearer) dir text.now }
     ensures length { length result ≡ length text.now }
 {

@@ -1,7 +1,9 @@
 ghost use Rattle.std.specs.Prelude.{◌≡◌, ℕ, ◌+◌, ◌-◌, ◌%◌, ◌<◌, ◌≤◌, ◌∷◌, ◌↔◌, IfErr, IfOk, IsErr, IsTrue, List, OnErr, length};
 ghost use Rattle.pdcp_guard.specs.Counts.{after_send, expects_next, new_bearer, send_count, sends_next, skipped};
 ghost use Rattle.key_model.specs.Least.{least};
-ghost use Rattle.pdcp_guard.specs.Srb.{IsSrb, SrbHasNoCount, SrbOpens, SrbRefuses, srb_count, srb_first, srb_opened, srb_opened_at, srb_sealed, srb_sent_by, srb_sn};
+ghost use Rattle.rec_base.specs.Bearer.{IsSrb};
+ghost use Rattle.rec_base.specs.Lengths.{longest_record};
+ghost use Rattle.pdcp_guard.specs.Srb.{SrbHasNoCount, SrbOpens, SrbRefuses, srb_count, srb_first, srb_opened, srb_opened_at, srb_sealed, srb_sent_by, srb_sn};
 ghost use Rattle.pdcp_guard.specs.Counts.{count_limit};
 
 use crate::counting::Counts;
@@ -24,7 +26,7 @@ impl Model for Srb {
 
     ghost Value = { BearerState };
 
-    ghost use Rattle.pdcp_guard.specs.Srb.{IsSrb};
+    ghost use Rattle.rec_base.specs.Bearer.{IsSrb};
 
     ghost view = { λ b. record { bearer = b.bearer; counts = b.counts } };
 
@@ -89,7 +91,7 @@ impl Srb {
         cipher: bool,
         pdu: &[u8],
     ) -> Result<PdcpOpened, PdcpFault>
-        requires { length pdu.now ≤ 1536 }
+        requires { length pdu.now ≤ longest_record }
         ensures value { result ≡ srb_opened keys.now cipher self.now.bearer self.now.counts.receive dir pdu.now }
         ensures opens { IfOk result (SrbOpens keys.now cipher self.now.bearer self.now.counts.receive dir pdu.now) }
         ensures refused { IfErr result (SrbRefuses keys.now cipher self.now.bearer self.now.counts.receive dir pdu.now) }
@@ -156,7 +158,7 @@ impl Srb {
 
 // A header octet and the octets behind it.
 fn with_header(header: u8, behind: &[u8]) -> Octets
-    requires { length behind.now < 1536 }
+    requires { length behind.now < longest_record }
     ensures { result ≡ header ∷ behind.now }
 {
     let mut octets = Octets::new();
@@ -191,7 +193,7 @@ fn opened_at(
     pdu: &[u8],
 ) -> Result<PdcpOpened, PdcpFault>
     requires long { 5 ≤ length pdu.now }
-    requires length { length pdu.now ≤ 1536 }
+    requires length { length pdu.now ≤ longest_record }
     ensures { result ≡ srb_opened_at keys.now cipher bearer count dir pdu.now }
 {
     let plain = keys.srb_ciphered(cipher, bearer, count, dir, &pdu[1..]);

@@ -1,7 +1,21 @@
--- The octets and the BEARER of the six radio bearers.
+-- The six radio bearers: which are SRBs and DRBs, their octets and their BEARER.
 use Rattle.std.specs.Prelude.{ℕ, ◌-◌, ◌==◌, if◌then◌else◌, Option, Some, None}
 use Rattle.rec_base.specs.declared.bearers.Bearer.{Bearer}
 use Rattle.rec_base.specs.declared.bearers.Bearer.TheVariants.{Srb1, Srb2, Drb1, Drb2, Drb3, Drb4}
+
+-- a signalling radio bearer
+abbrev pub IsSrb : Bearer → Type 0
+IsSrb Srb1 = Unit {0}
+IsSrb Srb2 = Unit {0}
+IsSrb other = ⊥
+
+-- a data radio bearer
+abbrev pub IsDrb : Bearer → Type 0
+IsDrb Drb1 = Unit {0}
+IsDrb Drb2 = Unit {0}
+IsDrb Drb3 = Unit {0}
+IsDrb Drb4 = Unit {0}
+IsDrb other = ⊥
 
 -- the bearer identity: srb-Identity and drb-Identity of TS 36.331 6.3.2
 abbrev pub identity_of : Bearer → ℕ

@@ -1,8 +1,10 @@
 -- A record of NAS, RRC, S1 or X2: its size is judged first, and then its fields from left to right.
-use Rattle.std.specs.Prelude.{◌≡◌, ℕ, ◌+◌, ◌-◌, ◌^◌, ◌≤◌, ◌<◌, List, [], ◌∷◌, length, get_or, Result, Ok}
+use Rattle.std.specs.Prelude.{◌≡◌, ℕ, ◌+◌, ◌≤◌, ◌<◌, List, [], ◌∷◌, length, get_or, Result, Ok}
 use Rattle.rec_base.specs.BigEndian.{field_at, octets_of}
+use Rattle.rec_base.specs.Ranges.{IsNumber}
 use Rattle.rec_base.specs.declared.faults.RecFault.{RecFault}
 use Rattle.rec_base.specs.declared.faults.RecFault.TheVariants.{Short, BadKind}
+use Rattle.alg_choice.specs.Caps.{IsCaps}
 use Rattle.alg_choice.specs.declared.algs.Algs.{Algs}
 use Rattle.alg_choice.specs.declared.caps.Caps.{Caps}
 use Rattle.annex_a_keys.specs.Cell.{Place, IsCell}
@@ -29,7 +31,7 @@ ncc = octet 0 7
 
 -- a number of 32 bits, at least 1
 abbrev pub number : Field RecFault ℕ
-number = record { read = from_one_at; spell = octets_of 4; width = 4; Fits = λ n. (1 ≤ n) × (n < 2 ^ 32) }
+number = record { read = from_one_at; spell = octets_of 4; width = 4; Fits = IsNumber }
 
 -- a cell
 abbrev pub cell : Field RecFault Place
@@ -45,7 +47,7 @@ capabilities = record {
   read = λ octets place. Ok (caps_at octets place);
   spell = λ caps. caps.eea ∷ caps.eia ∷ [];
   width = 2;
-  Fits = λ caps. (caps.eea < 256) × (caps.eia < 256);
+  Fits = IsCaps;
 }
 
 -- a key of 32 octets

@@ -26,16 +26,16 @@ key_change_fields = (cell_is_field, command_fields)
 rows_are : AreRows spelling_of InRange rrc_rows
 unfolding command_of reconfiguration_of bare data_of key_change_of spelling_of
 rows_are = (
-  record_row spelling_of InRange command command_fields (λ vs. refl) (λ vs h. (h.1.0.1, h.1.1.0, h.1.1.1)),
+  record_row spelling_of InRange command command_fields (λ vs. refl) (λ vs h. (h.1.0.1, h.1.1)),
   (
     record_row spelling_of InRange complete tt (λ vs. refl) (λ vs h. tt),
     (
-      record_row spelling_of InRange reconfiguration reconfiguration_fields (λ vs. refl) (λ vs h. (h.0, h.1.0.1, h.1.1.1.0.1, h.1.1.1.1.0, h.1.1.1.1.1)),
+      record_row spelling_of InRange reconfiguration reconfiguration_fields (λ vs. refl) (λ vs h. (h.0, h.1.0.1, h.1.1.1.0.1, h.1.1.1.1)),
       (
         record_row spelling_of InRange reconfigured tt (λ vs. refl) (λ vs h. tt),
         (
           record_row spelling_of InRange any_text tt (λ vs. refl) (λ vs h. h),
-          (record_row spelling_of InRange key_change key_change_fields (λ vs. refl) (λ vs h. (h.0, h.1.1.0.1, h.1.1.1.0, h.1.1.1.1)), tt),
+          (record_row spelling_of InRange key_change key_change_fields (λ vs. refl) (λ vs h. (h.0, h.1.1.0.1, h.1.1.1)), tt),
         ),
       ),
     ),
@@ -52,18 +52,18 @@ pub spelled_is_read : (r : RrcRecord) → InRange r → read_rrc (spelling_of r)
 unfolding command_of reconfiguration_of bare data_of key_change_of spelling_of read_rrc
 spelled_is_read (SecurityModeCommand algs station air) h =
     rows_on Short BadKind rrc_rows command.kind (spelled_by command.layout (algs, (station, air)))
-    ∙ record_again command command_fields tt (algs, (station, air)) (tt, ((omega arith, h.0), (h.1, h.2)))
+    ∙ record_again command command_fields tt (algs, (station, air)) (tt, ((omega arith, h.0), h.1))
 spelled_is_read SecurityModeComplete h =
     rows_on Short BadKind rrc_rows complete.kind [] ∙ record_again complete tt tt tt tt
 spelled_is_read (Reconfiguration cell ncc algs station air) h =
     rows_on Short BadKind rrc_rows reconfiguration.kind (spelled_by reconfiguration.layout (cell, (ncc, (algs, (station, air)))))
-    ∙ record_again reconfiguration reconfiguration_fields tt (cell, (ncc, (algs, (station, air)))) (h.0, ((omega arith, h.1), (tt, ((omega arith, h.2), (h.3, h.4)))))
+    ∙ record_again reconfiguration reconfiguration_fields tt (cell, (ncc, (algs, (station, air)))) (h.0, ((omega arith, h.1), (tt, ((omega arith, h.2), h.3))))
 spelled_is_read ReconfigurationComplete h =
     rows_on Short BadKind rrc_rows reconfigured.kind [] ∙ record_again reconfigured tt tt tt tt
 spelled_is_read (RrcData text) h = rows_on Short BadKind rrc_rows any_text.kind text ∙ record_again any_text tt tt text h
 spelled_is_read (KeyChange cell algs station air) h =
     rows_on Short BadKind rrc_rows key_change.kind (spelled_by key_change.layout (cell, (algs, (station, air))))
-    ∙ record_again key_change key_change_fields tt (cell, (algs, (station, air))) (h.0, (tt, ((omega arith, h.1), (h.2, h.3))))
+    ∙ record_again key_change key_change_fields tt (cell, (algs, (station, air))) (h.0, (tt, ((omega arith, h.1), h.2)))
 
 -- the same of what a reader answered
 pub found_in : (octets : List ℕ) (answer : Result RrcRecord RecFault) → AreOctets octets → answer ≡ read_rrc octets

@@ -1,5 +1,6 @@
 -- The RRC texts, each with its one spelling.
-use Rattle.std.specs.Prelude.{ℕ, ◌<◌, ◌≤◌, ◌^◌, List, length}
+use Rattle.std.specs.Prelude.{ℕ, ◌≤◌, List, length}
+use Rattle.rec_base.specs.Ranges.{IsNumber}
 use Rattle.rec_fields.specs.Record.{spelled}
 use Rattle.annex_a_keys.specs.Cell.{IsCell}
 use Rattle.rrc_rec.specs.declared.records.RrcRecord.{RrcRecord}
@@ -17,9 +18,9 @@ spelling_of (KeyChange cell algs station air) = spelled key_change (cell, (algs,
 
 -- each field is in its range: PCI and EARFCN-DL of a cell, NCC 0 to 7, station 0 to 7, air address at least 1
 abbrev pub InRange : RrcRecord → Type 0
-InRange (SecurityModeCommand algs station air) = (station ≤ 7) × (1 ≤ air) × (air < 2 ^ 32)
+InRange (SecurityModeCommand algs station air) = (station ≤ 7) × IsNumber air
 InRange SecurityModeComplete = Unit {0}
-InRange (Reconfiguration cell ncc algs station air) = IsCell cell × (ncc ≤ 7) × (station ≤ 7) × (1 ≤ air) × (air < 2 ^ 32)
+InRange (Reconfiguration cell ncc algs station air) = IsCell cell × (ncc ≤ 7) × (station ≤ 7) × IsNumber air
 InRange ReconfigurationComplete = Unit {0}
 InRange (RrcData text) = length text ≤ 200
-InRange (KeyChange cell algs station air) = IsCell cell × (station ≤ 7) × (1 ≤ air) × (air < 2 ^ 32)
+InRange (KeyChange cell algs station air) = IsCell cell × (station ≤ 7) × IsNumber air

@@ -1,8 +1,9 @@
 -- The records of S1 and X2, each with its one spelling.
-use Rattle.std.specs.Prelude.{◌≡◌, ℕ, ◌<◌, ◌≤◌, ◌^◌, List, [], ◌∷◌, length, get_or, Option, Some, None}
+use Rattle.std.specs.Prelude.{◌≡◌, ℕ, ◌<◌, ◌≤◌, List, [], ◌∷◌, length, get_or, Option, Some, None}
 use Rattle.key_model.specs.HandoverTable.{NumberedKey}
 use Rattle.rec_fields.specs.Layout.{spelled_by}
-use Rattle.alg_choice.specs.declared.caps.Caps.{Caps}
+pub use Rattle.rec_base.specs.Ranges.{IsNumber}
+pub use Rattle.alg_choice.specs.Caps.{IsCaps}
 use Rattle.annex_a_keys.specs.Cell.{IsCell}
 use Rattle.s1x2_rec.specs.Fields.{Fields, kind_of, InitialContext, ContextRelease, PathSwitchRequest, PathSwitchAnswer, HandoverRequired, HandoverRequest, HandoverRequestAck, HandoverCommand, HandoverNotify, HandoverCancel, X2Request, X2Ack, X2Cancel, X2Release, ContextModification}
 use Rattle.s1x2_rec.specs.Content.{Content}
@@ -39,14 +40,6 @@ fields_octets (ContextModification conn next) key = spelled_by context_modificat
 -- the kind, and then the fields
 unfoldable pub spelling_of : Content (List ℕ) ℕ → List ℕ
 spelling_of content = kind_of content.fields ∷ fields_octets content.fields content.key
-
--- a number of 32 bits, at least 1
-abbrev pub IsNumber : ℕ → Type 0
-IsNumber n = (1 ≤ n) × (n < 2 ^ 32)
-
--- capabilities, two octets
-abbrev pub IsCaps : Caps → Type 0
-IsCaps caps = (caps.eea < 256) × (caps.eia < 256)
 
 -- each plain field is in its range: stations and NCCs 0 to 7
 abbrev pub FieldsInRange : Fields → Type 0

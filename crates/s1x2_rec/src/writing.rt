@@ -1,6 +1,7 @@
 // Writing a record of S1 or X2.
 ghost use Rattle.std.specs.Prelude.{◌≡◌, ◌+◌, ◌≤◌, [], ◌∷◌, ◌++◌, length};
 ghost use Rattle.rec_base.specs.BigEndian.{octets_of};
+ghost use Rattle.rec_base.specs.Lengths.{longest_record};
 ghost use Rattle.s1x2_rec.specs.Fields.{kind_of};
 ghost use Rattle.s1x2_rec.specs.Content.{content_of};
 ghost use Rattle.s1x2_rec.specs.Spelling.{spelling_of, InRange};
@@ -244,7 +245,7 @@ fn begin_by(out: &mut Octets, kind: u8, conn: u32, station: u8, number: u32)
 
 // Appends capabilities.
 fn put_caps(out: &mut Octets, caps: &Caps)
-    requires { length out.old + 2 ≤ 1536 }
+    requires { length out.old + 2 ≤ longest_record }
     ensures octets { out.new ≡ out.old ++ caps.now.eea ∷ caps.now.eia ∷ [] }
     ensures count { length out.new ≡ length out.old + 2 }
 {
@@ -253,7 +254,7 @@ fn put_caps(out: &mut Octets, caps: &Caps)
 
 // Appends an NCC and the key that it belongs to.
 fn put_pair(out: &mut Octets, ncc: u8, key: [u8; 32])
-    requires { length out.old + 33 ≤ 1536 }
+    requires { length out.old + 33 ≤ longest_record }
     ensures { out.new ≡ out.old ++ ncc ∷ key }
 {
     out.append(&[ncc]);

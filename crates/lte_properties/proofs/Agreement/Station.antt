@@ -180,7 +180,7 @@ module _ (same : Term → Term → Bool) (cells : List Site) (g : Ghost) (made_o
       let draws = needs.0 in
       let here : made_at (g.made ++ m ∷ []) s.id air ≡ Some m = made_new g.made m (h.2 air (omega arith)).0 in
       let low : 1 ≤ air = at_least draws.0 h.5 in
-      let text = reads_as (SaysOk (told g (Some m) None) s.id key.key) (SecurityModeCommand algs s.id air) (h.4, low, draws.1) (m, here, refl, refl) in
+      let text = reads_as (SaysOk (told g (Some m) None) s.id key.key) (SecurityModeCommand algs s.id air) (h.4, (low, draws.1)) (m, here, refl, refl) in
       let fresh : FreshFrom (told g (Some m) None) s.id (air + 1) =
       λ n above. (made_none g.made m s.id n (h.2 n (omega arith)).0 (omega arith), (h.2 n (omega arith)).1) in (
         (
