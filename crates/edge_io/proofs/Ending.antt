@@ -4,7 +4,9 @@ use Rattle.std.proofs.lemmas.List.{take_rest}
 use Rattle.std.specs.Prelude.{IfOk}
 use Rattle.std.specs.List.{last_or}
 use Rattle.std.specs.Option.{option_map_or}
+use Rattle.std.specs.Fmt.{decimal}
 use Rattle.edge_io.specs.Lines.{EndsLine, are_lines, ends_line, has_octets, with_octets, with_piece}
+use Rattle.edge_io.specs.PortLine.{port_line}
 
 last-append : (o : Option ℕ) (front : List ℕ) (x : ℕ) (more : List ℕ) → last_or o (front ++ x ∷ more) ≡ last_or None (x ∷ more)
 last-append o [] x more = refl
@@ -45,6 +47,10 @@ on front octets ends = record { last = last_on front octets ends.last }
 -- a line is whole lines
 pub is_lines : (octets : List ℕ) → EndsLine octets → are_lines octets ≡ true
 is_lines octets ends = ap (λ o. option_map_or (λ octet. octet == 10) o true) ends.last
+
+-- the line of a port is whole lines
+pub port_lines : (number : ℕ) → are_lines (port_line number) ≡ true
+port_lines number = is_lines (port_line number) (on (decimal number) (10 ∷ []) feed)
 
 -- what is left of them ends so too
 rest_lines : (sent : ℕ) (octets : List ℕ) → sent < length octets → are_lines octets ≡ true → are_lines (drop sent octets) ≡ true

@@ -1,5 +1,5 @@
 -- What is told of an object of the outside at a moment.
-use Rattle.std.specs.Prelude.{ℕ, Bool, true, false, IsTrue, Option, None, List}
+use Rattle.std.specs.Prelude.{ℕ, Bool, true, false, IsTrue, Option, Some, None, List}
 use Rattle.std.specs.Io.KnownBytes.{IsAtEnd}
 
 -- One object may be a source, a sink or both, as a port is; of a side that it lacks it tells
@@ -70,8 +70,8 @@ port_told source sink is_open =
     }
 
 -- what a port tells that is one connection of the network
-abbrev pub connection_told : Bool → ℕ → Bool → ℕ → ℕ → ℕ → Told
-connection_told is_open most ended read_faults write_faults open_faults =
+abbrev pub connection_told : Bool → ℕ → Bool → Bool → ℕ → ℕ → ℕ → Told
+connection_told is_open most ended pieces read_faults write_faults open_faults =
     record {
       left = None;
       most = most;
@@ -79,7 +79,7 @@ connection_told is_open most ended read_faults write_faults open_faults =
       read_faults = read_faults;
       written = None;
       lines = None;
-      pieces = None;
+      pieces = Some pieces;
       write_faults = write_faults;
       open_faults = open_faults;
       ready = is_open;

@@ -1,7 +1,6 @@
 ghost use Rattle.std.specs.Prelude.{◌≡◌, ◌+◌, ◌-◌, ◌^◌, ◌≤◌, ◌<◌, ◌⊎◌, min, length, take, IfOk, IfErr, IfSome, IsSomeAnd, IsErrOf, OnOk, OnErr, None, Some};
 ghost use Rattle.std.specs.Option.{option_map};
 ghost use Rattle.std.specs.List.{slice_get};
-ghost use Rattle.growth.specs.Growth.{WasRefused};
 ghost use Rattle.edge_io.specs.Cause.{Rose, HasCause};
 ghost use Rattle.edge_io.specs.Peers.{IsRunning, SendFailed, ReceiveFailed, sent_to, started, stopped_at, taken_from, to_give_of};
 ghost use Rattle.edge_io.specs.Serving.{IsCut, IsEnded, IsFilled, IsSent, IsServed, Keeps, KeepsSaid, LeavesSaid, NoMemory, NotServed, OfPeer, OfNoPeer, program_of, start_of};
@@ -14,7 +13,7 @@ use crate::peers::{Peers, Role, StartFault};
 use crate::programs::Programs;
 use crate::reader::Reader;
 use crate::served_child::{ServedChild, StartError};
-use std::alloc::{AllocError, Global};
+use std::alloc::Global;
 
 /// How many octets of what a peer has still to say are kept at the most: those of the greatest reply.
 const REST: usize = 4098;
@@ -83,20 +82,8 @@ fn keep_rest(alloc: Global, rests: &mut Vec<(Role, Vec<u8>)>, role: Role, octets
     if octets.is_empty() {
         return;
     }
-    if let Ok(octets) = copied(alloc, octets) {
+    if let Ok(octets) = growth::from_slice(alloc, octets) {
         let _ = growth::push(rests, (role, octets));
-    }
-}
-
-// A copy of octets.
-fn copied(alloc: Global, octets: &[u8]) -> Result<Vec<u8>, AllocError>
-    ensures octets { IfOk result (λ copied. copied.items ≡ octets.now) }
-    ensures refused { OnErr result WasRefused }
-{
-    let mut copied = growth::with_capacity(alloc, octets.len())?;
-    match growth::extend_from_slice(&mut copied, octets) {
-        Ok(()) => Ok(copied),
-        Err(e) => Err(e),
     }
 }
 

@@ -1,4 +1,4 @@
-ghost use Rattle.std.specs.Prelude.{◌≡◌, ◌+◌, ◌-◌, ◌^◌, ◌≤◌, ◌<◌, ◌⊎◌, min, IsTrue, length, IfOk, OnOk, OnErr, IfSome, Ok, None, is_some, false};
+ghost use Rattle.std.specs.Prelude.{◌≡◌, ◌+◌, ◌-◌, ◌^◌, ◌≤◌, ◌<◌, ◌⊎◌, min, IsTrue, length, IfOk, OnOk, OnErr, IfSome, Ok, None, is_some, false, true};
 ghost use Rattle.std.specs.Io.KnownBytes.{ReadConsumes, WriteAppends};
 ghost use Rattle.edge_io.specs.Told.{HasEnded, connection_told};
 ghost use Rattle.edge_io.specs.Cause.{HasCause, NoCountFell, NoFault};
@@ -6,9 +6,11 @@ ghost use Rattle.edge_io.specs.Lines.{with_octets, with_piece};
 ghost use Rattle.edge_io.specs.Octets.{Gives, Grows, MetNoEnd, octets_of};
 ghost use Rattle.edge_io.specs.Opening.{IsOpened, OpenFails};
 ghost use Rattle.edge_io.specs.Tries.{LastAnswers, GivesUp};
+ghost use Rattle.edge_io.specs.Used.{UsedAsSink};
 
 use crate::edge::Edge;
 use crate::failed::Failed;
+use crate::lines::has_octets;
 use crate::network::Network;
 use crate::port::Port;
 use crate::port_line::{on_loopback, port_line};
@@ -18,8 +20,8 @@ use crate::source::Source;
 use crate::writer_sink::write_once;
 use crate::writing::write_all;
 
-/// A port over one TCP connection on 127.0.0.1. It counts each error of the network, and tells
-/// nothing of the octets. It gives at most 2^62 octets: a read past them fails.
+/// A port over one TCP connection on 127.0.0.1. It counts each error of the network. Of the
+/// octets it tells no more than whether no piece that it was given was empty. It gives at most 2^62 octets: a read past them fails.
 #[derive(Drop)]
 pub struct LoopbackPort<N: Network + Drop, K: Sink + Drop> {
     /// The one connection, once it was accepted.
@@ -30,6 +32,7 @@ pub struct LoopbackPort<N: Network + Drop, K: Sink + Drop> {
     pub net: N,
     most: usize,
     ended: bool,
+    pieces: bool,
     read_faults: u64,
     write_faults: u64,
     open_faults: u64,
@@ -41,7 +44,7 @@ impl<N: Network + Drop, K: Sink + Drop> LoopbackPort<N, K> {
     pub fn new(net: N, out: K) -> LoopbackPort<N, K>
         requires { IsTrue (K.told out).ready }
         ensures told { ⟦<LoopbackPort<N, K> as Edge>⟧.told result
-            ≡ connection_told false (2 ^ 62) false 0 0 0 }
+            ≡ connection_told false (2 ^ 62) false true 0 0 0 }
     {
         LoopbackPort {
             connection: None,
@@ -49,6 +52,7 @@ impl<N: Network + Drop, K: Sink + Drop> LoopbackPort<N, K> {
             net,
             most: MOST,
             ended: false,
+            pieces: true,
             read_faults: 0,
             write_faults: 0,
             open_faults: 0,
@@ -57,7 +61,7 @@ impl<N: Network + Drop, K: Sink + Drop> LoopbackPort<N, K> {
 }
 
 impl<N: Network + Drop, K: Sink + Drop> Edge for LoopbackPort<N, K> {
-    ghost told = { λ p. connection_told (is_some p.connection) p.most p.ended p.read_faults p.write_faults p.open_faults };
+    ghost told = { λ p. connection_told (is_some p.connection) p.most p.ended p.pieces p.read_faults p.write_faults p.open_faults };
 }
 
 impl<N: Network + Drop, K: Sink + Drop> Source for LoopbackPort<N, K> {
@@ -155,6 +159,7 @@ impl<N: Network + Drop, K: Sink + Drop> Sink for LoopbackPort<N, K> {
         let Some(connection) = &mut self.connection else {
             unreachable!()
         };
+        self.pieces = self.pieces && has_octets(piece);
         if let Ok(count) = write_once(connection, piece) {
             if count > 0 || piece.is_empty() {
                 return Ok(count);
@@ -194,6 +199,10 @@ impl<N: Network + Drop, K: Sink + Drop> Port for LoopbackPort<N, K> {
             (IsOpened (N.binds self.old.net) N.has_port N.accepts (K.told self.old.out) (K.told self.new.out))) }
         ensures failed { OnErr result
             (OpenFails (N.binds self.old.net) N.has_port N.accepts (K.told self.old.out) (K.told self.new.out)) }
+
+        // The sink of its number was given whole lines, and no empty piece.
+        ensures said { UsedAsSink (K.told self.old.out) (K.told self.new.out) }
+        ensures said_pieces { (K.told self.new.out).pieces ≡ (K.told self.old.out).pieces }
     {
         match accepted(&self.net, &mut self.out) {
             Ok(connection) => {
@@ -209,9 +218,11 @@ impl<N: Network + Drop, K: Sink + Drop> Port for LoopbackPort<N, K> {
 }
 
 // Binds a port that is free, writes its number as one line, and accepts one connection.
+#[tactic(auto, using(crate::proofs::Ending::port_lines))]
 fn accepted<N: Network, K: Sink>(net: &N, out: &mut K) -> Result<N::Stream, Failed>
     requires { IsTrue (K.told out.old).ready }
-    ensures ready { IsTrue (K.told out.new).ready }
+    ensures out { UsedAsSink (K.told out.old) (K.told out.new) }
+    ensures pieces { (K.told out.new).pieces ≡ (K.told out.old).pieces }
     ensures by { IfOk result (IsOpened (N.binds net.now) N.has_port N.accepts (K.told out.old) (K.told out.new)) }
     ensures failed { OnErr result (OpenFails (N.binds net.now) N.has_port N.accepts (K.told out.old) (K.told out.new)) }
 {

@@ -63,17 +63,14 @@ impl<H: Host> ServedChild<H> {
             Ok(started) => started,
             Err(e) => return Err(error_of(e, PeerFault::NotStarted)),
         };
-        match reached(host, &mut said) {
+        match connected(host, &mut process, &mut said) {
             Ok(connection) => Ok(ServedChild {
                 role,
                 process,
                 said,
                 connection: Some(connection),
             }),
-            Err(e) => {
-                end::<H>(&mut process);
-                Err(e)
-            }
+            Err(e) => Err(e),
         }
     }
 
@@ -122,6 +119,30 @@ impl<H: Host> ServedChild<H> {
         };
         end::<H>(&mut self.process);
         count
+    }
+}
+
+// A connection to a program that was started. It is ended where it is not reached, or the connection wants memory.
+fn connected<H: Host>(
+    host: &H,
+    process: &mut H::Process,
+    said: &mut H::Said,
+) -> Result<H::Stream, StartError>
+    ensures process { OnOk result (process.new ≡ process.old) }
+    ensures ended { OnErr result (IsEnded H.kills H.waits process.old process.new) }
+    ensures reached { IfOk result (λ connection.
+        Says H.Said.remaining said.old said.new (λ number. H.connects host.now loopback number (Ok connection))) }
+    ensures failed { IfErr result (λ e. (fault : PeerFault) → e ≡ StartError.Peer fault →
+        NotFound H.Said.answers H.Said.remaining (H.connects host.now) said.old said.new fault) }
+    ensures memory { IfErr result (λ e. e ≡ StartError.Memory →
+        Says H.Said.remaining said.old said.new (λ number. WantsMemory (H.connects host.now loopback number))) }
+{
+    match reached(host, said) {
+        Ok(connection) => Ok(connection),
+        Err(e) => {
+            end::<H>(process);
+            Err(e)
+        }
     }
 }
 

@@ -10,36 +10,38 @@ ghost use Rattle.edge_io.specs.Tries.{LastAnswers, GivesUp};
 use crate::edge::Edge;
 use crate::failed::Failed;
 use crate::interrupted::is_interrupted;
-use crate::lines::ends_line;
+use crate::lines::{ends_line, has_octets};
 use crate::sink::Sink;
 use crate::writer::Writer;
 
 /// A sink over a writer, such as standard output. It counts each error of the writer and each write that took
-/// nothing, and tells nothing of the octets. It does not flush.
+/// nothing. Of the octets it tells no more than whether each piece was whole lines, and whether none was empty. It does not flush.
 #[derive(Drop)]
 pub struct WriterSink<W: Drop> {
     /// The writer that the octets go to.
     pub writer: W,
     lines: bool,
+    pieces: bool,
     faults: u64,
 }
 
 impl<W: Writer + Drop> WriterSink<W> {
     /// A sink that hands on to this writer.
     pub fn new(writer: W) -> WriterSink<W>
-        ensures told { ⟦<WriterSink<W> as Edge>⟧.told result ≡ sink_told None (Some true) None 0 }
+        ensures told { ⟦<WriterSink<W> as Edge>⟧.told result ≡ sink_told None (Some true) (Some true) 0 }
         ensures writer { result.writer ≡ writer }
     {
         WriterSink {
             writer,
             lines: true,
+            pieces: true,
             faults: 0,
         }
     }
 }
 
 impl<W: Writer + Drop> Edge for WriterSink<W> {
-    ghost told = { λ s. sink_told None (Some s.lines) None s.faults };
+    ghost told = { λ s. sink_told None (Some s.lines) (Some s.pieces) s.faults };
 }
 
 impl<W: Writer + Drop> Sink for WriterSink<W> {
@@ -78,6 +80,7 @@ impl<W: Writer + Drop> Sink for WriterSink<W> {
             × (0 < length piece.now))) }
     {
         self.lines = self.lines && ends_line(piece);
+        self.pieces = self.pieces && has_octets(piece);
         if let Ok(count) = write_once(&mut self.writer, piece) {
             if count > 0 || piece.is_empty() {
                 return Ok(count);

@@ -4,8 +4,10 @@
 
 mod commands;
 mod lists;
+mod maps;
 mod texts;
 
 pub use commands::{arg, command};
-pub use lists::{collect, extend_from_slice, from_elem, push, reserve, with_capacity};
+pub use lists::{collect, extend_from_slice, from_elem, from_slice, push, reserve, with_capacity};
+pub use maps::insert;
 pub use texts::{decode, encode, format, from_str};

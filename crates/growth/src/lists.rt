@@ -63,6 +63,18 @@ pub fn from_elem(alloc: Global, octet: u8, len: usize) -> Result<Vec<u8>, AllocE
     vec![in alloc; octet; len]
 }
 
+/// A list of copies of items.
+pub fn from_slice<T: Copy>(alloc: Global, items: &[T]) -> Result<Vec<T>, AllocError>
+    ensures items { IfOk result (λ copied. copied.items ≡ items.now) }
+    ensures refused { OnErr result (Refused (length items.now)) }
+{
+    let mut copied = with_capacity(alloc, items.len())?;
+    match extend_from_slice(&mut copied, items) {
+        Ok(()) => Ok(copied),
+        Err(e) => Err(e),
+    }
+}
+
 /// All items that an iterator gives.
 pub fn collect<T: Drop, I: Iterator<Item = T> + Drop>(
     items: I,
