@@ -1,4 +1,5 @@
 ghost use Rattle.std.specs.Prelude.{◌≡◌, ◌≢◌, Ok, IfOk, IfErr, IsTrue};
+ghost use Rattle.growth.specs.Growth.{WasRefused};
 ghost use Rattle.edge_io.specs.Cause.{NoFault};
 ghost use Rattle.edge_io.specs.Used.{UsedAsSink};
 ghost use Rattle.ladder_text.specs.Text.{reading_of};
@@ -12,11 +13,12 @@ use edge_io::Sink;
 use std::alloc::Global;
 
 /// Writes the output for a ladder text: the row of each line, or the refusal of the first bad one. The whole text
-/// is read before anything is written.
+/// is read before anything is written. `Memory` only where std refuses memory.
 pub fn write_answer<W: Sink>(alloc: Global, text: &[u8], out: &mut W) -> Ending
     requires ready { IsTrue (W.told out.old).ready }
     ensures output { Writes (output_of (reading_of text.now)) result (W.told out.old) (W.told out.new) }
     ensures no_refusal { result ≡ Ending.Memory → (output_of (reading_of text.now)).ends ≡ Ending.Refused → out.new ≡ out.old }
+    ensures memory { result ≡ Ending.Memory → WasRefused }
     ensures no_fault { result ≢ Ending.WriteFault → NoFault (W.told out.old) (W.told out.new) }
     ensures out { UsedAsSink (W.told out.old) (W.told out.new) }
 {
@@ -31,10 +33,12 @@ fn unless_bad<W: Sink>(
     reading: Result<Vec<LadderLine>, TextFault>,
     out: &mut W,
 ) -> Result<Vec<LadderLine>, Ending>
-    requires { IsTrue (W.told out.old).ready }
+    requires ready { IsTrue (W.told out.old).ready }
+    requires memory { IfErr reading (λ fault. fault ≡ TextFault.Memory → WasRefused) }
     ensures read { IfOk result (λ lines. (reading ≡ Ok lines) × (out.new ≡ out.old)) }
     ensures refused { IfErr result (λ ending. Refuses reading ending (W.told out.old) (W.told out.new)) }
     ensures memory { IfErr result (λ ending. ending ≡ Ending.Memory → out.new ≡ out.old) }
+    ensures memory_refused { IfErr result (λ ending. ending ≡ Ending.Memory → WasRefused) }
     ensures no_fault { IfErr result (λ ending. ending ≢ Ending.WriteFault → NoFault (W.told out.old) (W.told out.new)) }
     ensures out { UsedAsSink (W.told out.old) (W.told out.new) }
 {

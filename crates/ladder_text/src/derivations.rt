@@ -1,6 +1,7 @@
-ghost use Rattle.std.specs.Prelude.{◌≡◌, [], OnOk, slice_get};
+ghost use Rattle.std.specs.Prelude.{◌≡◌, [], OnErr, OnOk, slice_get};
 ghost use Rattle.std.specs.List.{list_any};
 ghost use Rattle.std.specs.Option.{option_copied};
+ghost use Rattle.growth.specs.Growth.{WasRefused};
 ghost use Rattle.ladder_text.specs.Text.{same, with_row};
 
 use crate::key::LineKey;
@@ -41,11 +42,12 @@ impl Derivations {
 
     // Adds the row that a line makes, if it makes a new one. Where memory runs out none is added.
     pub fn add(&mut self, line: &LadderLine) -> Result<(), AllocError>
-        ensures { OnOk result (self.new ≡ with_row self.old line.now) }
+        ensures rows { OnOk result (self.new ≡ with_row self.old line.now) }
+        ensures refused { OnErr result WasRefused }
     {
         let key = line.key();
         if !self.lines.contains_key(&key) {
-            self.lines.insert(key, *line)?;
+            growth::insert(&mut self.lines, key, *line)?;
         }
         Ok(())
     }

@@ -1,4 +1,5 @@
-ghost use Rattle.std.specs.Prelude.{◌≡◌, map, IfOk};
+ghost use Rattle.std.specs.Prelude.{◌≡◌, map, IfOk, OnErr};
+ghost use Rattle.growth.specs.Growth.{WasRefused};
 ghost use Rattle.text_lines.specs.Words.{words_of};
 ghost use Rattle.ladder_text.specs.Text.{row_of, count_of, cell_of, type_of, takes, identity_of, line_of_two, line_of_three, line_of_four, line_of};
 
@@ -55,7 +56,8 @@ impl LadderLine {
 
     // The line that a text spells, whatever rows there are. No line has more than four words.
     pub(crate) fn read(alloc: Global, line: &[u8]) -> Result<Option<LadderLine>, AllocError>
-        ensures { IfOk result (λ read. read ≡ line_of (words_of line.now)) }
+        ensures line { IfOk result (λ read. read ≡ line_of (words_of line.now)) }
+        ensures refused { OnErr result WasRefused }
     {
         let words = first_words(alloc, line, 5)?;
         Ok(line_from(words.as_slice()))

@@ -1,4 +1,5 @@
-ghost use Rattle.std.specs.Prelude.{◌≡◌, ◌≢◌, ℕ, ◌<◌, ◌≤◌, true, List, [], length, map, IfOk, IsTrue};
+ghost use Rattle.std.specs.Prelude.{◌≡◌, ◌≢◌, ℕ, ◌<◌, ◌≤◌, true, List, [], length, map, Err, IfOk, IsTrue, OnErr};
+ghost use Rattle.growth.specs.Growth.{WasRefused};
 ghost use Rattle.std.specs.String.{string_bytes};
 ghost use Rattle.edge_io.specs.Cause.{NoFault};
 ghost use Rattle.edge_io.specs.Lines.{are_lines};
@@ -20,12 +21,13 @@ use key_terms::{Ladder, LadderFault, Row};
 use rec_base::Bounded;
 use std::alloc::{AllocError, Global};
 
-/// Writes the output for the lines of a ladder text, each line by one `write_all`.
+/// Writes the output for the lines of a ladder text, each line by one `write_all`. `Memory` only where std refuses memory.
 pub fn write_report<W: Sink>(alloc: Global, lines: &[LadderLine], out: &mut W) -> Ending
     requires ready { IsTrue (W.told out.old).ready }
     requires good { AreGood [] lines.now }
     requires few { length lines.now ≤ 4096 }
     ensures output { Writes (output_from [] 1 lines.now) result (W.told out.old) (W.told out.new) }
+    ensures memory { result ≡ Ending.Memory → WasRefused }
     ensures no_fault { result ≢ Ending.WriteFault → NoFault (W.told out.old) (W.told out.new) }
     ensures out { UsedAsSink (W.told out.old) (W.told out.new) }
 {
@@ -76,6 +78,7 @@ fn write_line<W: Sink>(
         → TextAt result (ends_at (place_in rows line.now)) (text_at (place_in rows line.now) rows number line.now) (W.told out.old) (W.told out.new) }
     ensures rows { (rows : List KeyRow) → StandsFor rows ladder.old.rows → meets (map (λ r. r.line) rows) line.now ≡ true → StandsFor (rows_after (place_in rows line.now) rows line.now) ladder.new.rows }
     ensures ladder { IsLadder ladder.new.rows }
+    ensures memory { result ≡ Ending.Memory → WasRefused }
     ensures no_fault { result ≢ Ending.WriteFault → NoFault (W.told out.old) (W.told out.new) }
     ensures out { UsedAsSink (W.told out.old) (W.told out.new) }
 {
@@ -103,6 +106,7 @@ fn write_row<W: Sink>(
     requires ready { IsTrue (W.told out.old).ready }
     requires stands { row.0 < length ladder.now.rows }
     ensures text { (rows : List KeyRow) → StandsFor rows ladder.now.rows → TextAt result Ending.Done (row_text row.0 (kind_of line.now) (key_at rows row)) (W.told out.old) (W.told out.new) }
+    ensures memory { result ≡ Ending.Memory → WasRefused }
     ensures no_fault { result ≢ Ending.WriteFault → NoFault (W.told out.old) (W.told out.new) }
     ensures out { UsedAsSink (W.told out.old) (W.told out.new) }
 {
@@ -115,7 +119,9 @@ fn write_text<W: Sink>(text: Result<String, AllocError>, ends: Ending, out: &mut
     requires ready { IsTrue (W.told out.old).ready }
     requires reported { IsReported ends }
     requires line { IfOk text (λ t. are_lines (string_bytes t) ≡ true) }
+    requires refused { OnErr text WasRefused }
     ensures text { (octets : List ℕ) → IfOk text (λ t. string_bytes t ≡ octets) → TextAt result ends octets (W.told out.old) (W.told out.new) }
+    ensures memory { result ≡ Ending.Memory → WasRefused }
     ensures no_fault { result ≢ Ending.WriteFault → NoFault (W.told out.old) (W.told out.new) }
     ensures out { UsedAsSink (W.told out.old) (W.told out.new) }
 {
@@ -136,6 +142,7 @@ fn place(ladder: &mut Ladder, asked: &Asked) -> Result<Row, LadderFault>
     ensures answer { (rows : List KeyRow) (line : LadderLine) → StandsFor rows ladder.old.rows → meets (map (λ r. r.line) rows) line ≡ true → Asks rows line asked.now → result ≡ answer_at (place_in rows line) rows line }
     ensures rows { (rows : List KeyRow) (line : LadderLine) → StandsFor rows ladder.old.rows → meets (map (λ r. r.line) rows) line ≡ true → Asks rows line asked.now → StandsFor (rows_after (place_in rows line) rows line) ladder.new.rows }
     ensures ladder { IsLadder ladder.new.rows }
+    ensures no_memory { result ≢ Err LadderFault.Memory }
 {
     match asked {
         Asked::Root(octets) => ladder.root(*octets),
@@ -151,12 +158,13 @@ fn row_line(
     line: &LadderLine,
     octets: &[u8; 32],
 ) -> Result<String, AllocError>
-    ensures { IfOk result (λ text. string_bytes text ≡ row_text row.0 (kind_of line.now) octets.now) }
+    ensures text { IfOk result (λ text. string_bytes text ≡ row_text row.0 (kind_of line.now) octets.now) }
+    ensures refused { OnErr result WasRefused }
 {
     let kind = line.kind();
-    let hex = hex::encode(alloc, octets)?;
+    let hex = growth::encode(alloc, octets)?;
     let row = row.0;
-    format!(in alloc; "{row} {kind} {hex}\n")
+    growth::format(alloc, format_args!("{row} {kind} {hex}\n"))
 }
 
 // The output line of a coincidence with a row.
@@ -169,6 +177,7 @@ fn coincidence_line(
     requires { IsInput asked.now }
     ensures line { IfOk result (λ text. are_lines (string_bytes text) ≡ true) }
     ensures text { (rows : List KeyRow) (line : LadderLine) → Asks rows line asked.now → IfOk result (λ text. string_bytes text ≡ coincidence_text number row.0 (derived_in rows line)) }
+    ensures refused { OnErr result WasRefused }
 {
     match asked {
         Asked::Root(_) => root_coincidence(alloc, number, row),
@@ -179,10 +188,11 @@ fn coincidence_line(
 // The output line of a root that has a row's octets.
 #[tactic(auto, unfolding(crate::specs::Report::root_coincidence_text))]
 fn root_coincidence(alloc: Global, number: u32, row: Row) -> Result<String, AllocError>
-    ensures { IfOk result (λ text. string_bytes text ≡ root_coincidence_text number row.0) }
+    ensures text { IfOk result (λ text. string_bytes text ≡ root_coincidence_text number row.0) }
+    ensures refused { OnErr result WasRefused }
 {
     let row = row.0;
-    format!(in alloc; "{number} coincidence root {row}\n")
+    growth::format(alloc, format_args!("{number} coincidence root {row}\n"))
 }
 
 // The output line of a derivation that gave a row's octets.
@@ -194,12 +204,16 @@ fn rows_coincidence(
     made: &Derived,
 ) -> Result<String, AllocError>
     requires { IsKdfInput made.now.input }
-    ensures { IfOk result (λ text. string_bytes text ≡ rows_coincidence_text number row.0 made.now.key made.now.input) }
+    ensures text { IfOk result (λ text. string_bytes text ≡ rows_coincidence_text number row.0 made.now.key made.now.input) }
+    ensures refused { OnErr result WasRefused }
 {
     let row = row.0;
-    let key = hex::encode(alloc, &made.key)?;
-    let string = hex::encode(alloc, made.input.string().as_slice())?;
-    format!(in alloc; "{number} coincidence rows {row} {key} {string}\n")
+    let key = growth::encode(alloc, &made.key)?;
+    let string = growth::encode(alloc, made.input.string().as_slice())?;
+    growth::format(
+        alloc,
+        format_args!("{number} coincidence rows {row} {key} {string}\n"),
+    )
 }
 
 // The output line of a refusal.

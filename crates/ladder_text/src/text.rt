@@ -1,4 +1,5 @@
-ghost use Rattle.std.specs.Prelude.{◌≡◌, ℕ, ◌<◌, ◌≤◌, ◌∷◌, [], length, IfOk, IfSome, Ok, Err, position};
+ghost use Rattle.std.specs.Prelude.{◌≡◌, ℕ, ◌<◌, ◌≤◌, ◌∷◌, [], length, IfErr, IfOk, IfSome, Ok, OnErr, Err, position};
+ghost use Rattle.growth.specs.Growth.{WasRefused};
 ghost use Rattle.text_lines.specs.Lines.{lines_of};
 ghost use Rattle.text_lines.specs.Words.{words_of};
 ghost use Rattle.ladder_text.specs.Text.{is_root, is_hop_of, has_star, is_kenb, has_alg, stands_as, meets, rows_of, next_line, reading_of, AreGood};
@@ -47,6 +48,7 @@ pub fn read_lines(alloc: Global, text: &[u8]) -> Result<Vec<LadderLine>, TextFau
     ensures good { IfOk result (λ lines. AreGood [] lines.items) }
     ensures few { IfOk result (λ lines. length lines.items ≤ 4096) }
     ensures bad { (k : ℕ) → result ≡ Err (TextFault.BadLine k) → reading_of text.now ≡ Err k }
+    ensures memory { IfErr result (λ fault. fault ≡ TextFault.Memory → WasRefused) }
 {
     let mut lines = Vec::new(alloc);
     let mut rows = Derivations::new(alloc);
@@ -57,7 +59,7 @@ pub fn read_lines(alloc: Global, text: &[u8]) -> Result<Vec<LadderLine>, TextFau
             return Err(TextFault::BadLine(lines.len() as u32 + 1));
         };
         rows.add(&line)?;
-        lines.push(line)?;
+        growth::push(&mut lines, line)?;
         rest = behind;
     }
     Ok(lines)
@@ -71,7 +73,8 @@ fn read_next(
     text: &[u8],
 ) -> Result<Option<LadderLine>, AllocError>
     requires { rows.now ≡ rows_of lines.now }
-    ensures { IfOk result (λ line. line ≡ next_line lines.now (words_of text.now)) }
+    ensures line { IfOk result (λ line. line ≡ next_line lines.now (words_of text.now)) }
+    ensures refused { OnErr result WasRefused }
 {
     if lines.len() >= 4096 {
         return Ok(None);

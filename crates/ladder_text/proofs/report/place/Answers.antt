@@ -1,7 +1,10 @@
-use Rattle.std.proofs.Common.{◌≡◌, true, List, map, sym, ap, subst}
+use Rattle.std.proofs.Common.{◌≡◌, true, List, map, Result, sym, ap, subst}
 use Rattle.std.specs.Option.{is_some, IfSome}
+use Rattle.std.specs.Prelude.{IfErr}
+use Rattle.key_terms.specs.declared.ladder.LadderFault.{LadderFault}
 use Rattle.key_terms.specs.declared.row.Origin.TheVariants as origin
-use Rattle.key_terms.specs.Ladder.{HasRoot}
+use Rattle.key_terms.specs.declared.row.Row.{Row}
+use Rattle.key_terms.specs.Ladder.{HasRoot, RootRefused, AddRefused}
 use Rattle.ladder_text.specs.declared.line.LadderLine.{LadderLine}
 use Rattle.ladder_text.specs.Text.{meets}
 use Rattle.ladder_text.specs.Report.{KeyRow, octets_in}
@@ -24,6 +27,9 @@ returns-in-Root c =
       answer = λ rows line stand met asks. (both rows line stand met asks).0;
       rows = λ rows line stand met asks. (both rows line stand met asks).1;
       ladder = root.ladder;
+      no_memory = λ is.
+          let Refused : Result Row LadderFault → Type 0 = λ r. IfErr r (RootRefused ladder c.in-Root.octets) in
+          absurd (subst Refused is root.cause);
     }
 
 pub add-requires : goal.add-requires
@@ -55,4 +61,7 @@ returns-in-Derivation c =
       answer = λ rows line stand met asks. (both rows line stand met asks).0;
       rows = λ rows line stand met asks. (both rows line stand met asks).1;
       ladder = add.ladder;
+      no_memory = λ is.
+          let Refused : Result Row LadderFault → Type 0 = λ r. IfErr r (AddRefused ladder made) in
+          absurd (subst Refused is add.cause);
     }

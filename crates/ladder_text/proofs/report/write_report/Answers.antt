@@ -65,6 +65,7 @@ returns-in_default g c =
     let met = line_met lines i first mid ladder line printed within is in
     record {
       output = ended lines i first mid now ladder line c.write_line.result printed within is so_far.out.counts (c.write_line.ensures.line rows printed.stand met) c.in_default.not-Done;
+      memory = search rules;
       no_fault = search rules;
       out = search rules;
     }
