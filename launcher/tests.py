@@ -1,8 +1,10 @@
 """Tests of the launcher's scripts: python3 launcher/tests.py. They run the built program by ./lte_sec."""
 import concurrent.futures
 import json
+import os
 import pathlib
 import re
+import shutil
 import subprocess
 import sys
 import tempfile
@@ -16,6 +18,7 @@ import calc  # noqa: E402
 import document  # noqa: E402
 import fields  # noqa: E402
 import ladder  # noqa: E402
+import pages  # noqa: E402
 import scenario  # noqa: E402
 
 EXAMPLES = TOP / "examples"
@@ -202,6 +205,67 @@ class Page(unittest.TestCase):
             self.assertIn(told, self.PLAIN)
         rows = self.rows("| line | needs | derives")
         self.assertEqual([f"{kind} {' '.join(names)}" for kind, names in ladder.LINES.items()], [line for line, _, _ in rows])
+
+
+class Installed(unittest.TestCase):
+    """The man page and the completions, which are made of the table of words."""
+
+    WORDS = pages.words()
+
+    def completed(self, *given: str) -> list[str]:
+        """What bash offers for the last of these words."""
+        script = (
+            '. "$1" && shift && COMP_WORDS=(lte_sec "$@") COMP_CWORD=$# && read -ra registered < <(complete -p lte_sec)\n'
+            '"${registered[2]}"; for reply in "${COMPREPLY[@]}"; do echo "$reply"; done'
+        )
+        ran = subprocess.run(["bash", "--norc", "-c", script, "bash", pages.COMPLETIONS, *given], capture_output=True, text=True, cwd=EXAMPLES)
+        self.assertEqual("", ran.stderr)
+        return ran.stdout.splitlines()
+
+    def test_they_are_as_they_are_made(self) -> None:
+        for file, made in ((pages.MAN, pages.man()), (pages.COMPLETIONS, pages.completions())):
+            self.assertEqual(made, file.read_text(), f"{file} is out of date: launcher/pages.py makes it again")
+
+    def test_each_word_that_is_answered_is_in_the_table(self) -> None:
+        answered = re.findall(r"^does_(\w+)\(\)", (HERE / "answers").read_text(), re.MULTILINE)
+        own = set(re.findall(r"(?<=[ |])--[a-z]+(?= \||\))", (HERE / "answers").read_text().split("\nword=", 1)[1])) - {"--explain"}
+        self.assertEqual(({name.replace("_", "-") for name in answered}, own), (
+            {word.name for word in self.WORDS if not word.name.startswith("-")}, {word.name for word in self.WORDS if word.name.startswith("-")},
+        ))
+
+    def test_each_option_that_is_taken_is_in_the_table(self) -> None:
+        package = TOP / "python" / "lte_sec"
+        of = {word.name: {name.split()[0] for name, _ in word.below if name.startswith("--")} for word in self.WORDS}
+        for name, usage in re.findall(r'^    "([\w-]+)": "(.*)",$', (package / "words.py").read_text(), re.MULTILINE):
+            self.assertEqual(set(re.findall(r"--[a-z]+", usage)), of[name], name)
+        for name, file in (("what-if", "what_if.py"), ("drive", "drive.py")):
+            named = re.findall(r"^(?:VALUED|FLAGS|OPTIONS) = (.*)$", (package / file).read_text(), re.MULTILINE)
+            self.assertEqual(set(re.findall(r"--[a-z]+", " ".join(named))) | {"--json"}, of[name], name)
+
+    def test_they_name_every_word_and_option(self) -> None:
+        page = pages.MAN.read_text().replace("\\-", "-")
+        for word in self.WORDS:
+            self.assertIn(word.name, self.completed(""))
+            self.assertIn(f"\n\\fB{word.name}\\fR", page)
+            offered = self.completed(word.name, "-" if word.below and word.below[0][0].startswith("-") else "")
+            for option in (name.split()[0] for name, _ in word.below):
+                self.assertIn(option, offered)
+                self.assertIn(f"\n\\fB{option}\\fR", page)
+
+    def test_files_folders_and_commands_are_completed_where_they_are_taken(self) -> None:
+        for given, offered in (
+            (["ru"], ["run"]), (["what"], ["what-if"]), (["help", "che"], ["check-trace"]), (["run", "run/ord"], ["run/ordinary.out", "run/ordinary.toml"]),
+            (["serve", "p"], ["phone"]), (["draw", "messages", "run/ordinary.t"], ["run/ordinary.toml"]), (["what-if", "--save", "what-i"], ["what-if"]),
+            (["what-if", "--faults", ""], []), (["library", "lad"], ["ladder"]), (["explain", "--keys", "ladder/fi"], ["ladder/first.out", "ladder/first.txt"]),
+            (["check-trace", "--pl"], ["--plain"]), (["gen", ""], []), (["--program", "lte_c"], ["lte_calc"]),
+        ):
+            self.assertEqual(offered, sorted(self.completed(*given)), given)
+        self.assertIn("python3", self.completed("drive", "--phone", "python3"))
+
+    @unittest.skipUnless(shutil.which("man"), "man is not here")
+    def test_the_page_is_shown_without_a_warning(self) -> None:
+        ran = subprocess.run(["man", "--warnings", "-l", pages.MAN], capture_output=True, text=True, env={**os.environ, "LC_ALL": "C.UTF-8", "MANWIDTH": "200"})
+        self.assertEqual((0, ""), (ran.returncode, ran.stderr))
 
 
 class Verdicts(unittest.TestCase):

@@ -1,0 +1,156 @@
+#!/usr/bin/env python3
+"""Makes the man page and the completions for bash of the table `words`, and writes them where they belong: launcher/pages.py.
+
+`share` is laid out as below a prefix such as /usr, for whoever packages it. The exit statuses are those of README.md. A test wants
+both as they are made here.
+"""
+from __future__ import annotations
+
+import dataclasses
+import pathlib
+import re
+import tomllib
+
+HERE = pathlib.Path(__file__).resolve().parent
+TOP = HERE.parent
+MAN, COMPLETIONS = TOP / "share/man/man1/lte_sec.1", TOP / "share/bash-completion/completions/lte_sec"
+# What may stand for a name in capitals, where it can be completed.
+TAKES = {"FILE": "file", "SCENARIO": "file", "CAPTURE": "file", "FOLDER": "folder", "CMD": "command"}
+
+
+@dataclasses.dataclass
+class Word:
+    """A word of the launcher, and its options and fixed arguments with what each does."""
+
+    name: str
+    behind: str
+    example: str
+    does: str
+    below: list[tuple[str, str]]
+
+    def offered(self) -> str:
+        return " ".join(name.split(" ")[0] for name, _ in self.below)
+
+
+def words() -> list[Word]:
+    found: list[Word] = []
+    for line in (HERE / "words").read_text().splitlines():
+        cells = [cell.strip() for cell in line.split("|")]
+        if line.startswith(" "):
+            name, does = cells
+            found[-1].below.append((name, does))
+        elif not line.startswith("#"):
+            name, behind, example, does = cells
+            found.append(Word(name, behind, example, does, []))
+    return found
+
+
+def takes(behind: str) -> str:
+    """What is completed where this stands: a file, a folder, a command, or nothing."""
+    return next((TAKES[name] for name in re.findall(r"[A-Z]+", behind) if name in TAKES), "")
+
+
+# The man page.
+
+def plain(text: str) -> str:
+    """A text as roff has it."""
+    return re.sub(r"^([.'])", r"\\&\1", text.replace("\\", "\\e").replace("-", "\\-"), flags=re.MULTILINE)
+
+
+def sentence(text: str) -> str:
+    return plain(text[0].upper() + text[1:]) + "."
+
+
+def named(name: str, behind: str) -> str:
+    """A word or an option in bold, and what follows it with names in italics."""
+    fonted = re.sub(r"--[a-z]+|[A-Z]+", lambda it: f"\\f{'I' if it[0].isupper() else 'B'}{plain(it[0])}\\fR", behind)
+    return f"\\fB{plain(name)}\\fR {fonted}".rstrip()
+
+
+def entry(word: Word) -> list[str]:
+    lines = [".TP", named(word.name, word.behind), sentence(word.does)]
+    for name, does in word.below:
+        option, _, argument = name.partition(" ")
+        lines += [".RS", ".TP", named(option, argument), sentence(does), ".RE"]
+    return lines
+
+
+def statuses() -> list[str]:
+    rows = re.findall(r"^\| ([0-9, ]+) \| (.*) \|$", (TOP / "README.md").read_text(), re.MULTILINE)
+    return [line for numbers, meaning in rows for line in (".TP", f"\\fB{numbers}\\fR", sentence(meaning.replace("`", "")))]
+
+
+def man() -> str:
+    project = tomllib.loads((TOP / "python/pyproject.toml").read_text())["project"]
+    all_words = words()
+    lines = [
+        '.\\" Made by launcher/pages.py of the table launcher/words.',
+        f'.TH LTE_SEC 1 "" "lte_sec {project["version"]}" "User Commands"',
+        ".SH NAME", "lte_sec \\- computes LTE access security (TS 33.401), and checks yours against it",
+        ".SH SYNOPSIS", ".B lte_sec", "\\fIWORD\\fR [\\fIARGUMENT\\fR].\\|.",
+        ".SH DESCRIPTION",
+        "Computes from the key KASME on which keys a phone, its base stations and the core have, who can derive which, what each message",
+        "contains, and where two sides come apart. A word that reads a text reads the file that is named behind it, or standard input.",
+        "What the launcher itself says is on standard error.",
+        ".SH WORDS", *(line for word in all_words if not word.name.startswith("-") for line in entry(word)),
+        ".SH OPTIONS", *(line for word in all_words if word.name.startswith("-") for line in entry(word)),
+        ".SH EXIT STATUS", *statuses(),
+        ".SH ENVIRONMENT", ".TP", "\\fBLTE_SEC_LIBRARY\\fR", "The file of the library for the Python package, in place of library/built/liblte_sec.so.",
+        ".TP", "\\fBCC\\fR", "The C compiler that links the library, in place of cc.",
+        ".SH EXAMPLES", ".nf", *(plain(f"lte_sec {word.example}") for word in all_words if not word.name.startswith("-")), ".fi",
+        ".SH SEE ALSO", "README.md and docs/COMMANDS.md; docs/SCENARIOS.md, docs/CALC.md, docs/TRACES.md and docs/WHATIF.md on texts and answers",
+    ]
+    return "\n".join(lines) + "\n"
+
+
+# The completions.
+
+def cases(rows: dict[str, str]) -> list[str]:
+    """The lines of a `case`, one for all keys with the same answer."""
+    answers = dict.fromkeys(rows.values())
+    return [f"        {' | '.join(key for key, value in rows.items() if value == answer)}) {answer} ;;" for answer in answers]
+
+
+def completions() -> str:
+    all_words = words()
+    behind = {f"1{word.name}": f"offered='{word.offered()}' takes='{takes(word.behind)}'" for word in all_words if word.below or takes(word.behind)}
+    valued = {}
+    for word in all_words:
+        for option, _, argument in (name.partition(" ") for name, _ in word.below):
+            if option.startswith("--") and argument:
+                valued[f"'{word.name} {option}'"] = f"offered='' takes='{takes(argument)}'"
+    names = " ".join(word.name for word in all_words)
+    return "\n".join([
+        "# Completions of lte_sec for bash: words, options, and files where one is taken. Made by launcher/pages.py of the table launcher/words.",
+        "# shellcheck shell=bash",
+        "_lte_sec() {",
+        "    local word=${COMP_WORDS[1]} before=${COMP_WORDS[COMP_CWORD - 1]} current=${COMP_WORDS[COMP_CWORD]} offered='' takes=''",
+        '    case $((COMP_CWORD > 1))$word in',
+        f"        0*) offered='{names} help' ;;",
+        f"        1help | 1--help | 1-h) offered='{names}' ;;",
+        *cases(behind),
+        "    esac",
+        "    # What follows an option that takes something.",
+        '    case "$word $before" in',
+        *cases(valued),
+        "    esac",
+        '    mapfile -t COMPREPLY < <(compgen -W "$offered" -- "$current")',
+        "    case $takes in",
+        '        file) mapfile -t -O ${#COMPREPLY[@]} COMPREPLY < <(compgen -f -- "$current") ;;',
+        '        folder) mapfile -t -O ${#COMPREPLY[@]} COMPREPLY < <(compgen -d -- "$current") ;;',
+        '        command) mapfile -t -O ${#COMPREPLY[@]} COMPREPLY < <(compgen -c -- "$current") ;;',
+        "    esac",
+        "    case $takes in file | folder) compopt -o filenames 2>/dev/null ;; esac",
+        "}",
+        "complete -F _lte_sec lte_sec",
+    ]) + "\n"
+
+
+def main() -> None:
+    for file, text in ((MAN, man()), (COMPLETIONS, completions())):
+        file.parent.mkdir(parents=True, exist_ok=True)
+        file.write_text(text)
+
+
+if __name__ == "__main__":
+    main()
