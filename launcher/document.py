@@ -40,7 +40,7 @@ class Value:
     is_: Any
     key: int = 0
     closed: bool = False  # whether no later header or key may add to it
-    named: bool = False  # whether a header names it
+    by: str = ""  # what made the table, `header` or `dots`: neither adds to a table of the other
 
 
 def place_of(text: str, offset: int) -> tuple[int, int]:
@@ -54,15 +54,6 @@ def scalar_of(token: str) -> Any:
     if token.startswith('"'):
         token = ESCAPE.sub(lambda it: "\\u001b" if it[1] == "e" else "\\u00" + it[1][1:] if it[1][0] == "x" else it[0], token)
     return tomllib.loads(f"x = {token}")["x"]
-
-
-def no_value(token: str) -> str:
-    """Why a token is no value."""
-    if re.fullmatch(r"[+-]?0\d+", token):
-        return f"{token} has a leading zero"
-    if re.fullmatch(r"[A-Za-z_][\w-]*", token):
-        return f'{token} is not a value; a text stands in quotes, as "{token}"'
-    return f"{token} is not a value"
 
 
 class Reader:
@@ -85,13 +76,13 @@ class Reader:
     def twice(self, place: int, what: str, first: int) -> Fault:
         return Fault(place, f"{what} is given twice; first in line {place_of(self.text, first)[0]}")
 
-    # Values.
-
     def scalar(self, token: str, place: int) -> Any:
         try:
             value = scalar_of(token)
         except (ValueError, KeyError):
-            raise Fault(place, no_value(token)) from None
+            quoted = f'; a text stands in quotes, as "{token}"' if re.fullmatch(r"[A-Za-z_][\w-]*", token) else ""
+            why = "has a leading zero" if re.fullmatch(r"[+-]?0\d+", token) else f"is not a value{quoted}"
+            raise Fault(place, f"{token} {why}") from None
         if isinstance(value, int) and not -(2**63) <= value < 2**63:
             raise Fault(place, f"{token} is too large for a number")
         return value
@@ -106,7 +97,7 @@ class Reader:
         if self.takes("{"):
             table = Value(place, {}, key)
             self.items(place, "}", lambda: self.pair(table, SPACE))
-            close(table)
+            table.closed = True
             return table
         found = STRING.match(self.text, place)
         if not found and self.text.startswith(('"', "'"), place):
@@ -134,8 +125,6 @@ class Reader:
             self.skip(SPACE)
         self.deep -= 1
 
-    # Keys.
-
     def keys(self, blanks: re.Pattern[str]) -> Iterator[tuple[int, str]]:
         """A key and the keys that dots join to it, each with its place."""
         while True:
@@ -151,14 +140,15 @@ class Reader:
             if not self.takes("."):
                 return
 
-    def inner(self, table: Value, place: int, name: str, many: bool) -> Value:
-        """The table under a key of a table, which is made where it is not there; the last of many, where that is asked for."""
+    def inner(self, table: Value, place: int, name: str, by: str) -> Value:
+        """The table under a key of a table, which is made where it is not there; for a header the last of an array of tables."""
         value: Value = table.is_.setdefault(name, Value(place, {}, place))
         found = value
-        if many and isinstance(value.is_, list) and value.is_:
+        if by == "header" and isinstance(value.is_, list) and value.is_:
             found = value.is_[-1]
-        if not isinstance(found.is_, dict) or found.closed:
+        if not isinstance(found.is_, dict) or found.closed or (found.by, by) == ("header", "dots"):
             raise self.twice(place, f"the key {name}", value.key)
+        found.by = by if by == "dots" else found.by
         return found
 
     def pair(self, table: Value, blanks: re.Pattern[str]) -> None:
@@ -168,7 +158,7 @@ class Reader:
             raise Fault(self.at, f"= is missing after {name}")
         self.skip(blanks)
         for key in outer:
-            table = self.inner(table, *key, many=False)
+            table = self.inner(table, *key, by="dots")
         if name in table.is_:
             raise self.twice(place, f"the key {name}", table.is_[name].key)
         table.is_[name] = self.value(place)
@@ -180,15 +170,15 @@ class Reader:
         if not self.takes(mark):
             raise Fault(self.at, f"{mark} is missing here")
         for key in outer:
-            table = self.inner(table, *key, many=True)
+            table = self.inner(table, *key, by="header")
         made = Value(place, {}, place)
         there: Value = table.is_.setdefault(name, made if mark == "]" else Value(place, [], place))
-        if not isinstance(there.is_, list if mark == "]]" else dict) or there.closed or there.named:
+        if not isinstance(there.is_, list if mark == "]]" else dict) or there.closed or there.by:
             raise self.twice(place, f"the {'table' if mark == ']' else 'key'} {name}", there.key)
         if mark == "]]":
             there.is_.append(made)
             return made
-        there.named = True
+        there.by = "header"
         return there
 
     def document(self) -> Value:
@@ -204,14 +194,6 @@ class Reader:
             self.skip(BLANK)
             if not ENDED.match(self.text, self.at):
                 raise Fault(self.at, "this line goes on where it must end")
-
-
-def close(table: Value) -> None:
-    """No later key may add to this table, nor to one that dotted keys made in it."""
-    table.closed = True
-    for value in table.is_.values():
-        if isinstance(value.is_, dict) and not value.closed:
-            close(value)
 
 
 def text_of(octets: bytes) -> str:
