@@ -1,5 +1,5 @@
 -- What a word of a line is as the value of a field, or which field is bad.
-use Rattle.std.specs.Prelude.{◌≡◌, ℕ, ◌==◌, nat_lt, nat_le, ◌&&◌, if◌then◌else◌, Option, Some, None, Result, Ok, Err, List, [], ◌∷◌, length, codes}
+use Rattle.std.specs.Prelude.{◌≡◌, ℕ, ◌==◌, nat_lt, nat_le, ◌&&◌, Bool, if◌then◌else◌, Option, Some, None, Result, Ok, Err, List, [], ◌∷◌, length, get_or, codes}
 use Rattle.std.specs.Option.{ok_or, option_and_then}
 use Rattle.std.specs.Result.{result_ok}
 use Rattle.std.specs.Str.{bytes_eq}
@@ -32,6 +32,21 @@ abbrev pub Refuses : {A : Type 0} → LineFault → Result A Field → Type 0
 Refuses (Bad field) reading = reading ≡ Err field
 Refuses Memory reading = WasRefused
 
+-- what code read is this reading, or its fault
+abbrev pub Reads : {A : Type 0} → Result A LineFault → Result A Field → Type 0
+Reads (Ok value) reading = reading ≡ Ok value
+Reads (Err fault) reading = Refuses fault reading
+
+-- as many fields as that, and the word of a field
+unfoldable pub between : ℕ → ℕ → List (List ℕ) → Result (Unit {0}) Field
+between least most fields = if nat_le least (length fields) && nat_le (length fields) most then Ok tt else Err field.Fields
+
+unfoldable pub sized : ℕ → List (List ℕ) → Result (Unit {0}) Field
+sized count fields = between count count fields
+
+unfoldable pub word : ℕ → List (List ℕ) → List ℕ
+word place fields = get_or fields place []
+
 -- a key of so many octets
 abbrev pub key_in : ℕ → Field → List ℕ → Result (List ℕ) Field
 key_in n field word = ok_or (hex_octets n word) field
@@ -40,6 +55,13 @@ key_in n field word = ok_or (hex_octets n word) field
 unfoldable pub number_in : ℕ → ℕ → Field → List ℕ → Result ℕ Field
 number_in least greatest field word =
     ok_or (option_and_then (λ n. if nat_le least n && nat_le n greatest then Some n else None) (number_of word)) field
+
+-- a NAS COUNT, of 24 bits (TS 24.301 4.4.3.1); where it may be any, it is the least
+abbrev pub is_any : List ℕ → Bool
+is_any word = bytes_eq word (codes "any")
+
+unfoldable pub nas_count_in : Bool → List ℕ → Result ℕ Field
+nas_count_in any word = if any then Ok 0 else number_in 0 0xffffff field.Count word
 
 -- a cell: a PCI up to 503 and an EARFCN-DL up to 262143 (TS 36.331 6.3.4 and 6.4)
 unfoldable pub cell_in : List ℕ → List ℕ → Result Place Field
@@ -95,6 +117,10 @@ eia_by None = Err field.Eia
 unfoldable pub eia_in : List ℕ → Result Integrity Field
 eia_in (digit ∷ []) = eia_by (eia_of_digit digit)
 eia_in word = Err field.Eia
+
+-- the integrity algorithm of a last field, or 128-EIA2 where there is none
+unfoldable pub last_eia : ℕ → List (List ℕ) → Result Integrity Field
+last_eia place fields = if nat_lt place (length fields) then eia_in (word place fields) else Ok Eia2
 
 -- the sequence numbers of a data radio bearer by their bits
 unfoldable pub numbers_in : List ℕ → Result Numbers Field

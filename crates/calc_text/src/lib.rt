@@ -4,6 +4,7 @@
 mod answering;
 mod ciphering;
 mod fields;
+mod line_fields;
 mod line_texts;
 mod nas_answering;
 mod octet_texts;
