@@ -1,10 +1,12 @@
 """Makes the wheel that `pip install ./python` installs: the package and the library beside it. It needs no network.
 
-The library is the one that `./lte_sec library` leaves in library/built, or the file that LTE_SEC_LIBRARY names.
+The library is the one that `./lte_sec library` leaves in library/built, or the file that LTE_SEC_LIBRARY names. With one that was
+built without proof the wheel's version ends with +unproved.
 """
 from __future__ import annotations
 
 import base64
+import ctypes
 import hashlib
 import os
 import platform
@@ -20,6 +22,8 @@ LIBRARY = Path(os.environ.get("LTE_SEC_LIBRARY") or HERE.parent / "library/built
 def _project() -> dict[str, str]:
     """The words on the project in pyproject.toml."""
     project: dict[str, str] = tomllib.loads((HERE / "pyproject.toml").read_text())["project"]
+    if not ctypes.CDLL(str(LIBRARY)).ltesec_proved():
+        project["version"] += "+unproved"
     return project
 
 

@@ -20,7 +20,7 @@ __all__ = [
     "DISCARDED", "LATE", "NEW",
     "BadHeader", "BeforeFirst", "CountSpent", "MacFails", "OtherCount", "OutOfRange", "Refused", "Short",
     "DrbContext", "NasContext", "Opened", "Reached", "SrbContext",
-    "algorithm_key", "check_service_request", "eea1", "eea2", "eea3", "eia1", "eia2", "eia3", "kasme", "kenb", "kenb_star", "nh", "reach",
+    "algorithm_key", "check_service_request", "eea1", "eea2", "eea3", "eia1", "eia2", "eia3", "kasme", "kenb", "kenb_star", "nh", "proved", "reach",
     "service_request", "short_mac_i",
 ]
 
@@ -28,6 +28,11 @@ UPLINK, DOWNLINK = 0, 1
 EEA0, EEA1, EEA2, EEA3 = range(4)
 EIA0, EIA1, EIA2, EIA3 = range(4)
 NEW, LATE, DISCARDED = range(3)  # what becomes of a PDU on RLC AM
+
+
+def proved() -> bool:
+    """Whether the library was built by its proof, and not by `./lte_sec library --unproved`."""
+    return bool(calls.ltesec_proved())
 
 
 # ---- derivations (TS 33.401 Annex A)

@@ -68,6 +68,7 @@ OPEN = [c_uint32, OCTETS, c_size_t, OUT, c_size_t, POINTER(Found)]
 SEND = [c_uint32, OCTETS, c_size_t, OUT, c_size_t, POINTER(c_size_t)]
 TAKES: dict[str, list[Any]] = {
     "version": [],
+    "proved": [],
     "kasme": [OCTETS, OCTETS, OCTETS, OCTETS, OUT],
     "kenb": [OCTETS, c_uint32, OUT],
     "nh": [OCTETS, OCTETS, OUT],
@@ -111,7 +112,7 @@ def load() -> ctypes.CDLL:
             break
     else:
         raise ImportError("liblte_sec.so is not built: run ./lte_sec library, or name it in LTE_SEC_LIBRARY")
-    if not hasattr(library, "ltesec_version") or library.ltesec_version() != VERSION:
+    if not hasattr(library, "ltesec_proved") or library.ltesec_version() != VERSION:
         raise ImportError(f"{place} is of another version than this package: run ./lte_sec library")
     for name, takes in TAKES.items():
         call = getattr(library, f"ltesec_{name}")

@@ -52,6 +52,9 @@ enum { LTESEC_EIA0 = 0, LTESEC_EIA1 = 1, LTESEC_EIA2 = 2, LTESEC_EIA3 = 3 };
 #define LTESEC_VERSION 2
 uint32_t ltesec_version(void);
 
+/* 1 if this library was built by its proof, and 0 if without, by `./lte_sec library --unproved`. */
+uint32_t ltesec_proved(void);
+
 /* ---- derivations (TS 33.401 Annex A): keys of 32 octets */
 
 /* KASME from CK and IK, for the PLMN identity of the serving network in three octets, as TS 24.301 9.9.3.32 writes it, and SQN xor AK, the
