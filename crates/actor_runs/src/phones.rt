@@ -2,7 +2,7 @@
 // HMAC-SHA-256, AES-CTR and AES-CMAC of another implementation, under the
 // KASMEs of octets 00 to 1f and of octets 20 to 3f.
 ghost use Rattle.std.specs.Prelude.{◌≤◌, length};
-ghost use Rattle.ue_context.specs.Acts.{IsInput};
+ghost use Rattle.lte_events.specs.Ranges.{PhoneTakes};
 
 use crate::values::same;
 use alg_choice::Caps;
@@ -66,7 +66,7 @@ fn octets(of: &[u8]) -> Octets
 // A PDU on SRB1 of a station and an air address there.
 fn signal(station: u8, air: u32, pdu: &[u8]) -> PhoneIn
     requires { length pdu.now ≤ 1536 }
-    ensures { IsInput result }
+    ensures { PhoneTakes result }
 {
     PhoneIn::Air(station, air, Bearer::Srb1, octets(pdu))
 }

@@ -1,7 +1,7 @@
 // The octets come from an independent implementation of the profile: a station's half of a connection, a handover over X2 to
 // station 1, and one back again; and what becomes of the other preparations when one is completed or given up.
 ghost use Rattle.std.specs.Prelude.{◌≤◌, length};
-ghost use Rattle.enb_context.specs.Acts.{IsInput};
+ghost use Rattle.lte_events.specs.Ranges.{StationTakes};
 
 use crate::values::same;
 use alg_choice::{Eea, Priority};
@@ -94,13 +94,13 @@ fn request(kind: u8, source: u8, attempt: u8, to: u8, ncc: u8) -> Octets
 // A PDU on SRB1 at an air address.
 fn srb1(air: u32, pdu: &[u8]) -> StationIn
     requires { length pdu.now ≤ 1536 }
-    ensures { IsInput result }
+    ensures { StationTakes result }
 {
     StationIn::Air(air, Bearer::Srb1, octets(pdu))
 }
 
 fn expect(rt: &impl Abort, station: &mut Station, input: &StationIn, answer: Answer)
-    requires { IsInput input.now }
+    requires { StationTakes input.now }
 {
     same(rt, station.step(input).answer, answer);
 }

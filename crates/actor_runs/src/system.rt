@@ -1,6 +1,6 @@
 // A phone, two stations and the core, and the records that they sent.
 ghost use Rattle.std.specs.Prelude.{◌≤◌};
-ghost use Rattle.enb_context.specs.Acts.{IsAct};
+ghost use Rattle.lte_events.specs.Ranges.{StationDoes};
 
 use crate::values::same;
 use alg_choice::{Caps, Eea, Priority};
@@ -179,7 +179,7 @@ impl System {
 
     // An act of a station.
     fn station(&mut self, at: At, act: StationAct) -> ActorOut
-        requires { IsAct act }
+        requires { StationDoes act }
     {
         match at {
             At::Home => self.home.step(&StationIn::Act(act)),

@@ -4,8 +4,7 @@ use Rattle.lte_events.specs.declared.replies.ActorOut.{ActorOut}
 use Rattle.lte_machine.specs.StationState.{Station, Context, StationInput}
 use Rattle.rec_base.specs.declared.bearers.Bearer.{Bearer}
 use Rattle.rec_base.specs.declared.bearers.Bearer.TheVariants.{Srb1, Srb2, Drb1, Drb2, Drb3, Drb4}
-use Rattle.pdcp_guard.specs.Srb.{IsSrb}
-use Rattle.pdcp_guard.specs.Drb.{IsDrb}
+use Rattle.rec_base.specs.Bearer.{IsDrb, IsSrb}
 use Rattle.lte_machine.specs.Bearers.{which, OnSrb, OnDrb}
 use Rattle.radio_bearers.specs.Bearers.{srb_of, drb_of}
 use Rattle.enb_context.specs.Step.{answered, serving, serving_at}

@@ -1,4 +1,3 @@
-pub mod Acts
 pub mod Admission
 pub mod Attempt
 pub mod Orders

@@ -1,5 +1,6 @@
 -- What an attempt orders the phone, and how it is given up.
-use Rattle.std.specs.Prelude.{ℕ, ◌≤◌, ◌<◌, ◌^◌, Bool, true, false, List, Option, None, Some, option_map}
+use Rattle.std.specs.Prelude.{ℕ, Bool, true, false, List, Option, None, Some, option_map}
+use Rattle.rec_base.specs.Ranges.{IsNumber}
 use Rattle.annex_a_keys.specs.Cell.{IsCell}
 use Rattle.lte_events.specs.declared.answers.Answer.TheVariants.{CountSpent, NotReady}
 use Rattle.lte_events.specs.declared.replies.ActorOut.{ActorOut}
@@ -67,6 +68,6 @@ cancels_of (Renewing a) = None
 
 -- the ranges of what is told
 abbrev pub IsCancel : Cancel → Type 0
-IsCancel (cancels.TheVariants.OverX2 number station) = (1 ≤ number) × (number < 2 ^ 32)
-IsCancel (cancels.TheVariants.OverS1 number cell) = (1 ≤ number) × (number < 2 ^ 32) × IsCell cell
+IsCancel (cancels.TheVariants.OverX2 number station) = IsNumber number
+IsCancel (cancels.TheVariants.OverS1 number cell) = IsNumber number × IsCell cell
 IsCancel (cancels.TheVariants.Within number) = Unit {0}

@@ -4,8 +4,7 @@ ghost use Rattle.lte_events.specs.declared.acts.StationAct.TheVariants.{Ask, Sen
 ghost use Rattle.lte_machine.specs.Bearers.{which};
 ghost use Rattle.lte_machine.specs.StationState.{Station as State, StationActs};
 ghost use Rattle.lte_machine.specs.StationKeys.{with_skipped};
-ghost use Rattle.pdcp_guard.specs.Drb.{IsDrb};
-ghost use Rattle.pdcp_guard.specs.Srb.{IsSrb};
+ghost use Rattle.rec_base.specs.Bearer.{IsDrb, IsSrb};
 ghost use Rattle.enb_context.specs.Step.{answered, serving_at};
 
 use crate::Station;

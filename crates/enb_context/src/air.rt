@@ -1,8 +1,8 @@
 // PDUs of radio bearers at the air address of the context (TS 36.323 5.6 and 5.7, TS 36.331 5.3).
 ghost use Rattle.std.specs.Prelude.{◌≡◌, ◌≤◌, ◌==◌, Some, Ok, true, false, ℕ, List, length};
 ghost use Rattle.rec_base.specs.declared.bearers.Bearer.TheVariants.{Srb1};
-ghost use Rattle.pdcp_guard.specs.Srb.{IsSrb};
-ghost use Rattle.pdcp_guard.specs.Drb.{IsDrb};
+ghost use Rattle.rec_base.specs.Bearer.{IsDrb, IsSrb};
+ghost use Rattle.rec_base.specs.Lengths.{longest_record};
 ghost use Rattle.rrc_rec.specs.Reading.{read_rrc};
 ghost use Rattle.lte_machine.specs.Bearers.{which, OnSrb, OnDrb, srb_counts};
 ghost use Rattle.lte_machine.specs.StationState.{Station as State, AirPdu};
@@ -21,7 +21,7 @@ impl Context {
     // A PDU at the context's air address.
     pub(crate) fn air(&mut self, air: u32, bearer: Bearer, pdu: &[u8], out: &mut ActorOut)
         requires here { (self.old.air == air) ≡ true }
-        requires pdu { length pdu.now ≤ 1536 }
+        requires pdu { length pdu.now ≤ longest_record }
         ensures step { (s : State (List ℕ) ℕ) → (serving s self.new, out.new) ≡ answered (serving s self.old) (AirPdu air bearer pdu.now) }
         ensures conn { self.new.conn ≡ self.old.conn }
     {
@@ -38,7 +38,7 @@ impl Context {
     fn air_starting(&mut self, air: u32, bearer: Bearer, pdu: &[u8], out: &mut ActorOut)
         requires here { (self.old.air == air) ≡ true }
         requires starting { self.old.starting ≡ true }
-        requires pdu { length pdu.now ≤ 1536 }
+        requires pdu { length pdu.now ≤ longest_record }
         ensures step { (s : State (List ℕ) ℕ) → (serving s self.new, out.new) ≡ answered (serving s self.old) (AirPdu air bearer pdu.now) }
         ensures conn { self.new.conn ≡ self.old.conn }
     {
@@ -85,7 +85,7 @@ impl Context {
         requires active { self.old.starting ≡ false }
         requires on { which bearer ≡ OnSrb (srb_of bearer) }
         requires srb { IsSrb bearer }
-        requires pdu { length pdu.now ≤ 1536 }
+        requires pdu { length pdu.now ≤ longest_record }
         ensures step { (s : State (List ℕ) ℕ) → (serving s self.new, out.new) ≡ answered (serving s self.old) (AirPdu air bearer pdu.now) }
         ensures conn { self.new.conn ≡ self.old.conn }
     {
@@ -139,7 +139,7 @@ impl Context {
         requires active { self.old.starting ≡ false }
         requires on { which bearer ≡ OnDrb (drb_of bearer) }
         requires drb { IsDrb bearer }
-        requires pdu { length pdu.now ≤ 1536 }
+        requires pdu { length pdu.now ≤ longest_record }
         ensures step { (s : State (List ℕ) ℕ) → (serving s self.new, out.new) ≡ answered (serving s self.old) (AirPdu air bearer pdu.now) }
         ensures conn { self.new.conn ≡ self.old.conn }
     {

@@ -3,6 +3,7 @@ ghost use Rattle.std.specs.Prelude.{◌≡◌, ◌≤◌, ◌==◌, Some, None, 
 ghost use Rattle.rec_base.specs.declared.bearers.Bearer.TheVariants.{Srb1};
 ghost use Rattle.rrc_rec.specs.Reading.{read_rrc};
 ghost use Rattle.rec_base.specs.declared.ways.Way.TheVariants.{Completed};
+ghost use Rattle.rec_base.specs.Lengths.{longest_record};
 ghost use Rattle.ho_prep.specs.declared.origins.By.TheVariants.{Intra};
 ghost use Rattle.ho_prep.specs.Origin.{IsOrigin};
 ghost use Rattle.ho_prep.specs.Prep.{Prep as PrepOf, at_air};
@@ -31,7 +32,7 @@ impl Station {
     // else (TS 36.331 5.3.5.4).
     pub(crate) fn prep_air(&mut self, air: u32, bearer: Bearer, pdu: &[u8], out: &mut ActorOut)
         requires elsewhere { IsElsewhere air self.old.context }
-        requires pdu { length pdu.now ≤ 1536 }
+        requires pdu { length pdu.now ≤ longest_record }
         ensures { (self.new, out.new) ≡ answered self.old (AirPdu air bearer pdu.now) }
     {
         let Some(prep) = self.preps.at_air(air) else {

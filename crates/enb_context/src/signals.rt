@@ -2,8 +2,7 @@
 ghost use Rattle.std.specs.Prelude.{◌≡◌, ◌≤◌, true, false, length};
 ghost use Rattle.std.specs.Bool.{OnTrue, OnFalse};
 ghost use Rattle.rec_base.specs.declared.uses.Dir.TheVariants.{Down};
-ghost use Rattle.pdcp_guard.specs.Srb.{IsSrb};
-ghost use Rattle.pdcp_guard.specs.Drb.{IsDrb};
+ghost use Rattle.rec_base.specs.Bearer.{IsDrb, IsSrb};
 ghost use Rattle.lte_machine.specs.Bearers.{srb_counts, drb_counts, srb_sent, drb_sent, is_spent};
 ghost use Rattle.lte_machine.specs.StationRecords.{packet_sent};
 ghost use Rattle.lte_machine.specs.Wire.{SealedRrc, ciphering_if, srb_use, srb_ciphering};

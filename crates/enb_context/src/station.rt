@@ -1,7 +1,7 @@
 ghost use Rattle.std.specs.Prelude.{◌≡◌, ◌≢◌, ◌≤◌, option_map};
 ghost use Rattle.lte_events.specs.declared.answers.Answer.TheVariants.{Done};
 ghost use Rattle.lte_machine.specs.Calls.{station_call};
-ghost use Rattle.enb_context.specs.Acts.{IsInput};
+ghost use Rattle.lte_events.specs.Ranges.{StationTakes};
 ghost use Rattle.lte_machine.specs.StationState.{first_station};
 
 use crate::context::Context;
@@ -72,7 +72,7 @@ impl Station {
     /// The step is that of the written machine, and it takes no memory. Each answer stands with its cause, in the order
     /// in which they are tried, in `StationChoice` of `lte_machine`. A refused step leaves the station as it was.
     pub fn step(&mut self, input: &StationIn) -> ActorOut
-        requires { IsInput input.now }
+        requires { StationTakes input.now }
         ensures step { (self.new, result) ≡ station_call self.old input.now }
         ensures refused { result.answer ≢ Done → self.new ≡ self.old }
     {
@@ -83,7 +83,7 @@ impl Station {
 
     /// The same step, whose reply is written in place of another.
     pub fn reply(&mut self, input: &StationIn, out: &mut ActorOut)
-        requires { IsInput input.now }
+        requires { StationTakes input.now }
         ensures { (self.new, out.new) ≡ station_call self.old input.now }
     {
         match input {

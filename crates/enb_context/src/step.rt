@@ -1,6 +1,7 @@
 // One step of the station, by what comes.
 ghost use Rattle.std.specs.Prelude.{◌≡◌, ◌≤◌, Ok, length};
 ghost use Rattle.std.specs.Bool.{OnTrue, OnFalse};
+ghost use Rattle.rec_base.specs.Lengths.{longest_record};
 ghost use Rattle.lte_events.specs.Reply.{reply_of};
 ghost use Rattle.lte_events.specs.declared.answers.Answer.TheVariants.{WrongKind};
 ghost use Rattle.s1x2_rec.specs.Content.{content_of};
@@ -9,7 +10,7 @@ ghost use Rattle.enb_context.specs.Preps.{IsElsewhere, IsServed};
 ghost use Rattle.lte_machine.specs.StationState.{StationRecord, OnS1, OnX2};
 ghost use Rattle.s1x2_rec.specs.Reading.{read_core};
 ghost use Rattle.lte_machine.specs.StationState.{AirPdu, StationActs};
-ghost use Rattle.enb_context.specs.Acts.{IsAct};
+ghost use Rattle.lte_events.specs.Ranges.{StationDoes};
 ghost use Rattle.enb_context.specs.Step.{answered};
 
 use crate::Station;
@@ -22,7 +23,7 @@ use s1x2_rec::CoreRecord;
 impl Station {
     // An act of its own.
     pub(crate) fn act(&mut self, act: &StationAct, out: &mut ActorOut)
-        requires { IsAct act.now }
+        requires { StationDoes act.now }
         ensures { (self.new, out.new) ≡ answered self.old (StationActs act.now) }
     {
         match act {
@@ -38,7 +39,7 @@ impl Station {
 
     // A PDU at an air address.
     pub(crate) fn air(&mut self, air: u32, bearer: Bearer, pdu: &[u8], out: &mut ActorOut)
-        requires { length pdu.now ≤ 1536 }
+        requires { length pdu.now ≤ longest_record }
         ensures { (self.new, out.new) ≡ answered self.old (AirPdu air bearer pdu.now) }
     {
         if !self.serves(air) {

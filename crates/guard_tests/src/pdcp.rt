@@ -1,8 +1,7 @@
 // The expected octets come from HMAC-SHA-256, AES-CTR and AES-CMAC of other implementations, under the
 // KeNB of octets 00, 01 and so on to 1f.
 ghost use Rattle.std.specs.Prelude.{◌<◌, ◌≤◌, length};
-ghost use Rattle.pdcp_guard.specs.Srb.{IsSrb};
-ghost use Rattle.pdcp_guard.specs.Drb.{IsDrb};
+ghost use Rattle.rec_base.specs.Bearer.{IsDrb, IsSrb};
 
 use crate::values::same;
 use alg_choice::{Algs, Eea};

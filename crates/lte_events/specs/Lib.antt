@@ -1,6 +1,7 @@
 pub mod Answer
 pub mod Site
 pub mod Reply
+pub mod Ranges
 pub mod Conditions
 pub mod Listed
 pub mod Texts

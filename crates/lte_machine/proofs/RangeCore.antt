@@ -9,7 +9,9 @@ use Rattle.nas_guard.specs.Keys.{Keys}
 use Rattle.key_model.specs.Reading.{Reading, term_reading_by}
 use Rattle.key_model.specs.Term.{Term}
 use Rattle.s1x2_rec.specs.Fields.{Fields}
-use Rattle.s1x2_rec.specs.Spelling.{IsNumber, IsCaps, FieldsInRange}
+use Rattle.rec_base.specs.Ranges.{IsNumber}
+use Rattle.alg_choice.specs.Caps.{IsCaps}
+use Rattle.s1x2_rec.specs.Spelling.{FieldsInRange}
 use Rattle.lte_machine.specs.Opening.{Outcome}
 use Rattle.lte_machine.specs.Ranges.{IsCoreAct}
 use Rattle.lte_machine.specs.Reply.{unseen}

@@ -1,27 +1,29 @@
 -- The premises of the whole run hold of the ordinary scenario.
-use Rattle.std.proofs.Common.{refl, ℕ, zero, suc, ◌<◌, inl, inr, arith}
-use Rattle.std.specs.Prelude.{[], ◌∷◌, replicate}
+use Rattle.std.proofs.Common.{refl, ℕ, ◌<◌, arith}
+use Rattle.std.specs.Prelude.{[], ◌∷◌, All}
+use Rattle.std.specs.List.{IsDistinct}
+use Rattle.std.proofs.lemmas.List.Elements.{All-cons, All-nil, All-replicate}
 use Rattle.annex_a_keys.specs.Cell.{IsCell}
-use Rattle.lte_machine.specs.Ranges.{AllOf, AreOctets, IsText, IsEvent, IsSetup}
+use Rattle.rec_base.specs.Ranges.{IsText}
+use Rattle.lte_machine.specs.Ranges.{AllOf, IsEvent, IsStation, IsSiteOf, IsSetup}
 use Rattle.lte_machine.proofs.Ordinary.{ordinary}
 use Rattle.lte_machine.proofs.Scenario.{place, setup, auth}
 
+two : {X : Type 0} (P : X → Type 0) (a b : X) → P a → P b → All P (a ∷ b ∷ [])
+two P a b first second = All-cons P a (b ∷ []) first (All-cons P b [] second (All-nil P))
+
 ordinary_setup : IsSetup setup
+unfolding IsDistinct
 ordinary_setup = record {
   caps = (omega arith, omega arith);
   core_first = (omega arith, omega arith);
-  stations = ((omega arith, (omega arith, omega arith)), ((omega arith, (omega arith, omega arith)), tt));
-  ids = (((λ e. omega (arith, e)), tt), (tt, tt));
-  sites = ((omega arith, (omega arith, omega arith), inl refl), ((omega arith, (omega arith, omega arith), inr (inl refl)), tt));
+  stations = two IsStation _ _ (omega arith, (omega arith, omega arith)) (omega arith, (omega arith, omega arith));
+  ids_differ = ((refl, tt), (tt, tt));
+  sites = two (IsSiteOf setup.stations) _ _ ((omega arith, omega arith), refl) ((omega arith, omega arith), refl);
 }
 
--- a KASME of one octet again and again
-replicated : (n octet : ℕ) → octet < 256 → AreOctets (replicate n octet)
-replicated zero octet h = tt
-replicated (suc n) octet h = (h, replicated n octet h)
-
 authentication : IsEvent (auth 0 1)
-authentication = (omega arith, refl, replicated 32 1 (omega arith), (omega arith, omega arith))
+authentication = (omega arith, (All-replicate (λ octet. octet < 256) 32 1 (omega arith), refl), (omega arith, omega arith))
 
 at_place_0 : IsCell (place 0)
 at_place_0 = (omega arith, omega arith)
@@ -31,7 +33,7 @@ at_place_1 = (omega arith, omega arith)
 
 -- a text of two octets
 two_octets : (a b : ℕ) → a < 256 → b < 256 → IsText 1500 (a ∷ b ∷ [])
-two_octets a b h k = ((h, (k, tt)), omega arith)
+two_octets a b h k = (two (λ octet. octet < 256) a b h k, omega arith)
 
 ordinary_events : AllOf IsEvent ordinary
 ordinary_events =

@@ -6,7 +6,9 @@ use Rattle.key_model.specs.HandoverTable.{NumberedKey}
 use Rattle.key_model.specs.Term.{Term}
 use Rattle.s1x2_rec.specs.Content.{Content}
 use Rattle.s1x2_rec.specs.Fields.{Fields, InitialContext, PathSwitchAnswer, HandoverRequest, X2Request, ContextModification}
-use Rattle.s1x2_rec.specs.Spelling.{IsNumber, IsCaps, FieldsInRange}
+use Rattle.rec_base.specs.Ranges.{IsNumber}
+use Rattle.alg_choice.specs.Caps.{IsCaps}
+use Rattle.s1x2_rec.specs.Spelling.{FieldsInRange}
 use Rattle.annex_a_keys.specs.Cell.{IsCell}
 use Rattle.ho_prep.specs.declared.origins.By.{By}
 use Rattle.ho_prep.specs.Prep.{Prep}

@@ -9,7 +9,9 @@ use Rattle.key_model.specs.Reading.{Reading, term_reading_by}
 use Rattle.key_model.specs.Term.{Term}
 use Rattle.s1x2_rec.specs.Content.{map_content}
 use Rattle.s1x2_rec.specs.Fields.{Fields, InitialContext, ContextModification}
-use Rattle.s1x2_rec.specs.Spelling.{IsNumber, IsCaps, FieldsInRange}
+use Rattle.rec_base.specs.Ranges.{IsNumber}
+use Rattle.alg_choice.specs.Caps.{IsCaps}
+use Rattle.s1x2_rec.specs.Spelling.{FieldsInRange}
 use Rattle.ho_prep.specs.declared.origins.By.{By}
 use Rattle.ho_prep.specs.Prep.{Prep, at_air, is_of, is_at}
 use Rattle.x2_handover.specs.Attempt.{X2Start}

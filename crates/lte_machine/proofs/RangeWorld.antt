@@ -1,5 +1,6 @@
 -- Every event keeps the world in range; so what was sent on S1 and X2 reads back.
 use Rattle.std.proofs.Common.{◌≡◌, ℕ, Bool, List, [], ◌∷◌, Option, Some, None, option_map, Ok}
+use Rattle.std.proofs.lemmas.List.Elements.{recursion_from_All}
 use Rattle.lte_events.specs.declared.events.Event.{Event}
 use Rattle.lte_events.specs.declared.setups.Setup.{Setup}
 use Rattle.lte_events.specs.declared.setups.StationSetup.{StationSetup}
@@ -79,7 +80,7 @@ module _ (same : Term → Term → Bool) (root : ℕ → List ℕ → Term) (oct
 
     turns : Turns m w IsEvent (λ to pdu came. OfSome RecordRanged came) StationRanged (λ done a. Ranged done.0)
     turns = record {
-      auth = λ ksi key caps is new. ((core_step_ranged same w.core h.0 (CoreAuth ksi (m.root (next_root w) key) caps) (Opened []) is.3).0, h.1, h.2);
+      auth = λ ksi key caps is new. ((core_step_ranged same w.core h.0 (CoreAuth ksi (m.root (next_root w) key) caps) (Opened []) is.2).0, h.1, h.2);
       phone = λ i came turn is. phone_turn_ranged i came;
       core_acts = λ act is. core_turn_ranged (CoreActs act) None is;
       core_nas = λ pdu came is. core_turn_ranged (CoreNasPdu pdu) came tt;
@@ -101,7 +102,7 @@ first_stations sites [] h = tt
 first_stations sites (s ∷ ss) h = ((h.0.0, h.0.1.0, tt, tt), first_stations sites ss h.1)
 
 pub first_ranged : (setup : Setup) → IsSetup setup → Ranged (first_world setup)
-first_ranged setup is = ((is.core_first.0, tt, tt, tt), first_stations setup.cells setup.stations is.stations, tt)
+first_ranged setup is = ((is.core_first.0, tt, tt, tt), first_stations setup.cells setup.stations (recursion_from_All IsStation setup.stations is.stations), tt)
 
 -- WHAT WAS SENT READS BACK
 

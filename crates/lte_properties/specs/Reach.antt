@@ -1,11 +1,11 @@
 -- To whom records go: where it is a station, the setup has it.
-use Rattle.std.specs.Prelude.{◌≡◌, ◌≢◌, ℕ, ⊤}
+use Rattle.std.specs.Prelude.{◌≡◌, ◌≢◌, ℕ, IsTrue, ⊤}
+use Rattle.lte_events.specs.Ranges.{has_station}
 use Rattle.lte_events.specs.declared.addresses.Address.{Address}
 use Rattle.lte_events.specs.declared.answers.Answer.TheVariants.{NoUe}
 use Rattle.lte_events.specs.declared.lines.Who.{Who}
 use Rattle.lte_events.specs.declared.setups.Setup.{Setup}
 use Rattle.key_model.specs.Term.{Term}
-use Rattle.lte_machine.specs.Ranges.{HasId}
 use Rattle.lte_machine.specs.Wire.{Outgoing, address_of}
 use Rattle.lte_machine.specs.World.{World, Line}
 use Rattle.lte_properties.specs.ChainBelow.{AllOf}
@@ -19,7 +19,7 @@ IsAmong P other = ⊤
 
 -- of each record that was sent
 abbrev pub AllReach : Setup → World Term ℕ (Outgoing Term ℕ) → Type 0
-AllReach setup w = AllOf (λ x. IsAmong (λ id. HasId id setup.stations) (address_of x)) w.sent
+AllReach setup w = AllOf (λ x. IsAmong (λ id. IsTrue (has_station setup.stations id)) (address_of x)) w.sent
 
 -- the network does not answer for a station that is not there
 abbrev pub ReachesActor : Line Term → Type 0

@@ -1,11 +1,6 @@
 -- One event of the world is one event of the run.
-use Rattle.std.proofs.Common.{◌≡◌, refl, sym, ap, subst, ◌∙◌, ℕ, suc, ◌+◌, List, [], ◌∷◌, ◌++◌, Option, Some, None, Result, Ok, Err, arith}
-use Rattle.lte_events.specs.Conditions as conditions
-use Rattle.lte_events.specs.Conditions.{CanHappen, EventFits}
-use Rattle.lte_events.specs.declared.addresses.Address.{Address}
-use Rattle.lte_events.specs.declared.acts.PhoneAct.{PhoneAct}
-use Rattle.lte_events.specs.declared.acts.StationAct.{StationAct}
-use Rattle.lte_events.specs.declared.acts.CoreAct.{CoreAct}
+use Rattle.std.proofs.Common.{◌≡◌, refl, sym, ap, subst, ◌∙◌, ℕ, ◌+◌, List, [], ◌∷◌, ◌++◌, Option, Some, None, Result, Ok, Err}
+use Rattle.lte_events.specs.Conditions.{CanHappen}
 use Rattle.lte_events.specs.declared.events.Event.{Event}
 use Rattle.lte_events.specs.declared.lines.Line.{Line}
 use Rattle.lte_events.specs.declared.setups.Setup.{Setup}
@@ -16,13 +11,14 @@ use Rattle.lte_machine.specs.Ciphers.{annex_b}
 use Rattle.lte_machine.specs.Machines.{Kept}
 use Rattle.lte_machine.specs.Ladder.{Clash, ladder_of}
 use Rattle.lte_machine.specs.Opening.{Opening, Outcome, open_octets}
-use Rattle.lte_machine.specs.Ranges.{AllOf, AreOctets, IsText, IsPhoneAct, IsStationAct, IsCoreAct, TakesInjected, IsEvent, IsSetup}
+use Rattle.lte_machine.specs.Ranges.{AllOf, IsEvent, IsSetup}
 use Rattle.lte_machine.specs.Run.{RunState, Running, Stopped, after, turn, replay, reported, event_report, first_world}
 use Rattle.lte_machine.specs.Step.{StepResult, Continues, Stops, by_ladder, by_chance, opening_chance, attempted, next}
 use Rattle.lte_machine.specs.Tuples.{Chance}
 use Rattle.lte_machine.specs.World as world
 use Rattle.lte_machine.specs.World.{World, happens}
 use Rattle.lte_machine.proofs.AnnexB.{annex_b_ciphers}
+use Rattle.lte_machine.proofs.Fitting.{takes}
 use Rattle.lte_machine.proofs.KnownLists.{all_append}
 use Rattle.lte_machine.proofs.Routing.{happens_each}
 use Rattle.lte_machine.proofs.WholeRun.{run_is_value}
@@ -31,11 +27,6 @@ use Rattle.run_stores.specs.Proofs.{chance_of}
 use Rattle.run_stores.proofs.EveryRun.{event_keeps}
 use Rattle.run_stores.proofs.Shown.{chance_back}
 use Rattle.lte_world.specs.declared.faults.WorldFault.{WorldFault}
-use Rattle.rec_base.specs.declared.bearers.Bearer.{Bearer}
-use Rattle.pdcp_guard.specs.Drb.{IsDrb}
-use Rattle.pdcp_guard.specs.Srb.{IsSrb}
-use Rattle.ue_context.specs.Acts as ue
-use Rattle.enb_context.specs.Acts as enb
 use Rattle.lte_world.specs.Systems.{octets, Actors, CameOut, Happens, EventCan, MayHappen}
 use Rattle.lte_world.specs.Whole.{answer_of, Goes}
 
@@ -149,93 +140,10 @@ event_can setup events e a n is are good g = by (octet_run setup events) refl g
 
 -- CONDITIONS
 
-octets_are : (xs : List ℕ) → conditions.AreOctets xs → AreOctets xs
-octets_are [] h = tt
-octets_are (x ∷ xs) h = (h 0 0 (omega arith), octets_are xs (λ k d lt. h (suc k) d (omega (arith, lt))))
-
-text_is : (most : ℕ) (xs : List ℕ) → conditions.IsText most xs → IsText most xs
-text_is most xs h = (octets_are xs h.0, h.1)
-
-phone_act_is : (act : PhoneAct) → conditions.PhoneActFits act → IsPhoneAct act
-phone_act_is PhoneAct.ServiceRequest h = tt
-phone_act_is PhoneAct.ResendComplete h = tt
-phone_act_is PhoneAct.GoIdle h = tt
-phone_act_is (PhoneAct.SendUser bearer text) h = text_is 1500 text h
-phone_act_is (PhoneAct.SendRrc bearer text) h = text_is 200 text h
-phone_act_is (PhoneAct.SendNas text) h = text_is 200 text h
-phone_act_is (PhoneAct.Skip bearer n) h = tt
-
-station_act_is : (act : StationAct) → conditions.StationActFits act → IsStationAct act
-station_act_is (StationAct.Start kind cell) h = h
-station_act_is StationAct.Command h = tt
-station_act_is StationAct.Cancel h = tt
-station_act_is StationAct.Ask h = tt
-station_act_is (StationAct.SendUser bearer text) h = text_is 1500 text h
-station_act_is (StationAct.SendRrc bearer text) h = text_is 200 text h
-station_act_is (StationAct.Skip bearer n) h = tt
-
-core_act_is : (act : CoreAct) → conditions.CoreActFits act → IsCoreAct act
-core_act_is CoreAct.StartSmc h = tt
-core_act_is (CoreAct.Connect cell) h = h
-core_act_is CoreAct.Release h = tt
-core_act_is (CoreAct.SendNas text) h = text_is 200 text h
-core_act_is (CoreAct.Skip n) h = tt
-
-takes_injected : (setup : Setup) (to : Address) → conditions.TakesInjected setup to → TakesInjected to
-takes_injected setup Address.PhoneNas h = tt
-takes_injected setup (Address.Phone station air bearer) h = tt
-takes_injected setup Address.CoreNas h = tt
-takes_injected setup Address.CoreS1 h = h
-takes_injected setup (Address.StationAir station air bearer) h = tt
-takes_injected setup (Address.StationS1 station) h = h
-takes_injected setup (Address.StationX2 station) h = h
-
-pub is_event : (setup : Setup) (e : Event) → CanHappen setup e → EventFits e → IsEvent e
-is_event setup (Event.Auth ksi key caps) c f = (c, f.0.1, octets_are key f.0.0, f.1)
-is_event setup (Event.Phone act) c f = phone_act_is act f
-is_event setup (Event.Station id act) c f = station_act_is act f
-is_event setup (Event.Core act) c f = core_act_is act f
-is_event setup (Event.Deliver i) c f = tt
-is_event setup (Event.Inject to text) c f = (takes_injected setup to c, text_is 1536 text f)
-
-drb_is : (bearer : Bearer) → conditions.IsDrb bearer → IsDrb bearer
-drb_is Bearer.Srb1 h = absurd h
-drb_is Bearer.Srb2 h = absurd h
-drb_is Bearer.Drb1 h = tt
-drb_is Bearer.Drb2 h = tt
-drb_is Bearer.Drb3 h = tt
-drb_is Bearer.Drb4 h = tt
-
-srb_is : (bearer : Bearer) → conditions.IsSrb bearer → IsSrb bearer
-srb_is Bearer.Srb1 h = tt
-srb_is Bearer.Srb2 h = tt
-srb_is Bearer.Drb1 h = absurd h
-srb_is Bearer.Drb2 h = absurd h
-srb_is Bearer.Drb3 h = absurd h
-srb_is Bearer.Drb4 h = absurd h
-
-phone_may : (act : PhoneAct) → conditions.PhoneCan act → ue.IsAct act
-phone_may PhoneAct.ServiceRequest h = tt
-phone_may PhoneAct.ResendComplete h = tt
-phone_may PhoneAct.GoIdle h = tt
-phone_may (PhoneAct.SendUser bearer text) h = drb_is bearer h
-phone_may (PhoneAct.SendRrc bearer text) h = srb_is bearer h
-phone_may (PhoneAct.SendNas text) h = tt
-phone_may (PhoneAct.Skip bearer n) h = tt
-
-station_may : (act : StationAct) → conditions.StationCan act → enb.IsAct act
-station_may (StationAct.Start kind cell) h = tt
-station_may StationAct.Command h = tt
-station_may StationAct.Cancel h = tt
-station_may StationAct.Ask h = tt
-station_may (StationAct.SendUser bearer text) h = drb_is bearer h
-station_may (StationAct.SendRrc bearer text) h = srb_is bearer h
-station_may (StationAct.Skip bearer n) h = tt
-
 pub may_happen : (setup : Setup) (e : Event) → CanHappen setup e → MayHappen e
 may_happen setup (Event.Auth ksi key caps) c = c
-may_happen setup (Event.Phone act) c = phone_may act c
-may_happen setup (Event.Station id act) c = station_may act c.1
+may_happen setup (Event.Phone act) c = c
+may_happen setup (Event.Station id act) c = c.1
 may_happen setup (Event.Core act) c = tt
 may_happen setup (Event.Deliver i) c = tt
-may_happen setup (Event.Inject to text) c = takes_injected setup to c
+may_happen setup (Event.Inject to text) c = takes setup to c

@@ -3,7 +3,7 @@ use Rattle.std.proofs.Common.{◌≡◌, refl, sym, ap, ◌∙◌, subst, ℕ, z
 use Rattle.std.proofs.lemmas.List.{length-map}
 use Rattle.std.specs.Prelude.{slice_get, is_some}
 use Rattle.rec_base.specs.declared.uses.Use.{Use}
-use Rattle.lte_events.specs.Conditions.{has_station}
+use Rattle.lte_events.specs.Ranges.{has_station}
 use Rattle.lte_events.specs.declared.events.Event.{Event}
 use Rattle.lte_events.specs.declared.setups.Setup.{Setup}
 use Rattle.key_terms.specs.declared.proof.Proof.{Proof}

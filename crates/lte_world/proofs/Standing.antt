@@ -15,7 +15,8 @@ use Rattle.run_stores.specs.Proofs.{chance_of}
 use Rattle.lte_world.specs.declared.faults.WorldFault.{WorldFault}
 use Rattle.lte_world.specs.Systems.{Actors, Happens, EventCan, HasRoom}
 use Rattle.lte_world.specs.Whole.{Whole, unless_over, told_of, turned, CanApply, Goes, Stands}
-use Rattle.lte_world.proofs.Applying.{is_event, event_can, event_good, went_says, went_goes, ended_says, ended_run, run_more, run_written, events_more}
+use Rattle.lte_machine.proofs.Fitting.{event_fits as in_range}
+use Rattle.lte_world.proofs.Applying.{event_can, event_good, went_says, went_goes, ended_says, ended_run, run_more, run_written, events_more}
 
 module _ (setup : Setup) (journal : List Event) (over : Option Proof) (ready : Bool) (a : Actors) (none : over ≡ None) (is : IsSetup setup) (are : AllOf IsEvent journal)
     (st : Stands over (octet_run setup journal) a (length journal)) (v : Whole) (view : record { setup = setup; journal = journal; over = over; ready = ready } ≡ v) (e : Event) (can : CanApply v e) where
@@ -23,7 +24,7 @@ module _ (setup : Setup) (journal : List Event) (over : Option Proof) (ready : B
   at = (λ j. record { setup = setup; journal = journal; over = sym none j; ready = ready }) ∙ view
 
   good : IsEvent e
-  good = is_event v.setup e can.can can.fits
+  good = in_range v.setup e can.fits can.can
 
   goes : Goes (octet_run setup journal) a (length journal)
   goes = subst (λ o. Stands o (octet_run setup journal) a (length journal)) none st

@@ -3,6 +3,7 @@ use Rattle.std.proofs.Common.{◌≡◌, refl, sym, ap, ◌∙◌, subst, ℕ, �
 use Rattle.std.specs.Prelude.{◌<◌, ◌≤◌, All, IsTrue, length, None}
 use Rattle.std.specs.List.{IsDistinct, AllByRecursion}
 use Rattle.std.proofs.lemmas.Bool.{false≢true}
+use Rattle.std.proofs.lemmas.List.Elements.{recursion_from_All}
 use Rattle.lte_events.specs.Conditions.{IsStation}
 use Rattle.lte_events.specs.Site.{Site}
 use Rattle.lte_events.specs.declared.events.Event.{Event}
@@ -12,7 +13,7 @@ use Rattle.lte_machine.specs.BothRuns.{octet_run}
 use Rattle.lte_machine.specs.Ranges.{AllOf, IsEvent, IsSetup}
 use Rattle.lte_machine.specs.Run.{first_world, stations_of}
 use Rattle.lte_machine.specs.StationState.{Station}
-use Rattle.lte_machine.proofs.Fitting.{all_of, setup_fits}
+use Rattle.lte_machine.proofs.Fitting.{setup_fits}
 use Rattle.lte_world.specs.Systems.{Actors, Are, HasRoom}
 use Rattle.lte_world.specs.Whole.{CanBegin, Goes, Stands}
 use Rattle.lte_world.proofs.StationsStand.{first_ids}
@@ -35,7 +36,7 @@ pub ids_stand : (cells : List Site) (setups : List StationSetup) (ids : List ℕ
 ids_stand cells setups ids stations named are apart low = (
   ap (map (λ s. s.id)) are ∙ first_ids cells setups ∙ sym named,
   subst (IsDistinct (λ a b. a == b)) (sym named) (ids_apart setups apart),
-  subst (AllOf (λ id. id ≤ 7)) (sym named) (low_ids setups (all_of IsStation setups low)),
+  subst (AllOf (λ id. id ≤ 7)) (sym named) (low_ids setups (recursion_from_All IsStation setups low)),
 )
 
 -- a world begins with nothing in its journal

@@ -1,7 +1,7 @@
 -- The stations of a run are those of its setup.
 use Rattle.std.proofs.Common.{◌≡◌, refl, ap, ◌∙◌, ℕ, ◌==◌, Bool, true, false, cond, List, [], ◌∷◌, map, Some}
 use Rattle.std.specs.Prelude.{◌||◌, is_some}
-use Rattle.lte_events.specs.Conditions.{has_station}
+use Rattle.lte_events.specs.Ranges.{has_station}
 use Rattle.lte_events.specs.Site.{Site}
 use Rattle.lte_events.specs.declared.events.Event.{Event}
 use Rattle.lte_events.specs.declared.setups.Setup.{Setup}

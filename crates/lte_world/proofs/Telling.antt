@@ -24,7 +24,8 @@ use Rattle.lte_world.specs.Systems.{octets, Actors}
 use Rattle.key_terms.specs.declared.proof.Proof.{Proof}
 use Rattle.lte_world.specs.Whole.{Whole, unless_over, answer_of, told_of, CanApply, Goes, Stands}
 use Rattle.lte_world.proofs.Answered.{answers_more, last_answer, commands_share, packets_open}
-use Rattle.lte_world.proofs.Applying.{events_more, is_event}
+use Rattle.lte_machine.proofs.Fitting.{event_fits}
+use Rattle.lte_world.proofs.Applying.{events_more}
 
 -- the step of a line is the number of events before it
 module _ (w : World (List ℕ) ℕ Kept) where
@@ -94,7 +95,7 @@ module _ (setup : Setup) (journal : List Event) (over : Option Proof) (ready : B
   are_so = subst (λ (x : Whole). AllOf IsEvent x.journal) view are
 
   pub line_step : line.step ≡ length v.journal
-  line_step = step_line v.setup v.journal a set_so are_so goes e (is_event v.setup e can.can can.fits) line says_so
+  line_step = step_line v.setup v.journal a set_so are_so goes e (event_fits v.setup e can.fits can.can) line says_so
 
   module _ (items : List Event) (items_are : items ≡ journal ++ e ∷ []) (later : Bool) where
     abbrev after : Whole
@@ -104,13 +105,13 @@ module _ (setup : Setup) (journal : List Event) (over : Option Proof) (ready : B
     grown = items_are ∙ (λ j. (view j).journal ++ e ∷ [])
 
     pub line_answers : answers_of after ≡ answers_of v ++ Ok line ∷ []
-    line_answers = answers_line v.setup v.journal a set_so are_so goes e (is_event v.setup e can.can can.fits) line says_so v after refl refl (ap (λ x. x.setup) view) grown
+    line_answers = answers_line v.setup v.journal a set_so are_so goes e (event_fits v.setup e can.fits can.can) line says_so v after refl refl (ap (λ x. x.setup) view) grown
 
     pub line_commands : CommandsShare after (length v.journal) line
-    line_commands = commands_line v.setup v.journal a set_so are_so goes e (is_event v.setup e can.can can.fits) line says_so v after refl refl (ap (λ x. x.setup) view) grown
+    line_commands = commands_line v.setup v.journal a set_so are_so goes e (event_fits v.setup e can.fits can.can) line says_so v after refl refl (ap (λ x. x.setup) view) grown
 
     pub line_packets : PacketsOpen after (length v.journal) line
-    line_packets = packets_line v.setup v.journal a set_so are_so goes e (is_event v.setup e can.can can.fits) line says_so v after refl refl (ap (λ x. x.setup) view) grown
+    line_packets = packets_line v.setup v.journal a set_so are_so goes e (event_fits v.setup e can.fits can.can) line says_so v after refl refl (ap (λ x. x.setup) view) grown
 
     pub line_never : FarNeverThere after.setup after.journal
-    line_never = never_line v.setup v.journal a set_so are_so goes e (is_event v.setup e can.can can.fits) line says_so v after refl refl (ap (λ x. x.setup) view) grown
+    line_never = never_line v.setup v.journal a set_so are_so goes e (event_fits v.setup e can.fits can.can) line says_so v after refl refl (ap (λ x. x.setup) view) grown

@@ -21,9 +21,7 @@ use Rattle.lte_machine.specs.Step.{StepResult, Continues, Stops, Attempted, phon
 use Rattle.lte_machine.specs.World.{Machine, World, phone_turn, core_turn, station_turn, arrives, happens}
 use Rattle.lte_machine.specs.World as world
 use Rattle.s1x2_rec.specs.Reading.{read_core}
-use Rattle.ue_context.specs.Acts as ue
-use Rattle.enb_context.specs.Acts as enb
-use Rattle.lte_machine.specs.Ranges.{TakesInjected}
+use Rattle.lte_events.specs.Ranges.{PhoneDoes, StationDoes, TakesInjected}
 use Rattle.run_stores.specs.Additions.{CanKeep}
 use Rattle.run_stores.specs.Proofs.{proof_of}
 use Rattle.lte_world.specs.Networks.{Stores, Fits}
@@ -125,8 +123,8 @@ pub record EventCan (a : Actors) (e : Event) : Type 0 where
 -- what an event may ask of an actor, and where octets may be injected
 abbrev pub MayHappen : Event → Type 0
 MayHappen (Event.Auth ksi root caps) = ksi ≤ 6
-MayHappen (Event.Phone act) = ue.IsAct act
-MayHappen (Event.Station id act) = enb.IsAct act
+MayHappen (Event.Phone act) = PhoneDoes act
+MayHappen (Event.Station id act) = StationDoes act
 MayHappen (Event.Core act) = Unit {0}
 MayHappen (Event.Deliver i) = Unit {0}
 MayHappen (Event.Inject to text) = TakesInjected to

@@ -4,9 +4,7 @@ ghost use Rattle.lte_events.specs.declared.inputs.ActorIn.{ActorIn};
 ghost use Rattle.lte_machine.specs.Calls.{phone_call, core_call};
 ghost use Rattle.lte_world.specs.Replies.{ToldAt};
 ghost use Rattle.lte_world.specs.Systems.{StepsAt};
-ghost use Rattle.ue_context.specs.Acts.{IsInput as IsPhoneInput};
-ghost use Rattle.enb_context.specs.Acts.{IsInput as IsStationInput};
-ghost use Rattle.mme_context.specs.Step.{IsInput as IsCoreInput};
+ghost use Rattle.lte_events.specs.Ranges.{CoreTakes, PhoneTakes, StationTakes};
 
 use enb_context::Station;
 use lte_events::{ActorIn, ActorOut, CoreIn, PhoneIn, StationIn};
@@ -58,7 +56,7 @@ impl Replies {
     // A step of the phone, whose input and reply are put at the end.
     pub fn phone(&mut self, phone: &mut Phone, input: PhoneIn)
         requires room { length self.old < 2 }
-        requires input { IsPhoneInput input }
+        requires input { PhoneTakes input }
         ensures actor { phone.new ≡ (phone_call phone.old input).0 }
         ensures told { self.new ≡ self.old ++ (ActorIn.Phone input, (phone_call phone.old input).1) ∷ [] }
     {
@@ -70,7 +68,7 @@ impl Replies {
     // A step of the core.
     pub fn core(&mut self, core: &mut Core, input: CoreIn)
         requires room { length self.old < 2 }
-        requires input { IsCoreInput input }
+        requires input { CoreTakes input }
         ensures actor { core.new ≡ (core_call core.old input).0 }
         ensures told { self.new ≡ self.old ++ (ActorIn.Core input, (core_call core.old input).1) ∷ [] }
     {
@@ -83,7 +81,7 @@ impl Replies {
     pub fn station(&mut self, stations: &mut Vec<Station>, at: usize, id: u8, input: StationIn)
         requires none { self.old ≡ [] }
         requires at { at < length stations.old.items }
-        requires input { IsStationInput input }
+        requires input { StationTakes input }
         ensures { ToldAt stations.old.items stations.new.items at id input self.new }
     {
         let place = self.count;
@@ -109,7 +107,7 @@ impl Replies {
 
 // A step of the phone, put into a cell.
 fn step_phone(phone: &mut Phone, input: PhoneIn, cell: &mut (ActorIn, ActorOut))
-    requires { IsPhoneInput input }
+    requires { PhoneTakes input }
     ensures actor { phone.new ≡ (phone_call phone.old input).0 }
     ensures told { cell.new ≡ (ActorIn.Phone input, (phone_call phone.old input).1) }
 {
@@ -119,7 +117,7 @@ fn step_phone(phone: &mut Phone, input: PhoneIn, cell: &mut (ActorIn, ActorOut))
 
 // A step of the core.
 fn step_core(core: &mut Core, input: CoreIn, cell: &mut (ActorIn, ActorOut))
-    requires { IsCoreInput input }
+    requires { CoreTakes input }
     ensures actor { core.new ≡ (core_call core.old input).0 }
     ensures told { cell.new ≡ (ActorIn.Core input, (core_call core.old input).1) }
 {
@@ -136,7 +134,7 @@ fn step_at(
     cell: &mut (ActorIn, ActorOut),
 )
     requires place { place < length stations.old.items }
-    requires input { IsStationInput input }
+    requires input { StationTakes input }
     ensures steps { StepsAt stations.old.items stations.new.items place input cell.new.1 }
     ensures told { cell.new.0 ≡ ActorIn.Station id input }
 {

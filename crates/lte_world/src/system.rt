@@ -1,14 +1,11 @@
 // The actors, and what is kept beside them.
 ghost use Rattle.growth.specs.Growth.{WasRefused};
 ghost use Rattle.std.specs.Prelude.{◌≡◌, ◌≤◌, ◌<◌, ◌==◌, [], length, position, None, IsOkUnless, OnOk, OnErr, IfSome};
+ghost use Rattle.lte_events.specs.Ranges.{CoreTakes, PhoneDoes, PhoneTakes, StationDoes, StationTakes, TakesInjected};
 ghost use Rattle.lte_events.specs.Reply.{reply_of};
 ghost use Rattle.lte_events.specs.declared.events.Event.TheVariants.{Auth, Deliver, Inject};
 ghost use Rattle.lte_events.specs.declared.lines.Who.TheVariants.{World};
-ghost use Rattle.ue_context.specs.Acts.{IsInput as IsPhoneInput, IsAct as IsPhoneAct};
-ghost use Rattle.enb_context.specs.Acts.{IsInput as IsStationInput, IsAct as IsStationAct};
-ghost use Rattle.mme_context.specs.Step.{IsInput as IsCoreInput};
 ghost use Rattle.lte_machine.specs.Calls.{line_of_reply};
-ghost use Rattle.lte_machine.specs.Ranges.{TakesInjected};
 ghost use Rattle.lte_world.specs.Networks.{Grows, HasPlace};
 ghost use Rattle.lte_world.specs.Systems.{ArrivalCan, Arrives, EventCan, Happens, HasRoom, MayHappen, PhoneTurns, PhoneCan, CoreTurns, CoreCan, StationTurns, StationCan, with_room};
 ghost use Rattle.lte_events.specs.declared.inputs.ActorIn.{ActorIn};
@@ -69,7 +66,7 @@ impl System {
         told: &mut Replies,
     ) -> Result<Line, Proof>
         requires room { HasRoom self.old.stores }
-        requires input { IsPhoneInput input }
+        requires input { PhoneTakes input }
         requires can { PhoneCan self.old input }
         requires none { told.old ≡ [] }
         ensures turns { PhoneTurns self.old self.new input sender step result }
@@ -90,7 +87,7 @@ impl System {
         told: &mut Replies,
     ) -> Result<Line, Proof>
         requires room { HasRoom self.old.stores }
-        requires input { IsCoreInput input }
+        requires input { CoreTakes input }
         requires can { CoreCan self.old input }
         requires none { told.old ≡ [] }
         ensures turns { CoreTurns self.old self.new input sender step result }
@@ -153,7 +150,7 @@ impl System {
     // An act of the phone.
     fn phone_act(&mut self, act: &PhoneAct, step: u32, told: &mut Replies) -> Result<Line, Proof>
         requires room { HasRoom self.old.stores }
-        requires may { IsPhoneAct act.now }
+        requires may { PhoneDoes act.now }
         requires can { EventCan self.old (Event.Phone act.now) }
         requires none { told.old ≡ [] }
         ensures happens { Happens self.old self.new (Event.Phone act.now) step result }
@@ -173,7 +170,7 @@ impl System {
         told: &mut Replies,
     ) -> Result<Line, Proof>
         requires room { HasRoom self.old.stores }
-        requires may { IsStationAct act.now }
+        requires may { StationDoes act.now }
         requires can { EventCan self.old (Event.Station id act.now) }
         requires none { told.old ≡ [] }
         ensures happens { Happens self.old self.new (Event.Station id act.now) step result }
@@ -294,7 +291,7 @@ impl System {
         told: &mut Replies,
     ) -> Result<Line, Proof>
         requires room { HasRoom self.old.stores }
-        requires input { IsStationInput input }
+        requires input { StationTakes input }
         requires can { StationCan self.old id input }
         requires none { told.old ≡ [] }
         ensures turns { StationTurns self.old self.new id input sender step result }

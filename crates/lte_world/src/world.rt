@@ -1,6 +1,6 @@
 ghost use Rattle.growth.specs.Growth.{WasRefused};
 ghost use Rattle.std.specs.Prelude.{◌≡◌, ◌≢◌, ◌<◌, ◌≤◌, [], ◌∷◌, ◌++◌, true, false, length, Some, None, IsTrue, IsOkUnless, OnOk, OnErr, IfOk};
-ghost use Rattle.lte_events.specs.Conditions.{has_station};
+ghost use Rattle.lte_events.specs.Ranges.{has_station};
 ghost use Rattle.lte_events.specs.declared.events.Event.{Event as AnEvent};
 ghost use Rattle.lte_machine.specs.BothRuns.{written_run};
 ghost use Rattle.lte_machine.specs.Carried.{run_value};

@@ -1,11 +1,9 @@
 -- One step of the core in octets, by the input as it reads.
-use Rattle.std.specs.Prelude.{ℕ, ◌≤◌, List, Option, Some, option_map, Ok}
+use Rattle.std.specs.Prelude.{ℕ, List, Option, Some, option_map, Ok}
 use Rattle.alg_choice.specs.declared.caps.Caps.{Caps}
 use Rattle.key_model.specs.HandoverTable.{NumberedKey}
 use Rattle.key_model.specs.Reading.{octet_reading}
 use Rattle.lte_events.specs.declared.answers.Answer.TheVariants.{Done}
-use Rattle.lte_events.specs.declared.inputs.CoreIn.{CoreIn}
-use Rattle.lte_events.specs.declared.inputs.CoreIn.TheVariants.{Auth}
 use Rattle.lte_events.specs.declared.replies.ActorOut.{ActorOut}
 use Rattle.lte_machine.specs.Calls.{actor_out}
 use Rattle.lte_machine.specs.Ciphers.{annex_b}
@@ -16,11 +14,6 @@ use Rattle.lte_machine.specs.Opening.{open_octets}
 use Rattle.lte_machine.specs.Reply.{only, unseen}
 use Rattle.lte_machine.specs.Wire.{Outgoing}
 use Rattle.s1x2_rec.specs.Fields.{Fields}
-
--- the KSI of an authentication is 0 to 6
-abbrev pub IsInput : CoreIn → Type 0
-IsInput (Auth ksi root caps) = ksi ≤ 6
-IsInput other = Unit {0}
 
 -- the core afterwards and its reply; a call is this of the input as it reads
 abbrev pub answered : Core (List ℕ) ℕ → CoreInput (List ℕ) ℕ → Core (List ℕ) ℕ × ActorOut

@@ -4,7 +4,7 @@ ghost use Rattle.lte_events.specs.declared.setups.FirstNcc.TheVariants.{One};
 ghost use Rattle.lte_machine.specs.Calls.{core_call, core_input};
 ghost use Rattle.lte_machine.specs.CoreState.{first_core};
 ghost use Rattle.mme_context.specs.Numbers.{Tells};
-ghost use Rattle.mme_context.specs.Step.{IsInput};
+ghost use Rattle.lte_events.specs.Ranges.{CoreTakes};
 
 use crate::link::Link;
 use alg_choice::{Caps, Priority};
@@ -86,7 +86,7 @@ impl Core {
     /// The step is that of the written machine, and it takes no memory. Each answer stands with its cause, in the
     /// order in which they are tried, in `CoreChoice` of `lte_machine`. A refused step leaves the core as it was.
     pub fn step(&mut self, input: &CoreIn) -> ActorOut
-        requires { IsInput input.now }
+        requires { CoreTakes input.now }
         ensures step { (self.new, result) ≡ core_call self.old input.now }
         ensures refused { result.answer ≢ Done → self.new ≡ self.old }
         // Of another connection: its number, 0 with none, and that of the record. Seen before: the greatest request or
@@ -100,7 +100,7 @@ impl Core {
 
     /// The same step, whose reply is written in place of another.
     pub fn reply(&mut self, input: &CoreIn, out: &mut ActorOut)
-        requires { IsInput input.now }
+        requires { CoreTakes input.now }
         ensures { (self.new, out.new) ≡ core_call self.old input.now }
     {
         match input {

@@ -1,5 +1,6 @@
 // NAS: authentication, messages of the phone, and what is sent to it (TS 24.301 4.4, 5.4.2 and 5.4.3).
 ghost use Rattle.std.specs.Prelude.{◌≡◌, ◌≤◌, Bool, length};
+ghost use Rattle.rec_base.specs.Lengths.{longest_record};
 ghost use Rattle.lte_events.specs.declared.acts.CoreAct.TheVariants.{SendNas, Skip, StartSmc};
 ghost use Rattle.lte_machine.specs.CoreState.{CoreActs, CoreAuth, CoreNasPdu};
 ghost use Rattle.nas_smc.specs.CoreNas.{core_after, is_for_new_context, triggers};
@@ -50,7 +51,7 @@ impl Core {
 
     // A NAS message.
     pub(crate) fn nas(&mut self, pdu: &[u8], out: &mut ActorOut)
-        requires { length pdu.now ≤ 1536 }
+        requires { length pdu.now ≤ longest_record }
         ensures { (self.new, out.new) ≡ answered self.old (CoreNasPdu pdu.now) }
     {
         let said = self.nas.on_pdu(pdu);

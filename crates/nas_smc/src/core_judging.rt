@@ -1,5 +1,6 @@
 // The choice of what a NAS message comes to at the core; it changes nothing.
 ghost use Rattle.std.specs.Prelude.{◌≡◌, ◌≤◌, ◌==◌, IfOk, Ok, None, length, false, true};
+ghost use Rattle.rec_base.specs.Lengths.{longest_record};
 ghost use Rattle.nas_guard.specs.Open.{IsProtected, first_in, header_in};
 ghost use Rattle.nas_rec.specs.Reading.{read_nas};
 ghost use Rattle.lte_machine.specs.CoreChoice.{core_header, protected_row, reject_row};
@@ -42,7 +43,7 @@ pub(crate) struct CoreJudged {
 impl CoreNas {
     // What a message comes to.
     pub(crate) fn judge(&self, pdu: &[u8]) -> CoreJudged
-        requires { length pdu.now ≤ 1536 }
+        requires { length pdu.now ≤ longest_record }
         ensures row { (rest : CoreRest) →
             row_at self.now rest (front_of self.now pdu.now (core_header pdu.now)) pdu.now ≡ row_of rest result.verdict }
         ensures accepted { (rest : CoreRest) →
@@ -59,7 +60,7 @@ impl CoreNas {
     // By the header type.
     fn by_header(&self, header: u8, pdu: &[u8]) -> CoreJudged
         requires some { 1 ≤ length pdu.now }
-        requires length { length pdu.now ≤ 1536 }
+        requires length { length pdu.now ≤ longest_record }
         requires header { header ≡ header_in pdu.now }
         requires protected { (header == 0) ≡ false → IsProtected (first_in pdu.now) }
         ensures row { (rest : CoreRest) →
@@ -110,7 +111,7 @@ impl CoreNas {
     // A message with header type 4, which is a SECURITY MODE COMPLETE (TS 24.301 5.4.3.4).
     fn complete(&self, pdu: &[u8]) -> CoreJudged
         requires long { 6 ≤ length pdu.now }
-        requires length { length pdu.now ≤ 1536 }
+        requires length { length pdu.now ≤ longest_record }
         requires protected { IsProtected (first_in pdu.now) }
         requires header { header_in pdu.now ≡ 4 }
         ensures row { (rest : CoreRest) →
@@ -147,7 +148,7 @@ impl CoreNas {
     // A message with header type 1 or 2, under the context in use (TS 24.301 4.4.3.1 and 4.4.4.3).
     fn message(&self, header: u8, pdu: &[u8]) -> CoreJudged
         requires long { 6 ≤ length pdu.now }
-        requires length { length pdu.now ≤ 1536 }
+        requires length { length pdu.now ≤ longest_record }
         requires protected { IsProtected (first_in pdu.now) }
         requires header { header ≡ header_in pdu.now }
         requires protects { (header == 0) ≡ false }

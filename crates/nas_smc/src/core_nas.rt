@@ -1,4 +1,5 @@
 ghost use Rattle.std.specs.Prelude.{◌≡◌, ◌≤◌, List, ℕ, false, length, option_map};
+ghost use Rattle.rec_base.specs.Lengths.{longest_record};
 ghost use Rattle.lte_events.specs.Reply.{reply_of};
 ghost use Rattle.lte_events.specs.Site.{Site};
 ghost use Rattle.lte_events.specs.declared.acts.CoreAct.TheVariants.{SendNas, Skip, StartSmc};
@@ -112,7 +113,7 @@ impl CoreNas {
     /// with the sequence number is 2^24 or more; `MacFails`; `BadRecord` and `WrongKind` of the text, and
     /// `NoSmc` where it is a SECURITY MODE REJECT with no procedure open.
     pub fn on_pdu(&mut self, pdu: &[u8]) -> NasOut
-        requires { length pdu.now ≤ 1536 }
+        requires { length pdu.now ≤ longest_record }
         ensures { (rest : CoreRest) →
             core_call (core_of self.old rest) (Nas pdu.now) ≡ core_after (core_of self.new rest) result (is_for_new_context pdu.now) }
     {

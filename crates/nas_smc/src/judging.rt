@@ -1,5 +1,6 @@
 // The choice of what a NAS message comes to; it changes nothing.
 ghost use Rattle.std.specs.Prelude.{◌≡◌, ◌≢◌, ◌≤◌, ℕ, List, IfOk, Ok, None, length, map};
+ghost use Rattle.rec_base.specs.Lengths.{longest_record};
 ghost use Rattle.key_model.specs.Reading.{octet_reading};
 ghost use Rattle.key_model.specs.Derivation.{derived_of};
 ghost use Rattle.nas_guard.specs.Open.{IsProtected, first_in, header_in};
@@ -42,7 +43,7 @@ pub(crate) struct Judged {
 impl PhoneNas {
     // What a message comes to.
     pub(crate) fn judge(&self, pdu: &[u8]) -> Judged
-        requires { length pdu.now ≤ 1536 }
+        requires { length pdu.now ≤ longest_record }
         ensures row { (radio : Radio (List ℕ) ℕ) → row_at self.now radio (front_of self.now pdu.now (header_for_phone pdu.now)) pdu.now
             ≡ row_of (plain_context self.now) (plain_radio radio) result.verdict }
         ensures accepted { (radio : Radio (List ℕ) ℕ) →
@@ -59,7 +60,7 @@ impl PhoneNas {
     // A message with header type 3, which is a SECURITY MODE COMMAND (TS 24.301 5.4.3.3).
     fn command(&self, pdu: &[u8]) -> Judged
         requires long { 6 ≤ length pdu.now }
-        requires length { length pdu.now ≤ 1536 }
+        requires length { length pdu.now ≤ longest_record }
         requires protected { IsProtected (first_in pdu.now) }
         requires header { header_in pdu.now ≡ 3 }
         ensures row { (radio : Radio (List ℕ) ℕ) → row_at self.now radio (front_of self.now pdu.now (Ok 3)) pdu.now
@@ -106,7 +107,7 @@ impl PhoneNas {
     // A message with header type 1 or 2, under the context in use (TS 24.301 4.4.3.1 and 4.4.4.2).
     fn message(&self, header: u8, pdu: &[u8]) -> Judged
         requires long { 6 ≤ length pdu.now }
-        requires length { length pdu.now ≤ 1536 }
+        requires length { length pdu.now ≤ longest_record }
         requires protected { IsProtected (first_in pdu.now) }
         requires header { header ≡ header_in pdu.now }
         requires other { header ≢ 3 }

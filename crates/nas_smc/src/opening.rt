@@ -1,5 +1,6 @@
 // Opening NAS messages under the keys of a context.
 ghost use Rattle.std.specs.Prelude.{◌≡◌, ◌<◌, ◌≤◌, length};
+ghost use Rattle.rec_base.specs.Lengths.{longest_record};
 ghost use Rattle.key_model.specs.Least.{least};
 ghost use Rattle.nas_count.specs.Estimate.{count_limit};
 ghost use Rattle.nas_guard.specs.Open.{IsProtected, first_in, header_in, sn_in};
@@ -46,7 +47,7 @@ pub(crate) fn opened(
     pdu: &[u8],
 ) -> Result<Octets, Macs>
     requires long { 6 ≤ length pdu.now }
-    requires length { length pdu.now ≤ 1536 }
+    requires length { length pdu.now ≤ longest_record }
     requires protected { IsProtected (first_in pdu.now) }
     requires header { header ≡ header_in pdu.now }
     requires count { count ≡ least receive.now (sn_in pdu.now) 256 }

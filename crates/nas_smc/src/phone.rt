@@ -1,5 +1,6 @@
 ghost use Rattle.std.specs.Prelude.{◌≡◌, ◌≤◌, List, ℕ, None, Some, length, option_map};
 ghost use Rattle.rec_base.specs.declared.uses.Dir.TheVariants.{Up};
+ghost use Rattle.rec_base.specs.Lengths.{longest_record};
 ghost use Rattle.lte_events.specs.declared.inputs.PhoneIn.TheVariants.{Act, Auth, Nas};
 ghost use Rattle.lte_events.specs.declared.acts.PhoneAct.TheVariants.{SendNas, ServiceRequest, Skip};
 ghost use Rattle.lte_events.specs.declared.answers.Answer.TheVariants.{Done};
@@ -77,7 +78,7 @@ impl PhoneNas {
     /// is sent: as it is with no context in use, and else under that one, whose uplink COUNT it takes, or
     /// nothing where none is left (TS 24.301 5.4.3.5). A refusal changes nothing else.
     pub fn on_pdu(&mut self, pdu: &[u8]) -> NasOut
-        requires { length pdu.now ≤ 1536 }
+        requires { length pdu.now ≤ longest_record }
         ensures { (radio : Radio (List ℕ) ℕ) →
             phone_call (phone_of self.old radio) (Nas pdu.now) ≡ phone_after self.new result radio }
     {

@@ -1,7 +1,6 @@
 -- PDUs of signalling radio bearers (TS 36.323 5.6, 5.7 and 6.2.2).
 use Rattle.std.specs.Prelude.{◌≡◌, ◌≢◌, ℕ, ◌-◌, ◌%◌, ◌<◌, ◌≤◌, nat_lt, Bool, if◌then◌else◌, List, ◌∷◌, ◌++◌, drop, length, slice_index, take, Result, Ok, Err}
 use Rattle.std.specs.Str.{bytes_eq}
-pub use Rattle.rec_base.specs.Bearer.{IsSrb}
 use Rattle.rec_base.specs.Bearer.{bearer5_of}
 use Rattle.rec_base.specs.declared.bearers.Bearer.{Bearer}
 use Rattle.rec_base.specs.declared.uses.Dir.{Dir}

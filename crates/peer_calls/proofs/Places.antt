@@ -13,7 +13,7 @@ use Rattle.edge_io.specs.declared.peers.Role.TheVariants as role
 use Rattle.edge_io.specs.declared.peers.StartFault.{StartFault}
 use Rattle.edge_io.specs.declared.peers.StartFault.TheVariants as fault
 use Rattle.edge_io.specs.Peers.{PeersTold, IsRunning, IdleFrom, started, stopped_at}
-use Rattle.lte_events.specs.Conditions.{has_station}
+use Rattle.lte_events.specs.Ranges.{has_station}
 use Rattle.lte_events.specs.Reply.{reply_of}
 use Rattle.lte_events.specs.Site.{Site}
 use Rattle.lte_events.specs.declared.answers.Answer.TheVariants.{Done}

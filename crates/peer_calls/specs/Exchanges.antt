@@ -3,7 +3,7 @@ use Rattle.std.specs.Prelude.{ℕ, suc, ◌==◌, if◌then◌else◌, IsTrue, O
 use Rattle.alg_choice.specs.declared.algs.Eea.{Eea}
 use Rattle.edge_io.specs.declared.peers.Role.{Role}
 use Rattle.edge_io.specs.declared.peers.Role.TheVariants as role
-use Rattle.lte_events.specs.Conditions.{has_station}
+use Rattle.lte_events.specs.Ranges.{has_station}
 use Rattle.lte_events.specs.Reply.{reply_of}
 use Rattle.lte_events.specs.Site.{Site}
 use Rattle.lte_events.specs.declared.answers.Answer.TheVariants.{Done}

@@ -8,8 +8,9 @@ use Rattle.pdcp_guard.specs.declared.pdus.PdcpOpened.{PdcpOpened}
 use Rattle.pdcp_guard.specs.declared.pdus.PdcpFault.{PdcpFault}
 use Rattle.pdcp_guard.specs.declared.pdus.PdcpFault.TheVariants.{MacFails}
 use Rattle.pdcp_guard.specs.AsKeys.{AsKeys}
-use Rattle.pdcp_guard.specs.Srb.{IsSrb, srb_sealed, srb_ciphered, srb_opened_at}
-use Rattle.pdcp_guard.specs.Drb.{IsDrb, drb_sealed, drb_ciphered, drb_opened_at}
+use Rattle.rec_base.specs.Bearer.{IsDrb, IsSrb}
+use Rattle.pdcp_guard.specs.Srb.{srb_sealed, srb_ciphered, srb_opened_at}
+use Rattle.pdcp_guard.specs.Drb.{drb_sealed, drb_ciphered, drb_opened_at}
 use Rattle.lte_machine.specs.Ciphers.{annex_b, srb_octets, drb_octets}
 use Rattle.lte_machine.specs.Opening.{Outcome, Opened, Differs, OpensSrb, OpensDrb, open_octets, by_macs}
 use Rattle.lte_machine.specs.Wire.{ciphering_if, srb_use, srb_ciphering, drb_ciphering}

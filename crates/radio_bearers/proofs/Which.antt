@@ -2,8 +2,7 @@
 use Rattle.std.proofs.Common.{◌≡◌, refl}
 use Rattle.rec_base.specs.declared.bearers.Bearer.{Bearer}
 use Rattle.rec_base.specs.declared.bearers.Bearer.TheVariants.{Srb1, Srb2, Drb1, Drb2, Drb3, Drb4}
-use Rattle.pdcp_guard.specs.Srb.{IsSrb}
-use Rattle.pdcp_guard.specs.Drb.{IsDrb}
+use Rattle.rec_base.specs.Bearer.{IsDrb, IsSrb}
 use Rattle.lte_machine.specs.Bearers.{which, OnSrb, OnDrb}
 use Rattle.radio_bearers.specs.Bearers.{srb_of, drb_of}
 

@@ -1,7 +1,8 @@
 // What an actor tells of a PDU of a radio bearer.
 ghost use Rattle.std.specs.Prelude.{◌≡◌, ◌≤◌, length, take};
 ghost use Rattle.rec_base.specs.Lengths.{longest_packet};
-ghost use Rattle.pdcp_guard.specs.Srb.{IsSrb};
+ghost use Rattle.rec_base.specs.Bearer.{IsSrb};
+ghost use Rattle.rec_base.specs.Lengths.{longest_record};
 ghost use Rattle.lte_machine.specs.Wire.{srb_use};
 ghost use Rattle.lte_machine.specs.Calls.{use_out};
 ghost use Rattle.lte_machine.specs.Kinds.{rrc_kind};
@@ -55,7 +56,7 @@ pub fn verified_use(keys: &AsKeys, bearer: Bearer, count: u32, dir: Dir) -> Use
 
 /// The first 1,500 octets of a packet of at most 1,536, which is what is handed on.
 pub fn packet_text(octets: &[u8]) -> UserText
-    requires { length octets.now ≤ 1536 }
+    requires { length octets.now ≤ longest_record }
     ensures { result ≡ take longest_packet octets.now }
 {
     let mut text = UserText::new();

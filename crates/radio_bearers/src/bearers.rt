@@ -1,7 +1,9 @@
 ghost use Rattle.std.specs.Prelude.{◌≡◌, ◌≤◌, true, false, length, IfErr, IfOk, OnOk, OnErr};
 ghost use Rattle.std.specs.Bool.{OnTrue, OnFalse};
-ghost use Rattle.pdcp_guard.specs.Srb.{IsSrb, srb_opened};
-ghost use Rattle.pdcp_guard.specs.Drb.{IsDrb, drb_opened};
+ghost use Rattle.rec_base.specs.Bearer.{IsDrb, IsSrb};
+ghost use Rattle.rec_base.specs.Lengths.{longest_record};
+ghost use Rattle.pdcp_guard.specs.Srb.{srb_opened};
+ghost use Rattle.pdcp_guard.specs.Drb.{drb_opened};
 ghost use Rattle.lte_machine.specs.Bearers.{OnSrb, OnDrb, which, of_srb, of_drb, new_bearers, srb_counts, drb_counts, srb_sent, drb_sent, srb_taken, drb_taken, skipped_on, is_spent};
 ghost use Rattle.lte_machine.specs.Ciphers.{annex_b, srb_octets, drb_octets};
 ghost use Rattle.lte_machine.specs.Wire.{ciphering_if, srb_use, srb_ciphering, drb_ciphering};
@@ -145,7 +147,7 @@ impl Bearers {
         pdu: &[u8],
     ) -> Result<PdcpOpened, PdcpFault>
         requires srb { IsSrb bearer }
-        requires pdu { length pdu.now ≤ 1536 }
+        requires pdu { length pdu.now ≤ longest_record }
         ensures value { result ≡ srb_opened keys.now cipher bearer (srb_counts (srb_of bearer) self.now).receive dir pdu.now }
         ensures at_or_above { IfOk result (λ o. (srb_counts (srb_of bearer) self.now).receive ≤ o.count) }
     {
@@ -181,7 +183,7 @@ impl Bearers {
         pdu: &[u8],
     ) -> Result<PdcpOpened, PdcpFault>
         requires drb { IsDrb bearer }
-        requires pdu { length pdu.now ≤ 1536 }
+        requires pdu { length pdu.now ≤ longest_record }
         ensures value { result ≡ drb_opened keys.now bearer (drb_counts (drb_of bearer) self.old).receive dir pdu.now }
         ensures err { OnErr result (self.new ≡ self.old) }
         ensures new { IfOk result (λ o. self.new ≡ drb_taken (drb_of bearer) o.count self.old) }

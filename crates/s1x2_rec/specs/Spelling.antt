@@ -2,8 +2,8 @@
 use Rattle.std.specs.Prelude.{◌≡◌, ℕ, ◌<◌, ◌≤◌, List, [], ◌∷◌, length, get_or, Option, Some, None}
 use Rattle.key_model.specs.HandoverTable.{NumberedKey}
 use Rattle.rec_fields.specs.Layout.{spelled_by}
-pub use Rattle.rec_base.specs.Ranges.{IsNumber}
-pub use Rattle.alg_choice.specs.Caps.{IsCaps}
+use Rattle.rec_base.specs.Ranges.{IsNumber}
+use Rattle.alg_choice.specs.Caps.{IsCaps}
 use Rattle.annex_a_keys.specs.Cell.{IsCell}
 use Rattle.s1x2_rec.specs.Fields.{Fields, kind_of, InitialContext, ContextRelease, PathSwitchRequest, PathSwitchAnswer, HandoverRequired, HandoverRequest, HandoverRequestAck, HandoverCommand, HandoverNotify, HandoverCancel, X2Request, X2Ack, X2Cancel, X2Release, ContextModification}
 use Rattle.s1x2_rec.specs.Content.{Content}

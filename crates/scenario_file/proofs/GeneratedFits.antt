@@ -8,7 +8,9 @@ use Rattle.annex_a_keys.specs.Cell.{IsCell}
 use Rattle.rec_base.specs.Lengths.{longest_packet}
 use Rattle.rec_base.specs.declared.bearers.Bearer.TheVariants.{Drb1}
 use Rattle.rec_base.proofs.Numbers.{length-octets_of, octets_of-lt}
-use Rattle.lte_events.specs.Conditions.{CanStart, CanHappen, SetupFits, EventFits, IsText, IsStation, has_station}
+use Rattle.lte_events.specs.Ranges.{has_station}
+use Rattle.rec_base.specs.Ranges.{IsText}
+use Rattle.lte_events.specs.Conditions.{CanStart, CanHappen, SetupFits, EventFits, IsStation}
 use Rattle.lte_events.specs.declared.acts.HoKind.{HoKind}
 use Rattle.lte_events.specs.declared.acts.CoreAct.TheVariants as core
 use Rattle.lte_events.specs.declared.acts.PhoneAct.TheVariants as phone

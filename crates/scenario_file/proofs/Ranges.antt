@@ -10,7 +10,8 @@ use Rattle.hex.proofs.HexLemmas.{decode_of-ok, decode_sized-ok, decode_sized-twi
 use Rattle.toml.specs.Data.{Data, Items, no_items, item, Members, as_array, as_integer}
 use Rattle.alg_choice.specs.declared.caps.Caps.{Caps}
 use Rattle.annex_a_keys.specs.Cell.{Place, greatest_pci, greatest_earfcn, IsCell}
-use Rattle.lte_events.specs.Conditions.{AreOctets, IsText, IsKey, AreCaps}
+use Rattle.rec_base.specs.Ranges.{AreOctets, IsText, IsKey}
+use Rattle.alg_choice.specs.Caps.{IsCaps}
 use Rattle.scenario_file.specs.declared.fields.Field.{Field}
 use Rattle.scenario_file.specs.declared.faults.Refusal.{Refusal}
 use Rattle.scenario_file.specs.Words.{caps_from, caps_of, key_of, octets_of, natural, place_of}
@@ -59,22 +60,22 @@ pub key_fits : (field : Field) (table : Members) (r : Result (List ℕ) Refusal)
 unfolding key_in
 key_fits field table r = by_word_ok IsKey key_of field table r key_is
 
-both_octets : (octets : List ℕ) (caps : Caps) → AreOctets octets → caps_from octets ≡ Some caps → AreCaps caps
+both_octets : (octets : List ℕ) (caps : Caps) → AreOctets octets → caps_from octets ≡ Some caps → IsCaps caps
 both_octets (eea ∷ eia ∷ []) caps octets read =
     let same : record { eea = eea; eia = eia } ≡ caps = cc in
-    subst AreCaps same (octets 0 0 (omega arith), octets 1 0 (omega arith))
+    subst IsCaps same (octets 0 0 (omega arith), octets 1 0 (omega arith))
 both_octets [] caps octets read = absurd cc
 both_octets (a ∷ []) caps octets read = absurd cc
 both_octets (a ∷ b ∷ c ∷ more) caps octets read = absurd cc
 
-caps_are : (word : List ℕ) (caps : Caps) → caps_of word ≡ Some caps → AreCaps caps
+caps_are : (word : List ℕ) (caps : Caps) → caps_of word ≡ Some caps → IsCaps caps
 unfolding caps_of
-caps_are word caps = then_some (AreCaps caps) (result_ok (decode_sized word 2)) caps_from caps (λ octets read from.
+caps_are word caps = then_some (IsCaps caps) (result_ok (decode_sized word 2)) caps_from caps (λ octets read from.
     both_octets octets caps (sized_are_octets word 2 octets (decoded _ octets read)).0 from)
 
-pub caps_fit : (field : Field) (table : Members) (r : Result Caps Refusal) → r ≡ caps_in field table → IfOk r AreCaps
+pub caps_fit : (field : Field) (table : Members) (r : Result Caps Refusal) → r ≡ caps_in field table → IfOk r IsCaps
 unfolding caps_in
-caps_fit field table r = by_word_ok AreCaps caps_of field table r caps_are
+caps_fit field table r = by_word_ok IsCaps caps_of field table r caps_are
 
 place_is : (pci earfcn : ℕ) (cell : Place) → place_of pci earfcn ≡ Some cell → IsCell cell
 place_is pci earfcn cell = ⊎_elim

@@ -16,7 +16,9 @@ use Rattle.annex_a_keys.specs.Cell.{Place, IsCell}
 use Rattle.lte_events.specs.Site.{Site, is_site}
 use Rattle.lte_events.specs.declared.setups.FirstNcc.TheVariants.{One}
 use Rattle.lte_events.specs.declared.setups.StationSetup.{StationSetup}
-use Rattle.lte_events.specs.Conditions.{has_station, IsStation, CanStart, AreCaps, SetupFits}
+use Rattle.lte_events.specs.Ranges.{has_station}
+use Rattle.alg_choice.specs.Caps.{IsCaps}
+use Rattle.lte_events.specs.Conditions.{IsStation, CanStart, SetupFits}
 use Rattle.scenario_file.specs.declared.fields.Field.TheVariants.{Caps as CapsField, Phone, Core, Station, Step, First, FirstNcc, Priority, Id, Cells, Fleet, Phones}
 use Rattle.scenario_file.specs.declared.faults.Refusal.{Refusal}
 use Rattle.scenario_file.specs.declared.faults.Refusal.TheVariants.{Missing, Wrong}
@@ -272,11 +274,11 @@ network_good : (system : System) (document : Members) (network : Network) → ne
 unfolding network_of
 network_good system document network = then_ok (WholeNetwork network) (tables_in Station document) _ network (λ values e read. some_good system values network read)
 
-phone_good : (document : Members) (caps : Caps) → phone_of document ≡ Ok caps → AreCaps caps
+phone_good : (document : Members) (caps : Caps) → phone_of document ≡ Ok caps → IsCaps caps
 unfolding phone_of
 phone_good document caps =
-    then_ok (AreCaps caps) (table_in Phone document) _ caps (λ phone e more.
-    then_ok (AreCaps caps) (only_in (CapsField ∷ []) phone) _ caps (λ known e read.
+    then_ok (IsCaps caps) (table_in Phone document) _ caps (λ phone e more.
+    then_ok (IsCaps caps) (only_in (CapsField ∷ []) phone) _ caps (λ known e read.
     caps_fit CapsField phone (Ok caps) (sym read)) more)
 
 -- a fleet has 1 to 256 phones, and another system one
@@ -302,7 +304,7 @@ record GoodStart (start : Start) : Type 0 where
   phones : AreSome start.phones
   cores : AreCores start.core_of
 
-of_parts : (phones : ℕ) (caps : Caps) (core : CoreStart) (network : Network) → AreSome phones → AreCaps caps → IsFirst core.numbers.first → WholeNetwork network
+of_parts : (phones : ℕ) (caps : Caps) (core : CoreStart) (network : Network) → AreSome phones → IsCaps caps → IsFirst core.numbers.first → WholeNetwork network
     → GoodStart (record {
       setup = record { caps = caps; core_priority = core.numbers.priority; core_first = core.numbers.first; core_first_ncc = core.first_ncc; stations = network.stations; cells = network.cells };
       phones = phones;

@@ -10,7 +10,7 @@ use Rattle.annex_a_keys.specs.Cell.{Place}
 use Rattle.lte_events.specs.Site.{Site, is_site}
 use Rattle.lte_events.specs.declared.setups.FirstNcc.TheVariants.{One}
 use Rattle.lte_events.specs.declared.setups.StationSetup.{StationSetup}
-use Rattle.lte_events.specs.Conditions.{has_station}
+use Rattle.lte_events.specs.Ranges.{has_station}
 use Rattle.scenario_file.specs.declared.fields.Field.{Field}
 use Rattle.scenario_file.specs.declared.fields.Field.TheVariants.{Phone, Core, Station, Step, Caps as CapsField, Priority, First, FirstNcc, Id, Cells, Fleet, Phones}
 use Rattle.scenario_file.specs.declared.faults.Refusal.{Refusal}

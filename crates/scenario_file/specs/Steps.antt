@@ -2,6 +2,7 @@
 use Rattle.std.specs.Prelude.{ℕ, ◌-◌, List, [], ◌∷◌, ◌++◌, Option, Some, None, Result, Ok}
 use Rattle.toml.specs.Data.{Members}
 use Rattle.rec_base.specs.declared.bearers.Bearer.{Bearer}
+use Rattle.rec_base.specs.Lengths.{longest_packet, longest_text, longest_record}
 use Rattle.lte_events.specs.declared.acts.HoKind.{HoKind}
 use Rattle.lte_events.specs.declared.acts.HoKind.TheVariants as kind
 use Rattle.lte_events.specs.declared.acts.PhoneAct.TheVariants as phone
@@ -74,12 +75,12 @@ if_station other fields = Station ∷ fields
 abbrev pub user_from : RadioEnd → Setup → Members → Result Event Refusal
 user_from radio.Phone setup table = do
   bearer ← drb_in BearerField table
-  text ← octets_in 1500 Text table
+  text ← octets_in longest_packet Text table
   Ok (event.Phone (phone.SendUser bearer text))
 user_from radio.Station setup table = do
   id ← station_in setup table
   bearer ← drb_in BearerField table
-  text ← octets_in 1500 Text table
+  text ← octets_in longest_packet Text table
   Ok (event.Station id (station.SendUser bearer text))
 
 unfoldable pub user_of : Setup → Members → Result Event Refusal
@@ -91,12 +92,12 @@ user_of setup table = do
 abbrev pub rrc_from : RadioEnd → Setup → Members → Result Event Refusal
 rrc_from radio.Phone setup table = do
   bearer ← srb_in BearerField table
-  text ← octets_in 200 Text table
+  text ← octets_in longest_text Text table
   Ok (event.Phone (phone.SendRrc bearer text))
 rrc_from radio.Station setup table = do
   id ← station_in setup table
   bearer ← srb_in BearerField table
-  text ← octets_in 200 Text table
+  text ← octets_in longest_text Text table
   Ok (event.Station id (station.SendRrc bearer text))
 
 unfoldable pub rrc_of : Setup → Members → Result Event Refusal
@@ -112,7 +113,7 @@ nas_from nas.Core text = event.Core (core.SendNas text)
 unfoldable pub nas_event_of : Members → Result Event Refusal
 nas_event_of table = do
   from ← nas_end_in From table
-  text ← octets_in 200 Text table
+  text ← octets_in longest_text Text table
   Ok (nas_from from text)
 
 -- skip
@@ -171,20 +172,20 @@ if_air other fields = Station ∷ Air ∷ fields
 
 abbrev pub inject_at : Target → Setup → Members → Result Event Refusal
 inject_at target.PhoneNas setup table = do
-  octets ← octets_in 1536 Octets table
+  octets ← octets_in longest_record Octets table
   Ok (event.Inject address.PhoneNas octets)
 inject_at target.CoreNas setup table = do
-  octets ← octets_in 1536 Octets table
+  octets ← octets_in longest_record Octets table
   Ok (event.Inject address.CoreNas octets)
 inject_at (target.PhoneAir bearer) setup table = do
   id ← station_in setup table
   air ← any_number_in Air table
-  octets ← octets_in 1536 Octets table
+  octets ← octets_in longest_record Octets table
   Ok (event.Inject (address.Phone id air bearer) octets)
 inject_at (target.StationAir bearer) setup table = do
   id ← station_in setup table
   air ← any_number_in Air table
-  octets ← octets_in 1536 Octets table
+  octets ← octets_in longest_record Octets table
   Ok (event.Inject (address.StationAir id air bearer) octets)
 
 unfoldable pub inject_of : Setup → Members → Result Event Refusal

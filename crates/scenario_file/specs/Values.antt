@@ -9,7 +9,7 @@ use Rattle.annex_a_keys.specs.Cell.{Place}
 use Rattle.rec_base.specs.declared.bearers.Bearer.{Bearer}
 use Rattle.lte_events.specs.declared.setups.FirstNcc.{FirstNcc}
 use Rattle.lte_events.specs.declared.setups.Setup.{Setup}
-use Rattle.lte_events.specs.Conditions.{has_station}
+use Rattle.lte_events.specs.Ranges.{has_station}
 use Rattle.scenario_file.specs.declared.fields.Field.{Field}
 use Rattle.scenario_file.specs.declared.fields.Field.TheVariants as field
 use Rattle.scenario_file.specs.declared.faults.Refusal.{Refusal}

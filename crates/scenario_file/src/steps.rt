@@ -1,7 +1,9 @@
 // The steps of a scenario: for each word of `do` its other fields, in their order, and the event.
 ghost use Rattle.std.specs.Prelude.{◌≡◌, ◌≤◌, ◌<◌, ◌∷◌, [], IfOk};
 ghost use Rattle.toml.specs.View.{table_view};
-ghost use Rattle.lte_events.specs.Conditions.{CanHappen, StationCan, AreCaps, SetupFits, StationActFits, EventFits};
+ghost use Rattle.alg_choice.specs.Caps.{IsCaps};
+ghost use Rattle.lte_events.specs.Ranges.{StationDoes, IsStationAct};
+ghost use Rattle.lte_events.specs.Conditions.{CanHappen, SetupFits, EventFits};
 ghost use Rattle.scenario_file.specs.declared.fields.Field.TheVariants.{Do, From, Bearer as BearerField, Text, Who, N, To, Octets, Caps as CapsField};
 ghost use Rattle.scenario_file.specs.Values.{or_default, caps_in};
 ghost use Rattle.scenario_file.specs.Steps.{auth_of, connect_of, start_of, station_act_of, deliver_of, if_station, user_from, user_of, rrc_from, rrc_of, nas_from, nas_event_of, if_at_station, skip_at, skip_of, phone_target, target_at, target_in, if_air, inject_at, inject_of, event_by, fields_of, phone_in, step_of};
@@ -123,9 +125,9 @@ fn auth(table: &Table, setup: &Setup) -> Result<Event, Refusal>
 
 // Capabilities, or those of the phone where none are given.
 fn caps_or(table: &Table, usual: Caps) -> Result<Caps, Refusal>
-    requires { AreCaps usual }
+    requires { IsCaps usual }
     ensures value { result ≡ or_default usual caps_in CapsField (table_view table.now) }
-    ensures fits { IfOk result AreCaps }
+    ensures fits { IfOk result IsCaps }
 {
     match values::found(table, Field::Caps) {
         None => Ok(usual),
@@ -158,8 +160,8 @@ fn start(table: &Table, setup: &Setup, kind: HoKind) -> Result<Event, Refusal>
 // An act of a station with no other field.
 #[tactic(auto, unfolding(crate::specs::Steps::station_act_of))]
 fn station_act(table: &Table, setup: &Setup, act: StationAct) -> Result<Event, Refusal>
-    requires can { StationCan act }
-    requires fits { StationActFits act }
+    requires can { StationDoes act }
+    requires fits { IsStationAct act }
     ensures value { result ≡ station_act_of act setup.now (table_view table.now) }
     ensures can { IfOk result (CanHappen setup.now) }
     ensures fits { IfOk result EventFits }

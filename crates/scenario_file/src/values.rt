@@ -5,7 +5,10 @@ ghost use Rattle.std.specs.List.{list_all};
 ghost use Rattle.toml.specs.Data.{get_member, as_table};
 ghost use Rattle.toml.specs.View.{table_view, array_view, items_view, view};
 ghost use Rattle.annex_a_keys.specs.Cell.{IsCell};
-ghost use Rattle.lte_events.specs.Conditions.{has_station, IsSrb, IsDrb, IsText, IsKey, AreCaps};
+ghost use Rattle.lte_events.specs.Ranges.{has_station};
+ghost use Rattle.rec_base.specs.Bearer.{IsSrb, IsDrb};
+ghost use Rattle.rec_base.specs.Ranges.{IsText, IsKey};
+ghost use Rattle.alg_choice.specs.Caps.{IsCaps};
 ghost use Rattle.scenario_file.specs.Field.{name_of};
 ghost use Rattle.scenario_file.specs.Words.{natural, in_range};
 ghost use Rattle.scenario_file.specs.Values.{result_map, value_in, word_in, integer_in, array_in, table_in, are_tables, tables_in, number_in, any_number_in, first_in, first_ncc_in, station_in, act_in, actor_in, radio_end_in, nas_end_in, srb_in, drb_in, bearer_in, nas_in, path_in, caps_in, key_in, octets_in, cell_of_items, cell_of, cell_in, eea_at, both_of, priority_of_items, priority_in};
@@ -224,7 +227,7 @@ pub(crate) fn path(table: &Table, field: Field) -> Result<Option<Bearer>, Refusa
 #[tactic(auto, unfolding(crate::specs::Values::caps_in))]
 pub(crate) fn caps(table: &Table, field: Field) -> Result<Caps, Refusal>
     ensures value { result ≡ caps_in field (table_view table.now) }
-    ensures fits { IfOk result AreCaps }
+    ensures fits { IfOk result IsCaps }
 {
     words::caps(word(table, field)?).ok_or(Refusal::Wrong(field))
 }

@@ -1,6 +1,6 @@
 // The words and the hex texts that stand as values of a scenario.
 ghost use Rattle.std.specs.Prelude.{◌≡◌, ◌≤◌, ◌<◌, IfSome, length};
-ghost use Rattle.lte_events.specs.Conditions.{IsSrb, IsDrb};
+ghost use Rattle.rec_base.specs.Bearer.{IsSrb, IsDrb};
 ghost use Rattle.scenario_file.specs.Words.{act_of, actor_of, radio_end_of, nas_end_of, srb_of, drb_of, bearer_of, nas_of, path_of, caps_of, key_of, octets_of, natural, in_range, eea_of, first_ncc_of, place_of};
 
 use alg_choice::{Caps, Eea};

@@ -13,8 +13,9 @@ use Rattle.rrc_rec.specs.Reading.{read_rrc}
 use Rattle.pdcp_guard.specs.declared.pdus.PdcpOpened.{PdcpOpened}
 use Rattle.pdcp_guard.specs.declared.pdus.PdcpFault.{PdcpFault}
 use Rattle.pdcp_guard.specs.declared.pdus.PdcpFault as faults
-use Rattle.pdcp_guard.specs.Srb.{IsSrb, srb_count, srb_opened, srb_opened_by, srb_opened_at}
-use Rattle.pdcp_guard.specs.Drb.{IsDrb, drb_count, drb_opened, drb_opened_by, drb_opened_at}
+use Rattle.rec_base.specs.Bearer.{IsDrb, IsSrb}
+use Rattle.pdcp_guard.specs.Srb.{srb_count, srb_opened, srb_opened_by, srb_opened_at}
+use Rattle.pdcp_guard.specs.Drb.{drb_count, drb_opened, drb_opened_by, drb_opened_at}
 use Rattle.lte_machine.specs.Bearers.{which, OnSrb, OnDrb, srb_counts, drb_counts}
 use Rattle.lte_machine.specs.Calls.{phone_call, use_out}
 use Rattle.lte_machine.specs.Ciphers.{annex_b}

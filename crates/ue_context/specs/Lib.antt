@@ -1,4 +1,3 @@
-pub mod Acts
 pub mod Parts
 pub mod Refusing
 pub mod Step

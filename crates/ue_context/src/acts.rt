@@ -2,8 +2,7 @@
 ghost use Rattle.std.specs.Prelude.{◌≡◌, Some};
 ghost use Rattle.lte_events.specs.declared.inputs.PhoneIn.TheVariants.{Act};
 ghost use Rattle.lte_events.specs.declared.acts.PhoneAct.TheVariants.{GoIdle, ResendComplete, SendRrc, SendUser, Skip};
-ghost use Rattle.pdcp_guard.specs.Srb.{IsSrb};
-ghost use Rattle.pdcp_guard.specs.Drb.{IsDrb};
+ghost use Rattle.rec_base.specs.Bearer.{IsDrb, IsSrb};
 ghost use Rattle.lte_machine.specs.Bearers.{which, skipped_on};
 ghost use Rattle.lte_machine.specs.Calls.{phone_call};
 ghost use Rattle.nas_smc.specs.PhoneNas.{NasPart};

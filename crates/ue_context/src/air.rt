@@ -1,7 +1,7 @@
 // PDUs of radio bearers while the phone is connected (TS 36.323 5.6 and 5.7, TS 36.331 5.3).
 ghost use Rattle.std.specs.Prelude.{◌≡◌, ◌≤◌, ◌==◌, ◌&&◌, None, Ok, Some, true, length};
-ghost use Rattle.pdcp_guard.specs.Srb.{IsSrb};
-ghost use Rattle.pdcp_guard.specs.Drb.{IsDrb};
+ghost use Rattle.rec_base.specs.Bearer.{IsDrb, IsSrb};
+ghost use Rattle.rec_base.specs.Lengths.{longest_record};
 ghost use Rattle.lte_events.specs.declared.inputs.PhoneIn.TheVariants.{Air};
 ghost use Rattle.lte_events.specs.declared.answers.Answer.TheVariants.{Done};
 ghost use Rattle.lte_events.specs.Reply.{reply_of};
@@ -33,7 +33,7 @@ impl Link {
         pdu: &[u8],
         out: &mut ActorOut,
     )
-        requires { length pdu.now ≤ 1536 }
+        requires { length pdu.now ≤ longest_record }
         ensures { (linked nas.now self.new, out.new) ≡ phone_call (linked nas.now self.old) (Air station air bearer pdu.now) }
     {
         if !self.is_at(station, air) {
@@ -65,7 +65,7 @@ impl Link {
         requires here { ((self.old.station == station) && (self.old.air == air)) ≡ true }
         requires on { which bearer ≡ OnSrb (srb_of bearer) }
         requires srb { IsSrb bearer }
-        requires pdu { length pdu.now ≤ 1536 }
+        requires pdu { length pdu.now ≤ longest_record }
         ensures { (linked nas.now self.new, out.new) ≡ phone_call (linked nas.now self.old) (Air station air bearer pdu.now) }
     {
         let opened = match self
@@ -163,7 +163,7 @@ impl Link {
         requires here { ((self.old.station == station) && (self.old.air == air)) ≡ true }
         requires on { which bearer ≡ OnDrb (drb_of bearer) }
         requires drb { IsDrb bearer }
-        requires pdu { length pdu.now ≤ 1536 }
+        requires pdu { length pdu.now ≤ longest_record }
         ensures { (linked nas.now self.new, out.new) ≡ phone_call (linked nas.now self.old) (Air station air bearer pdu.now) }
     {
         let opened = match self.bearers.receive_drb(bearer, &self.keys, Dir::Down, pdu) {

@@ -2,7 +2,7 @@
 // 5.3.5.4).
 ghost use Rattle.std.specs.Prelude.{◌≡◌, ◌≤◌, ◌++◌, None, Some, true, length, map};
 ghost use Rattle.std.specs.Bool.{OnTrue, OnFalse};
-ghost use Rattle.pdcp_guard.specs.Srb.{IsSrb};
+ghost use Rattle.rec_base.specs.Bearer.{IsSrb};
 ghost use Rattle.key_model.specs.Derivation.{derived_of};
 ghost use Rattle.key_model.specs.HandoverLines.{steps_to};
 ghost use Rattle.key_model.specs.Reading.{octet_reading};

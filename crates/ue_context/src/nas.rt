@@ -1,5 +1,6 @@
 // NAS rows: an authentication, NAS messages, and what is sent to the core (TS 24.301 4.4 and 5.4.3).
 ghost use Rattle.std.specs.Prelude.{◌≡◌, ◌≤◌, ◌++◌, None, Some, length, option_map};
+ghost use Rattle.rec_base.specs.Lengths.{longest_record};
 ghost use Rattle.lte_events.specs.declared.inputs.PhoneIn.TheVariants.{Act, Auth, Nas};
 ghost use Rattle.lte_events.specs.declared.acts.PhoneAct.TheVariants.{SendNas, ServiceRequest, Skip};
 ghost use Rattle.key_model.specs.Derivation.{derived_of, kenb_made};
@@ -30,7 +31,7 @@ impl Phone {
 
     // A NAS message.
     pub(crate) fn nas_message(&mut self, pdu: &[u8], out: &mut ActorOut)
-        requires { length pdu.now ≤ 1536 }
+        requires { length pdu.now ≤ longest_record }
         ensures { (self.new, out.new) ≡ phone_call self.old (Nas pdu.now) }
     {
         let said = self.nas.on_pdu(pdu);

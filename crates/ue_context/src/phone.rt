@@ -2,7 +2,7 @@ ghost use Rattle.std.specs.Prelude.{◌≡◌, ◌≢◌, is_some};
 ghost use Rattle.lte_events.specs.declared.answers.Answer.TheVariants.{Done};
 ghost use Rattle.lte_machine.specs.Calls.{phone_call};
 ghost use Rattle.lte_machine.specs.PhoneState.{first_phone};
-ghost use Rattle.ue_context.specs.Acts.{IsInput};
+ghost use Rattle.lte_events.specs.Ranges.{PhoneTakes};
 ghost use Rattle.ue_context.specs.Refusing.{after_refusal, refusal_of, sends_reject, accepted_in};
 ghost use Rattle.ue_context.specs.Step.{kenb_of};
 
@@ -54,7 +54,7 @@ impl Phone {
     /// change. A refused step leaves the phone as it was, except for the uplink NAS COUNT of a SECURITY
     /// MODE REJECT (TS 24.301 5.4.3.5).
     pub fn step(&mut self, input: &PhoneIn) -> ActorOut
-        requires { IsInput input.now }
+        requires { PhoneTakes input.now }
         ensures step { (self.new, result) ≡ phone_call self.old input.now }
         // A refused step leaves the phone as it was, but for the uplink NAS COUNT of a SECURITY MODE REJECT
         // under the context in use,

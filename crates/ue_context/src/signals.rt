@@ -2,8 +2,7 @@
 ghost use Rattle.std.specs.Prelude.{◌≡◌, ◌≤◌, true, false, length};
 ghost use Rattle.std.specs.Bool.{OnTrue, OnFalse};
 ghost use Rattle.rec_base.specs.declared.uses.Dir.TheVariants.{Up};
-ghost use Rattle.pdcp_guard.specs.Srb.{IsSrb};
-ghost use Rattle.pdcp_guard.specs.Drb.{IsDrb};
+ghost use Rattle.rec_base.specs.Bearer.{IsDrb, IsSrb};
 ghost use Rattle.lte_machine.specs.Bearers.{srb_counts, drb_counts, srb_sent, drb_sent, is_spent, of_srb, of_drb};
 ghost use Rattle.lte_machine.specs.Wire.{SealedRrc, UserPacket, ciphering_if, srb_use, srb_ciphering, drb_ciphering};
 ghost use Rattle.radio_bearers.specs.Bearers.{srb_of, drb_of};

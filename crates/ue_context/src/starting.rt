@@ -6,6 +6,7 @@ ghost use Rattle.key_model.specs.Reading.{octet_reading};
 ghost use Rattle.key_model.specs.Derivation.{derived_of};
 ghost use Rattle.pdcp_guard.specs.AsKeys.{as_keys_of, as_derivations};
 ghost use Rattle.rec_base.specs.declared.bearers.Bearer.TheVariants.{Srb1};
+ghost use Rattle.rec_base.specs.Lengths.{longest_record};
 ghost use Rattle.pdcp_guard.specs.Srb.{srb_count};
 ghost use Rattle.lte_machine.specs.Bearers.{OnSrb, Signalling1};
 ghost use Rattle.lte_machine.specs.Calls.{phone_call};
@@ -48,7 +49,7 @@ impl Waiting {
         pdu: &[u8],
         out: &mut ActorOut,
     ) -> Option<Link>
-        requires { length pdu.now ≤ 1536 }
+        requires { length pdu.now ≤ longest_record }
         ensures { (started nas.now self.now result, out.new) ≡ phone_call (waiting nas.now self.now) (Air station air bearer pdu.now) }
     {
         match bearer {

@@ -1,8 +1,9 @@
 // One step of the phone, by what comes.
 ghost use Rattle.std.specs.Prelude.{◌≡◌, ◌≤◌, length};
+ghost use Rattle.rec_base.specs.Lengths.{longest_record};
 ghost use Rattle.lte_events.specs.declared.inputs.PhoneIn.TheVariants.{Act, Air};
 ghost use Rattle.lte_machine.specs.Calls.{phone_call};
-ghost use Rattle.ue_context.specs.Acts.{IsAct, IsInput};
+ghost use Rattle.lte_events.specs.Ranges.{PhoneDoes, PhoneTakes};
 
 use crate::Phone;
 use crate::radio::Radio;
@@ -12,7 +13,7 @@ use rec_base::Bearer;
 impl Phone {
     /// The step of `step`, whose reply is written in place of another.
     pub fn reply(&mut self, input: &PhoneIn, out: &mut ActorOut)
-        requires { IsInput input.now }
+        requires { PhoneTakes input.now }
         ensures { (self.new, out.new) ≡ phone_call self.old input.now }
     {
         match input {
@@ -27,7 +28,7 @@ impl Phone {
 
     // An act of its own.
     fn act(&mut self, act: &PhoneAct, out: &mut ActorOut)
-        requires { IsAct act.now }
+        requires { PhoneDoes act.now }
         ensures { (self.new, out.new) ≡ phone_call self.old (Act act.now) }
     {
         match act {
@@ -44,7 +45,7 @@ impl Phone {
 
     // A PDU of a station and an air address there.
     fn air(&mut self, station: u8, air: u32, bearer: Bearer, pdu: &[u8], out: &mut ActorOut)
-        requires { length pdu.now ≤ 1536 }
+        requires { length pdu.now ≤ longest_record }
         ensures { (self.new, out.new) ≡ phone_call self.old (Air station air bearer pdu.now) }
     {
         match &mut self.radio {

@@ -7,7 +7,10 @@ use Rattle.rec_base.specs.Lengths.{longest_packet}
 use Rattle.alg_choice.specs.declared.algs.Eea.{Eea}
 use Rattle.alg_choice.specs.declared.caps.Caps.{Caps}
 use Rattle.annex_a_keys.specs.Cell.{Place, IsCell}
-use Rattle.lte_events.specs.Conditions.{has_station, AreCaps, IsText, IsStation}
+use Rattle.lte_events.specs.Ranges.{has_station}
+use Rattle.rec_base.specs.Ranges.{IsText}
+use Rattle.alg_choice.specs.Caps.{IsCaps}
+use Rattle.lte_events.specs.Conditions.{IsStation}
 use Rattle.lte_events.specs.Site.{Site}
 use Rattle.lte_events.specs.declared.setups.FirstNcc.TheVariants.{One}
 use Rattle.lte_events.specs.declared.setups.Setup.{Setup}
@@ -30,7 +33,7 @@ module _ (s t : StationSetup) (first : s.id ≡ 0) (second : t.id ≡ 1) where
   next : IsTrue (has_station (s ∷ t ∷ []) 1)
   next = λ j. (first j == 1) || ((second j == 1) || false)
 
-  module _ (s_first : s.first ≡ 1) (t_first : t.first ≡ 1) (caps : Caps) (fits : AreCaps caps) (priority : List Eea) (a b : Place) (a_is : IsCell a) (b_is : IsCell b) where
+  module _ (s_first : s.first ≡ 1) (t_first : t.first ≡ 1) (caps : Caps) (fits : IsCaps caps) (priority : List Eea) (a b : Place) (a_is : IsCell a) (b_is : IsCell b) where
     abbrev two : List StationSetup → List Site → Setup
     two stations cells = record { caps = caps; core_priority = priority; core_first = 1; core_first_ncc = One; stations = stations; cells = cells }
 

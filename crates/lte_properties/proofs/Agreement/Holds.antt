@@ -1,6 +1,9 @@
 -- Agreement in every world of every run: from the invariant, which the first world has.
-use Rattle.std.proofs.Common.{◌≡◌, refl, sym, ap, ◌∙◌, subst, ℕ, ◌≤◌, arith, List, [], ◌∷◌, Option, Some, None, inl, inr}
-use Rattle.std.specs.Prelude.{replicate}
+use Rattle.std.proofs.Common.{◌≡◌, refl, sym, ap, ◌∙◌, subst, ℕ, ◌==◌, ◌≤◌, arith, Bool, true, false, List, [], ◌∷◌, Option, Some, None, inl, inr}
+use Rattle.std.specs.Prelude.{◌||◌, IsTrue, replicate}
+use Rattle.std.proofs.lemmas.Bool.{eqb-true}
+use Rattle.std.proofs.lemmas.List.Elements.{recursion_from_All}
+use Rattle.lte_events.specs.Ranges.{has_station}
 use Rattle.lte_events.specs.declared.setups.Setup.{Setup}
 use Rattle.lte_events.specs.declared.setups.StationSetup.{StationSetup}
 use Rattle.lte_events.specs.Site.{Site}
@@ -8,7 +11,6 @@ use Rattle.key_model.specs.Term.{Term, Root}
 use Rattle.key_model.specs.Number.{chain_number}
 use Rattle.ho_prep.specs.Prep.{Prep}
 use Rattle.lte_machine.specs.Ranges.{IsSetup, IsStation, IsSiteOf, IsEvent}
-use Rattle.lte_machine.specs.Ranges as ranges
 use Rattle.lte_machine.specs.Reply.{From, BySetup, ByAttempt, ByChange, Made, Came, Secured, Commanded, Changed, Took}
 use Rattle.lte_machine.specs.PhoneState.{Radio, Idle, Connecting, Connected, Link}
 use Rattle.lte_machine.specs.StationState.{Station, Context}
@@ -28,18 +30,27 @@ use Rattle.lte_machine.specs.Distinct.{Member}
 
 -- THE FIRST WORLD
 
-sites_ok : (stations : List StationSetup) (sites : List Site) → ranges.AllOf (IsSiteOf stations) sites → AllOf SiteOk sites
-sites_ok stations [] h = tt
-sites_ok stations (site ∷ sites) h = ((h.0.0, h.0.1), sites_ok stations sites h.1)
+low_id : (id : ℕ) (ss : List StationSetup) → AllOf IsStation ss → IsTrue (has_station ss id) → id ≤ 7
+low_id id [] h has = absurd cc
+low_id id (s ∷ ss) h has = by (s.id == id) refl has (low_id id ss h.1)
+  where
+    by : (b : Bool) → (s.id == id) ≡ b → IsTrue (b || has_station ss id) → (IsTrue (has_station ss id) → id ≤ 7) → id ≤ 7
+    by true same has rest = subst (λ n. n ≤ 7) (eqb-true s.id id same) h.0.0
+    by false same has rest = rest has
+
+sites_ok : (stations : List StationSetup) → AllOf IsStation stations → (sites : List Site) → AllOf (IsSiteOf stations) sites → AllOf SiteOk sites
+sites_ok stations low [] h = tt
+sites_ok stations low (site ∷ sites) h = ((low_id site.station stations low h.0.1, h.0.0), sites_ok stations low sites h.1)
 
 pub cells_of : (setup : Setup) → IsSetup setup → AllOf SiteOk setup.cells
-cells_of setup h = sites_ok setup.stations setup.cells h.sites
+cells_of setup h =
+    sites_ok setup.stations (recursion_from_All IsStation setup.stations h.stations) setup.cells (recursion_from_All (IsSiteOf setup.stations) setup.cells h.sites)
 
 -- before the first event there is no connection
 pub no_conns : Setup → Conns
 no_conns setup = record { root = λ conn. Root 0 []; count = λ conn. 0; top = λ conn. 0; next = setup.core_first }
 
-stations_begin : (cells : List Site) (g : Ghost) (made : g.made ≡ []) (tried : g.tried ≡ []) (ss : List StationSetup) → ranges.AllOf IsStation ss → AllOf (StationOk cells g) (stations_of cells ss)
+stations_begin : (cells : List Site) (g : Ghost) (made : g.made ≡ []) (tried : g.tried ≡ []) (ss : List StationSetup) → AllOf IsStation ss → AllOf (StationOk cells g) (stations_of cells ss)
 stations_begin cells g made tried [] h = tt
 stations_begin cells g made tried (s ∷ ss) h =
     ((tt, tt, (λ n low. (ap (λ xs. made_at xs s.id n) made, ap (λ xs. tried_at xs s.id n) tried)), refl, h.0.0, h.0.1.0, refl, subst (λ xs. AllOf (SeenBy s.id (replicate 8 0)) xs) (sym made) tt), stations_begin cells g made tried ss h.1)
@@ -49,7 +60,7 @@ unfolding no_conns
 first_ok setup h = record {
   core = (tt, refl, refl);
   radio = tt;
-  stations = stations_begin setup.cells (ghost (no_conns setup) (first_world setup)) refl refl setup.stations h.stations;
+  stations = stations_begin setup.cells (ghost (no_conns setup) (first_world setup)) refl refl setup.stations (recursion_from_All IsStation setup.stations h.stations);
   sent = tt;
   made = tt;
   tried = tt;

@@ -1,11 +1,13 @@
 -- No event that can happen to a setup comes to a station that it does not have.
-use Rattle.std.proofs.Common.{◌≡◌, refl, subst, ℕ, ◌==◌, Bool, true, false, cond, List, [], ◌∷◌, Option, Some, None, option_map, inl, inr}
+use Rattle.std.proofs.Common.{◌≡◌, refl, subst, ℕ, ◌==◌, Bool, true, false, cond, List, [], ◌∷◌, Option, Some, None, option_map}
 use Rattle.std.specs.Prelude.{◌||◌, IsTrue, find}
 use Rattle.std.specs.List.{position_from}
-use Rattle.std.proofs.lemmas.Bool.{eqb-true, eq-eqb}
+use Rattle.std.proofs.lemmas.Bool.{eq-eqb, or_left, or_right}
+use Rattle.std.proofs.lemmas.List.Elements.{recursion_from_All}
 use Rattle.alg_choice.specs.declared.caps.Caps.{Caps}
 use Rattle.annex_a_keys.specs.Cell.{Place}
-use Rattle.lte_events.specs.Conditions.{has_station, TakesInjected, CanHappen}
+use Rattle.lte_events.specs.Conditions.{TakesInjected, CanHappen}
+use Rattle.lte_events.specs.Ranges.{has_station, IsSiteOf, IsSetup}
 use Rattle.lte_events.specs.declared.addresses.Address.{Address}
 use Rattle.lte_events.specs.declared.events.Event.{Event}
 use Rattle.lte_events.specs.declared.setups.Setup.{Setup}
@@ -13,7 +15,6 @@ use Rattle.lte_events.specs.declared.setups.StationSetup.{StationSetup}
 use Rattle.lte_events.specs.Site.{Site, is_site, station_of}
 use Rattle.key_model.specs.Term.{Term}
 use Rattle.lte_machine.specs.Opening.{Opening, Outcome}
-use Rattle.lte_machine.specs.Ranges.{HasId, IsSiteOf, IsSetup}
 use Rattle.lte_machine.specs.Ranges as ranges
 use Rattle.lte_machine.specs.Run.{stations_of, first_world}
 use Rattle.lte_machine.specs.StationState.{Station, StationInput, StationActs, AirPdu, StationRecord, OnS1, OnX2}
@@ -28,48 +29,35 @@ use Rattle.lte_properties.proofs.Named.Facts.{StationNamed}
 use Rattle.lte_properties.proofs.Named.World.{AllNamed}
 
 abbrev Has : Setup → ℕ → Type 0
-Has setup id = HasId id setup.stations
+Has setup id = IsTrue (has_station setup.stations id)
 
 -- THE FIRST WORLD
 
 -- the station of a cell of a setup is one of it
-pub site_has : (stations : List StationSetup) (sites : List Site) → ranges.AllOf (IsSiteOf stations) sites → (cell : Place) (id : ℕ) → station_of cell sites ≡ Some id → HasId id stations
+pub site_has : (stations : List StationSetup) (sites : List Site) → ranges.AllOf (IsSiteOf stations) sites → (cell : Place) (id : ℕ) → station_of cell sites ≡ Some id → IsTrue (has_station stations id)
 site_has stations [] h cell id e = absurd cc
 site_has stations (site ∷ sites) h cell id e = by (is_site cell site) e (site_has stations sites h.1 cell id)
   where
-    by : (b : Bool) → option_map (λ s. s.station) (cond b (Some site) (find (is_site cell) sites)) ≡ Some id → (station_of cell sites ≡ Some id → HasId id stations) → HasId id stations
-    by true f rest = let one : site.station ≡ id = cc in subst (λ n. HasId n stations) one h.0.2
+    by : (b : Bool) → option_map (λ s. s.station) (cond b (Some site) (find (is_site cell) sites)) ≡ Some id → (station_of cell sites ≡ Some id → IsTrue (has_station stations id)) → IsTrue (has_station stations id)
+    by true f rest = let one : site.station ≡ id = cc in subst (λ n. IsTrue (has_station stations n)) one h.0.1
     by false f rest = rest f
 
--- a station by the test of the setup
-has_id : (id : ℕ) (ss : List StationSetup) → IsTrue (has_station ss id) → HasId id ss
-has_id id [] h = absurd cc
-has_id id (s ∷ ss) h = by (s.id == id) refl h (has_id id ss)
-  where
-    by : (b : Bool) → (s.id == id) ≡ b → IsTrue (b || has_station ss id) → (IsTrue (has_station ss id) → HasId id ss) → HasId id (s ∷ ss)
-    by true e k rest = inl (eqb-true s.id id e)
-    by false e k rest = inr (rest k)
-
-first_stations : (setup : Setup) (ss : List StationSetup) → ((id : ℕ) → HasId id ss → Has setup id) → AllOf (λ s. StationNamed (Has setup) setup.cells s) (stations_of {K = Term} {C = ℕ} setup.cells ss)
+first_stations : (setup : Setup) (ss : List StationSetup) → ((id : ℕ) → IsTrue (has_station ss id) → Has setup id) → AllOf (λ s. StationNamed (Has setup) setup.cells s) (stations_of {K = Term} {C = ℕ} setup.cells ss)
 first_stations setup [] f = tt
-first_stations setup (s ∷ ss) f = ((f s.id (inl refl), refl, tt, tt), first_stations setup ss (λ id i. f id (inr i)))
+first_stations setup (s ∷ ss) f = ((f s.id (or_left (s.id == s.id) (has_station ss s.id) (eq-eqb s.id s.id refl)), refl, tt, tt), first_stations setup ss (λ id i. f id (or_right (s.id == id) (has_station ss id) i)))
 
-found_or : (b : Bool) (t : Station Term ℕ) (o : Option (Station Term ℕ)) → (s : Station Term ℕ) × (o ≡ Some s) → (s : Station Term ℕ) × (cond b (Some t) o ≡ Some s)
-found_or true t o h = (t, refl)
-found_or false t o h = h
-
-found_first : (b : Bool) (t : Station Term ℕ) (o : Option (Station Term ℕ)) → b ≡ true → (s : Station Term ℕ) × (cond b (Some t) o ≡ Some s)
-found_first true t o e = (t, refl)
-found_first false t o e = absurd cc
-
-pub first_here : (cells : List Site) (ss : List StationSetup) (id : ℕ) → HasId id ss → (s : Station Term ℕ) × (station_of_id id (stations_of {K = Term} {C = ℕ} cells ss) ≡ Some s)
-first_here cells [] id h = absurd h
-first_here cells (x ∷ xs) id (inl e) = found_first (x.id == id) _ (station_of_id id (stations_of cells xs)) (eq-eqb x.id id e)
-first_here cells (x ∷ xs) id (inr k) = found_or (x.id == id) _ (station_of_id id (stations_of cells xs)) (first_here cells xs id k)
+pub first_here : (cells : List Site) (ss : List StationSetup) (id : ℕ) → IsTrue (has_station ss id) → (s : Station Term ℕ) × (station_of_id id (stations_of {K = Term} {C = ℕ} cells ss) ≡ Some s)
+first_here cells [] id h = absurd cc
+first_here cells (x ∷ xs) id h = by (x.id == id) _ h (first_here cells xs id)
+  where
+    by : (b : Bool) (t : Station Term ℕ) → IsTrue (b || has_station xs id) → (IsTrue (has_station xs id) → (s : Station Term ℕ) × (station_of_id id (stations_of {K = Term} {C = ℕ} cells xs) ≡ Some s))
+        → (s : Station Term ℕ) × (cond b (Some t) (station_of_id id (stations_of {K = Term} {C = ℕ} cells xs)) ≡ Some s)
+    by true t h rest = (t, refl)
+    by false t h rest = rest h
 
 module _ (setup : Setup) (set : IsSetup setup) where
   abbrev pub sites : (cell : Place) (id : ℕ) → station_of cell setup.cells ≡ Some id → Has setup id
-  sites = site_has setup.stations setup.cells set.sites
+  sites = site_has setup.stations setup.cells (recursion_from_All (IsSiteOf setup.stations) setup.cells set.sites)
 
   pub first_named : AllNamed (Has setup) setup.cells sites (first_world setup)
   first_named = record { core = (refl, tt); stations = first_stations setup setup.stations (λ id i. i); sent = tt; made = tt }
@@ -114,7 +102,7 @@ module _ (setup : Setup) (set : IsSetup setup) where
     may_come (Address.Phone station air bearer) h = tt
     may_come Address.CoreNas h = tt
     may_come Address.CoreS1 h = tt
-    may_come (Address.StationAir station air bearer) h = has_id station setup.stations h
+    may_come (Address.StationAir station air bearer) h = h
     may_come (Address.StationS1 station) h = absurd h
     may_come (Address.StationX2 station) h = absurd h
 
@@ -122,7 +110,7 @@ module _ (setup : Setup) (set : IsSetup setup) where
     happens_reaches (Event.Auth ksi key caps) can =
         let k = m.root (next_root w) key in auth_reaches ksi k caps (known_root m w k)
     happens_reaches (Event.Phone act) can = λ who. absurd cc
-    happens_reaches (Event.Station id act) can = station_reaches id (StationActs act) None (has_id id setup.stations can.0)
+    happens_reaches (Event.Station id act) can = station_reaches id (StationActs act) None can.0
     happens_reaches (Event.Core act) can = λ who. absurd cc
     happens_reaches (Event.Deliver i) can = delivered_reaches (record_at i w.sent) (all_chosen (λ x. IsAmong (Has setup) (address_of x)) i w.sent reach)
     happens_reaches (Event.Inject to pdu) can = injected_reaches to (may_come to can) pdu (position_from (is_sent m (class_of to) pdu) 0 w.sent)

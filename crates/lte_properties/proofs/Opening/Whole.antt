@@ -1,5 +1,6 @@
 -- Packets open to what was sent, in every world of every run.
 use Rattle.std.proofs.Common.{◌≡◌, refl, ℕ, ◌+◌, ◌<◌, ◌≤◌, Bool, List, [], ◌∷◌, Option, Some, None, arith}
+use Rattle.std.specs.Prelude.{IsTrue}
 use Rattle.alg_choice.specs.Choice.{choice_of}
 use Rattle.alg_choice.specs.declared.caps.Caps.{Caps}
 use Rattle.rec_base.specs.declared.uses.Dir.TheVariants.{Up, Down}
@@ -60,7 +61,7 @@ use Rattle.lte_properties.proofs.Freshness.PhoneRun.{phone_always_in_order}
 use Rattle.lte_properties.proofs.Agreement.Whole.{new_kenb}
 use Rattle.lte_properties.proofs.Opening.Heard.{always_heard}
 use Rattle.lte_properties.proofs.Opening.Second.{second_at}
-use Rattle.lte_machine.specs.Ranges.{HasId}
+use Rattle.lte_events.specs.Ranges.{has_station}
 use Rattle.lte_properties.specs.Reach.{AllReach}
 use Rattle.lte_properties.proofs.Named.Reaches.{sites, first_named}
 use Rattle.lte_properties.proofs.Named.World.{run_named, addresses_named}
@@ -215,7 +216,7 @@ module _ (same : Term → Term → Bool) (itself : IsReflexive same) (c : Cipher
   -- and each record goes to a station of the setup, if it goes to a station
   pub all_reach : AllReach setup last
   all_reach =
-      addresses_named (λ id. HasId id setup.stations) setup.cells (sites setup is) stands.0 last
-      (run_named (λ id. HasId id setup.stations) setup.cells (sites setup is) same Root (octets_of c between) sender_of opener (first_world setup) events (first_named setup is))
-      last.sent (run_named (λ id. HasId id setup.stations) setup.cells (sites setup is) same Root (octets_of c between) sender_of opener (first_world setup) events (first_named setup is)).sent
+      addresses_named (λ id. IsTrue (has_station setup.stations id)) setup.cells (sites setup is) stands.0 last
+      (run_named (λ id. IsTrue (has_station setup.stations id)) setup.cells (sites setup is) same Root (octets_of c between) sender_of opener (first_world setup) events (first_named setup is))
+      last.sent (run_named (λ id. IsTrue (has_station setup.stations id)) setup.cells (sites setup is) same Root (octets_of c between) sender_of opener (first_world setup) events (first_named setup is)).sent
       stands.1.sent stands.2.1.air

@@ -1,6 +1,7 @@
 // A phone, two stations and the core: what happens to them, and what is told of it.
 ghost use Rattle.std.specs.Prelude.{◌≡◌, ◌≤◌, [], ◌∷◌, ℕ, IsTrue, length};
-ghost use Rattle.lte_events.specs.Conditions.{has_station, CanHappen, EventFits};
+ghost use Rattle.lte_events.specs.Ranges.{has_station};
+ghost use Rattle.lte_events.specs.Conditions.{CanHappen, EventFits};
 ghost use Rattle.lte_events.specs.declared.setups.Setup.{Setup as TheSetup};
 ghost use Rattle.lte_world.specs.Whole.{CanBegin};
 

@@ -1,6 +1,6 @@
 use Rattle.std.proofs.Common.{◌≡◌, ℕ, ◌≤◌}
 use Rattle.std.specs.Prelude.{IsTrue}
-use Rattle.lte_events.specs.Conditions.{has_station}
+use Rattle.lte_events.specs.Ranges.{has_station}
 use Rattle.world_runs.proofs.worlds.system.follow.Given as goal
 
 abbrev pub invariant-loop-step : goal.invariant-loop-step
