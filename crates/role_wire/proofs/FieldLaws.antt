@@ -10,12 +10,11 @@ use Rattle.rec_fields.specs.Field.{◌>>=◌}
 use Rattle.rec_fields.proofs.Fields.{bind_ok, ok_is, passes, tests_ok, octet_takes, octet_is, number_takes}
 use Rattle.rec_fields.proofs.Layouts.{IsField, IsEnding, stands, behind, field_is, number_is, octet_there}
 use Rattle.rec_fields.specs.Spelled.{cell_octets}
+use Rattle.alg_choice.specs.Caps.{IsCaps}
 use Rattle.alg_choice.specs.declared.caps.Caps.{Caps}
-use Rattle.annex_a_keys.specs.Cell.{Place}
-use Rattle.annex_a_keys.specs.declared.cell.TheConstants.{GREATEST_PCI, GREATEST_EARFCN}
+use Rattle.annex_a_keys.specs.Cell.{Place, greatest_pci, greatest_earfcn, IsCell}
 use Rattle.role_wire.specs.Codes.{Codes, coded}
 use Rattle.role_wire.specs.Field.{number_in, coded_at, key_at, caps_at, cell_at, rest_at, ends_at, small, word, code, key, caps, cell, ending}
-use Rattle.role_wire.specs.Ranges.{IsCell}
 
 -- A field of a body finds itself whether octets are wanting.
 abbrev pub Anywhere : List ℕ → ℕ → Type 0
@@ -175,7 +174,7 @@ key_is_field = record {
 
 -- the capabilities
 pub caps_takes : (octets : List ℕ) (place : ℕ) (x : Caps) → AreOctets octets → caps_at octets place ≡ Ok x
-    → (drop place octets ≡ x.eea ∷ x.eia ∷ drop (place + 2) octets) × (place + 2 ≤ length octets) × ((x.eea < 256) × (x.eia < 256))
+    → (drop place octets ≡ x.eea ∷ x.eia ∷ drop (place + 2) octets) × (place + 2 ≤ length octets) × (IsCaps x)
 unfolding caps_at
 caps_takes octets place x fit e =
     let made : Caps = record { eea = number_at octets place 1; eia = number_at octets (place + 1) 1 } in
@@ -187,10 +186,10 @@ caps_takes octets place x fit e =
     let parts : drop place octets ≡ made.eea ∷ made.eia ∷ drop (place + 2) octets =
     octet_takes octets place (omega arith)
     ∙ ap (λ t. made.eea ∷ t) (octet_takes octets (place + 1) (omega arith) ∙ ap (λ n. made.eia ∷ drop n octets) two) in
-    subst (λ (c : Caps). (drop place octets ≡ c.eea ∷ c.eia ∷ drop (place + 2) octets) × (place + 2 ≤ length octets) × ((c.eea < 256) × (c.eia < 256)))
+    subst (λ (c : Caps). (drop place octets ≡ c.eea ∷ c.eia ∷ drop (place + 2) octets) × (place + 2 ≤ length octets) × (IsCaps c))
     (ok_is made x room.1) (parts, within, (rw first (fit place), rw second (fit (place + 1))))
 
-pub caps_again : (octets rest : List ℕ) (place : ℕ) (x : Caps) → (x.eea < 256) × (x.eia < 256) → drop place octets ≡ x.eea ∷ x.eia ∷ rest
+pub caps_again : (octets rest : List ℕ) (place : ℕ) (x : Caps) → IsCaps x → drop place octets ≡ x.eea ∷ x.eia ∷ rest
     → (caps_at octets place ≡ Ok x) × (drop (place + 2) octets ≡ rest)
 unfolding caps_at
 caps_again octets rest place x fits e =
@@ -213,10 +212,10 @@ pub cell_takes : (octets : List ℕ) (place : ℕ) (x : Place) → AreOctets oct
     → (drop place octets ≡ cell_octets x ++ drop (place + 6) octets) × (place + 6 ≤ length octets) × IsCell x
 unfolding cell_at
 cell_takes octets place x fit e =
-    let a = bind_ok (number_in 0 GREATEST_PCI octets place 2) (λ pci. number_in 0 GREATEST_EARFCN octets (place + 2) 4 >>= λ earfcn. Ok (record { pci = pci; earfcn = earfcn })) x e in
-    let b = bind_ok (number_in 0 GREATEST_EARFCN octets (place + 2) 4) (λ earfcn. Ok (record { pci = a.0; earfcn = earfcn })) x a.2 in
-    let p = number_takes_in 0 GREATEST_PCI 2 octets place a.0 a.1 in
-    let q = number_takes_in 0 GREATEST_EARFCN 4 octets (place + 2) b.0 b.1 in
+    let a = bind_ok (number_in 0 greatest_pci octets place 2) (λ pci. number_in 0 greatest_earfcn octets (place + 2) 4 >>= λ earfcn. Ok (record { pci = pci; earfcn = earfcn })) x e in
+    let b = bind_ok (number_in 0 greatest_earfcn octets (place + 2) 4) (λ earfcn. Ok (record { pci = a.0; earfcn = earfcn })) x a.2 in
+    let p = number_takes_in 0 greatest_pci 2 octets place a.0 a.1 in
+    let q = number_takes_in 0 greatest_earfcn 4 octets (place + 2) b.0 b.1 in
     let six : place + 2 + 4 ≡ place + 6 = omega arith in
     let made : Place = record { pci = a.0; earfcn = b.0 } in
     let front : drop place octets ≡ octets_of 2 a.0 ++ drop (place + 2) octets =
@@ -240,8 +239,8 @@ cell_again octets rest place x fits e =
     let size = length-octets_of 4 x.earfcn in
     let within = stands octets (octets_of 4 x.earfcn) rest (place + 2) (omega arith) next in
     let six : place + 2 + 4 ≡ place + 6 = omega arith in
-    let pci = number_reads 0 GREATEST_PCI 2 octets place x.pci (omega arith) (number_is octets (octets_of 4 x.earfcn ++ rest) place 2 x.pci small_pci split) (omega arith) fits.0 in
-    let earfcn = number_reads 0 GREATEST_EARFCN 4 octets (place + 2) x.earfcn (omega arith) (number_is octets rest (place + 2) 4 x.earfcn small_earfcn next) (omega arith) fits.1 in (
+    let pci = number_reads 0 greatest_pci 2 octets place x.pci (omega arith) (number_is octets (octets_of 4 x.earfcn ++ rest) place 2 x.pci small_pci split) (omega arith) fits.0 in
+    let earfcn = number_reads 0 greatest_earfcn 4 octets (place + 2) x.earfcn (omega arith) (number_is octets rest (place + 2) 4 x.earfcn small_earfcn next) (omega arith) fits.1 in (
       λ j. pci j >>= λ pci. earfcn j >>= λ earfcn. Ok (record { pci = pci; earfcn = earfcn }),
       ap (λ n. drop n octets) (sym six) ∙ behind octets (octets_of 4 x.earfcn) rest (place + 2) 4 size next,
     )

@@ -1,6 +1,6 @@
 -- Each form of body as a layout.
-use Rattle.std.proofs.Common.{◌≡◌, ℕ, true, false, Option, Some, None, refl}
-use Rattle.rec_base.specs.Bearer.{octet_of}
+use Rattle.std.proofs.Common.{◌≡◌, ℕ, Option, Some, None, refl}
+use Rattle.rec_base.specs.Bearer.{IsSrb, IsDrb, octet_of}
 use Rattle.rec_base.specs.declared.bearers.Bearer.{Bearer}
 use Rattle.rec_base.specs.declared.bearers.Bearer.TheVariants.{Srb1, Srb2, Drb1, Drb2, Drb3, Drb4}
 use Rattle.alg_choice.specs.declared.algs.Eea.{Eea}
@@ -8,34 +8,34 @@ use Rattle.alg_choice.specs.declared.algs.Eea.TheVariants.{Eea0, Eea2}
 use Rattle.alg_choice.specs.Algs.{identity_of}
 use Rattle.lte_events.specs.declared.acts.HoKind.{HoKind}
 use Rattle.lte_events.specs.declared.acts.HoKind.TheVariants.{X2, S1, Intra}
-use Rattle.role_wire.specs.Codes.{Codes, coded, srbs, drbs, bearers, nas_alone, nas_or_bearer, nas_octet, skip_octet, ho_kinds, ho_octet, eeas, is_drb}
+use Rattle.role_wire.specs.Codes.{Codes, coded, srbs, drbs, bearers, nas_alone, nas_or_bearer, nas_octet, skip_octet, ho_kinds, ho_octet, eeas}
 use Rattle.role_wire.specs.Body.{nothing_body, nothing_of, caps_body, caps_of, auth_body, auth_of, auth_caps_body, auth_caps_of, pdu_body, pdu_of, air_body, air_of, station_air_body, station_air_of, user_body, user_of, rrc_body, rrc_of, nas_body, nas_of, skip_body, skip_of, connect_body, connect_of, start_body, start_of}
 use Rattle.rec_fields.proofs.Layouts.{AreFields}
 use Rattle.role_wire.proofs.FieldLaws.{Anywhere, IsCoding, small_is_field, word_is_field, code_is_field, key_is_field, caps_is_field, cell_is_field}
 use Rattle.role_wire.proofs.Layouts.{IsLaidOut, of_layout}
 
 -- the tables
-drb_again : (b : Bearer) → is_drb b ≡ true → coded drbs (octet_of b) ≡ Some b
-drb_again Srb1 h = absurd cc
-drb_again Srb2 h = absurd cc
+drb_again : (b : Bearer) → IsDrb b → coded drbs (octet_of b) ≡ Some b
+drb_again Srb1 h = absurd h
+drb_again Srb2 h = absurd h
 drb_again Drb1 h = refl
 drb_again Drb2 h = refl
 drb_again Drb3 h = refl
 drb_again Drb4 h = refl
 
-pub drb_coding : IsCoding octet_of (λ b. is_drb b ≡ true) drbs
-drb_coding = record { are = (refl, refl, (refl, refl, (refl, refl, (refl, refl, tt)))); again = drb_again }
+pub drb_coding : IsCoding octet_of IsDrb drbs
+drb_coding = record { are = (refl, tt, (refl, tt, (refl, tt, (refl, tt, tt)))); again = drb_again }
 
-srb_again : (b : Bearer) → is_drb b ≡ false → coded srbs (octet_of b) ≡ Some b
+srb_again : (b : Bearer) → IsSrb b → coded srbs (octet_of b) ≡ Some b
 srb_again Srb1 h = refl
 srb_again Srb2 h = refl
-srb_again Drb1 h = absurd cc
-srb_again Drb2 h = absurd cc
-srb_again Drb3 h = absurd cc
-srb_again Drb4 h = absurd cc
+srb_again Drb1 h = absurd h
+srb_again Drb2 h = absurd h
+srb_again Drb3 h = absurd h
+srb_again Drb4 h = absurd h
 
-pub srb_coding : IsCoding octet_of (λ b. is_drb b ≡ false) srbs
-srb_coding = record { are = (refl, refl, (refl, refl, tt)); again = srb_again }
+pub srb_coding : IsCoding octet_of IsSrb srbs
+srb_coding = record { are = (refl, tt, (refl, tt, tt)); again = srb_again }
 
 bearer_again : (b : Bearer) → Unit {0} → coded bearers (octet_of b) ≡ Some b
 bearer_again Srb1 h = refl
@@ -116,11 +116,11 @@ station_air_form = of_layout station_air_body (small_is_field 7, air_fields) (λ
 
 pub user_form : IsLaidOut user_of user_body (λ x. (x.0, x.1))
 unfolding user_of
-user_form = of_layout user_body (code_is_field octet_of (λ b. is_drb b ≡ true) drbs drb_coding, tt) (λ vs. (vs.0, vs.1)) (λ x. (x.0, x.1)) (λ vs. refl) (λ x. refl)
+user_form = of_layout user_body (code_is_field octet_of IsDrb drbs drb_coding, tt) (λ vs. (vs.0, vs.1)) (λ x. (x.0, x.1)) (λ vs. refl) (λ x. refl)
 
 pub rrc_form : IsLaidOut rrc_of rrc_body (λ x. (x.0, x.1))
 unfolding rrc_of
-rrc_form = of_layout rrc_body (code_is_field octet_of (λ b. is_drb b ≡ false) srbs srb_coding, tt) (λ vs. (vs.0, vs.1)) (λ x. (x.0, x.1)) (λ vs. refl) (λ x. refl)
+rrc_form = of_layout rrc_body (code_is_field octet_of IsSrb srbs srb_coding, tt) (λ vs. (vs.0, vs.1)) (λ x. (x.0, x.1)) (λ vs. refl) (λ x. refl)
 
 skip_form : {A : Type 0} (octet : A → ℕ) (codes : Codes A) → IsCoding octet (λ x. Unit {0}) codes → IsLaidOut (skip_of octet codes) (skip_body octet codes) (λ s. (s.0, s.1))
 unfolding skip_of

@@ -19,7 +19,8 @@ use Rattle.rec_fields.specs.Field.{◌>>=◌}
 use Rattle.rec_fields.specs.Layout.{Rows, by_kind}
 use Rattle.role_wire.specs.Reading.{body_by, phone_rows, station_rows, core_rows, setup_rows, input_of, body_of}
 use Rattle.role_wire.specs.Spelling.{phone_octets, station_octets, core_octets, setup_octets, body_spelling}
-use Rattle.role_wire.specs.Ranges.{IsPhoneIn, PhoneInSized, IsStationIn, StationInSized, IsCoreIn, CoreInSized, IsSetup, SetupSized, IsFrame, IsFrameIn, IsSized, IsOf, IsRole}
+use Rattle.lte_events.specs.Ranges.{StationTakes, CoreTakes}
+use Rattle.role_wire.specs.Ranges.{IsPhoneIn, PhoneInSized, StationInSized, CoreInSized, IsSetup, SetupSized, IsFrame, IsFrameIn, IsSized, IsOf, IsRole}
 use Rattle.role_wire.proofs.Layouts.{IsForm}
 use Rattle.role_wire.proofs.Forms.{nothing_form, caps_form, auth_form, auth_caps_form, pdu_form, nas_form, air_form, station_air_form, user_form, rrc_form, skip_any_form, skip_bearer_form, skip_nas_form, connect_form, start_form}
 use Rattle.role_wire.proofs.SetupForm.{first_form}
@@ -78,10 +79,10 @@ phone_are = (
   ),
 )
 
-station_are : AreRows station_octets (λ x. IsStationIn x × StationInSized x) station_rows
+station_are : AreRows station_octets (λ x. StationTakes x × StationInSized x) station_rows
 unfolding octets_of
 station_are =
-    let P : StationIn → Type 0 = λ x. IsStationIn x × StationInSized x in (
+    let P : StationIn → Type 0 = λ x. StationTakes x × StationInSized x in (
       row station_octets P 0x03 (λ a. StationIn.Air a.0 a.1 a.2) air_form (λ a. refl) (λ a h. (tt, (h.0.1, h.1.1))),
       (
         row station_octets P 0x04 StationIn.S1 pdu_form (λ pdu. refl) (λ pdu h. (tt, h)),
@@ -110,11 +111,11 @@ station_are =
       ),
     )
 
-core_are : AreRows core_octets (λ x. IsCoreIn x × CoreInSized x) core_rows
+core_are : AreRows core_octets (λ x. CoreTakes x × CoreInSized x) core_rows
 unfolding octets_of
 core_are =
-    let P : CoreIn → Type 0 = λ x. IsCoreIn x × CoreInSized x in (
-      row core_octets P 0x01 (λ a. CoreIn.Auth a.0 a.1 a.2) auth_caps_form (λ a. refl) (λ a h. (h.0, (h.1.0, h.1.1.0, h.1.1.1))),
+    let P : CoreIn → Type 0 = λ x. CoreTakes x × CoreInSized x in (
+      row core_octets P 0x01 (λ a. CoreIn.Auth a.0 a.1 a.2) auth_caps_form (λ a. refl) (λ a h. (h.0, (h.1.0, h.1.1))),
       (
         row core_octets P 0x02 CoreIn.Nas pdu_form (λ pdu. refl) (λ pdu h. (tt, h)),
         (
@@ -173,13 +174,13 @@ body_found Role.Phone false octets frame is fit e =
 body_found (Role.Station id) false octets frame is fit e =
     let a = bind_ok (input_of (Role.Station id) octets) (λ input. Ok (Input input)) frame e in
     let b = bind_ok (body_by station_rows octets) (λ input. Ok (ActorIn.Station id input)) a.0 a.1 in
-    let t = read_takes station_octets (λ x. IsStationIn x × StationInSized x) station_rows octets b.0 station_are fit b.1 in
+    let t = read_takes station_octets (λ x. StationTakes x × StationInSized x) station_rows octets b.0 station_are fit b.1 in
     let input_is = ok_is (ActorIn.Station id b.0) a.0 b.2 in
     subst (FrameFound (Role.Station id) false octets) (ap Input input_is ∙ ok_is (Input a.0) frame a.2) (t.0, record { of = refl; input = (is, t.1.0); sized = t.1.1 })
 body_found Role.Core false octets frame is fit e =
     let a = bind_ok (input_of Role.Core octets) (λ input. Ok (Input input)) frame e in
     let b = bind_ok (body_by core_rows octets) (λ input. Ok (ActorIn.Core input)) a.0 a.1 in
-    let t = read_takes core_octets (λ x. IsCoreIn x × CoreInSized x) core_rows octets b.0 core_are fit b.1 in
+    let t = read_takes core_octets (λ x. CoreTakes x × CoreInSized x) core_rows octets b.0 core_are fit b.1 in
     let input_is = ok_is (ActorIn.Core b.0) a.0 b.2 in
     subst (FrameFound Role.Core false octets) (ap Input input_is ∙ ok_is (Input a.0) frame a.2) (t.0, record { of = tt; input = t.1.0; sized = t.1.1 })
 
@@ -203,7 +204,7 @@ phone_again (PhoneIn.Act (PhoneAct.SendNas text)) h =
 phone_again (PhoneIn.Act (PhoneAct.Skip bearer n)) h =
     read_on phone_rows 0x16 _ ∙ ap (λ r. r >>= λ s. Ok (PhoneIn.Act (PhoneAct.Skip s.0 s.1))) (skip_any_form.again 0x16 (bearer, n) (tt, (omega arith, h.1)))
 
-station_again : (x : StationIn) → IsStationIn x × StationInSized x → body_by station_rows (station_octets x) ≡ Ok x
+station_again : (x : StationIn) → StationTakes x × StationInSized x → body_by station_rows (station_octets x) ≡ Ok x
 unfolding octets_of
 station_again (StationIn.Air air bearer pdu) h =
     read_on station_rows 0x03 _ ∙ ap (λ r. r >>= λ a. Ok (StationIn.Air a.0 a.1 a.2)) (air_form.again 0x03 (air, bearer, pdu) ((omega arith, h.1.0), (tt, h.1.1)))
@@ -221,10 +222,10 @@ station_again (StationIn.Act StationAct.Command) h = read_on station_rows 0x31 [
 station_again (StationIn.Act StationAct.Cancel) h = read_on station_rows 0x32 [] ∙ ap (λ r. r >>= λ none. Ok (StationIn.Act StationAct.Cancel)) (nothing_form.again 0x32 tt tt)
 station_again (StationIn.Act StationAct.Ask) h = read_on station_rows 0x33 [] ∙ ap (λ r. r >>= λ none. Ok (StationIn.Act StationAct.Ask)) (nothing_form.again 0x33 tt tt)
 
-core_again : (x : CoreIn) → IsCoreIn x × CoreInSized x → body_by core_rows (core_octets x) ≡ Ok x
+core_again : (x : CoreIn) → CoreTakes x × CoreInSized x → body_by core_rows (core_octets x) ≡ Ok x
 unfolding octets_of
 core_again (CoreIn.Auth ksi kasme caps) h =
-    read_on core_rows 0x01 _ ∙ ap (λ r. r >>= λ a. Ok (CoreIn.Auth a.0 a.1 a.2)) (auth_caps_form.again 0x01 (ksi, kasme, caps) (h.0, (h.1.0, (h.1.1, h.1.2))))
+    read_on core_rows 0x01 _ ∙ ap (λ r. r >>= λ a. Ok (CoreIn.Auth a.0 a.1 a.2)) (auth_caps_form.again 0x01 (ksi, kasme, caps) (h.0, (h.1.0, h.1.1)))
 core_again (CoreIn.Nas pdu) h = read_on core_rows 0x02 pdu ∙ ap (λ r. r >>= λ pdu. Ok (CoreIn.Nas pdu)) (pdu_form.again 0x02 pdu h.1)
 core_again (CoreIn.S1 pdu) h = read_on core_rows 0x04 pdu ∙ ap (λ r. r >>= λ pdu. Ok (CoreIn.S1 pdu)) (pdu_form.again 0x04 pdu h.1)
 core_again (CoreIn.Act (CoreAct.SendNas text)) h =

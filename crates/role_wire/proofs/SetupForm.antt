@@ -15,6 +15,7 @@ use Rattle.rec_fields.specs.Spelled.{cell_octets}
 use Rattle.alg_choice.specs.declared.algs.Eea.{Eea}
 use Rattle.alg_choice.specs.declared.algs.Eea.TheVariants.{Eea0, Eea2}
 use Rattle.alg_choice.specs.Algs.{identity_of}
+use Rattle.annex_a_keys.specs.Cell.{IsCell}
 use Rattle.lte_events.specs.Site.{Site, is_site, IsCellTable}
 use Rattle.lte_events.proofs.SiteFacts.{same_cell, no_cell, one_more}
 use Rattle.role_wire.specs.Codes.{coded, eeas, eeas_but}
@@ -22,7 +23,7 @@ use Rattle.rec_fields.specs.Field.{◌>>=◌}
 use Rattle.role_wire.specs.Field.{number_in, coded_at, cell_at, ends_at}
 use Rattle.role_wire.specs.Body.{order_at, site_at, sites_at, cells_at, first_of}
 use Rattle.role_wire.specs.Spelling.{site_octets, first_octets}
-use Rattle.role_wire.specs.Ranges.{IsCell, IsOrder, IsFirst}
+use Rattle.role_wire.specs.Ranges.{IsOrder, IsFirst}
 use Rattle.role_wire.proofs.FieldLaws.{IsCoding, small_takes, small_again, word_takes, word_again, code_takes, code_again, cell_takes, cell_again, number_takes_in, number_reads, end_takes, end_again}
 use Rattle.role_wire.proofs.Layouts.{IsForm}
 use Rattle.role_wire.proofs.Forms.{eea_coding}

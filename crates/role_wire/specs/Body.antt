@@ -1,14 +1,15 @@
 -- What stands in a body behind its kind, which is the octet at place 0: one definition for each form.
-use Rattle.std.specs.Prelude.{◌≡◌, ℕ, true, false, zero, suc, ◌+◌, ◌*◌, ◌-◌, ◌^◌, ◌==◌, if◌then◌else◌, List, [], ◌∷◌, ◌++◌, length, Result, Ok, Err}
+use Rattle.std.specs.Prelude.{ℕ, zero, suc, ◌+◌, ◌*◌, ◌-◌, ◌^◌, ◌==◌, if◌then◌else◌, List, [], ◌∷◌, ◌++◌, length, Result, Ok, Err}
 use Rattle.std.specs.List.{list_any}
 use Rattle.rec_base.specs.declared.bearers.Bearer.{Bearer}
-use Rattle.rec_base.specs.Bearer.{octet_of}
+use Rattle.rec_base.specs.Bearer.{IsSrb, IsDrb, octet_of}
+use Rattle.rec_base.specs.Lengths.{longest_packet, longest_text, longest_record}
 use Rattle.alg_choice.specs.declared.algs.Eea.{Eea}
 use Rattle.alg_choice.specs.declared.caps.Caps.{Caps}
 use Rattle.annex_a_keys.specs.Cell.{Place}
 use Rattle.lte_events.specs.Site.{Site, is_site}
 use Rattle.lte_events.specs.declared.acts.HoKind.{HoKind}
-use Rattle.role_wire.specs.Codes.{Codes, srbs, drbs, bearers, is_drb, ho_kinds, ho_octet, eeas, eeas_but}
+use Rattle.role_wire.specs.Codes.{Codes, srbs, drbs, bearers, ho_kinds, ho_octet, eeas, eeas_but}
 use Rattle.rec_fields.specs.Field.{◌>>=◌}
 use Rattle.rec_fields.specs.Layout.{Layout, Empty, Last, Rest, Then, read_by}
 use Rattle.role_wire.specs.Field.{number_in, coded_at, cell_at, ends_at, small, word, code, listed, key, caps, cell, ending}
@@ -43,14 +44,14 @@ auth_caps_of octets = read_by ending auth_caps_body octets 1 (λ vs. Ok (vs.0, v
 
 -- a PDU or record
 abbrev pub pdu_body : Layout ℕ
-pdu_body = Rest 1536
+pdu_body = Rest longest_record
 
 unfoldable pub pdu_of : List ℕ → Result (List ℕ) ℕ
 pdu_of octets = read_by ending pdu_body octets 1 (λ vs. Ok vs)
 
 -- air address, bearer, PDU
 abbrev pub air_body : Layout ℕ
-air_body = Then (word 0) (Then (listed octet_of bearers) (Rest 1536))
+air_body = Then (word 0) (Then (listed octet_of bearers) (Rest longest_record))
 
 unfoldable pub air_of : List ℕ → Result (ℕ × Bearer × List ℕ) ℕ
 air_of octets = read_by ending air_body octets 1 (λ vs. Ok (vs.0, vs.1.0, vs.1.1))
@@ -64,21 +65,21 @@ station_air_of octets = read_by ending station_air_body octets 1 (λ vs. Ok (vs.
 
 -- DRB, text
 abbrev pub user_body : Layout ℕ
-user_body = Then (code octet_of (λ b. is_drb b ≡ true) drbs) (Rest 1500)
+user_body = Then (code octet_of IsDrb drbs) (Rest longest_packet)
 
 unfoldable pub user_of : List ℕ → Result (Bearer × List ℕ) ℕ
 user_of octets = read_by ending user_body octets 1 (λ vs. Ok (vs.0, vs.1))
 
 -- SRB, text
 abbrev pub rrc_body : Layout ℕ
-rrc_body = Then (code octet_of (λ b. is_drb b ≡ false) srbs) (Rest 200)
+rrc_body = Then (code octet_of IsSrb srbs) (Rest longest_text)
 
 unfoldable pub rrc_of : List ℕ → Result (Bearer × List ℕ) ℕ
 rrc_of octets = read_by ending rrc_body octets 1 (λ vs. Ok (vs.0, vs.1))
 
 -- NAS text
 abbrev pub nas_body : Layout ℕ
-nas_body = Rest 200
+nas_body = Rest longest_text
 
 unfoldable pub nas_of : List ℕ → Result (List ℕ) ℕ
 nas_of octets = read_by ending nas_body octets 1 (λ vs. Ok vs)

@@ -1,5 +1,5 @@
 -- The fields of one octet that stand for a value, each by its table.
-use Rattle.std.specs.Prelude.{ℕ, Bool, true, false, ◌==◌, if◌then◌else◌, List, [], ◌∷◌, Option, Some, None}
+use Rattle.std.specs.Prelude.{ℕ, ◌==◌, if◌then◌else◌, List, [], ◌∷◌, Option, Some, None}
 use Rattle.rec_base.specs.declared.bearers.Bearer.{Bearer}
 use Rattle.rec_base.specs.declared.bearers.Bearer.TheVariants.{Srb1, Srb2, Drb1, Drb2, Drb3, Drb4}
 use Rattle.rec_base.specs.Bearer.{octet_of}
@@ -65,12 +65,3 @@ eeas = (0x00, Eea0) ∷ (0x02, Eea2) ∷ []
 abbrev pub eeas_but : Eea → Codes Eea
 eeas_but Eea0 = (0x02, Eea2) ∷ []
 eeas_but Eea2 = (0x00, Eea0) ∷ []
-
--- whether a bearer is for user data
-abbrev pub is_drb : Bearer → Bool
-is_drb Srb1 = false
-is_drb Srb2 = false
-is_drb Drb1 = true
-is_drb Drb2 = true
-is_drb Drb3 = true
-is_drb Drb4 = true

@@ -1,16 +1,16 @@
 -- The fields of a body, read at a place. An error is the place of the first bad octet: where octets are
 -- wanting, the end.
-use Rattle.std.specs.Prelude.{◌≡◌, ℕ, ◌+◌, ◌-◌, ◌^◌, ◌<◌, ◌≤◌, ◌||◌, nat_lt, if◌then◌else◌, List, [], ◌∷◌, length, drop, Result, Ok, Err}
+use Rattle.std.specs.Prelude.{◌≡◌, ℕ, ◌+◌, ◌-◌, ◌^◌, ◌≤◌, ◌||◌, nat_lt, if◌then◌else◌, List, [], ◌∷◌, length, drop, Result, Ok, Err}
 use Rattle.std.specs.Option.{ok_or}
 use Rattle.rec_base.specs.BigEndian.{number_at, field_at, octets_of}
+use Rattle.rec_base.specs.Ranges.{Is32Bits}
 use Rattle.alg_choice.specs.declared.caps.Caps.{Caps}
-use Rattle.annex_a_keys.specs.Cell.{Place}
-use Rattle.annex_a_keys.specs.declared.cell.TheConstants.{GREATEST_PCI, GREATEST_EARFCN}
+use Rattle.alg_choice.specs.Caps.{IsCaps}
+use Rattle.annex_a_keys.specs.Cell.{Place, greatest_pci, greatest_earfcn, IsCell}
 use Rattle.rec_fields.specs.Field.{◌>>=◌}
 use Rattle.rec_fields.specs.Layout.{Field, Ending}
 use Rattle.rec_fields.specs.Spelled.{cell_octets}
 use Rattle.role_wire.specs.Codes.{Codes, coded}
-use Rattle.role_wire.specs.Ranges.{IsCell}
 
 -- a number of this width, from `low` to `high`
 unfoldable pub number_in : ℕ → ℕ → List ℕ → ℕ → ℕ → Result ℕ ℕ
@@ -37,8 +37,8 @@ caps_at octets place =
 -- PCI and EARFCN-DL, two fields (TS 36.331 6.3.4, TS 33.401 A.5)
 unfoldable pub cell_at : List ℕ → ℕ → Result Place ℕ
 cell_at octets place = do
-  pci ← number_in 0 GREATEST_PCI octets place 2
-  earfcn ← number_in 0 GREATEST_EARFCN octets (place + 2) 4
+  pci ← number_in 0 greatest_pci octets place 2
+  earfcn ← number_in 0 greatest_earfcn octets (place + 2) 4
   Ok (record { pci = pci; earfcn = earfcn })
 
 -- what stands to the end, at most so many octets
@@ -59,7 +59,7 @@ word low = record {
   read = λ octets place. number_in low (2 ^ 32 - 1) octets place 4;
   spell = octets_of 4;
   width = 4;
-  Fits = λ n. (low ≤ n) × (n < 2 ^ 32);
+  Fits = λ n. (low ≤ n) × Is32Bits n;
 }
 
 -- a value of a table, by its octet
@@ -76,7 +76,7 @@ key = record { read = key_at; spell = λ x. x; width = 32; Fits = λ x. length x
 
 -- the capabilities of a phone
 abbrev pub caps : Field ℕ Caps
-caps = record { read = caps_at; spell = λ x. x.eea ∷ x.eia ∷ []; width = 2; Fits = λ x. (x.eea < 256) × (x.eia < 256) }
+caps = record { read = caps_at; spell = λ x. x.eea ∷ x.eia ∷ []; width = 2; Fits = IsCaps }
 
 -- a cell
 abbrev pub cell : Field ℕ Place

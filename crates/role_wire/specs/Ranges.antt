@@ -1,9 +1,12 @@
 -- Which frames there are: for each role, the fields in their ranges.
-use Rattle.std.specs.Prelude.{◌≡◌, ◌≢◌, ℕ, Bool, true, false, ◌<◌, ◌≤◌, ◌^◌, List, [], ◌∷◌, length, All}
+use Rattle.std.specs.Prelude.{◌≡◌, ◌≢◌, ℕ, Bool, true, false, ◌≤◌, List, [], ◌∷◌, length, All}
 use Rattle.alg_choice.specs.declared.algs.Eea.{Eea}
-use Rattle.annex_a_keys.specs.Cell.{Place}
-use Rattle.annex_a_keys.specs.declared.cell.TheConstants.{GREATEST_PCI, GREATEST_EARFCN}
+use Rattle.alg_choice.specs.Caps.{IsCaps}
+use Rattle.annex_a_keys.specs.Cell.{IsCell}
+use Rattle.rec_base.specs.Lengths.{longest_packet, longest_text, longest_record}
+use Rattle.rec_base.specs.Ranges.{Is32Bits}
 use Rattle.edge_io.specs.declared.peers.Role.{Role}
+use Rattle.lte_events.specs.Ranges.{PhoneTakes, StationTakes, CoreTakes}
 use Rattle.lte_events.specs.Site.{Site, IsCellTable}
 use Rattle.lte_events.specs.declared.acts.PhoneAct.{PhoneAct}
 use Rattle.lte_events.specs.declared.acts.StationAct.{StationAct}
@@ -15,7 +18,6 @@ use Rattle.lte_events.specs.declared.inputs.ActorIn.{ActorIn}
 use Rattle.role_wire.specs.declared.frames.FrameIn.{FrameIn}
 use Rattle.role_wire.specs.declared.frames.FrameIn.TheVariants.{Setup, Input}
 use Rattle.role_wire.specs.declared.frames.RoleSetup.{RoleSetup}
-use Rattle.role_wire.specs.Codes.{is_drb}
 
 -- What the types of the program leave open: a KSI is 0 to 6 (TS 24.301 9.9.3.21), a station 0 to 7; user
 -- text goes on a DRB and RRC text on an SRB; first numbers begin at 1, and there is a cell.
@@ -25,46 +27,20 @@ IsSetup (RoleSetup.Station order first cells) = (1 ≤ first) × (1 ≤ length c
 IsSetup (RoleSetup.Core order first cells) = (1 ≤ first) × (1 ≤ length cells)
 IsSetup (RoleSetup.StandardCore order first cells) = (1 ≤ first) × (1 ≤ length cells)
 
-abbrev pub IsPhoneAct : PhoneAct → Type 0
-IsPhoneAct (PhoneAct.SendUser bearer text) = is_drb bearer ≡ true
-IsPhoneAct (PhoneAct.SendRrc bearer text) = is_drb bearer ≡ false
-IsPhoneAct _ = Unit {0}
-
 abbrev pub IsPhoneIn : PhoneIn → Type 0
-IsPhoneIn (PhoneIn.Auth ksi kasme) = ksi ≤ 6
-IsPhoneIn (PhoneIn.Act act) = IsPhoneAct act
-IsPhoneIn (PhoneIn.Nas pdu) = Unit {0}
 IsPhoneIn (PhoneIn.Air station air bearer pdu) = station ≤ 7
-
-abbrev pub IsStationAct : StationAct → Type 0
-IsStationAct (StationAct.SendUser bearer text) = is_drb bearer ≡ true
-IsStationAct (StationAct.SendRrc bearer text) = is_drb bearer ≡ false
-IsStationAct _ = Unit {0}
-
-abbrev pub IsStationIn : StationIn → Type 0
-IsStationIn (StationIn.Act act) = IsStationAct act
-IsStationIn _ = Unit {0}
-
-abbrev pub IsCoreIn : CoreIn → Type 0
-IsCoreIn (CoreIn.Auth ksi kasme caps) = ksi ≤ 6
-IsCoreIn _ = Unit {0}
+IsPhoneIn other = PhoneTakes other
 
 abbrev pub IsInput : ActorIn → Type 0
 IsInput (ActorIn.Phone input) = IsPhoneIn input
-IsInput (ActorIn.Station id input) = (id ≤ 7) × IsStationIn input
-IsInput (ActorIn.Core input) = IsCoreIn input
+IsInput (ActorIn.Station id input) = (id ≤ 7) × StationTakes input
+IsInput (ActorIn.Core input) = CoreTakes input
 
 abbrev pub IsFrameIn : FrameIn → Type 0
 IsFrameIn (Setup setup) = IsSetup setup
 IsFrameIn (Input input) = IsInput input
 
 -- What the types of the program say: the sizes of texts, keys and lists, and the ranges of numbers.
-abbrev pub IsNumber : ℕ → Type 0
-IsNumber n = n < 2 ^ 32
-
-abbrev pub IsCell : Place → Type 0
-IsCell cell = (cell.pci ≤ GREATEST_PCI) × (cell.earfcn ≤ GREATEST_EARFCN)
-
 -- one algorithm, or two different ones
 abbrev pub IsOrder : List Eea → Type 0
 IsOrder [] = ⊥
@@ -74,53 +50,53 @@ IsOrder (first ∷ second ∷ third ∷ rest) = ⊥
 
 pub record IsFirst (order : List Eea) (first : ℕ) (cells : List Site) : Type 0 where
   pub is_order : IsOrder order
-  pub is_number : IsNumber first
+  pub is_number : Is32Bits first
   pub is_table : IsCellTable cells
   pub are_cells : All (λ (s : Site). IsCell s.cell) cells
 
 abbrev pub SetupSized : RoleSetup → Type 0
-SetupSized (RoleSetup.Phone caps) = (caps.eea < 256) × (caps.eia < 256)
+SetupSized (RoleSetup.Phone caps) = IsCaps caps
 SetupSized (RoleSetup.Station order first cells) = IsFirst order first cells
 SetupSized (RoleSetup.Core order first cells) = IsFirst order first cells
 SetupSized (RoleSetup.StandardCore order first cells) = IsFirst order first cells
 
 abbrev pub PhoneActSized : PhoneAct → Type 0
-PhoneActSized (PhoneAct.SendUser bearer text) = length text ≤ 1500
-PhoneActSized (PhoneAct.SendRrc bearer text) = length text ≤ 200
-PhoneActSized (PhoneAct.SendNas text) = length text ≤ 200
-PhoneActSized (PhoneAct.Skip bearer n) = IsNumber n
+PhoneActSized (PhoneAct.SendUser bearer text) = length text ≤ longest_packet
+PhoneActSized (PhoneAct.SendRrc bearer text) = length text ≤ longest_text
+PhoneActSized (PhoneAct.SendNas text) = length text ≤ longest_text
+PhoneActSized (PhoneAct.Skip bearer n) = Is32Bits n
 PhoneActSized _ = Unit {0}
 
 abbrev pub PhoneInSized : PhoneIn → Type 0
 PhoneInSized (PhoneIn.Auth ksi kasme) = length kasme ≡ 32
 PhoneInSized (PhoneIn.Act act) = PhoneActSized act
-PhoneInSized (PhoneIn.Nas pdu) = length pdu ≤ 1536
-PhoneInSized (PhoneIn.Air station air bearer pdu) = IsNumber air × (length pdu ≤ 1536)
+PhoneInSized (PhoneIn.Nas pdu) = length pdu ≤ longest_record
+PhoneInSized (PhoneIn.Air station air bearer pdu) = Is32Bits air × (length pdu ≤ longest_record)
 
 abbrev pub StationActSized : StationAct → Type 0
 StationActSized (StationAct.Start kind cell) = IsCell cell
-StationActSized (StationAct.SendUser bearer text) = length text ≤ 1500
-StationActSized (StationAct.SendRrc bearer text) = length text ≤ 200
-StationActSized (StationAct.Skip bearer n) = IsNumber n
+StationActSized (StationAct.SendUser bearer text) = length text ≤ longest_packet
+StationActSized (StationAct.SendRrc bearer text) = length text ≤ longest_text
+StationActSized (StationAct.Skip bearer n) = Is32Bits n
 StationActSized _ = Unit {0}
 
 abbrev pub StationInSized : StationIn → Type 0
 StationInSized (StationIn.Act act) = StationActSized act
-StationInSized (StationIn.Air air bearer pdu) = IsNumber air × (length pdu ≤ 1536)
-StationInSized (StationIn.S1 pdu) = length pdu ≤ 1536
-StationInSized (StationIn.X2 pdu) = length pdu ≤ 1536
+StationInSized (StationIn.Air air bearer pdu) = Is32Bits air × (length pdu ≤ longest_record)
+StationInSized (StationIn.S1 pdu) = length pdu ≤ longest_record
+StationInSized (StationIn.X2 pdu) = length pdu ≤ longest_record
 
 abbrev pub CoreActSized : CoreAct → Type 0
 CoreActSized (CoreAct.Connect cell) = IsCell cell
-CoreActSized (CoreAct.SendNas text) = length text ≤ 200
-CoreActSized (CoreAct.Skip n) = IsNumber n
+CoreActSized (CoreAct.SendNas text) = length text ≤ longest_text
+CoreActSized (CoreAct.Skip n) = Is32Bits n
 CoreActSized _ = Unit {0}
 
 abbrev pub CoreInSized : CoreIn → Type 0
-CoreInSized (CoreIn.Auth ksi kasme caps) = (length kasme ≡ 32) × (caps.eea < 256) × (caps.eia < 256)
+CoreInSized (CoreIn.Auth ksi kasme caps) = (length kasme ≡ 32) × IsCaps caps
 CoreInSized (CoreIn.Act act) = CoreActSized act
-CoreInSized (CoreIn.Nas pdu) = length pdu ≤ 1536
-CoreInSized (CoreIn.S1 pdu) = length pdu ≤ 1536
+CoreInSized (CoreIn.Nas pdu) = length pdu ≤ longest_record
+CoreInSized (CoreIn.S1 pdu) = length pdu ≤ longest_record
 
 abbrev pub InputSized : ActorIn → Type 0
 InputSized (ActorIn.Phone input) = PhoneInSized input

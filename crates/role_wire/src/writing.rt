@@ -3,6 +3,7 @@ ghost use Rattle.std.specs.Prelude.{◌≡◌, ℕ, Bool, ◌+◌, ◌≤◌, �
 ghost use Rattle.std.specs.List.{flat_map};
 ghost use Rattle.rec_base.specs.BigEndian.{octets_of};
 ghost use Rattle.rec_base.specs.Bearer.{octet_of};
+ghost use Rattle.rec_base.specs.Lengths.{longest_packet, longest_record};
 ghost use Rattle.alg_choice.specs.Algs.{identity_of};
 ghost use Rattle.edge_io.specs.declared.peers.Role.{Role};
 ghost use Rattle.role_wire.specs.Codes.{skip_octet, ho_octet};
@@ -193,7 +194,7 @@ fn core_act_body(act: &CoreAct) -> Body
 
 // A kind and octets to the end.
 fn with_octets(kind: u8, octets: &[u8]) -> Body
-    requires { length octets.now ≤ 1536 }
+    requires { length octets.now ≤ longest_record }
     ensures { result ≡ kind ∷ octets.now }
 {
     let mut out = list_of(&[kind]);
@@ -203,7 +204,7 @@ fn with_octets(kind: u8, octets: &[u8]) -> Body
 
 // A kind, a bearer and a text to the end.
 fn on_bearer(kind: u8, bearer: Bearer, text: &[u8]) -> Body
-    requires { length text.now ≤ 1500 }
+    requires { length text.now ≤ longest_packet }
     ensures { result ≡ kind ∷ octet_of bearer ∷ text.now }
 {
     let mut out = list_of(&[kind, bearer.octet()]);
