@@ -291,12 +291,6 @@ length-cmac_of key text =
     ap length (fold_push (chained key) zero_block blocks last)
     ∙ length-aes key (xor_blocks (fold (chained key) zero_block blocks) last)
 
-pub length-eia2_of : (key : List ℕ) (count bearer : ℕ) (dir : Dir) (text : List ℕ)
-    → length (eia2_of key count bearer dir text) ≡ 4
-unfolding eia2_of
-length-eia2_of key count bearer dir text =
-    length-take-le 4 (cmac_of key (header_of count bearer dir ++ text)) (omega (arith, length-cmac_of key (header_of count bearer dir ++ text)))
-
 -- ---- the code of 128-EIA2
 
 first_four : (mac : List ℕ) → 4 ≤ length mac

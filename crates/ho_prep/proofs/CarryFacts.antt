@@ -1,5 +1,5 @@
 -- What a list of preparations answers is the same however its keys are read.
-use Rattle.std.proofs.Common.{◌≡◌, ℕ, suc, ◌≤◌, Bool, true, false, cond, List, [], ◌∷◌, length, map, Some, find, refl, ap, arith}
+use Rattle.std.proofs.Common.{◌≡◌, ℕ, Bool, true, false, cond, List, [], ◌∷◌, map, Some, find, refl, ap}
 use Rattle.std.specs.Prelude.{nat_le, not, filter, ◌||◌}
 use Rattle.std.specs.Option.{option_map}
 use Rattle.std.specs.List.{list_any}
@@ -38,18 +38,3 @@ module _ {K C L D : Type 0} (f : K → L) (g : C → D) where
 
   pub drop_below-map : (conn : ℕ) (ps : List (Prep K C)) → drop_below conn (map (map_prep f g) ps) ≡ map (map_prep f g) (drop_below conn ps)
   drop_below-map conn ps = filter_carried (map_prep f g) (λ p. nat_le conn p.conn) ps
-
--- no more are left than were there
-filter_no_longer : {X : Type 0} (p : X → Bool) (xs : List X) → length (filter p xs) ≤ length xs
-filter_no_longer p [] = omega arith
-filter_no_longer p (x ∷ xs) = by_test (filter_no_longer p xs) (p x)
-  where
-    by_test : length (filter p xs) ≤ length xs → (b : Bool) → length (cond b (x ∷ filter p xs) (filter p xs)) ≤ suc (length xs)
-    by_test rest true = omega (arith, rest)
-    by_test rest false = omega (arith, rest)
-
-pub drop_below-shorter : {K C : Type 0} (conn : ℕ) (ps : List (Prep K C)) → length (drop_below conn ps) ≤ length ps
-drop_below-shorter conn ps = filter_no_longer (λ p. nat_le conn p.conn) ps
-
-pub without-shorter : {K C : Type 0} (source attempt : ℕ) (ps : List (Prep K C)) → length (without source attempt ps) ≤ length ps
-without-shorter source attempt ps = filter_no_longer (λ p. not (is_of source attempt p)) ps

@@ -1,12 +1,12 @@
 -- Chain numbers, and when two terms are one.
-use Rattle.std.proofs.Common.{◌≡◌, ℕ, zero, suc, List, length, refl, sym, ◌∙◌, ap}
+use Rattle.std.proofs.Common.{◌≡◌, ℕ, zero, suc, length, refl, sym, ◌∙◌, ap}
 use Rattle.std.specs.Bool.{Decides}
 use Rattle.std.proofs.lemmas.Bool.Decides.{Decides-and, Decides-eqb, Decides-like}
 use Rattle.std.proofs.lemmas.Slice.Eq.{bytes_eq-Decides}
 use Rattle.sha2.proofs.Facts256.{length-sha256}
 use Rattle.hmac_kdf.specs.Hmac.{hmac}
 use Rattle.hmac_kdf.specs.Kdf.{kdf}
-use Rattle.key_model.specs.Term.{Term, Root, Kenb, Nh, Star, Alg, IsRoot, IsDerivationKey, same_term}
+use Rattle.key_model.specs.Term.{Term, Root, Kenb, Nh, Star, Alg, IsRoot, same_term}
 use Rattle.key_model.specs.Chain.{nh}
 use Rattle.key_model.specs.Number.{chain_number}
 use Rattle.key_model.specs.Value.{value_of, same_value}
@@ -48,8 +48,3 @@ length-value (Kenb r n) derived = length-sha256 _
 length-value (Nh r t) derived = length-sha256 _
 length-value (Star t pci earfcn) derived = length-sha256 _
 length-value (Alg t type id) derived = length-sha256 _
-
--- each key of a chain below a root is one that others are derived from
-pub is_well_formed_nh : (r : ℕ) (octets : List ℕ) (n i : ℕ) → IsDerivationKey (nh (Root r octets) n i)
-is_well_formed_nh r octets n zero = tt
-is_well_formed_nh r octets n (suc i) = (tt, is_well_formed_nh r octets n i)

@@ -40,10 +40,6 @@ key_from_active t pci earfcn = record { key = Star t pci earfcn; number = chain_
 abbrev pub key_at_s1_target : Term → ℕ → ℕ → ℕ → ℕ → NumberedKey Term ℕ
 key_at_s1_target r n i pci earfcn = record { key = Star (nh r n i) pci earfcn; number = i }
 
--- a target on an X2 Handover Request: what it received (7.2.8.4.2)
-abbrev pub key_at_x2_target : NumberedKey Term ℕ → NumberedKey Term ℕ
-key_at_x2_target received = received
-
 -- a station on a change of its key, for the KeNB t that the core sent (7.2.9.2)
 abbrev pub changed_key : Term → ℕ → ℕ → NumberedKey Term ℕ
 changed_key t pci earfcn = record { key = Star t pci earfcn; number = 0 }

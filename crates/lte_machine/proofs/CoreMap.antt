@@ -30,10 +30,6 @@ use Rattle.lte_machine.proofs.MapSteps.{map_opening, map_core_done}
 
 -- what the choice sees is the same in both readings
 
-option_plain : {A B P : Type 0} (p : A → P) (q : B → P) (h : A → B) → ((a : A) → q (h a) ≡ p a) → (o : Option A) → option_map q (option_map h o) ≡ option_map p o
-option_plain p q h e None = refl
-option_plain p q h e (Some a) = ap Some (e a)
-
 partial_plain : {K L : Type 0} (f : K → L) (o : Option (CorePartial K)) → option_map (map_core_partial unseen) (option_map (map_core_partial f) o) ≡ option_map (map_core_partial unseen) o
 partial_plain f None = refl
 partial_plain f (Some p) = refl

@@ -11,9 +11,9 @@ use Rattle.lte_machine.specs.CoreChoice.{core_row}
 use Rattle.lte_machine.specs.CoreKeys.{CoreDone, authenticated, smc_started, smc_complete, key_changed, service_asked, nas_opened, sealed_reject, nas_sent, nas_skipped, context_set_up, path_switched, handover_asked, handover_notified, core_does}
 use Rattle.lte_machine.specs.CoreRows.{NasRefused, PlainReject, SmcComplete, SmcChange, ServiceAsked, NasOpened, SealedReject, RecordRefused, PathSwitched, HandoverAsked, HandoverOrdered, HandoverNotified, HandoverCancelled, ActRefused, SmcStarted, ContextSetUp, ContextReleased, NasSent, NasSkipped, CoreRow, OfNas, OfRecord, OfAct, OfAuth}
 use Rattle.lte_machine.specs.CoreState.{Core, CorePartial, CoreContext, CoreLink, CoreInput}
-use Rattle.lte_machine.specs.CoreStep.{plain_core, core_front_of, core_root, core_received, core_opens, core_step}
-use Rattle.lte_machine.specs.Opening.{Outcome, accepted_of}
-use Rattle.lte_machine.specs.Reply.{only, finished}
+use Rattle.lte_machine.specs.CoreStep.{plain_core, core_front_of, core_root, core_step}
+use Rattle.lte_machine.specs.Opening.{Outcome}
+use Rattle.lte_machine.specs.Reply.{only}
 
 -- rows that are done whatever the state holds
 
@@ -108,23 +108,9 @@ state_left : {K C : Type 0} (s : Core K C) (d : CoreDone K C) → Leaves s d →
 state_left s d (IsDone e) refusal = absurd (refusal e)
 state_left s d (IsLeft e alone) refusal = e
 
-reply_left : {K C : Type 0} (s : Core K C) (d : CoreDone K C) → Leaves s d → d.1.answer ≢ Done → d.1 ≡ only d.1.answer
-reply_left s d (IsDone e) refusal = absurd (refusal e)
-reply_left s d (IsLeft e alone) refusal = alone
-
 -- a refused step of the core changes nothing
 pub core_refused : {K C : Type 0} (r : Reading K C) (s : Core K C) (i : CoreInput K C) (outcome : Outcome) → (core_step r s i outcome).1.answer ≢ Done → (core_step r s i outcome).0 ≡ s
 core_refused r s i outcome refusal = state_left s (core_does r row (core_root i) s) (does_leaves r row (core_root i) s) refusal
   where
     row : CoreRow
     row = core_row (plain_core r s) (core_front_of r s i) outcome
-
--- and gives out the answer alone, beside the key that came in a record and the use that it accepted
-pub core_refused_reply : {K C : Type 0} (r : Reading K C) (s : Core K C) (i : CoreInput K C) (outcome : Outcome) → (core_step r s i outcome).1.answer ≢ Done → (core_step r s i outcome).1 ≡ finished (core_received i) (accepted_of (core_opens r s i) outcome) (only (core_step r s i outcome).1.answer)
-core_refused_reply r s i outcome refusal = λ j. finished (core_received i) (accepted_of (core_opens r s i) outcome) (alone j)
-  where
-    row : CoreRow
-    row = core_row (plain_core r s) (core_front_of r s i) outcome
-
-    alone : (core_does r row (core_root i) s).1 ≡ only (core_does r row (core_root i) s).1.answer
-    alone = reply_left s (core_does r row (core_root i) s) (does_leaves r row (core_root i) s) refusal

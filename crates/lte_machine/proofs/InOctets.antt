@@ -8,7 +8,7 @@ use Rattle.key_model.specs.Use.{map_use}
 use Rattle.key_model.specs.Value.{value_of, same_value}
 use Rattle.key_model.proofs.ReadingFacts.{values_carry}
 use Rattle.lte_machine.specs.Wire.{KeyUse, Ciphering, map_ciphering, Outgoing, SealedNas, PlainNas, SealedRrc, UserPacket, Between, map_outgoing}
-use Rattle.lte_machine.specs.Ciphers.{Ciphers, under_keys, ciphered_by, nas_octets, srb_octets, drb_octets}
+use Rattle.lte_machine.specs.Ciphers.{Ciphers, under_keys, nas_octets, srb_octets, drb_octets}
 use Rattle.lte_machine.specs.Opening.{Opening, OpensNothing, OpensNas, OpensSrb, OpensDrb, open_octets}
 use Rattle.lte_machine.specs.Carried.{run_value, report_value}
 use Rattle.lte_machine.specs.Machines.{Kept, machine_in_octets, opening_by_octets, written_machine, written_in_values, kept_in_values}
@@ -23,10 +23,6 @@ use Rattle.lte_machine.proofs.CipherLaws.{AreCiphers}
 use Rattle.lte_machine.proofs.MapSteps.{map_opening}
 
 module _ {K L : Type 0} (f : K → L) (c : Ciphers L) where
-  ciphered_by-map : (e : Option (Ciphering K)) (text : List ℕ) → ciphered_by c (option_map (map_ciphering f) e) text ≡ ciphered_by (under_keys f c) e text
-  ciphered_by-map None text = refl
-  ciphered_by-map (Some e) text = refl
-
   nas_octets-map : (header : ℕ) (u : KeyUse K) (e : Option (Ciphering K)) (text : List ℕ) → nas_octets c header (map_use f u) (option_map (map_ciphering f) e) text ≡ nas_octets (under_keys f c) header u e text
   unfolding nas_octets
   nas_octets-map header u None text = refl

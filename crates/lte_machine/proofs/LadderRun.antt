@@ -1,15 +1,13 @@
 -- The ladder of every run that has met no coincidence: its rows stand for the distinct terms, and every key has one.
-use Rattle.std.proofs.Common.{◌≡◌, refl, sym, subst, ℕ, ◌==◌, Bool, true, false, List, [], Option, Some, None, inl, inr, arith, map, ◌∷◌, ap, ◌∙◌}
-use Rattle.std.specs.Prelude.{◌&&◌, ◌⊎◌, slice_get}
+use Rattle.std.proofs.Common.{◌≡◌, refl, sym, subst, ℕ, ◌==◌, Bool, true, false, List, [], Option, Some, None, arith, map, ◌∷◌, ap, ◌∙◌}
+use Rattle.std.specs.Prelude.{◌&&◌, slice_get}
 use Rattle.std.proofs.lemmas.Bool.Decides.{nat_tests}
 use Rattle.rec_base.specs.declared.uses.Dir.{Dir}
 use Rattle.rec_base.specs.declared.uses.Dir.TheVariants.{Up, Down}
-use Rattle.alg_choice.specs.declared.algs.Algs.{Algs}
 use Rattle.lte_events.specs.declared.events.Event.{Event}
 use Rattle.lte_events.specs.declared.setups.Setup.{Setup}
 use Rattle.key_model.specs.HandoverTable.{NumberedKey}
-use Rattle.key_model.specs.Reading.{term_reading_by}
-use Rattle.key_model.specs.Term.{Term, Root, Alg}
+use Rattle.key_model.specs.Term.{Term, Root}
 use Rattle.key_model.specs.Value.{value_of, same_value}
 use Rattle.key_model.proofs.TermFacts.{same_value-Decides}
 use Rattle.nas_guard.specs.Keys.{Keys}
@@ -21,9 +19,8 @@ use Rattle.lte_machine.specs.Wire.{KeyUse, Ciphering, Outgoing, ciphering_if}
 use Rattle.lte_machine.specs.Ciphers.{Ciphers, octets_of}
 use Rattle.lte_machine.specs.Opening.{Opening, OpensNothing, OpensNas, OpensSrb, OpensDrb, Outcome, same_dir, same_uses}
 use Rattle.lte_machine.specs.Ladder.{RowOrigin, ladder_of, map_row, row_key}
-use Rattle.lte_machine.specs.PhoneState.{Partial, NasContext, Radio, Idle, Connecting, Connected, Phone}
-use Rattle.lte_machine.specs.PhoneChoice.{NasSettled, AtCommand, AtMessage, AirSettled, AtStart, AtSignalling, AtPacket, PhoneFront, Settled, FromNas, FromAir}
-use Rattle.lte_machine.specs.PhoneKeys.{command_expects, message_expects, start_expects, signalling_expects, packet_expects, phone_expects}
+use Rattle.lte_machine.specs.PhoneState.{Radio, Idle, Connecting, Connected}
+use Rattle.lte_machine.specs.PhoneKeys.{signalling_expects}
 use Rattle.lte_machine.specs.StationState.{Station, Context}
 use Rattle.lte_machine.specs.StationChoice.{AirSettled as StationSettled, OnStarting, OnSignalling, OnUser, OnPrepared, StationFront, Settled as SettledHere, FromAir as FromStationAir}
 use Rattle.lte_machine.specs.StationKeys.{starting_expects, signalling_expects as context_expects, user_expects, prepared_expects, station_expects}
@@ -36,7 +33,7 @@ use Rattle.lte_machine.specs.Run.{Running, replay, first_world}
 use Rattle.lte_machine.specs.Distinct.{keys_of, Member, OneValueOneTerm}
 use Rattle.lte_machine.proofs.Mixed.{run, written_with}
 use Rattle.lte_machine.specs.Standing.{RowsStandForTerms, OctetRowsStand}
-use Rattle.lte_machine.specs.Known.{IsReported, NasContextKnown, PartialKnown, RadioKnown, PhoneKnown, ContextKnown, PrepKnown, StationKnown, ProcedureKnown, CoreContextKnown, CoreKnown, CipheringKnown, AllReported}
+use Rattle.lte_machine.specs.Known.{IsReported, RadioKnown, ContextKnown, PrepKnown, StationKnown, ProcedureKnown, CoreContextKnown, CoreKnown, CipheringKnown, AllReported}
 use Rattle.std.specs.Str.{bytes_eq}
 use Rattle.lte_machine.proofs.LadderMap.{row_key-map, rows-map}
 use Rattle.lte_machine.proofs.History.{Laddered, among_distinct, one_value_one_term as one_of_history}
@@ -50,10 +47,6 @@ OpeningKnown P OpensNothing = Unit {0}
 OpeningKnown P (OpensNas u e) = P u.key × CipheringKnown P e
 OpeningKnown P (OpensSrb u e) = P u.key × CipheringKnown P e
 OpeningKnown P (OpensDrb e) = P e.under.key
-
--- a key, or an algorithm key of it: what a phone tries before it reports the derivation (TS 33.401 7.2.4.4, 7.2.4.5)
-abbrev pub OrAlgOf : (Term → Type 0) → Term → Type 0
-OrAlgOf P t = P t ⊎ ((key : Term) × (type : ℕ) × (id : ℕ) × P key × (t ≡ Alg key type id))
 
 -- THE LADDER OF A RUN
 
@@ -188,53 +181,10 @@ module _ (P : Term → Type 0) where
   station_opens_known (FromStationAir (OnUser drb count)) s h = user_opens drb count s.context h.0
   station_opens_known (FromStationAir (OnPrepared air by count)) s h = prepared_opens count (at_air air s.preps) (all_find (PrepKnown P) (is_at air) s.preps h.1)
 
-  -- at the phone: its keys, or KNASint of the KASME and KRRCint of the KeNB that it holds, before it reports them
-  ciphering_known : (b : Bool) (e : Ciphering Term) → P e.under.key → CipheringKnown (OrAlgOf P) (ciphering_if b e)
-  ciphering_known true e h = inl h
-  ciphering_known false e h = tt
-
-  command_opens : (same : Term → Term → Bool) (count : ℕ) (algs : Algs) (o : Option (Partial Term)) → PartialKnown P o → OpeningKnown (OrAlgOf P) (command_expects (term_reading_by same) count algs o)
-  command_opens same count algs None h = tt
-  command_opens same count algs (Some p) h = (inr (p.root, _, _, h, refl), tt)
-
-  message_opens : (count header : ℕ) (o : Option (NasContext Term)) → NasContextKnown P o → OpeningKnown (OrAlgOf P) (message_expects count header o)
-  message_opens count header None h = tt
-  message_opens count header (Some c) h = (inl h.1.1, ciphering_known (is_ciphered header) _ h.1.0)
-
-  start_opens : (same : Term → Term → Bool) (count : ℕ) (algs : Algs) (radio : Radio Term ℕ) → RadioKnown P radio → OpeningKnown (OrAlgOf P) (start_expects (term_reading_by same) count algs radio)
-  start_opens same count algs Idle h = tt
-  start_opens same count algs (Connecting w) h = (inr (w.kenb, _, _, h.1, refl), tt)
-  start_opens same count algs (Connected l) h = tt
-
   link_opens : (srb : Srb) (count : ℕ) (radio : Radio Term ℕ) → RadioKnown P radio → OpeningKnown P (signalling_expects srb count radio)
   link_opens srb count Idle h = tt
   link_opens srb count (Connecting w) h = tt
   link_opens srb count (Connected l) h = (h.2.1, h.2.0)
-
-  packet_opens : (drb : Drb) (count : ℕ) (radio : Radio Term ℕ) → RadioKnown P radio → OpeningKnown P (packet_expects drb count radio)
-  packet_opens drb count Idle h = tt
-  packet_opens drb count (Connecting w) h = tt
-  packet_opens drb count (Connected l) h = h.2.2
-
-  ciphering_or_alg : (o : Option (Ciphering Term)) → CipheringKnown P o → CipheringKnown (OrAlgOf P) o
-  ciphering_or_alg None h = tt
-  ciphering_or_alg (Some e) h = inl h
-
-  or_alg : (o : Opening Term) → OpeningKnown P o → OpeningKnown (OrAlgOf P) o
-  or_alg OpensNothing h = tt
-  or_alg (OpensNas u e) h = (inl h.0, ciphering_or_alg e h.1)
-  or_alg (OpensSrb u e) h = (inl h.0, ciphering_or_alg e h.1)
-  or_alg (OpensDrb e) h = inl h
-
-  pub phone_opens_known : (same : Term → Term → Bool) (front : PhoneFront) (s : Phone Term ℕ) → PhoneKnown P s → OpeningKnown (OrAlgOf P) (phone_expects (term_reading_by same) front s)
-  phone_opens_known same (Settled row) s h = tt
-  phone_opens_known same (FromNas (NasSettled row)) s h = tt
-  phone_opens_known same (FromNas (AtCommand count algs caps)) s h = command_opens same count algs s.partial h.0
-  phone_opens_known same (FromNas (AtMessage count header)) s h = message_opens count header s.context h.1
-  phone_opens_known same (FromAir (AirSettled row)) s h = tt
-  phone_opens_known same (FromAir (AtStart count algs named station air)) s h = start_opens same count algs s.radio h.2
-  phone_opens_known same (FromAir (AtSignalling srb count own)) s h = or_alg (signalling_expects srb count s.radio) (link_opens srb count s.radio h.2)
-  phone_opens_known same (FromAir (AtPacket drb count)) s h = or_alg (packet_expects drb count s.radio) (packet_opens drb count s.radio h.2)
 
   -- a phone on a connection expects keys that it has reported
   pub link_opens_known : (srb : Srb) (count : ℕ) (radio : Radio Term ℕ) → RadioKnown P radio → OpeningKnown P (signalling_expects srb count radio)

@@ -1,6 +1,6 @@
 -- A step of the phone is carried where the readings are.
 use Rattle.std.proofs.Common.{◌≡◌, ℕ, Bool, true, false, List, Option, Some, None, refl, sym, ◌∙◌, ap}
-use Rattle.std.specs.Prelude.{map, option_map}
+use Rattle.std.specs.Prelude.{option_map}
 use Rattle.std.proofs.lemmas.List.{map-append}
 use Rattle.alg_choice.specs.declared.algs.Algs.{Algs}
 use Rattle.alg_choice.specs.Algs.{identity_of, eia2_identity}
@@ -155,10 +155,6 @@ module _ {K C L D : Type 0} (r : Reading K C) (q : Reading L D) (f : K → L) (g
   link_secured-map station air algs count s (Connecting w) =
       rw (c.alg w.kenb 3 (identity_of algs.eea), c.alg w.kenb 4 eia2_identity, c.alg w.kenb 5 (identity_of algs.eea), ← c.ncc r.first, c.first) refl
   link_secured-map station air algs count s (Connected l) = refl
-
-  as_derivations-map : (kenb : K) (algs : Algs) → map (map_derivation f) (as_derivations r kenb algs) ≡ as_derivations q (f kenb) algs
-  as_derivations-map kenb algs =
-      rw (c.alg kenb 3 (identity_of algs.eea), c.alg kenb 4 eia2_identity, c.alg kenb 5 (identity_of algs.eea)) refl
 
   arrived-map : (algs : Algs) (station air : ℕ) (s : Phone K C) (came : Came K C) (x : Reached K C) → map_phone_step f g (arrived r algs station air s came x) ≡ arrived q algs station air (map_phone f g s) (map_came f g came) (map_reached f g x)
   arrived-map algs station air s came x =

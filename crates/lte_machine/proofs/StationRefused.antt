@@ -5,7 +5,7 @@ use Rattle.lte_events.specs.declared.answers.Answer.TheVariants.{Done}
 use Rattle.key_model.specs.Reading.{Reading}
 use Rattle.key_model.specs.HandoverTable.{NumberedKey}
 use Rattle.lte_machine.specs.Opening.{Outcome}
-use Rattle.lte_machine.specs.Reply.{Reply, only, finished}
+use Rattle.lte_machine.specs.Reply.{Reply, only}
 use Rattle.lte_machine.specs.StationState.{Station, StationInput}
 use Rattle.lte_machine.specs.StationRows.{StationRow}
 use Rattle.lte_machine.specs.StationKeys as keys
@@ -67,13 +67,3 @@ module _ {K C : Type 0} (r : Reading K C) where
       (station_step r s i outcome).1.answer ≢ Done → (station_step r s i outcome).0 ≡ s
   station_refused s i outcome h =
       ap (λ d. d.0) (does_unchanged (station_row_of r s i outcome) (station_key i) s h)
-
-  -- and nothing is sent, opened, derived or noted
-  pub station_refused_reply : (s : Station K C) (i : StationInput K C) (outcome : Outcome) →
-      (station_step r s i outcome).1.answer ≢ Done →
-      (station_step r s i outcome).1
-      ≡ finished (station_step r s i outcome).1.received (station_step r s i outcome).1.accepted
-      (only (station_step r s i outcome).1.answer)
-  station_refused_reply s i outcome h =
-      ap (λ d. finished (station_step r s i outcome).1.received (station_step r s i outcome).1.accepted d.1)
-      (does_unchanged (station_row_of r s i outcome) (station_key i) s h)

@@ -52,10 +52,6 @@ with_one-map : {A B : Type 0} (h : A → B) (o : Option A) (xs : List A) → map
 with_one-map h None xs = refl
 with_one-map h (Some x) xs = map-append h xs (x ∷ [])
 
-option_twice : {A B D : Type 0} (p : B → D) (h : A → B) (q : A → D) → ((x : A) → p (h x) ≡ q x) → (o : Option A) → option_map p (option_map h o) ≡ option_map q o
-option_twice p h q e None = refl
-option_twice p h q e (Some x) = ap Some (e x)
-
 ciphering_use-map : {K L : Type 0} (f : K → L) (e : Option (Ciphering K)) → map (map_use f) (ciphering_use e) ≡ ciphering_use (option_map (map_ciphering f) e)
 ciphering_use-map f None = refl
 ciphering_use-map f (Some e) = refl
@@ -95,10 +91,6 @@ roots-map f (OfRoot key ∷ rows) = ap suc (roots-map f rows)
 roots-map f (Of d ∷ rows) = roots-map f rows
 
 module _ {K C S L D T : Type 0} (m : Machine K C S) (q : Machine L D T) (f : K → L) (g : C → D) (z : S → T) (a : Agree m q f g z) where
-  -- what was sent is read on S1 and X2 as it was meant
-  abbrev pub Back : S → Type 0
-  Back x = q.content (z x) ≡ map_read f g (m.content x)
-
   -- of a record that comes to such an address
   abbrev pub BackAt : Address → Option S → Type 0
   BackAt Address.CoreS1 o = content_in q (option_map z o) ≡ map_read f g (content_in m o)
@@ -274,13 +266,6 @@ module _ {K C S L D T : Type 0} (m : Machine K C S) (q : Machine L D T) (f : K �
     where
       is_sent_same : is_sent m class octets x ≡ is_sent q class octets (z x)
       is_sent_same = λ j. same_class class (class_of (sym (a.address x) j)) && bytes_eq (told_in class octets) (told_in class (sym (a.octets x) j))
-
-  -- an injected record is at no address of S1 or X2
-  abbrev pub MayInject : Address → Type 0
-  MayInject Address.CoreS1 = ⊥
-  MayInject (Address.StationS1 station) = ⊥
-  MayInject (Address.StationX2 station) = ⊥
-  MayInject other = Unit {0}
 
   injected_back : (to : Address) → BackAt to None
   injected_back Address.PhoneNas = tt

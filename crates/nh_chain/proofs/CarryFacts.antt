@@ -1,15 +1,14 @@
--- Where f and g carry one reading to another, they carry what a chain and a station's key do.
-use Rattle.std.proofs.Common.{◌≡◌, ℕ, zero, suc, [], ◌∷◌, ◌++◌, map, Option, None, Some, refl, sym, ◌∙◌, ap}
+-- Where f and g carry one reading to another, they carry what a chain does.
+use Rattle.std.proofs.Common.{◌≡◌, ℕ, zero, suc, [], ◌∷◌, ◌++◌, map, refl, ◌∙◌, ap}
 use Rattle.std.proofs.lemmas.List.{map-append}
 use Rattle.annex_a_keys.specs.Cell.{Place}
 use Rattle.key_model.specs.Reading.{Reading, Carries}
-use Rattle.key_model.specs.HandoverTable.{NumberedKey}
-use Rattle.key_model.specs.HandoverLines.{map_numbered, PhoneKeys, map_phone, nh_after, steps_to}
+use Rattle.key_model.specs.HandoverLines.{map_numbered, PhoneKeys, map_phone, nh_after}
 use Rattle.key_model.specs.Derivation.{map_derivation, nh_made, star_made}
-use Rattle.key_model.proofs.HandoverFacts.{nh_after-map, key_after-map, star_line-map}
-use Rattle.nh_chain.specs.Chain.{ChainState, map_chain, begun, stepped, number_after, climbed, nhs_made}
-use Rattle.nh_chain.specs.Reach.{Reached, phone_of, way_after, base_after, handover_made, reached_after, reached}
-use Rattle.nh_chain.specs.Station.{StationKey, map_pair, map_station_key, pair_after, restored, restored_if, base_of, way_of, Opened, opened_from, opened}
+use Rattle.key_model.proofs.HandoverFacts.{nh_after-map, key_after-map}
+use Rattle.nh_chain.specs.Chain.{ChainState, map_chain, number_after, climbed, nhs_made}
+use Rattle.nh_chain.specs.Reach.{Reached, phone_of, way_after, base_after, handover_made, reached_after}
+use Rattle.nh_chain.specs.Station.{map_pair, map_station_key, Opened}
 
 -- what a phone makes of a command, each key and number read in another way
 abbrev pub map_reached : {K C L D : Type 0} → (K → L) → (C → D) → Reached K C → Reached L D
@@ -31,12 +30,6 @@ map_opened f g made = record {
 }
 
 module _ {K C L D : Type 0} (r : Reading K C) (q : Reading L D) (f : K → L) (g : C → D) (c : Carries r q f g) where
-  pub begun-map : (root kenb : K) → map_chain f g (begun r root kenb) ≡ begun q (f root) (f kenb)
-  begun-map root kenb = λ k. record { root = f root; sync = f kenb; number = c.first k }
-
-  pub stepped-map : (chain : ChainState K C) → map_chain f g (stepped r chain) ≡ stepped q (map_chain f g chain)
-  stepped-map chain = λ k. record { root = f chain.root; sync = c.nh chain.root chain.sync k; number = c.plus chain.number 1 k }
-
   number_after-map : (number : C) (steps : ℕ) → g (number_after r number steps) ≡ number_after q (g number) steps
   number_after-map number zero = refl
   number_after-map number (suc steps) = c.plus number (suc steps)
@@ -78,43 +71,3 @@ module _ {K C L D : Type 0} (r : Reading K C) (q : Reading L D) (f : K → L) (g
     way = way_after steps;
     made = handover_made-map (phone_of chain active) steps cell k;
   }
-
-  pub reached-map : (chain : ChainState K C) (active : K) (ncc : ℕ) (cell : Place) → map_reached f g (reached r chain active ncc cell) ≡ reached q (map_chain f g chain) (f active) ncc cell
-  reached-map chain active ncc cell =
-      reached_after-map chain active (steps_to (r.ncc chain.number) ncc) cell
-      ∙ ap (λ own. reached_after q (map_chain f g chain) (f active) (steps_to own ncc) cell) (sym (c.ncc chain.number))
-
-  base_of-map : (pair : Option (NumberedKey K C)) (kenb : K) (number : C) → map_numbered f g (base_of pair kenb number) ≡ base_of (map_pair f g pair) (f kenb) (g number)
-  base_of-map None kenb number = refl
-  base_of-map (Some pair) kenb number = refl
-
-  way_of-map : (pair : Option (NumberedKey K C)) → way_of pair ≡ way_of (map_pair f g pair)
-  way_of-map None = refl
-  way_of-map (Some pair) = refl
-
-  opened_from-map : (key : StationKey K C) (base : NumberedKey K C) (cell : Place) → map_opened f g (opened_from r key base cell) ≡ opened_from q (map_station_key f g key) (map_numbered f g base) cell
-  opened_from-map key base cell = λ k. record {
-    key = record { kenb = f key.kenb; number = g key.number; pair = None };
-    star = star_line-map r q f g c base cell.pci cell.earfcn k;
-    spent = map_pair f g key.pair;
-    way = way_of-map key.pair k;
-    made = star_made-map base.key cell.pci cell.earfcn k;
-  }
-
-  pub opened-map : (key : StationKey K C) (cell : Place) → map_opened f g (opened r key cell) ≡ opened q (map_station_key f g key) cell
-  opened-map key cell =
-      opened_from-map key (base_of key.pair key.kenb key.number) cell
-      ∙ ap (λ base. opened_from q (map_station_key f g key) base cell) (base_of-map key.pair key.kenb key.number)
-
--- a pair that comes back is carried, whatever the reading
-module _ {K C L D : Type 0} (f : K → L) (g : C → D) where
-  pair_after-map : (pair : Option (NumberedKey K C)) (back : NumberedKey K C) → map_pair f g (pair_after pair back) ≡ pair_after (map_pair f g pair) (map_numbered f g back)
-  pair_after-map None back = refl
-  pair_after-map (Some newer) back = refl
-
-  pub restored-map : (key : StationKey K C) (back : NumberedKey K C) → map_station_key f g (restored key back) ≡ restored (map_station_key f g key) (map_numbered f g back)
-  restored-map key back = ap (λ pair. record { kenb = f key.kenb; number = g key.number; pair = pair }) (pair_after-map key.pair back)
-
-  pub restored_if-map : (key : StationKey K C) (back : Option (NumberedKey K C)) → map_station_key f g (restored_if key back) ≡ restored_if (map_station_key f g key) (map_pair f g back)
-  restored_if-map key None = refl
-  restored_if-map key (Some back) = restored-map key back

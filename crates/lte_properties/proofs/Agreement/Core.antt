@@ -81,9 +81,6 @@ apart n i x f off = by_number (i == n) refl
 risen : (f : ℕ → ℕ) (i n : ℕ) → i ≡ n → f i ≤ f n + 1
 risen f i n e = subst (λ m. f i ≤ f m + 1) e (omega arith)
 
-below_by : {a b c : ℕ} → a ≤ b → c ≡ b → a ≤ c
-below_by low e = omega arith
-
 pub equal_below : {a b : ℕ} → a ≡ b → a ≤ b
 equal_below e = omega arith
 

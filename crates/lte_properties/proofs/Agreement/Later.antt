@@ -271,7 +271,3 @@ module _ (g h : Ghost) (l : Later g h) where
   sent_later (Between to fields key) x = between_later to fields key x
   sent_later (SealedNas Up header i f text) x = x
   sent_later other x = tt
-
-  pub all_later : {A : Type 0} (P Q : A → Type 0) → ((x : A) → P x → Q x) → (xs : List A) → AllOf P xs → AllOf Q xs
-  all_later P Q f [] x = tt
-  all_later P Q f (z ∷ zs) x = (f z x.0, all_later P Q f zs x.1)

@@ -71,10 +71,6 @@ pub number_lands : (t : Term) (steps : ℕ) (cell : Place) → chain_number (lan
 number_lands t zero cell = sym (add-zero (chain_number t))
 number_lands t (suc steps) cell = number_climb (root_of t) (chain_key t) (suc steps) ∙ ap (λ n. n + suc steps) (number_base t)
 
-root_climb : (r t : Term) (steps : ℕ) → root_of t ≡ r → root_of (climb r t steps) ≡ r
-root_climb r t zero e = e
-root_climb r t (suc steps) e = refl
-
 pub root_lands : (t : Term) (steps : ℕ) (cell : Place) → root_of (lands t steps cell) ≡ root_of t
 root_lands t zero cell = refl
 root_lands t (suc steps) cell = refl

@@ -1,14 +1,14 @@
 -- Agreement of phone and stations in every world of every run.
-use Rattle.std.proofs.Common.{◌≡◌, ◌≤◌, refl, ℕ, zero, suc, Bool, List, [], ◌∷◌, Option, Some, None}
+use Rattle.std.proofs.Common.{◌≡◌, ◌≤◌, ℕ, zero, suc, Bool, List, [], ◌∷◌, Option, Some, None}
 use Rattle.lte_events.specs.declared.events.Event.{Event}
 use Rattle.lte_events.specs.declared.setups.Setup.{Setup}
 use Rattle.lte_events.specs.Site.{Site}
-use Rattle.key_model.specs.Term.{Term, Root, same_term}
+use Rattle.key_model.specs.Term.{Term, Root}
 use Rattle.key_model.specs.HandoverTable.{NumberedKey}
 use Rattle.s1x2_rec.specs.Fields.{Fields}
 use Rattle.lte_machine.specs.Wire.{KeyUse, Outgoing}
 use Rattle.lte_machine.specs.Ciphers.{Ciphers, octets_of}
-use Rattle.lte_machine.specs.Opening.{Opening, Outcome, open_by_uses}
+use Rattle.lte_machine.specs.Opening.{Opening, Outcome}
 use Rattle.lte_machine.specs.Ranges.{IsSetup, IsEvent}
 use Rattle.lte_machine.specs.PhoneState.{Radio, Idle, Connecting, Connected}
 use Rattle.lte_machine.specs.Reply.{Took}
@@ -33,7 +33,6 @@ use Rattle.lte_properties.proofs.ChainNumbers.Lists.{all_map}
 use Rattle.lte_machine.proofs.RangeHolds.{ContextRanged, StationRanged, Ranged}
 use Rattle.lte_machine.proofs.RangeWorld.{ranged_keeps, first_ranged}
 use Rattle.lte_machine.specs.StationState.{Station, Context}
-use Rattle.key_model.proofs.TermFacts.{same_term-Decides}
 use Rattle.lte_properties.proofs.SameKeys.{IsReflexive}
 use Rattle.lte_properties.proofs.Agreement.Lines.{line_told}
 use Rattle.lte_properties.proofs.Agreement.Chains.{are_chains}
@@ -193,11 +192,3 @@ module _ (same : Term → Term → Bool) (itself : IsReflexive same) (c : Cipher
   pub always_ok : (d : Conns) × WorldOk setup.cells d (run over (first_world setup) events)
   always_ok =
       let g = goes same itself (octets_of c between) sender_of opener (octets_tell c good between) setup is events are each_honest in (g.0, g.2)
-
--- every run of the machine over terms that compares keys as terms
-pub agreement_of_terms : (c : Ciphers Term) → AreCiphers c → (between : Fields → Option (NumberedKey Term ℕ) → List ℕ)
-    → (setup : Setup) → IsSetup setup → (events : List Event) → AllOf IsEvent events
-    → AgreementHolds (machine_over same_term c between) setup events
-agreement_of_terms c good between setup is events are =
-    agreement_over same_term (λ t. (same_term-Decides t t).1 refl) c good between (open_by_uses same_term c)
-    ((λ u e pdu came. refl), (same_term, λ u e pdu came. refl)) setup is events are

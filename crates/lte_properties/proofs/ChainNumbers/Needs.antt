@@ -1,6 +1,5 @@
 -- A record that comes supplies what its row needs, and the phone sends no pair.
 use Rattle.std.proofs.Common.{◌≡◌, refl, sym, ap, ◌∙◌, subst, ℕ, ◌≤◌, Bool, List, Option, Some, None, Ok, Err}
-use Rattle.std.specs.Prelude.{⊤}
 use Rattle.rec_base.specs.declared.bearers.Bearer.{Bearer}
 use Rattle.rec_base.specs.declared.faults.RecFault.{RecFault}
 use Rattle.lte_events.specs.declared.acts.StationAct.{StationAct}
@@ -34,11 +33,6 @@ use Rattle.lte_machine.proofs.AirFacts.{AirHas, air_has}
 use Rattle.lte_machine.proofs.StationActFacts.{StationActHas, station_act_has}
 use Rattle.lte_properties.proofs.ChainNumbers.Station.{Kept, record_kept, air_kept, act_kept}
 use Rattle.lte_properties.proofs.ChainNumbers.Core.{Plainly}
-
--- what comes to an address: nothing that was sent, or a record to it that is at most the core's number and fits a station
-abbrev pub ComesOk : (ℕ → ℕ) → Station Term ℕ → Address → Option (Outgoing Term ℕ) → Type 0
-ComesOk top s to None = ⊤
-ComesOk top s to (Some x) = (address_of x ≡ to) × RecordBelow top x × InFlight s x
 
 -- what an answer in these fields tells of a context
 abbrev Answers : Option (Context Term ℕ) → Fields → ℕ → Type 0

@@ -9,13 +9,11 @@ use Rattle.lte_events.specs.Site.{Site}
 use Rattle.key_model.specs.Term.{Term, Root, same_term}
 use Rattle.key_model.specs.Value.{value_of}
 use Rattle.key_model.specs.Use.{map_use}
-use Rattle.key_model.specs.HandoverTable.{NumberedKey}
 use Rattle.key_model.proofs.TermFacts.{same_term-Decides}
-use Rattle.s1x2_rec.specs.Fields.{Fields}
 use Rattle.lte_machine.specs.Wire.{KeyUse, Ciphering, Outgoing, SealedNas, PlainNas, SealedRrc, UserPacket, Between}
-use Rattle.lte_machine.specs.Ciphers.{Ciphers, octets_of}
+use Rattle.lte_machine.specs.Ciphers.{Ciphers}
 use Rattle.lte_machine.specs.Opening.{Opening, OpensNothing, OpensNas, OpensSrb, OpensDrb, Outcome, Opened, Differs, open_by_uses, open_octets, open_foreign, open_case, judged, same_uses, same_ciphering, same_dir}
-use Rattle.lte_machine.specs.Machines.{sender_of, machine_over}
+use Rattle.lte_machine.specs.Machines.{sender_of}
 use Rattle.lte_machine.specs.World.{Machine, World, happens}
 use Rattle.lte_machine.specs.Step.{attempted}
 use Rattle.lte_machine.specs.Run.{stations_of, first_world}
@@ -70,15 +68,6 @@ pub no_use_twice_ever : (same : Term → Term → Bool) → IsReflexive same →
     NoUseTwice (run (machine_by same Root octets sender opener) (first_world setup) es).uses
 no_use_twice_ever same itself octets sender opener setup es honest =
     no_use_twice _ (run_fresh same itself octets sender opener (first_world setup) es honest (first_fresh setup)).apart
-
--- and in octets, where distinct keys of the run have distinct values
-pub no_value_twice_ever : (same : Term → Term → Bool) → IsReflexive same → (octets : Outgoing Term ℕ → List ℕ) (sender : Option (Outgoing Term ℕ) → Option (KeyUse Term))
-    (opener : Opening Term → List ℕ → Option (Outgoing Term ℕ) → Outcome) (setup : Setup) (es : List Event) →
-    AllSentUnder (machine_by same Root octets sender opener) (first_world setup) es →
-    ValuesApart (run (machine_by same Root octets sender opener) (first_world setup) es).uses →
-    NoUseTwice (map (map_use value_of) (run (machine_by same Root octets sender opener) (first_world setup) es).uses)
-no_value_twice_ever same itself octets sender opener setup es honest apart =
-    no_value_twice _ (no_use_twice_ever same itself octets sender opener setup es honest) apart
 
 -- COMPARISON OF TERMS
 
@@ -170,9 +159,3 @@ module _ (c : Ciphers Term) where
     pub no_value_twice_by_terms : (setup : Setup) (es : List Event) → ValuesApart (run m (first_world setup) es).uses →
         NoUseTwice (map (map_use value_of) (run m (first_world setup) es).uses)
     no_value_twice_by_terms setup es apart = no_value_twice _ (no_use_twice_by_terms setup es) apart
-
--- where terms are compared everywhere
-pub no_use_twice_of_terms : (c : Ciphers Term) (between : Fields → Option (NumberedKey Term ℕ) → List ℕ) (setup : Setup) (es : List Event) →
-    NoUseTwice (run (machine_over same_term c between) (first_world setup) es).uses
-no_use_twice_of_terms c between setup es =
-    no_use_twice_by_terms c same_term (λ t. (same_term-Decides t t).1 refl) (octets_of c between) sender_of (open_by_uses same_term c) (λ v e pdu came. refl) setup es

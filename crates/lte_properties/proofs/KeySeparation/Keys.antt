@@ -128,13 +128,6 @@ module _ (G : Gifts) (sites : List Site) (id : ℕ) where
   may_derives (Star t pci earfcn) h = star_may_derives t pci earfcn h
   may_derives (Alg t type i) h = absurd h
 
-  pub derives_well : (t : Term) → IsDerivationKey t → IsWellFormed t
-  derives_well (Root r octets) h = h
-  derives_well (Kenb r n) h = h
-  derives_well (Nh r t) h = h
-  derives_well (Star t pci earfcn) h = h
-  derives_well (Alg t type i) h = absurd h
-
   pub may_hold : (t : Term) → May G sites id t → MayHold G sites id t
   may_hold (Root r octets) h = h
   may_hold (Kenb r n) h = h

@@ -63,9 +63,6 @@ module _ (same : Term → Term → Bool) (g : Choices) (next : ℕ) (c : Ciphers
   named header u e text pdu root algs x ksi read caps octets spelled so type reads =
       by_record x spelled so
     where
-      first : ℕ → Type 0
-      first h = first_in pdu ≡ 16 * h + 7
-
       first_is : (h : ℕ) → header ≡ h → first_in pdu ≡ 16 * h + 7
       first_is h is = ap first_in (sym octets) ∙ (nas_parts c good header u e text).0 ∙ ap first_octet is
 

@@ -209,9 +209,6 @@ module _ (same : Term → Term → Bool) (sender : Option (Outgoing Term ℕ) �
   roots_after : (w : TheWorld) (ds : List (Derivation Term)) → next_root w ≡ length (filter is_root_row (w.history ++ map Of ds))
   roots_after w ds = sym (roots_kept w.history ds)
 
-  abbrev MoreAs : Choices → ℕ → ℕ → Type 0
-  MoreAs g n l = More g n g l
-
   no_more : (g : Choices) (n l : ℕ) → n ≡ l → More g n g l
   no_more g n l e = (le_of_eq e, λ k low. refl)
 
