@@ -28,17 +28,14 @@ initial_key r n = record { key = Kenb r n; number = 0 }
 abbrev pub next_pair : Term → ℕ → ℕ → NumberedKey Term ℕ
 next_pair r n c = record { key = nh r n (c + 1); number = c + 1 }
 
--- a station starting an X2 or intra-station handover with a stored pair of number i: vertical (7.2.8.4.1, 7.2.8.4.2)
+-- a station starting an X2 or intra-station handover with a stored pair of number i: vertical (7.2.8.4.1, 7.2.8.4.2);
+-- a target on an S1 Handover Request with the pair of number i (7.2.8.4.3)
 abbrev pub key_from_pair : Term → ℕ → ℕ → ℕ → ℕ → NumberedKey Term ℕ
 key_from_pair r n i pci earfcn = record { key = Star (nh r n i) pci earfcn; number = i }
 
 -- a station starting one with no stored pair and the active KeNB t: horizontal (7.2.8.4.1, 7.2.8.4.2)
 abbrev pub key_from_active : Term → ℕ → ℕ → NumberedKey Term ℕ
 key_from_active t pci earfcn = record { key = Star t pci earfcn; number = chain_number t }
-
--- a target on an S1 Handover Request with the pair of number i (7.2.8.4.3)
-abbrev pub key_at_s1_target : Term → ℕ → ℕ → ℕ → ℕ → NumberedKey Term ℕ
-key_at_s1_target r n i pci earfcn = record { key = Star (nh r n i) pci earfcn; number = i }
 
 -- a station on a change of its key, for the KeNB t that the core sent (7.2.9.2)
 abbrev pub changed_key : Term → ℕ → ℕ → NumberedKey Term ℕ

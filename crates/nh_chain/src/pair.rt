@@ -2,7 +2,7 @@ ghost use Rattle.std.specs.Prelude.{◌≡◌, ℕ, ◌≤◌};
 ghost use Rattle.hmac_kdf.specs.Kdf.{IsKdfInput};
 ghost use Rattle.key_model.specs.Term.{Term};
 ghost use Rattle.key_model.specs.Reading.{octet_reading};
-ghost use Rattle.key_model.specs.HandoverTable.{chain_key, key_at_s1_target};
+ghost use Rattle.key_model.specs.HandoverTable.{chain_key, key_from_pair};
 ghost use Rattle.key_model.specs.HandoverLines.{star_line};
 ghost use Rattle.key_model.specs.Derivation.{star_made};
 ghost use Rattle.key_model.specs.Derivation.{derived_of};
@@ -77,7 +77,7 @@ impl NhPair {
         // Of the pair of chain number i: the KeNB* of that number.
         ensures terms { (r : Term) (n i : ℕ) → self ≡ in_octets (chain_key r n i) →
             record { key = result.0; number = self.number }
-            ≡ in_octets (key_at_s1_target r n i cell.now.pci cell.now.earfcn) }
+            ≡ in_octets (key_from_pair r n i cell.now.pci cell.now.earfcn) }
         ensures derived { result.2 ≡ derived_of (star_made octet_reading self.key cell.now.pci cell.now.earfcn) }
         ensures input { IsKdfInput result.2.input }
     {

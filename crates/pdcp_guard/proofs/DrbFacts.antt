@@ -6,12 +6,13 @@ use Rattle.rec_base.specs.declared.bearers.Bearer.{Bearer}
 use Rattle.rec_base.specs.declared.uses.Dir.{Dir}
 use Rattle.key_model.specs.Least.{least}
 use Rattle.key_model.proofs.LeastFacts.{least_is}
+use Rattle.nas_guard.specs.Open.{first_in}
 use Rattle.nas_guard.proofs.SealFacts.{ciphered-ciphered}
 use Rattle.pdcp_guard.specs.declared.pdus.PdcpOpened.{PdcpOpened}
 use Rattle.pdcp_guard.specs.declared.pdus.PdcpFault.{PdcpFault}
 use Rattle.pdcp_guard.specs.AsKeys.{AsKeys}
 use Rattle.pdcp_guard.specs.Counts.{count_limit}
-use Rattle.pdcp_guard.specs.Drb.{DrbOpens, drb_ciphered, drb_count, drb_first, drb_first_octet, drb_opened, drb_opened_at, drb_opened_by, drb_sealed, drb_second_octet, drb_sn}
+use Rattle.pdcp_guard.specs.Drb.{DrbOpens, drb_ciphered, drb_count, drb_first_octet, drb_opened, drb_opened_at, drb_opened_by, drb_sealed, drb_second_octet, drb_sn}
 use Rattle.pdcp_guard.proofs.CountFacts.{expected-is_least, in_32_bits-below, length-ciphered}
 
 -- to cipher twice gives the text back
@@ -84,7 +85,7 @@ drb_intact keys bearer next dir pdu r is count text made below is_least =
 
 -- what opens was sealed, octet by octet
 was_sealed : (keys : AsKeys (List ℕ)) (bearer : Bearer) (count : ℕ) (dir : Dir) (pdu : List ℕ)
-    → 2 ≤ length pdu → drb_first pdu / 16 ≡ 8 → slice_index pdu 1 < 256 → count % 4096 ≡ drb_sn pdu
+    → 2 ≤ length pdu → first_in pdu / 16 ≡ 8 → slice_index pdu 1 < 256 → count % 4096 ≡ drb_sn pdu
     → (text : List ℕ) → text ≡ drb_ciphered keys bearer count dir (drop 2 pdu) → pdu ≡ drb_sealed keys bearer count dir text
 unfolding drb_sealed
 was_sealed keys bearer count dir [] long good octet sn text is = absurd (omega arith)

@@ -11,13 +11,14 @@ use Rattle.rec_base.specs.declared.bearers.Bearer.{Bearer}
 use Rattle.rec_base.specs.declared.uses.Dir.{Dir}
 use Rattle.key_model.specs.Least.{least}
 use Rattle.key_model.proofs.LeastFacts.{least_is}
+use Rattle.nas_guard.specs.Open.{first_in}
 use Rattle.nas_guard.proofs.SealFacts.{ciphered-ciphered, length-mac_of}
 use Rattle.pdcp_guard.specs.declared.pdus.PdcpOpened.{PdcpOpened}
 use Rattle.pdcp_guard.specs.declared.pdus.PdcpFault.{PdcpFault}
 use Rattle.pdcp_guard.specs.declared.pdus.PdcpFault.TheVariants.{MacFails}
 use Rattle.pdcp_guard.specs.AsKeys.{AsKeys}
 use Rattle.pdcp_guard.specs.Counts.{count_limit}
-use Rattle.pdcp_guard.specs.Srb.{SrbOpens, SrbRefuses, srb_ciphered, srb_count, srb_first, srb_got, srb_header, srb_mac, srb_opened, srb_opened_by, srb_opened_at, srb_sealed, srb_sn, srb_text, srb_wanted}
+use Rattle.pdcp_guard.specs.Srb.{SrbOpens, SrbRefuses, srb_ciphered, srb_count, srb_got, srb_header, srb_mac, srb_opened, srb_opened_by, srb_opened_at, srb_sealed, srb_sn, srb_text, srb_wanted}
 use Rattle.pdcp_guard.proofs.CountFacts.{expected-is_least, in_32_bits-below, length-ciphered}
 
 -- to cipher twice gives the octets back
@@ -120,7 +121,7 @@ srb_intact keys cipher bearer next dir pdu r is count text made below is_least =
 
 -- what opens was sealed, octet by octet
 was_sealed : (keys : AsKeys (List ℕ)) (cipher : Bool) (bearer : Bearer) (count : ℕ) (dir : Dir) (pdu : List ℕ)
-    → 5 ≤ length pdu → count % 32 ≡ srb_first pdu → srb_wanted keys cipher bearer count dir pdu ≡ srb_got keys cipher bearer count dir pdu
+    → 5 ≤ length pdu → count % 32 ≡ first_in pdu → srb_wanted keys cipher bearer count dir pdu ≡ srb_got keys cipher bearer count dir pdu
     → pdu ≡ srb_sealed keys cipher bearer count dir (srb_text keys cipher bearer count dir pdu)
 unfolding srb_sealed
 was_sealed keys cipher bearer count dir [] long header mac = absurd (omega arith)
@@ -132,8 +133,8 @@ pub srb_sealed-opened : (keys : AsKeys (List ℕ)) (cipher : Bool) (bearer : Bea
     → SrbOpens keys cipher bearer next dir pdu o → pdu ≡ srb_sealed keys cipher bearer o.count dir o.text
 srb_sealed-opened keys cipher bearer next dir pdu o h =
     let reserved = h.reserved in
-    let small : srb_sn pdu ≡ srb_first pdu = omega arith in
-    let remainder : o.count % 32 ≡ srb_first pdu = ap (λ n. n % 32) h.count ∙ (least_is next (srb_sn pdu) 32 (omega arith)).remainder ∙ small in
+    let small : srb_sn pdu ≡ first_in pdu = omega arith in
+    let remainder : o.count % 32 ≡ first_in pdu = ap (λ n. n % 32) h.count ∙ (least_is next (srb_sn pdu) 32 (omega arith)).remainder ∙ small in
     was_sealed keys cipher bearer o.count dir pdu h.long remainder h.mac
     ∙ rw h.text refl
 
@@ -150,7 +151,7 @@ answer_by keys cipher bearer count dir pdu b =
     else Err (MacFails count (srb_wanted keys cipher bearer count dir pdu) (srb_got keys cipher bearer count dir pdu))
 
 pub srb_answered : (keys : AsKeys (List ℕ)) (cipher : Bool) (bearer : Bearer) (next : ℕ) (dir : Dir) (pdu : List ℕ) (count : ℕ)
-    → 5 ≤ length pdu → srb_first pdu < 32 → count ≡ least next (srb_sn pdu) 32 → count < count_limit → next ≤ count
+    → 5 ≤ length pdu → first_in pdu < 32 → count ≡ least next (srb_sn pdu) 32 → count < count_limit → next ≤ count
     → Answered keys cipher bearer next dir pdu (srb_opened_at keys cipher bearer count dir pdu)
 unfolding srb_opened_at
 srb_answered keys cipher bearer next dir pdu count long reserved is_least below above =

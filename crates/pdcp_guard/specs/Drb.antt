@@ -4,6 +4,7 @@ use Rattle.rec_base.specs.Bearer.{bearer5_of}
 use Rattle.rec_base.specs.declared.bearers.Bearer.{Bearer}
 use Rattle.rec_base.specs.declared.uses.Dir.{Dir}
 use Rattle.key_model.specs.Least.{least}
+use Rattle.nas_guard.specs.Open.{first_in}
 use Rattle.nas_guard.specs.Cipher.{ciphered}
 use Rattle.pdcp_guard.specs.declared.pdus.PdcpSent.{PdcpSent}
 use Rattle.pdcp_guard.specs.declared.pdus.PdcpOpened.{PdcpOpened}
@@ -35,20 +36,16 @@ abbrev pub drb_sent_by : AsKeys (List ℕ) → Bearer → Dir → List ℕ → R
 drb_sent_by keys bearer dir text (Ok count) = Ok (record { pdu = drb_sealed keys bearer count dir text; count = count })
 drb_sent_by keys bearer dir text (Err fault) = Err fault
 
--- the first octet of a PDU
-abbrev pub drb_first : List ℕ → ℕ
-drb_first pdu = slice_index pdu 0
-
--- its sequence number
+-- the sequence number of a PDU
 abbrev pub drb_sn : List ℕ → ℕ
-drb_sn pdu = 256 * (drb_first pdu % 16) + slice_index pdu 1
+drb_sn pdu = 256 * (first_in pdu % 16) + slice_index pdu 1
 
 -- the COUNT of a PDU where this one is expected next: the least with its sequence number (5.1.2.1.3)
 unfoldable pub drb_count : ℕ → List ℕ → Result ℕ PdcpFault
 drb_count next pdu =
     if nat_lt (length pdu) 2 then Err Short
-    else (if drb_first pdu / 16 == 8 then in_32_bits (least next (drb_sn pdu) 4096)
-    else Err (BadHeader (drb_first pdu)))
+    else (if first_in pdu / 16 == 8 then in_32_bits (least next (drb_sn pdu) 4096)
+    else Err (BadHeader (first_in pdu)))
 
 -- the text of a PDU at a COUNT
 unfoldable pub drb_opened_at : AsKeys (List ℕ) → Bearer → ℕ → Dir → List ℕ → PdcpOpened
@@ -65,7 +62,7 @@ drb_opened keys bearer next dir pdu = drb_opened_by keys bearer dir pdu (drb_cou
 -- a PDU opens to this
 pub record DrbOpens (keys : AsKeys (List ℕ)) (bearer : Bearer) (next : ℕ) (dir : Dir) (pdu : List ℕ) (o : PdcpOpened) : Type 0 where
   pub long : 2 ≤ length pdu
-  pub first : drb_first pdu / 16 ≡ 8
+  pub first : first_in pdu / 16 ≡ 8
   pub count : o.count ≡ least next (drb_sn pdu) 4096
   pub below : o.count < count_limit
   pub text : o.text ≡ drb_ciphered keys bearer o.count dir (drop 2 pdu)
@@ -73,7 +70,7 @@ pub record DrbOpens (keys : AsKeys (List ℕ)) (bearer : Bearer) (next : ℕ) (d
 -- a PDU is refused for this, at most one of the three
 abbrev pub DrbRefuses : ℕ → List ℕ → PdcpFault → Type 0
 DrbRefuses next pdu Short = length pdu < 2
-DrbRefuses next pdu (BadHeader octet) = (2 ≤ length pdu) × (octet ≡ drb_first pdu) × (¬ (octet / 16 ≡ 8))
+DrbRefuses next pdu (BadHeader octet) = (2 ≤ length pdu) × (octet ≡ first_in pdu) × (¬ (octet / 16 ≡ 8))
 DrbRefuses next pdu CountSpent =
-    (2 ≤ length pdu) × (drb_first pdu / 16 ≡ 8) × (count_limit ≤ least next (drb_sn pdu) 4096)
+    (2 ≤ length pdu) × (first_in pdu / 16 ≡ 8) × (count_limit ≤ least next (drb_sn pdu) 4096)
 DrbRefuses next pdu (MacFails count wanted got) = ⊥

@@ -1,10 +1,11 @@
 -- PDUs of signalling radio bearers (TS 36.323 5.6, 5.7 and 6.2.2).
-use Rattle.std.specs.Prelude.{◌≡◌, ◌≢◌, ℕ, ◌-◌, ◌%◌, ◌<◌, ◌≤◌, nat_lt, Bool, if◌then◌else◌, List, ◌∷◌, ◌++◌, drop, length, slice_index, take, Result, Ok, Err}
+use Rattle.std.specs.Prelude.{◌≡◌, ◌≢◌, ℕ, ◌-◌, ◌%◌, ◌<◌, ◌≤◌, nat_lt, Bool, if◌then◌else◌, List, ◌∷◌, ◌++◌, drop, length, take, Result, Ok, Err}
 use Rattle.std.specs.Str.{bytes_eq}
 use Rattle.rec_base.specs.Bearer.{bearer5_of}
 use Rattle.rec_base.specs.declared.bearers.Bearer.{Bearer}
 use Rattle.rec_base.specs.declared.uses.Dir.{Dir}
 use Rattle.key_model.specs.Least.{least}
+use Rattle.nas_guard.specs.Open.{first_in}
 use Rattle.nas_guard.specs.Cipher.{ciphered, mac_of}
 use Rattle.pdcp_guard.specs.declared.pdus.PdcpSent.{PdcpSent}
 use Rattle.pdcp_guard.specs.declared.pdus.PdcpOpened.{PdcpOpened}
@@ -37,19 +38,16 @@ abbrev pub srb_sent_by : AsKeys (List ℕ) → Bool → Bearer → Dir → List 
 srb_sent_by keys cipher bearer dir text (Ok count) = Ok (record { pdu = srb_sealed keys cipher bearer count dir text; count = count })
 srb_sent_by keys cipher bearer dir text (Err fault) = Err fault
 
--- the first octet of a PDU, and its sequence number
-abbrev pub srb_first : List ℕ → ℕ
-srb_first pdu = slice_index pdu 0
-
+-- the sequence number of a PDU
 abbrev pub srb_sn : List ℕ → ℕ
-srb_sn pdu = srb_first pdu % 32
+srb_sn pdu = first_in pdu % 32
 
 -- the COUNT of a PDU where this one is expected next: the least with its sequence number (5.1.2.2)
 unfoldable pub srb_count : ℕ → List ℕ → Result ℕ PdcpFault
 srb_count next pdu =
     if nat_lt (length pdu) 5 then Err Short
-    else (if nat_lt (srb_first pdu) 32 then in_32_bits (least next (srb_sn pdu) 32)
-    else Err (BadHeader (srb_first pdu)))
+    else (if nat_lt (first_in pdu) 32 then in_32_bits (least next (srb_sn pdu) 32)
+    else Err (BadHeader (first_in pdu)))
 
 -- data and MAC-I of a PDU at a COUNT, deciphered where the bearer is ciphered
 abbrev pub srb_plain : AsKeys (List ℕ) → Bool → Bearer → ℕ → Dir → List ℕ → List ℕ
@@ -65,7 +63,7 @@ srb_got keys cipher bearer count dir pdu = drop (length pdu - 5) (srb_plain keys
 -- the MAC-I that a receiver computes
 abbrev pub srb_wanted : AsKeys (List ℕ) → Bool → Bearer → ℕ → Dir → List ℕ → List ℕ
 srb_wanted keys cipher bearer count dir pdu =
-    srb_mac keys bearer count dir (srb_first pdu ∷ srb_text keys cipher bearer count dir pdu)
+    srb_mac keys bearer count dir (first_in pdu ∷ srb_text keys cipher bearer count dir pdu)
 
 -- the text of a PDU at a COUNT, where its MAC-I is right
 unfoldable pub srb_opened_at : AsKeys (List ℕ) → Bool → Bearer → ℕ → Dir → List ℕ → Result PdcpOpened PdcpFault
@@ -85,7 +83,7 @@ srb_opened keys cipher bearer next dir pdu = srb_opened_by keys cipher bearer di
 -- a PDU opens to this
 pub record SrbOpens (keys : AsKeys (List ℕ)) (cipher : Bool) (bearer : Bearer) (next : ℕ) (dir : Dir) (pdu : List ℕ) (o : PdcpOpened) : Type 0 where
   pub long : 5 ≤ length pdu
-  pub reserved : srb_first pdu < 32
+  pub reserved : first_in pdu < 32
   pub count : o.count ≡ least next (srb_sn pdu) 32
   pub below : o.count < count_limit
   pub mac : srb_wanted keys cipher bearer o.count dir pdu ≡ srb_got keys cipher bearer o.count dir pdu
@@ -94,9 +92,9 @@ pub record SrbOpens (keys : AsKeys (List ℕ)) (cipher : Bool) (bearer : Bearer)
 -- a PDU has no COUNT for this reason, at most one of the three
 abbrev pub SrbHasNoCount : ℕ → List ℕ → PdcpFault → Type 0
 SrbHasNoCount next pdu Short = length pdu < 5
-SrbHasNoCount next pdu (BadHeader octet) = (5 ≤ length pdu) × (octet ≡ srb_first pdu) × (32 ≤ octet)
+SrbHasNoCount next pdu (BadHeader octet) = (5 ≤ length pdu) × (octet ≡ first_in pdu) × (32 ≤ octet)
 SrbHasNoCount next pdu CountSpent =
-    (5 ≤ length pdu) × (srb_first pdu < 32) × (count_limit ≤ least next (srb_sn pdu) 32)
+    (5 ≤ length pdu) × (first_in pdu < 32) × (count_limit ≤ least next (srb_sn pdu) 32)
 SrbHasNoCount next pdu (MacFails count wanted got) = ⊥
 
 -- a PDU is refused for this, at most one of the four
@@ -105,5 +103,5 @@ SrbRefuses keys cipher bearer next dir pdu Short = SrbHasNoCount next pdu Short
 SrbRefuses keys cipher bearer next dir pdu (BadHeader octet) = SrbHasNoCount next pdu (BadHeader octet)
 SrbRefuses keys cipher bearer next dir pdu CountSpent = SrbHasNoCount next pdu CountSpent
 SrbRefuses keys cipher bearer next dir pdu (MacFails count wanted got) =
-    (5 ≤ length pdu) × (srb_first pdu < 32) × (count ≡ least next (srb_sn pdu) 32) × (count < count_limit)
+    (5 ≤ length pdu) × (first_in pdu < 32) × (count ≡ least next (srb_sn pdu) 32) × (count < count_limit)
     × (wanted ≡ srb_wanted keys cipher bearer count dir pdu) × (got ≡ srb_got keys cipher bearer count dir pdu) × (wanted ≢ got)

@@ -1,9 +1,10 @@
 ghost use Rattle.std.specs.Prelude.{◌≡◌, ℕ, ◌+◌, ◌-◌, ◌/◌, ◌%◌, ◌<◌, ◌≤◌, ◌↔◌, drop, IfErr, IfOk, IsErr, List, OnErr, length};
+ghost use Rattle.nas_guard.specs.Open.{first_in};
 ghost use Rattle.pdcp_guard.specs.Counts.{after_receive, after_send, expects_next, new_bearer, send_count, sends_next, skipped};
 ghost use Rattle.key_model.specs.Least.{least};
 ghost use Rattle.rec_base.specs.Bearer.{IsDrb};
 ghost use Rattle.rec_base.specs.Lengths.{longest_record};
-ghost use Rattle.pdcp_guard.specs.Drb.{DrbOpens, DrbRefuses, drb_ciphered, drb_count, drb_first, drb_opened, drb_opened_at, drb_sealed, drb_sent_by, drb_sn};
+ghost use Rattle.pdcp_guard.specs.Drb.{DrbOpens, DrbRefuses, drb_ciphered, drb_count, drb_opened, drb_opened_at, drb_sealed, drb_sent_by, drb_sn};
 ghost use Rattle.pdcp_guard.specs.Counts.{count_limit};
 
 use crate::counting::Counts;
@@ -114,7 +115,7 @@ impl Drb {
     fn count_of(&self, pdu: &[u8]) -> Result<u32, PdcpFault>
         ensures value { result ≡ drb_count self.now.counts.receive pdu.now }
         ensures long { IfOk result (λ _. 2 ≤ length pdu.now) }
-        ensures first { IfOk result (λ _. drb_first pdu.now / 16 ≡ 8) }
+        ensures first { IfOk result (λ _. first_in pdu.now / 16 ≡ 8) }
         ensures count { IfOk result (λ count. count ≡ least self.now.counts.receive (drb_sn pdu.now) 4096) }
         ensures refused { IfErr result (DrbRefuses self.now.counts.receive pdu.now) }
     {

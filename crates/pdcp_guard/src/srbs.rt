@@ -1,9 +1,10 @@
 ghost use Rattle.std.specs.Prelude.{◌≡◌, ℕ, ◌+◌, ◌-◌, ◌%◌, ◌<◌, ◌≤◌, ◌∷◌, ◌↔◌, IfErr, IfOk, IsErr, IsTrue, List, OnErr, length};
+ghost use Rattle.nas_guard.specs.Open.{first_in};
 ghost use Rattle.pdcp_guard.specs.Counts.{after_send, expects_next, new_bearer, send_count, sends_next, skipped};
 ghost use Rattle.key_model.specs.Least.{least};
 ghost use Rattle.rec_base.specs.Bearer.{IsSrb};
 ghost use Rattle.rec_base.specs.Lengths.{longest_record};
-ghost use Rattle.pdcp_guard.specs.Srb.{SrbHasNoCount, SrbOpens, SrbRefuses, srb_count, srb_first, srb_opened, srb_opened_at, srb_sealed, srb_sent_by, srb_sn};
+ghost use Rattle.pdcp_guard.specs.Srb.{SrbHasNoCount, SrbOpens, SrbRefuses, srb_count, srb_opened, srb_opened_at, srb_sealed, srb_sent_by, srb_sn};
 ghost use Rattle.pdcp_guard.specs.Counts.{count_limit};
 
 use crate::counting::Counts;
@@ -140,7 +141,7 @@ impl Srb {
     fn count_of(&self, pdu: &[u8]) -> Result<u32, PdcpFault>
         ensures value { result ≡ srb_count self.now.counts.receive pdu.now }
         ensures long { IfOk result (λ _. 5 ≤ length pdu.now) }
-        ensures reserved { IfOk result (λ _. srb_first pdu.now < 32) }
+        ensures reserved { IfOk result (λ _. first_in pdu.now < 32) }
         ensures count { IfOk result (λ count. count ≡ least self.now.counts.receive (srb_sn pdu.now) 32) }
         ensures at_or_above { IfOk result (λ count. self.now.counts.receive ≤ count) }
         ensures refused { IfErr result (SrbHasNoCount self.now.counts.receive pdu.now) }

@@ -19,7 +19,7 @@ use Rattle.pdcp_guard.specs.AsKeys.{AsKeys}
 use Rattle.pdcp_guard.specs.declared.pdus.PdcpFault.{PdcpFault}
 use Rattle.pdcp_guard.specs.declared.pdus.PdcpFault.TheVariants as fails
 use Rattle.pdcp_guard.specs.Drb.{drb_ciphered, drb_count, drb_opened, drb_opened_at, drb_opened_by, drb_sealed}
-use Rattle.pdcp_guard.specs.Srb.{srb_ciphered, srb_count, srb_first, srb_opened, srb_opened_at, srb_opened_by, srb_sealed}
+use Rattle.pdcp_guard.specs.Srb.{srb_ciphered, srb_count, srb_opened, srb_opened_at, srb_opened_by, srb_sealed}
 use Rattle.pdu_guard.specs.declared.drb.Numbers.TheVariants.{Twelve}
 use Rattle.pdu_guard.specs.Agreement.{checked_nas, checked_srb, ciphering_of, drb_keys_of, nas_keys_of, srb_keys_of}
 use Rattle.pdu_guard.specs.Drb.{drb_count_of, drb_head, drb_pdu, drb_pdu_by, drb_pdu_opened, drb_pdu_text}
@@ -91,7 +91,7 @@ srb_at_agrees : (bearer : Bearer) (dir : Dir) (keys : AsKeys (List ℕ)) (count 
 unfolding srb_pdu_at srb_pdu_got srb_pdu_text srb_opened_at srb_ciphered
 srb_at_agrees bearer dir keys count pdu =
     let plain = ciphered keys.algs.eea keys.rrc_enc count (bearer5_of bearer) dir (drop 1 pdu) in
-    let covered = srb_first pdu ∷ take (length pdu - 5) plain in
+    let covered = first_in pdu ∷ take (length pdu - 5) plain in
     rw (ciphers_agree keys.algs.eea keys.rrc_enc count (bearer5_of bearer) dir (drop 1 pdu), macs_agree keys.rrc_int count (bearer5_of bearer) dir covered)
     (by_test (mac_of keys.rrc_int count (bearer5_of bearer) dir covered) (drop (length pdu - 5) plain) (take (length pdu - 5) plain)
     (bytes_eq (mac_of keys.rrc_int count (bearer5_of bearer) dir covered) (drop (length pdu - 5) plain)))

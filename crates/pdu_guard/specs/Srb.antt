@@ -2,7 +2,8 @@
 use Rattle.std.specs.Prelude.{ℕ, ◌-◌, Bool, if◌then◌else◌, List, ◌∷◌, ◌++◌, drop, length, take, Result, Ok, Err}
 use Rattle.alg_suite.specs.Suite.{ciphered_by, mac_by}
 use Rattle.rec_base.specs.declared.uses.Dir.{Dir}
-use Rattle.pdcp_guard.specs.Srb.{srb_count, srb_first, srb_header}
+use Rattle.nas_guard.specs.Open.{first_in}
+use Rattle.pdcp_guard.specs.Srb.{srb_count, srb_header}
 use Rattle.pdcp_guard.specs.declared.pdus.PdcpFault.{PdcpFault}
 use Rattle.pdcp_guard.specs.declared.pdus.PdcpFault.TheVariants.{MacFails}
 use Rattle.pdu_guard.specs.Checks.{is_checked, is_taken}
@@ -38,7 +39,7 @@ srb_pdu_got keys count dir pdu = drop (length pdu - 5) (srb_pdu_plain keys count
 
 -- the MAC-I that a receiver computes
 abbrev pub srb_pdu_wanted : SrbKeys → ℕ → Dir → List ℕ → List ℕ
-srb_pdu_wanted keys count dir pdu = srb_mac_of keys count dir (srb_first pdu ∷ srb_pdu_text keys count dir pdu)
+srb_pdu_wanted keys count dir pdu = srb_mac_of keys count dir (first_in pdu ∷ srb_pdu_text keys count dir pdu)
 
 -- what a PDU opens to: `checked` says whether its MAC-I was compared
 pub record SrbOpening : Type 0 where

@@ -1,6 +1,7 @@
 ghost use Rattle.std.specs.Prelude.{◌≡◌, ◌+◌, ◌-◌, ◌<◌, ◌≤◌, ◌∷◌, ◌++◌, IfErr, IfOk, OnErr, drop, length};
+ghost use Rattle.nas_guard.specs.Open.{first_in};
 ghost use Rattle.pdcp_guard.specs.Counts.{count_limit};
-ghost use Rattle.pdcp_guard.specs.Srb.{srb_count, srb_first, srb_header};
+ghost use Rattle.pdcp_guard.specs.Srb.{srb_count, srb_header};
 ghost use Rattle.pdu_guard.specs.Checks.{is_checked};
 ghost use Rattle.pdu_guard.specs.Srb.{longest_sdu, srb_mac_of, srb_pdu, srb_pdu_at, srb_pdu_got, srb_pdu_opened, srb_pdu_text, srb_sent};
 
@@ -170,7 +171,7 @@ fn decipher(keys: &SrbKeys, count: u32, dir: Dir, pdu: &[u8], plain: &mut [u8])
     requires bearer { keys.now.bearer < 32 }
     requires long { 5 ≤ length pdu.now }
     requires room { length plain.old ≡ length pdu.now }
-    ensures { plain.new ≡ srb_first pdu.now ∷ srb_sent keys.now count dir (drop 1 pdu.now) }
+    ensures { plain.new ≡ first_in pdu.now ∷ srb_sent keys.now count dir (drop 1 pdu.now) }
 {
     plain.copy_from_slice(pdu);
     let (_, sent) = plain.split_at_mut(1);

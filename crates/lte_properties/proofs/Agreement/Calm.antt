@@ -30,9 +30,10 @@ use Rattle.lte_properties.proofs.Agreement.PhoneWalk.{CameDown}
 use Rattle.std.specs.Prelude.{if◌then◌else◌}
 use Rattle.key_model.specs.Least.{least}
 use Rattle.alg_choice.specs.declared.algs.Algs.{Algs}
+use Rattle.nas_guard.specs.Open.{first_in}
 use Rattle.pdcp_guard.specs.declared.pdus.PdcpFault.{PdcpFault}
 use Rattle.pdcp_guard.specs.Counts.{in_32_bits, count_limit}
-use Rattle.pdcp_guard.specs.Srb.{srb_first, srb_sn, srb_count}
+use Rattle.pdcp_guard.specs.Srb.{srb_sn, srb_count}
 use Rattle.lte_machine.specs.Bearers.{srb_counts}
 use Rattle.lte_machine.specs.Wire.{srb_use}
 use Rattle.lte_machine.specs.Opening.{Differs, OpensSrb}
@@ -75,9 +76,9 @@ pub count_low : (next : ℕ) (pdu : List ℕ) (count : ℕ) → srb_count next p
 unfolding srb_count in_32_bits least
 count_low next pdu count e =
     by_test (λ r. r ≡ Ok count → next ≤ count) (nat_lt (length pdu) 5) _ _ (λ b f. absurd (no_fault _ PdcpFault.Short count refl f))
-    (λ b. by_test (λ r. r ≡ Ok count → next ≤ count) (nat_lt (srb_first pdu) 32) _ _
+    (λ b. by_test (λ r. r ≡ Ok count → next ≤ count) (nat_lt (first_in pdu) 32) _ _
     (λ d f. low (ok_is (nat_lt (least next (srb_sn pdu) 32) count_limit) (least next (srb_sn pdu) 32) count f))
-    (λ d f. absurd (no_fault _ (PdcpFault.BadHeader (srb_first pdu)) count refl f))) e
+    (λ d f. absurd (no_fault _ (PdcpFault.BadHeader (first_in pdu)) count refl f))) e
   where
     low : least next (srb_sn pdu) 32 ≡ count → next ≤ count
     low f = omega arith

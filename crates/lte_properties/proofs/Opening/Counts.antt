@@ -13,6 +13,7 @@ use Rattle.nas_guard.specs.Open.{sn_in, sent_in, first_in}
 use Rattle.pdcp_guard.specs.Counts.{count_limit, in_32_bits}
 use Rattle.pdcp_guard.specs.Srb.{srb_count}
 use Rattle.pdcp_guard.specs.Drb.{drb_count, drb_first_octet, drb_second_octet}
+use Rattle.pdcp_guard.proofs.CountFacts.{in_32_bits-below}
 use Rattle.lte_events.specs.declared.answers.Answer.{Answer}
 use Rattle.lte_events.specs.declared.answers.Answer.TheVariants.{BadHeader}
 use Rattle.lte_machine.specs.Wire.{KeyUse, Ciphering}
@@ -25,12 +26,6 @@ use Rattle.lte_machine.proofs.CipherLaws.{AreCiphers}
 -- a COUNT in the window is the least with its lowest part
 least_of : (next count w : ℕ) → 0 < w → InWindow next count w → least next (count % w) w ≡ count
 least_of next count w some h = (least_in_window next count w some h.0).1 (omega arith)
-
-fits_32 : (count : ℕ) → count < count_limit → in_32_bits count ≡ Ok count
-unfolding in_32_bits
-fits_32 count below =
-    let test : nat_lt count count_limit ≡ true = grind (arith, nat_tests) in
-    rw test refl
 
 -- NAS MESSAGES: EIGHT BITS (TS 24.301 4.4.3.1)
 
@@ -92,7 +87,7 @@ srb_counted c good next u e text h below =
     let enough : nat_lt (length (header ∷ sent)) 5 ≡ false = let l : 5 ≤ length (header ∷ sent) = omega arith in grind (arith, nat_tests) in
     let plain : nat_lt header 32 ≡ true = grind (arith, nat_tests) in
     let one : least next (header % 32) 32 ≡ u.count = ap (λ n. least next n 32) (mod-mod u.count 32) ∙ least_of next u.count 32 (omega arith) h in
-    rw enough (rw plain (ap in_32_bits one ∙ fits_32 u.count below))
+    rw enough (rw plain (ap in_32_bits one ∙ in_32_bits-below u.count below))
   where
     as_long : (e : Option (Ciphering Term)) (t : List ℕ) → length (ciphered_by c e t) ≡ length t
     as_long None t = refl
@@ -118,7 +113,7 @@ drb_counted c next e text h below =
     let is : (first / 16 == 8) ≡ true = let f = first_of count in grind (arith, nat_tests) in
     let one : least next (256 * (first % 16) + count % 256) 4096 ≡ count =
     ap (λ n. least next n 4096) (number_of count) ∙ least_of next count 4096 (omega arith) h in
-    rw enough (rw is (ap in_32_bits one ∙ fits_32 count below))
+    rw enough (rw is (ap in_32_bits one ∙ in_32_bits-below count below))
 
 -- a message of a first octet that the phone does not take has no header type for it
 pub header_other : (pdu : List ℕ) (first header : ℕ) → 6 ≤ length pdu → first_in pdu ≡ first → is_for_phone first ≡ false → header_for_phone pdu ≡ Ok header → ⊥
