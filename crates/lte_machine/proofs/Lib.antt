@@ -7,6 +7,8 @@ pub mod AttemptSteps
 pub mod NasFacts
 pub mod ActFacts
 pub mod S1Facts
+pub mod CoreCases
+pub mod PhoneCases
 pub mod PhoneActFacts
 pub mod PhoneNasFacts
 pub mod PhoneAirFacts

@@ -27,3 +27,7 @@ value_or d (Some x) = x
 
 pub by_some : {A : Type 0} {x y : A} → Some x ≡ Some y → x ≡ y
 by_some {x = x} e = ap (value_or x) e
+
+-- where nothing need be known of two
+abbrev pub Anything : {A B : Type 0} → A → B → Type 0
+Anything x y = Unit {0}

@@ -3,7 +3,6 @@ use Rattle.std.proofs.Common.{◌≡◌, ℕ, zero, suc, ◌+◌, ◌-◌, ◌<�
 use Rattle.std.specs.Prelude.{if◌then◌else◌, find, ⊤}
 use Rattle.alg_choice.specs.declared.algs.Algs.{Algs}
 use Rattle.annex_a_keys.specs.Cell.{Place}
-use Rattle.lte_events.specs.declared.answers.Answer.{Answer}
 use Rattle.key_model.specs.Term.{Term, Kenb, Star, same_term}
 use Rattle.key_model.proofs.TermFacts.{same_term-Decides}
 use Rattle.key_model.specs.Chain.{nh, ncc_of}
@@ -14,15 +13,17 @@ use Rattle.nh_chain.specs.Reach.{reached_after}
 use Rattle.lte_machine.specs.Bearers.{Srb, Signalling1, Signalling2, Drb, User1, User2, User3, User4, Which, OnSrb, OnDrb, Bearers, srb_counts, srb_taken, drb_taken, srb_sent, drb_sent, skipped_on}
 use Rattle.lte_machine.specs.Reply.{Origin, From, BySetup, ByAttempt, ByChange, Made, Tried, Before, Secured, Commanded, Changed, Took}
 use Rattle.lte_machine.specs.World.{with_one}
-use Rattle.lte_machine.specs.PhoneState.{Partial, NasContext, Link, Radio, Connecting, Connected, Phone}
-use Rattle.lte_machine.specs.PhoneRows.{AuthRow, Authenticated, NasRow, NasRefused, RejectedPlain, RejectedUnder, ContextTaken, ContextTakenConnected, NasOpened, AirRow, AirRefused, LinkSecured, HandedOver, KeyChanged, RrcOpened, PacketOpened, ActRow, ActRefused, ServiceRequested, CompleteResent, WentIdle, PacketSent, RrcSent, NasSent, NasSkipped, BearerSkipped, PhoneRow, OfAuth, OfNas, OfAir, OfAct}
-use Rattle.lte_machine.specs.PhoneKeys.{PhoneDone, auth_does, rejected_under, context_taken, context_taken_connected, nas_opened, nas_does, link_secured, handed_over, before_of, changed_unless, key_changed, rrc_opened, packet_opened, air_does, service_requested, complete_resent, packet_sent, rrc_sent, nas_sent, nas_skipped, bearer_skipped, act_does, phone_does}
+use Rattle.lte_machine.specs.PhoneState.{Waiting, Link, Radio, Connecting, Connected, Phone}
+use Rattle.lte_machine.specs.PhoneRows.{AuthRow, Authenticated, AirRow, LinkSecured, HandedOver, KeyChanged, PhoneRow, OfAuth, OfNas, OfAir, OfAct}
+use Rattle.lte_machine.specs.PhoneKeys.{PhoneDone, auth_does, link_secured, handed_over, before_of, changed_unless, phone_does}
 use Rattle.lte_properties.specs.ChainBelow.{AllOf}
 use Rattle.lte_properties.specs.Agreement.{made_at, change_ahead, ahead, TookMade, ObeysCommand, ObeysChange, Obeys, Grows, HadTaken}
 use Rattle.lte_properties.specs.Origins.{root_of, nas_count_of}
 use Rattle.lte_properties.proofs.Agreement.Terms.{climb, lands, climb-nh, IsKenb, number_lands, ChainOf, reached_key, reached_number, reached_chain, steps_below, steps_near, lands_near, steps_far, lands_far}
 use Rattle.lte_properties.specs.Chains.{chain_key}
 use Rattle.lte_machine.specs.Wire.{srb_use, srb_ciphering}
+use Rattle.lte_machine.proofs.PhoneCases.{NasCases, nas_case, AirCases, air_case, ActCases, act_case}
+use Rattle.lte_machine.proofs.Tests.{Anything}
 use Rattle.rec_base.specs.declared.uses.Dir.TheVariants.{Up}
 use Rattle.lte_properties.proofs.Agreement.Ghost.{Ghost, keys_of, is_took_at, took_at, taken, FromIs, HereIs, Leads, FromOk, MadeOk, HadMade, TookOk, OrderIs, ChangeIs, LinkIs, RadioOk, UpOk, OutOk}
 use Rattle.lte_properties.proofs.Agreement.Told.{found_new, both_same, made_there}
@@ -189,10 +190,11 @@ own_before g x l h own = (l.air, own.0, own.1, own.2, (h.6.0, in_front h.6.0 g.t
 
 -- THE ROWS ON A PDU
 
-link_secured_goes : (same : Term → Term → Bool) (g : Ghost) → AllOf (MadeOk g) g.made → (station air : ℕ) (algs : Algs) (count : ℕ) (s : Phone Term ℕ) (radio : Radio Term ℕ)
-    → RadioOk g s.radio → RadioOk g radio → StartNeeds g station air algs radio
-    → PhoneGoes g (link_secured (term_reading_by same) station air algs count s radio)
-link_secured_goes same g made station air algs count s (Connecting w) old h needs =
+link_secured_goes : (same : Term → Term → Bool) (g : Ghost) → AllOf (MadeOk g) g.made
+    → (station air : ℕ) (algs : Algs) (count : ℕ) (s : Phone Term ℕ) (w : Waiting Term)
+    → RadioOk g (Connecting w) → StartNeeds g station air algs (Connecting w)
+    → PhoneGoes g (link_secured (term_reading_by same) station air algs count s (Connecting w))
+link_secured_goes same g made station air algs count s w h needs =
     let m = needs.0 in
     let x : Took Term ℕ = record { station = station; air = air; key = w.kenb; number = 0; algs = algs; came = Secured } in
     let k = with_took g (Some x) in
@@ -208,16 +210,15 @@ link_secured_goes same g made station air algs count s (Connecting w) old h need
       (here, (m, needs.1, ((needs.3, sym number, needs.4), needs.2)), tt, zero_on, tt),
       (w.kenb, refl, here, had, (m, needs.1, refl, (needs.2, refl, refl))),
     )
-link_secured_goes same g made station air algs count s other old h needs = (old, tt, tt)
 
 no_setup : {from : From Term} {o : Origin} → from ≡ ByAttempt o → from ≡ BySetup → ⊥
 no_setup e f = cc
 
 handed_over_goes : (same : Term → Term → Bool) (g : Ghost) → AllOf (MadeOk g) g.made
-    → (cell : Place) (steps : ℕ) (algs : Algs) (station air : ℕ) (s : Phone Term ℕ) (radio : Radio Term ℕ)
-    → RadioOk g s.radio → RadioOk g radio → CommandNeeds g cell steps algs station air radio
-    → PhoneGoes g (handed_over (term_reading_by same) cell steps algs station air s radio)
-handed_over_goes same g made cell steps algs station air s (Connected l) old h needs =
+    → (cell : Place) (steps : ℕ) (algs : Algs) (station air : ℕ) (s : Phone Term ℕ) (l : Link Term ℕ)
+    → LinkIs g l → CommandNeeds g cell steps algs station air (Connected l)
+    → PhoneGoes g (handed_over (term_reading_by same) cell steps algs station air s (Connected l))
+handed_over_goes same g made cell steps algs station air s l h needs =
     let r = reached_after (term_reading_by same) l.chain l.kenb steps cell in
     let order = needs.2 in
     let m = order.0 in
@@ -265,7 +266,6 @@ handed_over_goes same g made cell steps algs station air s (Connected l) old h n
       (here, obeys, grows same l steps cell h.0 x refl refl, on, own_before g x l h needs.3),
       (r.star.key, refl, here, had, (m, order.3, refl, (λ j. srb_ciphering Up (keys_of r.star.key (sym order.9 j)) Signalling1 0))),
     )
-handed_over_goes same g made cell steps algs station air s other old h needs = (old, tt, tt)
 
 -- THE OBEYED KEY CHANGE
 
@@ -305,11 +305,10 @@ no_setup_change : {from : From Term} {k : Term} → from ≡ ByChange k → from
 no_setup_change e f = cc
 
 changed_goes : (same : Term → Term → Bool) (g : Ghost) → AllOf (MadeOk g) g.made
-    → (cell : Place) (algs : Algs) (station air : ℕ) (s : Phone Term ℕ) (l : Link Term ℕ) (root : Term) (b : Bool)
-    → RadioOk g s.radio → LinkIs g l → ChangeNeeds g cell algs station air (Connected l)
-    → PhoneGoes g (changed_unless (term_reading_by same) cell algs station air s (before_of l) root b)
-changed_goes same g made cell algs station air s l root true old own needs = (old, tt, tt)
-changed_goes same g made cell algs station air s l root false old own needs =
+    → (cell : Place) (algs : Algs) (station air : ℕ) (s : Phone Term ℕ) (l : Link Term ℕ) (root : Term)
+    → LinkIs g l → ChangeNeeds g cell algs station air (Connected l)
+    → PhoneGoes g (changed_unless (term_reading_by same) cell algs station air s (before_of l) root false)
+changed_goes same g made cell algs station air s l root own needs =
     let order = needs.0 in
     let m = order.0 in
     let t = Star (Kenb root 0) cell.pci cell.earfcn in
@@ -325,71 +324,45 @@ changed_goes same g made cell algs station air s l root false old own needs =
     let ok : FromOk g m (ByChange l.kenb) = subst (FromOk g m) order.2 (all_found (MadeOk g) _ g.made m made order.1).3 in
     let of_cell : t ≡ Star (Kenb root 0) m.cell.pci m.cell.earfcn = λ j. Star (Kenb root 0) (sym order.3 j).pci (sym order.3 j).earfcn in (
       ((refl, refl, refl, refl), refl, m, order.1, sym order.4, from, had, (λ e. absurd (no_setup_change order.2 e))),
-      (here, (m, order.1, obeys_change m x (before_of l) root order.2 ok.0 ok.2 ok.3 of_cell refl (sym order.4)), (refl, cell.pci, cell.earfcn, refl), refl, own_before g x l own needs.2),
+      (
+        here,
+        (m, order.1, obeys_change m x (before_of l) root order.2 ok.0 ok.2 ok.3 of_cell refl (sym order.4)),
+        (refl, cell.pci, cell.earfcn, refl),
+        refl,
+        own_before g x l own needs.2,
+      ),
       (t, refl, here, had, (m, order.1, refl, (λ j. srb_ciphering Up (keys_of t (sym order.4 j)) Signalling1 0))),
     )
 
-key_changed_goes : (same : Term → Term → Bool) (g : Ghost) → AllOf (MadeOk g) g.made
-    → (cell : Place) (algs : Algs) (station air : ℕ) (s : Phone Term ℕ) (radio : Radio Term ℕ) (o : Option (NasContext Term))
-    → RadioOk g s.radio → RadioOk g radio → ChangeNeeds g cell algs station air radio
-    → PhoneGoes g (key_changed (term_reading_by same) cell algs station air s radio o)
-key_changed_goes same g made cell algs station air s (Connected l) (Some c) old own needs =
-    changed_goes same g made cell algs station air s l c.root (same c.root l.chain.root) old own needs
-key_changed_goes same g made cell algs station air s radio o old own needs = (old, tt, tt)
+-- of a phone whose connection is as told
+abbrev Keeps : Ghost → Phone Term ℕ → PhoneDone Term ℕ → Type 0
+Keeps g s d = RadioOk g s.radio → PhoneGoes g d
 
-rrc_opened_goes : (same : Term → Term → Bool) (g : Ghost) (srb : Srb) (count : ℕ) (text : List ℕ) (s : Phone Term ℕ) (radio : Radio Term ℕ)
-    → RadioOk g s.radio → RadioOk g radio → PhoneGoes g (rrc_opened {C = ℕ} srb count text s radio)
-rrc_opened_goes same g srb count text s (Connected l) old h = (heard_after g l (srb_taken srb count l.bearers) h (heard_taken srb count l.bearers), tt, tt)
-rrc_opened_goes same g srb count text s other old h = (old, tt, tt)
-
-packet_opened_goes : (g : Ghost) (drb : Drb) (count : ℕ) (text : List ℕ) (s : Phone Term ℕ) (radio : Radio Term ℕ)
-    → RadioOk g s.radio → RadioOk g radio → PhoneGoes g (packet_opened drb count text s radio)
-packet_opened_goes g drb count text s (Connected l) old h = (heard_after g l (drb_taken drb count l.bearers) h (heard_packet drb count l.bearers), tt, tt)
-packet_opened_goes g drb count text s other old h = (old, tt, tt)
-
-air_goes : (same : Term → Term → Bool) (g : Ghost) → AllOf (MadeOk g) g.made → (row : AirRow) (s : Phone Term ℕ)
-    → RadioOk g s.radio → AirNeeds g s.radio row → PhoneGoes g (air_does (term_reading_by same) row s)
-air_goes same g made (AirRefused answer) s h needs = (h, tt, tt)
-air_goes same g made (LinkSecured station air algs count) s h needs = link_secured_goes same g made station air algs count s s.radio h h needs
-air_goes same g made (HandedOver cell steps algs station air) s h needs =
-    handed_over_goes same g made cell steps algs station air s s.radio h h needs
-air_goes same g made (KeyChanged cell algs station air) s h needs = key_changed_goes same g made cell algs station air s s.radio s.context h h needs
-air_goes same g made (RrcOpened srb count text) s h needs = rrc_opened_goes same g srb count text s s.radio h h
-air_goes same g made (PacketOpened drb count text) s h needs = packet_opened_goes g drb count text s s.radio h h
+air_goes : (same : Term → Term → Bool) (g : Ghost) → AllOf (MadeOk g) g.made → (s : Phone Term ℕ)
+    → AirCases (term_reading_by same) (λ t row. AirNeeds g t.radio row) (Keeps g) s
+air_goes same g made s = record {
+  nothing = λ t answer h. (h, tt, tt);
+  secured = λ station air algs count w needs h. link_secured_goes same g made station air algs count s w h needs;
+  handed_over = λ cell steps algs station air l needs h. handed_over_goes same g made cell steps algs station air s l h needs;
+  changed = λ cell algs station air l c e needs h. changed_goes same g made cell algs station air s l c.root h needs;
+  rrc = λ srb count text l needs h. (heard_after g l (srb_taken srb count l.bearers) h (heard_taken srb count l.bearers), tt, tt);
+  packet = λ drb count text l needs h. (heard_after g l (drb_taken drb count l.bearers) h (heard_packet drb count l.bearers), tt, tt);
+}
 
 -- THE ROWS ON A NAS MESSAGE
 
 not_four : (n : ℕ) → n < 4 → n ≡ 4 → ⊥
 not_four n low e = omega arith
 
-rejected_goes : (g : Ghost) (answer : Answer) (cause : ℕ) (s : Phone Term ℕ) (o : Option (NasContext Term)) → RadioOk g s.radio
-    → PhoneGoes g (rejected_under answer cause s o)
-rejected_goes g answer cause s None h = (h, tt, tt)
-rejected_goes g answer cause s (Some c) h = (h, tt, (λ e. absurd (not_four 2 (omega arith) e)))
-
-context_taken_goes : (same : Term → Term → Bool) (g : Ghost) (algs : Algs) (count : ℕ) (s : Phone Term ℕ) (o : Option (Partial Term)) → RadioOk g s.radio
-    → PhoneGoes g (context_taken (term_reading_by same) algs count s o)
-context_taken_goes same g algs count s None h = (h, tt, tt)
-context_taken_goes same g algs count s (Some p) h = ((0, refl), tt, (λ e. refl))
-
-taken_connected_goes : (same : Term → Term → Bool) (g : Ghost) (algs : Algs) (count : ℕ) (s : Phone Term ℕ) (o : Option (Partial Term)) → RadioOk g s.radio
-    → PhoneGoes g (context_taken_connected (term_reading_by same) algs count s o)
-taken_connected_goes same g algs count s None h = (h, tt, tt)
-taken_connected_goes same g algs count s (Some p) h = (h, tt, (λ e. refl))
-
-nas_opened_goes : (g : Ghost) (count : ℕ) (text : List ℕ) (s : Phone Term ℕ) (o : Option (NasContext Term)) → RadioOk g s.radio
-    → PhoneGoes g (nas_opened count text s o)
-nas_opened_goes g count text s None h = (h, tt, tt)
-nas_opened_goes g count text s (Some c) h = (h, tt, tt)
-
-nas_goes : (same : Term → Term → Bool) (g : Ghost) (row : NasRow) (s : Phone Term ℕ) → RadioOk g s.radio
-    → PhoneGoes g (nas_does (term_reading_by same) row s)
-nas_goes same g (NasRefused answer) s h = (h, tt, tt)
-nas_goes same g (RejectedPlain answer cause) s h = (h, tt, tt)
-nas_goes same g (RejectedUnder answer cause) s h = rejected_goes g answer cause s s.context h
-nas_goes same g (ContextTaken algs count) s h = context_taken_goes same g algs count s s.partial h
-nas_goes same g (ContextTakenConnected algs count) s h = taken_connected_goes same g algs count s s.partial h
-nas_goes same g (NasOpened count text) s h = nas_opened_goes g count text s s.context h
+nas_goes : (same : Term → Term → Bool) (g : Ghost) (s : Phone Term ℕ) → NasCases (term_reading_by same) Anything (Keeps g) s
+nas_goes same g s = record {
+  nothing = λ t answer h. (h, tt, tt);
+  rejected = λ answer cause k h. (h, tt, tt);
+  rejected_under = λ answer cause c k h. (h, tt, (λ e. absurd (not_four 2 (omega arith) e)));
+  taken = λ algs count p k h. ((0, refl), tt, (λ e. refl));
+  taken_connected = λ algs count p k h. (h, tt, (λ e. refl));
+  opened = λ count text c k h. (h, tt, tt);
+}
 
 -- THE ROWS OF ITS OWN ACTS
 
@@ -405,50 +378,26 @@ sends_up g l h srb count =
       (h.2, h.3, (λ j. srb_use Up (keys j).rrc_int srb count), (λ j. srb_ciphering Up (keys j) srb count)),
     )
 
-resent_goes : (g : Ghost) (s : Phone Term ℕ) (radio : Radio Term ℕ) → RadioOk g s.radio → RadioOk g radio
-    → PhoneGoes g (complete_resent s radio)
-resent_goes g s (Connected l) old h = (heard_after g l (srb_sent Signalling1 l.bearers) h (heard_sent Signalling1 l.bearers), tt, sends_up g l h Signalling1 l.bearers.srb1.send)
-resent_goes g s other old h = (old, tt, tt)
-
-packet_sent_goes : (g : Ghost) (drb : Drb) (text : List ℕ) (s : Phone Term ℕ) (radio : Radio Term ℕ) → RadioOk g s.radio → RadioOk g radio
-    → PhoneGoes g (packet_sent drb text s radio)
-packet_sent_goes g drb text s (Connected l) old h = (heard_after g l (drb_sent drb l.bearers) h (heard_packet_sent drb l.bearers), tt, tt)
-packet_sent_goes g drb text s other old h = (old, tt, tt)
-
-rrc_sent_goes : (g : Ghost) (srb : Srb) (text : List ℕ) (s : Phone Term ℕ) (radio : Radio Term ℕ) → RadioOk g s.radio → RadioOk g radio
-    → PhoneGoes g (rrc_sent srb text s radio)
-rrc_sent_goes g srb text s (Connected l) old h = (heard_after g l (srb_sent srb l.bearers) h (heard_sent srb l.bearers), tt, sends_up g l h srb (srb_counts srb l.bearers).send)
-rrc_sent_goes g srb text s other old h = (old, tt, tt)
-
-service_goes : (same : Term → Term → Bool) (g : Ghost) (s : Phone Term ℕ) (o : Option (NasContext Term)) → RadioOk g s.radio
-    → PhoneGoes g (service_requested (term_reading_by same) s o)
-service_goes same g s None h = (h, tt, tt)
-service_goes same g s (Some c) h = ((c.send, refl), tt, (λ e. absurd (not_four 1 (omega arith) e)))
-
-nas_sent_goes : (g : Ghost) (text : List ℕ) (s : Phone Term ℕ) (o : Option (NasContext Term)) → RadioOk g s.radio → PhoneGoes g (nas_sent text s o)
-nas_sent_goes g text s None h = (h, tt, tt)
-nas_sent_goes g text s (Some c) h = (h, tt, (λ e. absurd (not_four 2 (omega arith) e)))
-
-nas_left_goes : (g : Ghost) (n : ℕ) (s : Phone Term ℕ) (o : Option (NasContext Term)) → RadioOk g s.radio → PhoneGoes g (nas_skipped n s o)
-nas_left_goes g n s None h = (h, tt, tt)
-nas_left_goes g n s (Some c) h = (h, tt, tt)
-
-bearer_left_goes : (g : Ghost) (on : Which) (n : ℕ) (s : Phone Term ℕ) (radio : Radio Term ℕ) → RadioOk g s.radio → RadioOk g radio
-    → PhoneGoes g (bearer_skipped on n s radio)
-bearer_left_goes g on n s (Connected l) old h = (heard_after g l (skipped_on on n l.bearers) h (heard_left on n l.bearers), tt, tt)
-bearer_left_goes g on n s other old h = (old, tt, tt)
-
-act_goes : (same : Term → Term → Bool) (g : Ghost) (row : ActRow) (s : Phone Term ℕ) → RadioOk g s.radio
-    → PhoneGoes g (act_does (term_reading_by same) row s)
-act_goes same g (ActRefused answer) s h = (h, tt, tt)
-act_goes same g ServiceRequested s h = service_goes same g s s.context h
-act_goes same g CompleteResent s h = resent_goes g s s.radio h h
-act_goes same g WentIdle s h = (tt, tt, tt)
-act_goes same g (PacketSent drb text) s h = packet_sent_goes g drb text s s.radio h h
-act_goes same g (RrcSent srb text) s h = rrc_sent_goes g srb text s s.radio h h
-act_goes same g (NasSent text) s h = nas_sent_goes g text s s.context h
-act_goes same g (NasSkipped n) s h = nas_left_goes g n s s.context h
-act_goes same g (BearerSkipped on n) s h = bearer_left_goes g on n s s.radio h h
+act_goes : (same : Term → Term → Bool) (g : Ghost) (s : Phone Term ℕ) → ActCases (term_reading_by same) Anything (Keeps g) s
+act_goes same g s = record {
+  nothing = λ t answer h. (h, tt, tt);
+  requested = λ c k h. ((c.send, refl), tt, (λ e. absurd (not_four 1 (omega arith) e)));
+  resent = λ l k h. (
+    heard_after g l (srb_sent Signalling1 l.bearers) h (heard_sent Signalling1 l.bearers),
+    tt,
+    sends_up g l h Signalling1 l.bearers.srb1.send,
+  );
+  idle = λ k h. (tt, tt, tt);
+  packet = λ drb text l k h. (heard_after g l (drb_sent drb l.bearers) h (heard_packet_sent drb l.bearers), tt, tt);
+  rrc = λ srb text l k h. (
+    heard_after g l (srb_sent srb l.bearers) h (heard_sent srb l.bearers),
+    tt,
+    sends_up g l h srb (srb_counts srb l.bearers).send,
+  );
+  nas = λ text c k h. (h, tt, (λ e. absurd (not_four 2 (omega arith) e)));
+  nas_skipped = λ n c k h. (h, tt, tt);
+  bearer_skipped = λ on n l k h. (heard_after g l (skipped_on on n l.bearers) h (heard_left on n l.bearers), tt, tt);
+}
 
 auth_goes : (g : Ghost) (row : AuthRow) (root : Option Term) (s : Phone Term ℕ) → RadioOk g s.radio → PhoneGoes g (auth_does row root s)
 auth_goes g (Authenticated ksi) None s h = (h, tt, tt)
@@ -458,6 +407,6 @@ auth_goes g (Authenticated ksi) (Some root) s h = (h, tt, tt)
 pub phone_goes : (same : Term → Term → Bool) (g : Ghost) → AllOf (MadeOk g) g.made → (row : PhoneRow) (root : Option Term) (s : Phone Term ℕ)
     → RadioOk g s.radio → PhoneNeeds g s.radio row → PhoneGoes g (phone_does (term_reading_by same) row root s)
 phone_goes same g made (OfAuth row) root s h needs = auth_goes g row root s h
-phone_goes same g made (OfNas row) root s h needs = nas_goes same g row s h
-phone_goes same g made (OfAir row) root s h needs = air_goes same g made row s h needs
-phone_goes same g made (OfAct row) root s h needs = act_goes same g row s h
+phone_goes same g made (OfNas row) root s h needs = nas_case (term_reading_by same) Anything (Keeps g) s (nas_goes same g s) row tt h
+phone_goes same g made (OfAir row) root s h needs = air_case (term_reading_by same) _ (Keeps g) s (air_goes same g made s) row needs h
+phone_goes same g made (OfAct row) root s h needs = act_case (term_reading_by same) Anything (Keeps g) s (act_goes same g s) row tt h

@@ -2,13 +2,10 @@
 use Rattle.std.proofs.Common.{◌≡◌, refl, sym, ap, ◌∙◌, subst, ℕ, ◌+◌, ◌≤◌, ◌<◌, ◌==◌, Bool, false, List, Option, Some, None, Err, le_of_eq, lt_of_le_of_lt, arith}
 use Rattle.std.proofs.lemmas.Bool.Decides.{nat_tests}
 use Rattle.std.specs.Prelude.{⊤}
-use Rattle.alg_choice.specs.declared.algs.Algs.{Algs}
 use Rattle.alg_choice.specs.declared.caps.Caps.{Caps}
-use Rattle.annex_a_keys.specs.Cell.{Place}
 use Rattle.rec_base.specs.declared.faults.RecFault.{RecFault}
 use Rattle.lte_events.specs.declared.acts.CoreAct.{CoreAct}
 use Rattle.lte_events.specs.declared.addresses.Address.{Address}
-use Rattle.nas_guard.specs.Keys.{Keys}
 use Rattle.key_model.specs.Term.{Term}
 use Rattle.key_model.specs.HandoverTable.{NumberedKey}
 use Rattle.key_model.specs.Reading.{term_reading_by}
@@ -19,14 +16,14 @@ use Rattle.lte_machine.specs.Opening.{Outcome}
 use Rattle.lte_machine.specs.Wire.{Outgoing, SealedNas, PlainNas, SealedRrc, UserPacket, Between}
 use Rattle.lte_machine.specs.StationKeys.{spent_in}
 use Rattle.lte_machine.specs.StationState.{Station, Context}
-use Rattle.lte_machine.specs.CoreState.{Core, CorePartial, CoreContext, CoreLink, CoreInput, CoreAuth, CoreActs, CoreNasPdu, CoreRecord}
-use Rattle.lte_machine.specs.CoreRows.{CoreNasRow, NasRefused, PlainReject, SmcComplete, SmcChange, ServiceAsked, NasOpened, SealedReject, CoreRecordRow, RecordRefused, PathSwitched, HandoverAsked, HandoverOrdered, HandoverNotified, HandoverCancelled, CoreActRow, ActRefused, SmcStarted, ContextSetUp, ContextReleased, NasSent, NasSkipped}
+use Rattle.lte_machine.specs.CoreState.{Core, CoreLink, CoreInput, CoreAuth, CoreActs, CoreNasPdu, CoreRecord}
 use Rattle.lte_machine.specs.CoreChoice.{core_fields_row, core_act_row}
-use Rattle.lte_machine.specs.CoreKeys.{authenticated, smc_started, smc_complete, service_asked, nas_opened, sealed_reject, nas_sent, nas_skipped, context_set_up, path_switched, handover_asked, handover_notified, core_does_nas, core_does_record, core_does_act, key_changed, number_from}
+use Rattle.lte_machine.specs.CoreKeys.{CoreDone, number_from}
 use Rattle.lte_machine.specs.CoreStep.{plain_core, core_step}
+use Rattle.lte_machine.proofs.CoreCases.{with_link, NasCases, nas_case, RecordCases, record_case, ActCases, act_case}
 use Rattle.lte_machine.proofs.ActFacts.{ActHas, act_has}
 use Rattle.lte_machine.proofs.NasFacts.{NasHas, nas_row, nas_has}
-use Rattle.lte_machine.proofs.S1Facts.{LinkIs, RecordHas, record_has}
+use Rattle.lte_machine.proofs.S1Facts.{RecordHas, record_has}
 use Rattle.lte_machine.proofs.Tests.{by_test, same_of}
 use Rattle.lte_properties.specs.ChainBelow.{OfPair, star_in, EachNumber, AtMost, IsUnder, ContextBelow, RecordBelow, LinkTop, CoreTop}
 use Rattle.lte_properties.specs.ChainAbove.{RequestOk, AnswerOk, InFlight}
@@ -123,75 +120,37 @@ module _ (top : ℕ → ℕ) (A : Station Term ℕ → Type 0) (s : Core Term �
     flies = λ u k a. p.1 u;
   }
 
-  -- by a NAS message
-  smc_complete_kept : (count : ℕ) (o : Option (CorePartial Term)) (p : Option (Keys Term)) → CoreKept top A (smc_complete count o p s).0 (smc_complete count o p s).1.sent
-  smc_complete_kept count None p = silent_kept s refl refl
-  smc_complete_kept count (Some partial) None = silent_kept s refl refl
-  smc_complete_kept count (Some partial) (Some keys) = silent_kept _ refl refl
+module _ (top : ℕ → ℕ) (A : Station Term ℕ → Type 0) (same : Term → Term → Bool) (s : Core Term ℕ) where
+  -- of a core of these numbers
+  abbrev Keeps : Core Term ℕ → CoreDone Term ℕ → Type 0
+  Keeps t d = CoreTop top t → CoreKept top A d.0 d.1.sent
 
-  service_asked_kept : (count : ℕ) (o : Option (CoreContext Term)) → CoreKept top A (service_asked count o s).0 (service_asked count o s).1.sent
-  service_asked_kept count None = silent_kept s refl refl
-  service_asked_kept count (Some c) = silent_kept _ refl refl
+  abbrev begins_at : ℕ
+  begins_at = number_from (term_reading_by same) s.first_ncc
 
-  nas_opened_kept : (count : ℕ) (text : List ℕ) (o : Option (CoreContext Term)) → CoreKept top A (nas_opened count text o s).0 (nas_opened count text o s).1.sent
-  nas_opened_kept count text None = silent_kept s refl refl
-  nas_opened_kept count text (Some c) = silent_kept _ refl refl
+  -- a connection begins with number 0, or 1 kept, under the next connection number
+  nas_kept : (pdu : List ℕ) (outcome : Outcome) → NasCases (term_reading_by same) (λ t row. NasHas (term_reading_by same) t pdu outcome row) Keeps s
+  nas_kept pdu outcome = record {
+    nothing = λ t answer h. silent_kept top A t h t refl refl;
+    closed = λ f h. silent_kept top A s h _ refl refl;
+    completed = λ count p keys f h. silent_kept top A s h _ refl refl;
+    changed = λ count conn next station p keys f h. link_moves top A s h _ _ _ refl (omega (arith, f.1.next_is)) (omega arith)
+        (from_none begins_at (h.1 next (le_of_eq (sym f.1.next_is)))) (omega arith) (λ u k a. tt);
+    asked = λ count c f h. silent_kept top A s h _ refl refl;
+    opened = λ count text c f h. silent_kept top A s h _ refl refl;
+    rejected = λ count c f h. silent_kept top A s h _ refl refl;
+  }
 
-  sealed_reject_kept : (count : ℕ) (o : Option (CoreContext Term)) → CoreKept top A (sealed_reject count o s).0 (sealed_reject count o s).1.sent
-  sealed_reject_kept count None = silent_kept s refl refl
-  sealed_reject_kept count (Some c) = silent_kept _ refl refl
-
-  -- a key change begins with number 0, or 1 kept, under the next connection number
-  key_changed_kept : (same : Term → Term → Bool) (count conn next station : ℕ) (o : Option (CorePartial Term)) (p : Option (Keys Term)) → next ≡ s.next →
-      CoreKept top A (key_changed (term_reading_by same) count conn next station o p s).0 (key_changed (term_reading_by same) count conn next station o p s).1.sent
-  key_changed_kept same count conn next station None p e = silent_kept s refl refl
-  key_changed_kept same count conn next station (Some partial) None e = silent_kept s refl refl
-  key_changed_kept same count conn next station (Some partial) (Some keys) e =
-      link_moves _ _ _ refl (omega arith) (omega arith) (from_none (number_from (term_reading_by same) s.first_ncc) (h.1 next (le_of_eq (sym e)))) (omega arith) (λ u k a. tt)
-
-  nas_kept : (same : Term → Term → Bool) (pdu : List ℕ) (outcome : Outcome) (row : CoreNasRow) → NasHas (term_reading_by same) s pdu outcome row →
-      CoreKept top A (core_does_nas (term_reading_by same) row s).0 (core_does_nas (term_reading_by same) row s).1.sent
-  nas_kept same pdu outcome (NasRefused answer) f = silent_kept s refl refl
-  nas_kept same pdu outcome PlainReject f = silent_kept _ refl refl
-  nas_kept same pdu outcome (SmcComplete count) f = smc_complete_kept count s.partial s.procedure
-  nas_kept same pdu outcome (SmcChange count conn next station) f = key_changed_kept same count conn next station s.partial s.procedure f.1.next_is
-  nas_kept same pdu outcome (ServiceAsked count) f = service_asked_kept count s.context
-  nas_kept same pdu outcome (NasOpened count text) f = nas_opened_kept count text s.context
-  nas_kept same pdu outcome (SealedReject count) f = sealed_reject_kept count s.context
-
-  -- by an act, and by an authentication
-  smc_started_kept : (same : Term → Term → Bool) (ksi : ℕ) (algs : Algs) (caps : Caps) (count : ℕ) (o : Option (CorePartial Term)) →
-      CoreKept top A (smc_started (term_reading_by same) ksi algs caps count o s).0 (smc_started (term_reading_by same) ksi algs caps count o s).1.sent
-  smc_started_kept same ksi algs caps count None = silent_kept s refl refl
-  smc_started_kept same ksi algs caps count (Some partial) = link_stays _ _ refl refl ((λ top. tt), (λ u. tt))
-
-  nas_sent_kept : (count : ℕ) (text : List ℕ) (o : Option (CoreContext Term)) → CoreKept top A (nas_sent count text o s).0 (nas_sent count text o s).1.sent
-  nas_sent_kept count text None = silent_kept s refl refl
-  nas_sent_kept count text (Some c) = link_stays _ _ refl refl ((λ top. tt), (λ u. tt))
-
-  nas_skipped_kept : (n : ℕ) (o : Option (CoreContext Term)) → CoreKept top A (nas_skipped n o s).0 (nas_skipped n o s).1.sent
-  nas_skipped_kept n None = silent_kept s refl refl
-  nas_skipped_kept n (Some c) = silent_kept _ refl refl
-
-  -- a new connection begins with number 0, or 1 kept
-  context_set_up_kept : (same : Term → Term → Bool) (conn : ℕ) (cell : Place) (target : ℕ) (caps : Caps) (count : ℕ) (o : Option (CoreContext Term)) → conn ≡ s.next →
-      CoreKept top A (context_set_up (term_reading_by same) conn cell target caps count o s).0 (context_set_up (term_reading_by same) conn cell target caps count o s).1.sent
-  context_set_up_kept same conn cell target caps count None e = silent_kept s refl refl
-  context_set_up_kept same conn cell target caps count (Some c) e =
-      link_moves _ _ _ refl (omega arith) (omega arith) (from_none (number_from (term_reading_by same) s.first_ncc) (h.1 conn (le_of_eq (sym e)))) (omega arith) (λ u k a. tt)
-
-  act_kept : (same : Term → Term → Bool) (act : CoreAct) (row : CoreActRow) → ActHas s act row →
-      CoreKept top A (core_does_act (term_reading_by same) row s).0 (core_does_act (term_reading_by same) row s).1.sent
-  act_kept same act (ActRefused answer) f = silent_kept s refl refl
-  act_kept same act (SmcStarted ksi algs caps count) f = smc_started_kept same ksi algs caps count s.partial
-  act_kept same act (ContextSetUp conn cell target caps count) f = context_set_up_kept same conn cell target caps count s.context f.conn_is
-  act_kept same act (ContextReleased conn station) f = link_ends _ _ refl refl ((λ top. tt), (λ u. tt))
-  act_kept same act (NasSent count text) f = nas_sent_kept count text s.context
-  act_kept same act (NasSkipped n) f = nas_skipped_kept n s.context
-
-  authenticated_kept : (ksi : ℕ) (caps : Caps) (o : Option Term) → CoreKept top A (authenticated ksi caps o s).0 (authenticated ksi caps o s).1.sent
-  authenticated_kept ksi caps None = silent_kept s refl refl
-  authenticated_kept ksi caps (Some root) = silent_kept _ refl refl
+  act_kept : (act : CoreAct) → ActCases (term_reading_by same) (λ t row. ActHas t act row) Keeps s
+  act_kept act = record {
+    nothing = λ t answer h. silent_kept top A t h t refl refl;
+    started = λ ksi algs caps count p f h. link_stays top A s h _ _ refl refl ((λ top. tt), (λ u. tt));
+    set_up = λ conn cell target caps count c f h. link_moves top A s h _ _ _ refl (omega (arith, f.conn_is)) (omega arith)
+        (from_none begins_at (h.1 conn (le_of_eq (sym f.conn_is)))) (omega arith) (λ u k a. tt);
+    released = λ conn station f h. link_ends top A s h _ _ refl refl ((λ top. tt), (λ u. tt));
+    sent = λ count text c f h. link_stays top A s h _ _ refl refl ((λ top. tt), (λ u. tt));
+    skipped = λ n c f h. silent_kept top A s h _ refl refl;
+  }
 
 -- what is so of each number is so of each in another way
 of_pair_weaker : (P Q : ℕ → Type 0) → ((n : ℕ) → P n → Q n) → (o : Option (NumberedKey Term ℕ)) → OfPair P o → OfPair Q o
@@ -203,74 +162,48 @@ each_weaker P Q f c h =
     (f c.key.number h.0, of_pair_weaker P Q f c.key.pair h.1, of_pair_weaker P Q f (star_in c.attempt) h.2, of_pair_weaker P Q f (spent_in c.attempt) h.3)
 
 -- a pair above the core's number is above each number of the context that asked
-answer_ok : (top : ℕ → ℕ) (o : Option (Context Term ℕ)) (conn number n : ℕ) → ContextBelow top o → RequestOk o conn number → top conn < n → AnswerOk o conn number n
+answer_ok : (top : ℕ → ℕ) (o : Option (Context Term ℕ)) (conn number n : ℕ) → ContextBelow top o → RequestOk o conn number → top conn < n
+    → AnswerOk o conn number n
 answer_ok top None conn number n h k lt = tt
 answer_ok top (Some c) conn number n h k lt = λ e.
     (k e, each_weaker (AtMost (top c.conn)) (IsUnder n) (λ m le. lt_of_le_of_lt le (subst (λ d. top d < n) (sym (k e)) lt)) c h)
 
-module _ (top : ℕ → ℕ) (same : Term → Term → Bool) (s : Core Term ℕ) (h : CoreTop top s) where
-  -- the number of a connection that stands
-  link_number : (o : Option (CoreLink Term ℕ)) (link : CoreLink Term ℕ) → o ≡ Some link → LinkTop top s.next o → (link.chain.number ≡ top link.conn) × (link.conn < s.next)
-  link_number o link e k = subst (LinkTop top s.next) e k
+-- the chain of a connection goes one step on, which stays one or goes to another station
+module _ (top : ℕ → ℕ) (same : Term → Term → Bool) (link : CoreLink Term ℕ) (conn station : ℕ) (i : link.conn ≡ conn) where
+  abbrev further : CoreLink Term ℕ
+  further = record { conn = link.conn; chain = stepped (term_reading_by same) link.chain; station = station }
 
-  -- the chain goes one step on
-  path_switched_kept : (A : Station Term ℕ → Type 0) (conn station number : ℕ) (alarm : Bool) (o : Option (CoreLink Term ℕ)) → s.link ≡ o → LinkIs o conn →
-      ((u : Station Term ℕ) → A u → station ≡ u.id → (number < u.next) × RequestOk u.context conn number) →
-      CoreKept top A
-      (path_switched (term_reading_by same) conn station number alarm o s).0 (path_switched (term_reading_by same) conn station number alarm o s).1.sent
-  path_switched_kept A conn station number alarm None e i fits = absurd i
-  path_switched_kept A conn station number alarm (Some link) e i fits =
-      let k = link_number s.link link e h.0 in
-      link_moves top A s h _ (record { conn = link.conn; chain = stepped (term_reading_by same) link.chain; station = station }) _ refl (omega arith) k.1 (step_up link k.0)
-      (answer_below link i k.0)
-      (λ u c a f. let q = fits u a f in (q.0, answer_ok top u.context conn number _ c q.1 (above link i k.0)))
-    where
-      step_up : (link : CoreLink Term ℕ) → link.chain.number ≡ top link.conn → top link.conn ≤ link.chain.number + 1
-      step_up link k = omega arith
+  further_up : link.chain.number ≡ top link.conn → top link.conn ≤ link.chain.number + 1
+  further_up k = omega arith
 
-      above : (link : CoreLink Term ℕ) → link.conn ≡ conn → link.chain.number ≡ top link.conn → top conn < link.chain.number + 1
-      above link i k = subst (λ c. top c < link.chain.number + 1) i (omega arith)
+  further_above : link.chain.number ≡ top link.conn → top conn < link.chain.number + 1
+  further_above k = subst (λ c. top c < link.chain.number + 1) i (omega arith)
 
-      answer_below : (link : CoreLink Term ℕ) → link.conn ≡ conn → link.chain.number ≡ top link.conn →
-          link.chain.number + 1 ≤ noted (Some (record { conn = link.conn; chain = stepped (term_reading_by same) link.chain; station = station })) top conn
-      answer_below link i k =
-          subst (λ c. link.chain.number + 1 ≤ noted (Some (record { conn = link.conn; chain = stepped (term_reading_by same) link.chain; station = station })) top c) i
-          (le_of_eq (sym (noted_own top (record { conn = link.conn; chain = stepped (term_reading_by same) link.chain; station = station }))))
+  further_below : link.chain.number + 1 ≤ noted (Some further) top conn
+  further_below = subst (λ c. link.chain.number + 1 ≤ noted (Some further) top c) i (le_of_eq (sym (noted_own top further)))
 
-  handover_asked_kept : (A : Station Term ℕ → Type 0) (conn source attempt : ℕ) (cell : Place) (target : ℕ) (caps : Caps) (o : Option (CoreLink Term ℕ)) → s.link ≡ o → LinkIs o conn →
-      CoreKept top A
-      (handover_asked (term_reading_by same) conn source attempt cell target caps o s).0 (handover_asked (term_reading_by same) conn source attempt cell target caps o s).1.sent
-  handover_asked_kept A conn source attempt cell target caps None e i = absurd i
-  handover_asked_kept A conn source attempt cell target caps (Some link) e i =
-      let k = link_number s.link link e h.0 in
-      link_moves top A s h _ (record link { chain = stepped (term_reading_by same) link.chain }) _ refl (omega arith) k.1 (step_up link k.0)
-      (request_below link i) (λ u c a. tt)
-    where
-      step_up : (link : CoreLink Term ℕ) → link.chain.number ≡ top link.conn → top link.conn ≤ link.chain.number + 1
-      step_up link k = omega arith
+module _ (top : ℕ → ℕ) (same : Term → Term → Bool) (to : Address) (fields : Fields) (key : Option (NumberedKey Term ℕ)) (s : Core Term ℕ) where
+  -- the stations where the record is in flight
+  abbrev Asks : Station Term ℕ → Type 0
+  Asks u = InFlight u (Between to fields key)
 
-      request_below : (link : CoreLink Term ℕ) → link.conn ≡ conn →
-          link.chain.number + 1 ≤ noted (Some (record link { chain = stepped (term_reading_by same) link.chain })) top conn
-      request_below link i =
-          subst (λ c. link.chain.number + 1 ≤ noted (Some (record link { chain = stepped (term_reading_by same) link.chain })) top c) i
-          (le_of_eq (sym (noted_own top (record link { chain = stepped (term_reading_by same) link.chain }))))
-
-  handover_notified_kept : (A : Station Term ℕ → Type 0) (station : ℕ) (o : Option (CoreLink Term ℕ)) → s.link ≡ o →
-      CoreKept top A (handover_notified station o s).0 (handover_notified station o s).1.sent
-  handover_notified_kept A station None e = silent_kept top A s h s refl refl
-  handover_notified_kept A station (Some link) e =
-      let k = link_number s.link link e h.0 in
-      link_moves top A s h _ (record link { station = station }) None refl (omega arith) k.1 (le_of_eq (sym k.0)) tt (λ u c a. tt)
-
-  record_kept : (to : Address) (fields : Fields) (key : Option (NumberedKey Term ℕ)) (row : CoreRecordRow) → RecordHas s fields row →
-      CoreKept top (λ u. InFlight u (Between to fields key)) (core_does_record (term_reading_by same) row s).0 (core_does_record (term_reading_by same) row s).1.sent
-  record_kept to fields key (RecordRefused answer) f = silent_kept top _ s h s refl refl
-  record_kept to fields key (PathSwitched conn station number alarm) f =
-      path_switched_kept _ conn station number alarm s.link refl f.linked (λ u a. subst (λ g. InFlight u (Between to g key)) f.fields_is a)
-  record_kept to fields key (HandoverAsked conn source attempt cell target caps) f = handover_asked_kept _ conn source attempt cell target caps s.link refl f.linked
-  record_kept to fields key (HandoverOrdered conn source attempt cell ncc algs air) f = link_stays top _ s h s _ refl refl ((λ top. tt), (λ u. tt))
-  record_kept to fields key (HandoverNotified station) f = handover_notified_kept _ station s.link refl
-  record_kept to fields key (HandoverCancelled conn source attempt cell target) f = link_stays top _ s h s _ refl refl ((λ top. tt), (λ u. tt))
+  record_kept : RecordCases (term_reading_by same) (λ t row. RecordHas t fields row) (Keeps top Asks same s) s
+  record_kept = record {
+    nothing = λ t answer h. silent_kept top Asks t h t refl refl;
+    switched = λ conn station number alarm link f h.
+        link_moves top Asks (with_link s (Some link)) h _ (further top same link conn station f.linked) _ refl
+        (omega arith) h.0.1 (further_up top same link conn station f.linked h.0.0) (further_below top same link conn station f.linked)
+        (λ u c a g.
+        let q = subst (λ x. InFlight u (Between to x key)) f.fields_is a g in
+        (q.0, answer_ok top u.context conn number _ c q.1 (further_above top same link conn station f.linked h.0.0)));
+    asked = λ conn source attempt cell target caps link f h.
+        link_moves top Asks (with_link s (Some link)) h _ (further top same link conn link.station f.linked) _ refl
+        (omega arith) h.0.1 (further_up top same link conn link.station f.linked h.0.0) (further_below top same link conn link.station f.linked) (λ u c a. tt);
+    ordered = λ conn source attempt cell ncc algs air f h. link_stays top Asks s h s _ refl refl ((λ top. tt), (λ u. tt));
+    notified = λ station link f h. link_moves top Asks (with_link s (Some link)) h _ (record link { station = station }) None refl
+        (omega arith) h.0.1 (le_of_eq (sym h.0.0)) tt (λ u c a. tt);
+    cancelled = λ conn source attempt cell target f h. link_stays top Asks s h s _ refl refl ((λ top. tt), (λ u. tt));
+  }
 
 -- A STEP OF THE CORE
 
@@ -279,15 +212,17 @@ CoreStepKept top same s A input outcome = let d = core_step (term_reading_by sam
 
 module _ (top : ℕ → ℕ) (same : Term → Term → Bool) (s : Core Term ℕ) (h : CoreTop top s) where
   pub core_auth_kept : (ksi : ℕ) (root : Term) (caps : Caps) (outcome : Outcome) → CoreStepKept top same s (λ u. ⊤) (CoreAuth ksi root caps) outcome
-  core_auth_kept ksi root caps outcome = authenticated_kept top _ s h ksi caps (Some root)
+  core_auth_kept ksi root caps outcome = silent_kept top _ s h _ refl refl
 
   pub core_act_kept : (act : CoreAct) (outcome : Outcome) → CoreStepKept top same s (λ u. ⊤) (CoreActs act) outcome
   core_act_kept act outcome =
-      act_kept top _ s h same act (core_act_row (plain_core (term_reading_by same) s) act) (act_has (term_reading_by same) s act)
+      act_case (term_reading_by same) _ (Keeps top _ same s) s (act_kept top _ same s act)
+      (core_act_row (plain_core (term_reading_by same) s) act) (act_has (term_reading_by same) s act) h
 
   pub core_nas_kept : (pdu : List ℕ) (outcome : Outcome) → CoreStepKept top same s (λ u. ⊤) (CoreNasPdu pdu) outcome
   core_nas_kept pdu outcome =
-      nas_kept top _ s h same pdu outcome (nas_row (term_reading_by same) s pdu outcome) (nas_has (term_reading_by same) s pdu outcome)
+      nas_case (term_reading_by same) _ (Keeps top _ same s) s (nas_kept top _ same s pdu outcome)
+      (nas_row (term_reading_by same) s pdu outcome) (nas_has (term_reading_by same) s pdu outcome) h
 
   -- a record that was not sent, and one that was
   pub core_unread_kept : (A : Station Term ℕ → Type 0) (fault : RecFault) (outcome : Outcome) → CoreStepKept top same s A (CoreRecord (Err fault)) outcome
@@ -299,4 +234,5 @@ module _ (top : ℕ → ℕ) (same : Term → Term → Bool) (s : Core Term ℕ)
   core_record_kept (SealedRrc dir station air srb u e text) outcome = silent_kept top _ s h s refl refl
   core_record_kept (UserPacket dir station air drb e text) outcome = silent_kept top _ s h s refl refl
   core_record_kept (Between to fields key) outcome =
-      record_kept top same s h to fields key (core_fields_row (plain_core (term_reading_by same) s) fields) (record_has (term_reading_by same) s fields)
+      record_case (term_reading_by same) _ (Keeps top _ same s) s (record_kept top same to fields key s)
+      (core_fields_row (plain_core (term_reading_by same) s) fields) (record_has (term_reading_by same) s fields) h

@@ -15,13 +15,14 @@ use Rattle.nas_guard.specs.Seal.{nas_bearer}
 use Rattle.lte_machine.specs.Bearers.{skipped}
 use Rattle.lte_machine.specs.Opening.{Outcome}
 use Rattle.lte_machine.specs.Wire.{KeyUse, Outgoing, nas_use}
-use Rattle.lte_machine.specs.CoreState.{Core, CorePartial, CoreContext, CoreLink}
-use Rattle.lte_machine.specs.CoreRows.{CoreNasRow, NasRefused, PlainReject, SmcComplete, ServiceAsked, NasOpened, SealedReject, CoreRecordRow, RecordRefused, PathSwitched, HandoverAsked, HandoverOrdered, HandoverNotified, HandoverCancelled, CoreActRow, ActRefused, SmcStarted, ContextSetUp, ContextReleased, NasSent, NasSkipped, SmcChange}
-use Rattle.lte_machine.specs.CoreKeys.{smc_started, smc_complete, nas_taken, nas_sent_to, service_asked, nas_opened, sealed_reject, nas_sent, nas_skipped, context_set_up, path_switched, handover_asked, handover_notified, core_does_nas, core_does_record, core_does_act, nas_text, key_changed}
+use Rattle.lte_machine.specs.CoreState.{Core, CorePartial, CoreContext}
+use Rattle.lte_machine.specs.CoreRows.{CoreNasRow, CoreRecordRow, CoreActRow}
+use Rattle.lte_machine.specs.CoreKeys.{CoreDone, smc_started, nas_taken, nas_sent_to, nas_sent, context_set_up, core_does_nas, core_does_record, core_does_act, nas_text}
 use Rattle.lte_machine.specs.World.{uses_in}
+use Rattle.lte_machine.proofs.CoreCases.{with_partial, with_context, NasCases, nas_case, RecordCases, record_case, ActCases, act_case}
 use Rattle.lte_machine.proofs.ActFacts.{ActHas}
-use Rattle.lte_machine.proofs.NasFacts.{NasHas, NextIn, opens_above}
-use Rattle.lte_machine.proofs.Tests.{by_some}
+use Rattle.lte_machine.proofs.NasFacts.{NasHas, opens_above}
+use Rattle.lte_machine.proofs.Tests.{Anything, by_some}
 use Rattle.lte_properties.specs.ChainBelow.{AllOf}
 use Rattle.lte_properties.proofs.Freshness.Sequence.{authentication_of}
 use Rattle.lte_properties.proofs.Freshness.Uses.{Home, home_at, Homes, Grows, OnKey, IsNas, NasDown, CoreUse, AllApart}
@@ -111,7 +112,8 @@ module _ (roots : ℕ) (given : Homes) where
     )
 
     -- another KASME is that of a newer partial context
-    other_root : (root : Term) (P : CorePartial Term → Type 0) (o : Option (CorePartial Term)) → IfSome (core_partial_root o) (λ p. authentication_of root < p) →
+    other_root : (root : Term) (P : CorePartial Term → Type 0) (o : Option (CorePartial Term))
+        → IfSome (core_partial_root o) (λ p. authentication_of root < p) →
         IfSome o (λ p. root ≡ p.root → P p)
     other_root root P None h = tt
     other_root root P (Some p) h = λ e. let k = ap authentication_of e in absurd (omega arith)
@@ -139,8 +141,11 @@ module _ (roots : ℕ) (given : Homes) where
         CoreKeeps roots given (record s { context = Some c }) (record s { context = Some (nas_sent_to (c.nas.send + 1) c) })
         (Some (nas_text c.nas.keys c.nas.send text))
     text_sent text h =
-        let b = subst BothNas (sym h.1)
-        (new_nas 1 (identity_of c.nas.keys.algs.eea) nas_bearer (omega arith) h, new_nas 2 eia2_identity nas_bearer (omega arith) h, types_apart _ _ 1 2 refl refl (λ e. absurd (omega arith))) in
+        let b = subst BothNas (sym h.1) (
+          new_nas 1 (identity_of c.nas.keys.algs.eea) nas_bearer (omega arith) h,
+          new_nas 2 eia2_identity nas_bearer (omega arith) h,
+          types_apart _ _ 1 2 refl refl (λ e. absurd (omega arith)),
+        ) in
         keeps _ _ _ h (λ k count u. (u.0, u.1, λ e. let x = u.2 e in omega arith)) (b.0, (b.1, tt)) (both_apart _ _ b.2) (λ taken. tt)
 
     -- COUNTs are left out
@@ -148,137 +153,87 @@ module _ (roots : ℕ) (given : Homes) where
         CoreKeeps roots given (record s { context = Some c }) (record s { context = Some (nas_sent_to n c) }) None
     skipped_on n le h = keeps _ _ None h (λ k count u. (u.0, u.1, λ e. let x = u.2 e in omega arith)) tt tt (λ taken. tt)
 
-  -- rows of NAS
+  -- of a core that stands so
+  abbrev Keeps : Core Term ℕ → CoreDone Term ℕ → Type 0
+  Keeps s d = CoreStands roots given s → CoreKeeps roots given s d.0 d.1.sent
 
-  -- a Service Request
-  asked_keeps : (count : ℕ) (s : Core Term ℕ) (o : Option (CoreContext Term)) → NextIn o count → CoreStands roots given (record s { context = o }) →
-      let d = service_asked count o (record s { context = o }) in CoreKeeps roots given (record s { context = o }) d.0 d.1.sent
-  asked_keeps count s None le h = still (record s { context = None }) h
-  asked_keeps count s (Some c) le h = keeps _ _ None (asked_stands s c count le h) (λ k n u. u) tt tt (λ taken. tt)
+  -- with a new context in use all that was given is of an older authentication; the KeNB of a key change is of the new one, and no
+  -- station makes a context of it
+  nas_keeps : (same : Term → Term → Bool) (pdu : List ℕ) (outcome : Outcome) (s : Core Term ℕ)
+      → NasCases (term_reading_by same) (λ t row. NasHas (term_reading_by same) t pdu outcome row) Keeps s
+  nas_keeps same pdu outcome s = record {
+    nothing = λ t answer h. still t h;
+    closed = λ f h. keeps s _ None (h.0, h.1, tt, h.3, h.4) (λ k count u. u) tt tt (λ taken. tt);
+    completed = λ count p keys f h. keeps _ _ None (
+      (tt, (h.0.0, tt)),
+      h.2,
+      tt,
+      omega arith,
+      λ t k e. let x = h.4 t k e in (x.0, tt, (let y = x.1 in omega arith, λ f. let y = x.1 in absurd (omega arith))),
+    )
+        (λ k n u. (u.0, tt, u.1)) tt tt (λ taken. tt);
+    changed = λ count conn next station p keys f h. keeps _ _ _ (
+      (tt, (h.0.0, tt)),
+      h.2,
+      tt,
+      tt,
+      λ t k e. let x = h.4 t k e in (x.0, tt, (let y = x.1 in omega arith, λ f. let y = x.1 in absurd (omega arith))),
+    )
+        (λ k n u. (u.0, tt, u.1)) tt tt (λ taken. tt);
+    asked = λ count c f h. keeps _ _ None (asked_stands s c count (opens_above f) h) (λ k n u. u) tt tt (λ taken. tt);
+    opened = λ count text c f h. keeps _ _ None (taken_stands s c count s.procedure (opens_above f) h h.2) (λ k n u. u) tt tt (λ taken. tt);
+    rejected = λ count c f h. keeps _ _ None (taken_stands s c count None (opens_above f.3) h tt) (λ k n u. u) tt tt (λ taken. tt);
+  }
 
-  -- a NAS text that was taken
-  opened_keeps : (count : ℕ) (text : List ℕ) (s : Core Term ℕ) (o : Option (CoreContext Term)) → NextIn o count → CoreStands roots given (record s { context = o }) →
-      let d = nas_opened count text o (record s { context = o }) in CoreKeeps roots given (record s { context = o }) d.0 d.1.sent
-  opened_keeps count text s None le h = still (record s { context = None }) h
-  opened_keeps count text s (Some c) le h = keeps _ _ None (taken_stands s c count s.procedure le h h.2) (λ k n u. u) tt tt (λ taken. tt)
-
-  -- a protected Security Mode Reject
-  reject_keeps : (count : ℕ) (s : Core Term ℕ) (o : Option (CoreContext Term)) → NextIn o count → CoreStands roots given (record s { context = o }) →
-      let d = sealed_reject count o (record s { context = o }) in CoreKeeps roots given (record s { context = o }) d.0 d.1.sent
-  reject_keeps count s None le h = still (record s { context = None }) h
-  reject_keeps count s (Some c) le h = keeps _ _ None (taken_stands s c count None le h tt) (λ k n u. u) tt tt (λ taken. tt)
-
-  -- the new context in use: all that was given is of an older authentication
-  complete_keeps : (count : ℕ) (s : Core Term ℕ) (p : Option (CorePartial Term)) (keys : Option (Keys Term)) →
-      CoreStands roots given (record s { partial = p; procedure = keys }) →
-      let d = smc_complete count p keys (record s { partial = p; procedure = keys }) in CoreKeeps roots given (record s { partial = p; procedure = keys }) d.0 d.1.sent
-  complete_keeps count s None keys h = still (record s { partial = None; procedure = keys }) h
-  complete_keeps count s (Some p) None h = still (record s { partial = Some p; procedure = None }) h
-  complete_keeps count s (Some p) (Some keys) h =
-      keeps _ _ None (
-        (tt, (h.0.0, tt)),
-        h.2,
-        tt,
-        omega arith,
-        λ t k e. let x = h.4 t k e in (x.0, tt, (let y = x.1 in omega arith, λ f. let y = x.1 in absurd (omega arith))),
-      )
-      (λ k n u. (u.0, tt, u.1)) tt tt (λ taken. tt)
-
-  -- and one while a connection stands: its KeNB is of the new authentication, and no station makes a context of it
-  changed_keeps : (same : Term → Term → Bool) (count conn next station : ℕ) (s : Core Term ℕ) (p : Option (CorePartial Term)) (keys : Option (Keys Term)) →
-      CoreStands roots given (record s { partial = p; procedure = keys }) →
-      let d = key_changed (term_reading_by same) count conn next station p keys (record s { partial = p; procedure = keys }) in
-      CoreKeeps roots given (record s { partial = p; procedure = keys }) d.0 d.1.sent
-  changed_keeps same count conn next station s None keys h = still (record s { partial = None; procedure = keys }) h
-  changed_keeps same count conn next station s (Some p) None h = still (record s { partial = Some p; procedure = None }) h
-  changed_keeps same count conn next station s (Some p) (Some keys) h =
-      keeps _ _ _ (
-        (tt, (h.0.0, tt)),
-        h.2,
-        tt,
-        tt,
-        λ t k e. let x = h.4 t k e in (x.0, tt, (let y = x.1 in omega arith, λ f. let y = x.1 in absurd (omega arith))),
-      )
-      (λ k n u. (u.0, tt, u.1)) tt tt (λ taken. tt)
-
-  -- a row of a NAS message
-  pub core_nas_keeps : (same : Term → Term → Bool) (s : Core Term ℕ) (pdu : List ℕ) (outcome : Outcome) (row : CoreNasRow) → NasHas (term_reading_by same) s pdu outcome row → CoreStands roots given s →
+  pub core_nas_keeps : (same : Term → Term → Bool) (s : Core Term ℕ) (pdu : List ℕ) (outcome : Outcome) (row : CoreNasRow)
+      → NasHas (term_reading_by same) s pdu outcome row → CoreStands roots given s →
       let d = core_does_nas (term_reading_by same) row s in CoreKeeps roots given s d.0 d.1.sent
-  core_nas_keeps same s pdu outcome (NasRefused answer) f h = still s h
-  core_nas_keeps same s pdu outcome PlainReject f h = keeps s (record s { procedure = None }) None (h.0, h.1, tt, h.3, h.4) (λ k count u. u) tt tt (λ taken. tt)
-  core_nas_keeps same s pdu outcome (SmcComplete count) f h = complete_keeps count s s.partial s.procedure h
-  core_nas_keeps same s pdu outcome (SmcChange count conn next station) f h = changed_keeps same count conn next station s s.partial s.procedure h
-  core_nas_keeps same s pdu outcome (ServiceAsked count) f h = asked_keeps count s s.context (opens_above f) h
-  core_nas_keeps same s pdu outcome (NasOpened count text) f h = opened_keeps count text s s.context (opens_above f) h
-  core_nas_keeps same s pdu outcome (SealedReject count) f h = reject_keeps count s s.context (opens_above f.3) h
+  core_nas_keeps same s pdu outcome row f h = nas_case (term_reading_by same) _ Keeps s (nas_keeps same pdu outcome s) row f h
 
   -- records of S1 move the chain alone
+  record_keeps : (same : Term → Term → Bool) (s : Core Term ℕ) → RecordCases (term_reading_by same) Anything Keeps s
+  record_keeps same s = record {
+    nothing = λ t answer h. still t h;
+    switched = λ conn station number alarm link f h. keeps _ _ _ h (λ k count u. u) tt tt (λ taken. tt);
+    asked = λ conn source attempt cell target caps link f h. keeps _ _ _ h (λ k count u. u) tt tt (λ taken. tt);
+    ordered = λ conn source attempt cell ncc algs air f h. keeps s s _ h (λ k count u. u) tt tt (λ taken. tt);
+    notified = λ station link f h. keeps _ _ None h (λ k count u. u) tt tt (λ taken. tt);
+    cancelled = λ conn source attempt cell target f h. keeps s s _ h (λ k count u. u) tt tt (λ taken. tt);
+  }
 
-  -- a Path Switch Request
-  switched_keeps : (same : Term → Term → Bool) (conn station number : ℕ) (alarm : Bool) (s : Core Term ℕ) (o : Option (CoreLink Term ℕ)) → CoreStands roots given s →
-      let d = path_switched (term_reading_by same) conn station number alarm o s in CoreKeeps roots given s d.0 d.1.sent
-  switched_keeps same conn station number alarm s None h = still s h
-  switched_keeps same conn station number alarm s (Some link) h = keeps s _ _ h (λ k count u. u) tt tt (λ taken. tt)
-
-  -- a Handover Required
-  required_keeps : (same : Term → Term → Bool) (conn source attempt : ℕ) (cell : Place) (target : ℕ) (caps : Caps) (s : Core Term ℕ) (o : Option (CoreLink Term ℕ)) → CoreStands roots given s →
-      let d = handover_asked (term_reading_by same) conn source attempt cell target caps o s in CoreKeeps roots given s d.0 d.1.sent
-  required_keeps same conn source attempt cell target caps s None h = still s h
-  required_keeps same conn source attempt cell target caps s (Some link) h = keeps s _ _ h (λ k count u. u) tt tt (λ taken. tt)
-
-  -- a Handover Notify
-  notified_keeps : (station : ℕ) (s : Core Term ℕ) (o : Option (CoreLink Term ℕ)) → CoreStands roots given s →
-      let d = handover_notified station o s in CoreKeeps roots given s d.0 d.1.sent
-  notified_keeps station s None h = still s h
-  notified_keeps station s (Some link) h = keeps s _ None h (λ k count u. u) tt tt (λ taken. tt)
-
-  -- a row of a record on S1
   pub core_record_keeps : (same : Term → Term → Bool) (row : CoreRecordRow) (s : Core Term ℕ) → CoreStands roots given s →
       let d = core_does_record (term_reading_by same) row s in CoreKeeps roots given s d.0 d.1.sent
-  core_record_keeps same (RecordRefused answer) s h = still s h
-  core_record_keeps same (PathSwitched conn station number alarm) s h = switched_keeps same conn station number alarm s s.link h
-  core_record_keeps same (HandoverAsked conn source attempt cell target caps) s h = required_keeps same conn source attempt cell target caps s s.link h
-  core_record_keeps same (HandoverOrdered conn source attempt cell ncc algs air) s h = keeps s s _ h (λ k count u. u) tt tt (λ taken. tt)
-  core_record_keeps same (HandoverNotified station) s h = notified_keeps station s s.link h
-  core_record_keeps same (HandoverCancelled conn source attempt cell target) s h = keeps s s _ h (λ k count u. u) tt tt (λ taken. tt)
+  core_record_keeps same row s h = record_case (term_reading_by same) Anything Keeps s (record_keeps same s) row tt h
 
   -- acts
 
   -- the Security Mode Command takes the next downlink COUNT of the partial context
-  started_keeps : (same : Term → Term → Bool) (ksi : ℕ) (algs : Algs) (caps : Caps) (count : ℕ) (s : Core Term ℕ) (o : Option (CorePartial Term)) →
-      IfSome o (λ p. count ≡ p.send) → CoreStands roots given (record s { partial = o }) →
-      let d = smc_started (term_reading_by same) ksi algs caps count o (record s { partial = o }) in CoreKeeps roots given (record s { partial = o }) d.0 d.1.sent
-  started_keeps same ksi algs caps count s None e h = still (record s { partial = None }) h
-  started_keeps same ksi algs caps count s (Some p) e h =
+  started_keeps : (same : Term → Term → Bool) (ksi : ℕ) (algs : Algs) (caps : Caps) (count : ℕ) (s : Core Term ℕ) (p : CorePartial Term)
+      → count ≡ p.send → Keeps (with_partial s (Some p)) (smc_started (term_reading_by same) ksi algs caps count (Some p) (with_partial s (Some p)))
+  started_keeps same ksi algs caps count s p e h =
       keeps _ _ _ (h.0, h.1, refl, h.3, h.4) (λ k n u. (u.0, (λ g. let x = u.1 g in omega arith), u.2))
       ((refl, omega arith, λ n. (h.0.0, λ g. omega arith, older s.context h.0.1), λ old. let x = (old (omega arith)).1 refl in absurd (omega arith)), tt)
       (tt, tt) (λ taken. tt)
     where
-      older : (o : Option (CoreContext Term)) → IfSome (core_context_root o) (λ c. (c < roots) × (c < authentication_of p.root)) → IfSome o (λ c. p.root ≡ c.nas.root → count < c.nas.send)
+      older : (o : Option (CoreContext Term)) → IfSome (core_context_root o) (λ c. (c < roots) × (c < authentication_of p.root))
+          → IfSome o (λ c. p.root ≡ c.nas.root → count < c.nas.send)
       older None k = tt
       older (Some c) k = λ g. let x = ap authentication_of g in let y = k.1 in absurd (omega arith)
 
   -- a NAS text is sent
-  sent_keeps : (count : ℕ) (text : List ℕ) (s : Core Term ℕ) (o : Option (CoreContext Term)) → IfSome o (λ c. count ≡ c.nas.send) → CoreStands roots given (record s { context = o }) →
-      let d = nas_sent count text o (record s { context = o }) in CoreKeeps roots given (record s { context = o }) d.0 d.1.sent
-  sent_keeps count text s None e h = still (record s { context = None }) h
-  sent_keeps count text s (Some c) e h =
-      subst (λ n. let d = nas_sent n text (Some c) (record s { context = Some c }) in CoreKeeps roots given (record s { context = Some c }) d.0 d.1.sent) (sym e) (text_sent s c _ h)
-
-  -- downlink COUNTs are left out
-  skipped_keeps : (n : ℕ) (s : Core Term ℕ) (o : Option (CoreContext Term)) → CoreStands roots given (record s { context = o }) →
-      let d = nas_skipped n o (record s { context = o }) in CoreKeeps roots given (record s { context = o }) d.0 d.1.sent
-  skipped_keeps n s None h = still (record s { context = None }) h
-  skipped_keeps n s (Some c) h = skipped_on s c (skipped n c.nas.send count_limit) (omega arith) h
+  sent_keeps : (count : ℕ) (text : List ℕ) (s : Core Term ℕ) (c : CoreContext Term)
+      → count ≡ c.nas.send → Keeps (with_context s (Some c)) (nas_sent count text (Some c) (with_context s (Some c)))
+  sent_keeps count text s c e h =
+      subst (λ n. let d = nas_sent n text (Some c) (with_context s (Some c)) in CoreKeeps roots given (with_context s (Some c)) d.0 d.1.sent) (sym e)
+      (text_sent s c text h)
 
   -- the KeNB of the trigger has no home yet, and gets the station of the cell
-  set_up_keeps : (same : Term → Term → Bool) (conn : ℕ) (cell : Place) (target : ℕ) (caps : Caps) (count : ℕ) (s : Core Term ℕ) (o : Option (CoreContext Term)) (trigger : Option ℕ) →
-      trigger ≡ Some count → CoreStands roots given (record s { context = o; trigger = trigger }) →
-      let d = context_set_up (term_reading_by same) conn cell target caps count o (record s { context = o; trigger = trigger }) in
-      CoreKeeps roots given (record s { context = o; trigger = trigger }) d.0 d.1.sent
-  set_up_keeps same conn cell target caps count s None trigger e h = still (record s { context = None; trigger = trigger }) h
-  set_up_keeps same conn cell target caps count s (Some c) None e h = absurd (cc)
-  set_up_keeps same conn cell target caps count s (Some c) (Some n) e h = record {
+  set_up_keeps : (same : Term → Term → Bool) (conn : ℕ) (cell : Place) (target : ℕ) (caps : Caps) (count : ℕ) (s : Core Term ℕ)
+      (c : CoreContext Term) (trigger : Option ℕ) → trigger ≡ Some count → CoreStands roots given (record s { context = Some c; trigger = trigger }) →
+      let d = context_set_up (term_reading_by same) conn cell target caps count (Some c) (record s { context = Some c; trigger = trigger }) in
+      CoreKeeps roots given (record s { context = Some c; trigger = trigger }) d.0 d.1.sent
+  set_up_keeps same conn cell target caps count s c None e h = absurd (cc)
+  set_up_keeps same conn cell target caps count s c (Some n) e h = record {
     new = homed given kenb (home_at target conn);
     grows = homed_grows given kenb (home_at target conn) not_given;
     stands = (h.0, h.1, h.2, tt, all);
@@ -303,14 +258,17 @@ module _ (roots : ℕ) (given : Homes) where
             subst (IsPast roots (core_partial_root s.partial) (core_mark None (Some c))) (sym g.0)
             (h.0.1.0, h.0.1.1, (omega arith, λ i. let x = h.3 in let y = by_some e in omega arith))
 
-  -- a row of an act
+  act_keeps : (same : Term → Term → Bool) (act : CoreAct) (s : Core Term ℕ) → ActCases (term_reading_by same) (λ t row. ActHas t act row) Keeps s
+  act_keeps same act s = record {
+    nothing = λ t answer h. still t h;
+    started = λ ksi algs caps count p f h.
+        started_keeps same ksi algs caps count s p (subst (λ o. IfSome o (λ q. count ≡ q.send)) (sym f.holds) f.count_is) h;
+    set_up = λ conn cell target caps count c f h. set_up_keeps same conn cell target caps count s c s.trigger f.triggered h;
+    released = λ conn station f h. keeps s _ _ h (λ k count u. u) tt tt (λ taken. tt);
+    sent = λ count text c f h. sent_keeps count text s c (subst (λ o. IfSome o (λ x. count ≡ x.nas.send)) (sym f.in_use) f.count_is) h;
+    skipped = λ n c f h. skipped_on s c (skipped n c.nas.send count_limit) (omega arith) h;
+  }
+
   pub core_act_keeps : (same : Term → Term → Bool) (s : Core Term ℕ) (act : CoreAct) (row : CoreActRow) → ActHas s act row → CoreStands roots given s →
       let d = core_does_act (term_reading_by same) row s in CoreKeeps roots given s d.0 d.1.sent
-  core_act_keeps same s act (ActRefused answer) f h = still s h
-  core_act_keeps same s act (SmcStarted ksi algs caps count) f h =
-      started_keeps same ksi algs caps count s s.partial (subst (λ o. IfSome o (λ p. count ≡ p.send)) (sym f.holds) f.count_is) h
-  core_act_keeps same s act (ContextSetUp conn cell target caps count) f h = set_up_keeps same conn cell target caps count s s.context s.trigger f.triggered h
-  core_act_keeps same s act (ContextReleased conn station) f h = keeps s _ _ h (λ k count u. u) tt tt (λ taken. tt)
-  core_act_keeps same s act (NasSent count text) f h =
-      sent_keeps count text s s.context (subst (λ o. IfSome o (λ c. count ≡ c.nas.send)) (sym f.in_use) f.count_is) h
-  core_act_keeps same s act (NasSkipped m) f h = skipped_keeps m s s.context h
+  core_act_keeps same s act row f h = act_case (term_reading_by same) _ Keeps s (act_keeps same act s) row f h

@@ -13,13 +13,15 @@ use Rattle.rrc_rec.specs.declared.records.RrcRecord.{RrcRecord}
 use Rattle.nh_chain.specs.Chain.{begun}
 use Rattle.nh_chain.specs.Reach.{reached_after}
 use Rattle.pdcp_guard.specs.AsKeys.{AsKeys, as_keys_of}
-use Rattle.lte_machine.specs.Bearers.{Srb, Signalling1, Drb, Which, Bearers, of_srb, of_drb, srb_counts, drb_counts, srb_sent, drb_sent, srb_taken, skipped, new_bearers}
+use Rattle.lte_machine.specs.Bearers.{Srb, Signalling1, Drb, Bearers, of_srb, of_drb, srb_counts, drb_counts, srb_sent, drb_sent, srb_taken, skipped, new_bearers}
 use Rattle.lte_machine.specs.Wire.{Outgoing, UserPacket, uses_of, drb_use, drb_ciphering}
 use Rattle.lte_machine.specs.Reply.{Took, Commanded}
-use Rattle.lte_machine.specs.PhoneState.{NasContext, Link, Radio, Idle, Connecting, Connected, Phone}
-use Rattle.lte_machine.specs.PhoneRows.{AirRow, AirRefused, LinkSecured, HandedOver, RrcOpened, PacketOpened, ActRow, ActRefused, ServiceRequested, CompleteResent, WentIdle, PacketSent, RrcSent, NasSent, NasSkipped, BearerSkipped, KeyChanged}
-use Rattle.lte_machine.specs.PhoneKeys.{rrc_sealed, with_bearers, link_secured, arrived, handed_over, rrc_opened, packet_opened, air_does, service_requested, complete_resent, packet_sent, rrc_sent, nas_sent, nas_skipped, bearer_skipped, act_does, before_of, changed_unless, key_changed}
+use Rattle.lte_machine.specs.PhoneState.{Waiting, NasContext, Link, Radio, Idle, Connecting, Connected, Phone}
+use Rattle.lte_machine.specs.PhoneRows.{AirRow, ActRow}
+use Rattle.lte_machine.specs.PhoneKeys.{rrc_sealed, with_bearers, link_secured, arrived, air_does, act_does, before_of, changed_unless}
 use Rattle.lte_machine.specs.World.{uses_in}
+use Rattle.lte_machine.proofs.PhoneCases.{with_context, with_radio, AirCases, air_case, ActCases, act_case}
+use Rattle.lte_machine.proofs.Tests.{Anything}
 use Rattle.lte_properties.specs.ChainBelow.{AllOf}
 use Rattle.lte_properties.proofs.Freshness.Sequence.{authentication_of, IsBefore, IsNotAfter, IsLevel}
 use Rattle.lte_properties.proofs.Freshness.Uses.{Home, home_at, Homes, OnKey, IsAs, next_on, send_on, AllApart}
@@ -28,14 +30,15 @@ use Rattle.lte_properties.proofs.Freshness.Order.{not_before_itself, before_is_n
 use Rattle.lte_properties.proofs.Freshness.Lists.{both_apart}
 use Rattle.lte_properties.proofs.Freshness.Bearers.{Rise, below_stays, srb_taken_rises, drb_taken_rises, srb_sent_rises, drb_sent_rises, left_out_rises, srb_is_next, srb_is_used, drb_is_next, drb_is_used}
 use Rattle.lte_properties.proofs.SameKeys.{IsReflexive}
-use Rattle.lte_properties.proofs.Freshness.PhoneNas.{NewUp, PhoneKeeps, types_apart, true_false, still, sealed, left_out, requested}
+use Rattle.lte_properties.proofs.Freshness.PhoneNas.{Keeps, NewUp, PhoneKeeps, types_apart, true_false, still, sealed, left_out, requested}
 
 module _ (roots : ℕ) (taken : Homes) where
   -- THE ACCESS STRATUM
 
   module _ (s : Phone Term ℕ) (l : Link Term ℕ) (b : Bearers) where
     -- a use of the next COUNT of an SRB, and of a DRB
-    new_srb : (srb : Srb) → b ≡ srb_sent srb l.bearers → (type id : ℕ) → IsAs type → (type == 5) ≡ false → PhoneStands roots taken (record s { radio = Connected l }) →
+    new_srb : (srb : Srb) → b ≡ srb_sent srb l.bearers → (type id : ℕ) → IsAs type → (type == 5) ≡ false
+        → PhoneStands roots taken (record s { radio = Connected l }) →
         NewUp roots taken taken (record s { radio = Connected l }) (record s { radio = with_bearers l b })
         (record { key = Alg l.kenb type id; count = (srb_counts srb l.bearers).send; bearer = bearer5_of (of_srb srb); dir = Up })
     new_srb srb e type id ge f h =
@@ -43,7 +46,8 @@ module _ (roots : ℕ) (taken : Homes) where
         (subst (λ x. (srb_counts srb l.bearers).send < send_on false (bearer5_of (of_srb srb)) x) (sym e) (srb_is_used srb l.bearers)) in (
           refl,
           (λ n. absurd (omega arith), λ a. (home_at l.station l.air, h.3.0, λ g. used)),
-          λ old. srb_is_next srb l.bearers (subst (λ on. (srb_counts srb l.bearers).send < send_on on (bearer5_of (of_srb srb)) l.bearers) f ((old.1 ge).2 refl)),
+          λ old. srb_is_next srb l.bearers
+              (subst (λ on. (srb_counts srb l.bearers).send < send_on on (bearer5_of (of_srb srb)) l.bearers) f ((old.1 ge).2 refl)),
         )
 
     -- and of the next COUNT of a DRB
@@ -101,7 +105,8 @@ module _ (roots : ℕ) (taken : Homes) where
         PhoneKeeps roots taken (record s { radio = Connected l }) (record s { radio = with_bearers l b })
         (Some (UserPacket Up l.station l.air drb (drb_ciphering Up l.keys drb (drb_counts drb l.bearers).send) text)) None
     packet_keeps drb text e h =
-        let k = subst (λ keys. NewUp roots taken taken (record s { radio = Connected l }) (record s { radio = with_bearers l b }) (drb_use Up keys.up_enc drb (drb_counts drb l.bearers).send))
+        let k = subst (λ keys. NewUp roots taken taken (record s { radio = Connected l }) (record s { radio = with_bearers l b })
+        (drb_use Up keys.up_enc drb (drb_counts drb l.bearers).send))
         (sym h.3.2) (new_drb drb e (identity_of l.keys.algs.eea) h) in
         bearers_keep _ (subst (Rise l.bearers) (sym e) (drb_sent_rises drb l.bearers)) h (k, tt) (tt, tt) (λ given. tt)
 
@@ -135,7 +140,8 @@ module _ (roots : ℕ) (taken : Homes) where
         h.1,
         taken_all (IsPast roots (partial_root s.partial) (phone_mark s.context)) (home_at l.station l.air) past h.2,
         (
-          subst (λ k. homed taken kenb (home_at l.station l.air) k ≡ Some (home_at l.station l.air)) (sym same) (homed_here taken kenb (home_at l.station l.air)),
+          subst (λ k. homed taken kenb (home_at l.station l.air) k ≡ Some (home_at l.station l.air)) (sym same)
+              (homed_here taken kenb (home_at l.station l.air)),
           level,
           keys,
           taken_all (λ t. IsNotAfter t l.kenb) (home_at l.station l.air) (subst (IsNotAfter kenb) (sym same) (not_after_itself kenb))
@@ -170,11 +176,9 @@ module _ (roots : ℕ) (taken : Homes) where
 
   module _ (same : Term → Term → Bool) (algs : Algs) (station air : ℕ) (s : Phone Term ℕ) where
     -- the security of a connection starts
-    secured_keeps : (count : ℕ) (o : Radio Term ℕ) → PhoneStands roots taken (record s { radio = o }) →
-        let d = link_secured (term_reading_by same) station air algs count (record s { radio = o }) o in PhoneKeeps roots taken (record s { radio = o }) d.0 d.1.sent d.1.took
-    secured_keeps count Idle h = still roots taken (record s { radio = Idle }) h
-    secured_keeps count (Connected l) h = still roots taken (record s { radio = Connected l }) h
-    secured_keeps count (Connecting w) h =
+    secured_keeps : (count : ℕ) (w : Waiting Term) → let t = with_radio s (Connecting w) in
+        Keeps roots taken t (link_secured (term_reading_by same) station air algs count t (Connecting w))
+    secured_keeps count w h =
         let l : Link Term ℕ = record {
           station = station;
           air = air;
@@ -188,9 +192,10 @@ module _ (roots : ℕ) (taken : Homes) where
         (new_zero s (Connecting w) w.kenb l h h.3.1 4 eia2_identity 0 (omega arith) (omega arith), tt) (tt, tt)
         (λ given. homed_here taken w.kenb (home_at station air)) (homed_here taken w.kenb (home_at station air)) h.3.1
 
-    -- a handover
+    -- a handover command
     arrived_keeps : (l : Link Term ℕ) (steps : ℕ) (cell : Place) → PhoneStands roots taken (record s { radio = Connected l }) →
-        let d = arrived (term_reading_by same) algs station air (record s { radio = Connected l }) (Commanded (before_of l)) (reached_after (term_reading_by same) l.chain l.kenb steps cell) in
+        let d = arrived (term_reading_by same) algs station air (record s { radio = Connected l }) (Commanded (before_of l))
+        (reached_after (term_reading_by same) l.chain l.kenb steps cell) in
         PhoneKeeps roots taken (record s { radio = Connected l }) d.0 d.1.sent d.1.took
     arrived_keeps l steps cell h =
         let star = (reached_after (term_reading_by same) l.chain l.kenb steps cell).star.key in
@@ -214,13 +219,6 @@ module _ (roots : ℕ) (taken : Homes) where
         (both_apart _ _ (types_apart _ _ 3 4 refl refl (λ g. absurd (omega arith))))
         (λ given. homed_here taken star (home_at station air)) (homed_here taken star (home_at station air)) before
 
-    -- a handover command
-    handed_keeps : (cell : Place) (steps : ℕ) (o : Radio Term ℕ) → PhoneStands roots taken (record s { radio = o }) →
-        let d = handed_over (term_reading_by same) cell steps algs station air (record s { radio = o }) o in PhoneKeeps roots taken (record s { radio = o }) d.0 d.1.sent d.1.took
-    handed_keeps cell steps Idle h = still roots taken (record s { radio = Idle }) h
-    handed_keeps cell steps (Connecting w) h = still roots taken (record s { radio = Connecting w }) h
-    handed_keeps cell steps (Connected l) h = arrived_keeps l steps cell h
-
     -- a key change: all that was taken is of an older authentication than the KASME in use
     module _ (itself : IsReflexive same) (cell : Place) where
       another : (l : Link Term ℕ) (c : NasContext Term) → same c.root l.chain.root ≡ false → KeyOlder l.chain.root l.kenb (Some c.root) →
@@ -228,12 +226,10 @@ module _ (roots : ℕ) (taken : Homes) where
       another l c differs (level, inl one) = absurd (true_false (sym (itself c.root) ∙ ap (same c.root) (sym one) ∙ differs))
       another l c differs (level, inr older) = omega arith
 
-      changed_keeps : (l : Link Term ℕ) (c : NasContext Term) (b : Bool) → same c.root l.chain.root ≡ b →
-          PhoneStands roots taken (record s { context = Some c; radio = Connected l }) →
-          let d = changed_unless (term_reading_by same) cell algs station air (record s { context = Some c; radio = Connected l }) (before_of l) c.root b in
-          PhoneKeeps roots taken (record s { context = Some c; radio = Connected l }) d.0 d.1.sent d.1.took
-      changed_keeps l c true e h = still roots taken (record s { context = Some c; radio = Connected l }) h
-      changed_keeps l c false e h =
+      changed_keeps : (l : Link Term ℕ) (c : NasContext Term) → same c.root l.chain.root ≡ false
+          → let t = with_radio (with_context s (Some c)) (Connected l) in
+          Keeps roots taken t (changed_unless (term_reading_by same) cell algs station air t (before_of l) c.root false)
+      changed_keeps l c e h =
           let star = Star (Kenb c.root 0) cell.pci cell.earfcn in
           let newer = another l c e h.4 in
           let t : Link Term ℕ = record {
@@ -256,75 +252,7 @@ module _ (roots : ℕ) (taken : Homes) where
           (both_apart _ _ (types_apart _ _ 3 4 refl refl (λ g. absurd (omega arith))))
           (λ given. homed_here taken star (home_at station air)) (homed_here taken star (home_at station air)) before
 
-      renewed_keeps : (o : Radio Term ℕ) (x : Option (NasContext Term)) → PhoneStands roots taken (record s { context = x; radio = o }) →
-          let d = key_changed (term_reading_by same) cell algs station air (record s { context = x; radio = o }) o x in
-          PhoneKeeps roots taken (record s { context = x; radio = o }) d.0 d.1.sent d.1.took
-      renewed_keeps Idle x h = still roots taken (record s { context = x; radio = Idle }) h
-      renewed_keeps (Connecting w) x h = still roots taken (record s { context = x; radio = Connecting w }) h
-      renewed_keeps (Connected l) None h = still roots taken (record s { context = None; radio = Connected l }) h
-      renewed_keeps (Connected l) (Some c) h = changed_keeps l c (same c.root l.chain.root) refl h
-
   module _ (s : Phone Term ℕ) where
-    -- an RRC text that was taken
-    rrc_opened_keeps : (srb : Srb) (count : ℕ) (text : List ℕ) (o : Radio Term ℕ) → PhoneStands roots taken (record s { radio = o }) →
-        let d = rrc_opened srb count text (record s { radio = o }) o in PhoneKeeps roots taken (record s { radio = o }) d.0 d.1.sent d.1.took
-    rrc_opened_keeps srb count text Idle h = still roots taken (record s { radio = Idle }) h
-    rrc_opened_keeps srb count text (Connecting w) h = still roots taken (record s { radio = Connecting w }) h
-    rrc_opened_keeps srb count text (Connected l) h = bearers_keep s l _ None (srb_taken_rises srb count l.bearers) h tt tt (λ given. tt)
-
-    -- a user packet that was taken
-    packet_opened_keeps : (drb : Drb) (count : ℕ) (text : List ℕ) (o : Radio Term ℕ) → PhoneStands roots taken (record s { radio = o }) →
-        let d = packet_opened drb count text (record s { radio = o }) o in PhoneKeeps roots taken (record s { radio = o }) d.0 d.1.sent d.1.took
-    packet_opened_keeps drb count text Idle h = still roots taken (record s { radio = Idle }) h
-    packet_opened_keeps drb count text (Connecting w) h = still roots taken (record s { radio = Connecting w }) h
-    packet_opened_keeps drb count text (Connected l) h = bearers_keep s l _ None (drb_taken_rises drb count l.bearers) h tt tt (λ given. tt)
-
-    -- the completion sent again
-    resent_keeps : (o : Radio Term ℕ) → PhoneStands roots taken (record s { radio = o }) →
-        let d = complete_resent (record s { radio = o }) o in PhoneKeeps roots taken (record s { radio = o }) d.0 d.1.sent d.1.took
-    resent_keeps Idle h = still roots taken (record s { radio = Idle }) h
-    resent_keeps (Connecting w) h = still roots taken (record s { radio = Connecting w }) h
-    resent_keeps (Connected l) h = rrc_keeps s l _ Signalling1 _ refl h
-
-    -- a user packet is sent
-    packet_sent_keeps : (drb : Drb) (text : List ℕ) (o : Radio Term ℕ) → PhoneStands roots taken (record s { radio = o }) →
-        let d = packet_sent drb text (record s { radio = o }) o in PhoneKeeps roots taken (record s { radio = o }) d.0 d.1.sent d.1.took
-    packet_sent_keeps drb text Idle h = still roots taken (record s { radio = Idle }) h
-    packet_sent_keeps drb text (Connecting w) h = still roots taken (record s { radio = Connecting w }) h
-    packet_sent_keeps drb text (Connected l) h = packet_keeps s l _ drb text refl h
-
-    -- an RRC text is sent
-    rrc_sent_keeps : (srb : Srb) (text : List ℕ) (o : Radio Term ℕ) → PhoneStands roots taken (record s { radio = o }) →
-        let d = rrc_sent srb text (record s { radio = o }) o in PhoneKeeps roots taken (record s { radio = o }) d.0 d.1.sent d.1.took
-    rrc_sent_keeps srb text Idle h = still roots taken (record s { radio = Idle }) h
-    rrc_sent_keeps srb text (Connecting w) h = still roots taken (record s { radio = Connecting w }) h
-    rrc_sent_keeps srb text (Connected l) h = rrc_keeps s l _ srb _ refl h
-
-    -- COUNTs of a bearer are left out
-    bearer_skipped_keeps : (on : Which) (n : ℕ) (o : Radio Term ℕ) → PhoneStands roots taken (record s { radio = o }) →
-        let d = bearer_skipped on n (record s { radio = o }) o in PhoneKeeps roots taken (record s { radio = o }) d.0 d.1.sent d.1.took
-    bearer_skipped_keeps on n Idle h = still roots taken (record s { radio = Idle }) h
-    bearer_skipped_keeps on n (Connecting w) h = still roots taken (record s { radio = Connecting w }) h
-    bearer_skipped_keeps on n (Connected l) h = bearers_keep s l _ None (left_out_rises on n l.bearers) h tt tt (λ given. tt)
-
-    -- a SERVICE REQUEST
-    requested_keeps : (same : Term → Term → Bool) (o : Option (NasContext Term)) → PhoneStands roots taken (record s { context = o }) →
-        let d = service_requested (term_reading_by same) (record s { context = o }) o in PhoneKeeps roots taken (record s { context = o }) d.0 d.1.sent d.1.took
-    requested_keeps same None h = still roots taken (record s { context = None }) h
-    requested_keeps same (Some c) h = requested roots taken s c _ h
-
-    -- a NAS text is sent
-    nas_sent_keeps : (text : List ℕ) (o : Option (NasContext Term)) → PhoneStands roots taken (record s { context = o }) →
-        let d = nas_sent text (record s { context = o }) o in PhoneKeeps roots taken (record s { context = o }) d.0 d.1.sent d.1.took
-    nas_sent_keeps text None h = still roots taken (record s { context = None }) h
-    nas_sent_keeps text (Some c) h = sealed roots taken s c 2 _ h
-
-    -- uplink NAS COUNTs are left out
-    nas_skipped_keeps : (n : ℕ) (o : Option (NasContext Term)) → PhoneStands roots taken (record s { context = o }) →
-        let d = nas_skipped n (record s { context = o }) o in PhoneKeeps roots taken (record s { context = o }) d.0 d.1.sent d.1.took
-    nas_skipped_keeps n None h = still roots taken (record s { context = None }) h
-    nas_skipped_keeps n (Some c) h = left_out roots taken s c (skipped n c.send count_limit) (omega arith) h
-
     -- the phone goes idle
     idle_keeps : PhoneStands roots taken s → PhoneKeeps roots taken s (record s { radio = Idle }) None None
     idle_keeps h = record {
@@ -340,25 +268,35 @@ module _ (roots : ℕ) (taken : Homes) where
       rises = tt;
     }
 
-  -- a row of a PDU
+  -- rows of a PDU
+  air_cases : (same : Term → Term → Bool) → IsReflexive same → (s : Phone Term ℕ) → AirCases (term_reading_by same) Anything (Keeps roots taken) s
+  air_cases same itself s = record {
+    nothing = λ t answer h. still roots taken t h;
+    secured = λ station air algs count w k h. secured_keeps same algs station air s count w h;
+    handed_over = λ cell steps algs station air l k h. arrived_keeps same algs station air s l steps cell h;
+    changed = λ cell algs station air l c e k h. changed_keeps same algs station air s itself cell l c e h;
+    rrc = λ srb count text l k h. bearers_keep s l _ None (srb_taken_rises srb count l.bearers) h tt tt (λ given. tt);
+    packet = λ drb count text l k h. bearers_keep s l _ None (drb_taken_rises drb count l.bearers) h tt tt (λ given. tt);
+  }
+
   pub air_keeps : (same : Term → Term → Bool) → IsReflexive same → (row : AirRow) (s : Phone Term ℕ) → PhoneStands roots taken s →
       let d = air_does (term_reading_by same) row s in PhoneKeeps roots taken s d.0 d.1.sent d.1.took
-  air_keeps same itself (AirRefused answer) s h = still roots taken s h
-  air_keeps same itself (LinkSecured station air algs count) s h = secured_keeps same algs station air s count s.radio h
-  air_keeps same itself (HandedOver cell steps algs station air) s h = handed_keeps same algs station air s cell steps s.radio h
-  air_keeps same itself (KeyChanged cell algs station air) s h = renewed_keeps same algs station air s itself cell s.radio s.context h
-  air_keeps same itself (RrcOpened srb count text) s h = rrc_opened_keeps s srb count text s.radio h
-  air_keeps same itself (PacketOpened drb count text) s h = packet_opened_keeps s drb count text s.radio h
+  air_keeps same itself row s h = air_case (term_reading_by same) Anything (Keeps roots taken) s (air_cases same itself s) row tt h
 
-  -- a row of an act
+  -- rows of an act
+  act_cases : (same : Term → Term → Bool) (s : Phone Term ℕ) → ActCases (term_reading_by same) Anything (Keeps roots taken) s
+  act_cases same s = record {
+    nothing = λ t answer h. still roots taken t h;
+    requested = λ c k h. requested roots taken s c _ h;
+    resent = λ l k h. rrc_keeps s l _ Signalling1 _ refl h;
+    idle = λ k h. idle_keeps s h;
+    packet = λ drb text l k h. packet_keeps s l _ drb text refl h;
+    rrc = λ srb text l k h. rrc_keeps s l _ srb _ refl h;
+    nas = λ text c k h. sealed roots taken s c 2 _ h;
+    nas_skipped = λ n c k h. left_out roots taken s c (skipped n c.send count_limit) (omega arith) h;
+    bearer_skipped = λ on n l k h. bearers_keep s l _ None (left_out_rises on n l.bearers) h tt tt (λ given. tt);
+  }
+
   pub act_keeps : (same : Term → Term → Bool) (row : ActRow) (s : Phone Term ℕ) → PhoneStands roots taken s →
       let d = act_does (term_reading_by same) row s in PhoneKeeps roots taken s d.0 d.1.sent d.1.took
-  act_keeps same (ActRefused answer) s h = still roots taken s h
-  act_keeps same ServiceRequested s h = requested_keeps s same s.context h
-  act_keeps same CompleteResent s h = resent_keeps s s.radio h
-  act_keeps same WentIdle s h = idle_keeps s h
-  act_keeps same (PacketSent drb text) s h = packet_sent_keeps s drb text s.radio h
-  act_keeps same (RrcSent srb text) s h = rrc_sent_keeps s srb text s.radio h
-  act_keeps same (NasSent text) s h = nas_sent_keeps s text s.context h
-  act_keeps same (NasSkipped n) s h = nas_skipped_keeps s n s.context h
-  act_keeps same (BearerSkipped on n) s h = bearer_skipped_keeps s on n s.radio h
+  act_keeps same row s h = act_case (term_reading_by same) Anything (Keeps roots taken) s (act_cases same s) row tt h

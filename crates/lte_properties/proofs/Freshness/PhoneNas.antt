@@ -4,16 +4,17 @@ use Rattle.std.specs.Prelude.{IfSome}
 use Rattle.alg_choice.specs.declared.algs.Algs.{Algs}
 use Rattle.alg_choice.specs.Algs.{identity_of, eia2_identity}
 use Rattle.rec_base.specs.declared.uses.Dir.TheVariants.{Up}
-use Rattle.lte_events.specs.declared.answers.Answer.{Answer}
 use Rattle.key_model.specs.Term.{Term, Root, Kenb, Nh, Star, Alg}
 use Rattle.key_model.specs.Reading.{term_reading_by}
 use Rattle.nas_guard.specs.Keys.{Keys}
 use Rattle.lte_machine.specs.Wire.{KeyUse, Outgoing, SealedNas, PlainNas, nas_use, nas_ciphering}
 use Rattle.lte_machine.specs.Reply.{Took}
 use Rattle.lte_machine.specs.PhoneState.{nas_keys_of, Partial, NasContext, Radio, Idle, Connecting, Connected, Phone}
-use Rattle.lte_machine.specs.PhoneRows.{NasRow, NasRefused, RejectedPlain, RejectedUnder, ContextTaken, ContextTakenConnected, NasOpened}
-use Rattle.lte_machine.specs.PhoneKeys.{one_nas_sent, context_of, rejected_under, context_taken, context_taken_connected, nas_opened, nas_does}
+use Rattle.lte_machine.specs.PhoneRows.{NasRow}
+use Rattle.lte_machine.specs.PhoneKeys.{PhoneDone, one_nas_sent, context_of, nas_does}
 use Rattle.lte_machine.specs.World.{uses_in}
+use Rattle.lte_machine.proofs.PhoneCases.{NasCases, nas_case}
+use Rattle.lte_machine.proofs.Tests.{Anything}
 use Rattle.lte_properties.specs.ChainBelow.{AllOf}
 use Rattle.lte_properties.proofs.Freshness.Sequence.{authentication_of, IsBefore}
 use Rattle.lte_properties.proofs.Freshness.Uses.{Home, home_at, Homes, Grows, IsNas, NasUp, AsUp, UpUse, AllApart}
@@ -93,7 +94,8 @@ module _ (roots : ℕ) (taken : Homes) where
 
   -- and so the radio
   later_radio : (partial : Option ℕ) (root m n : ℕ) (radio : Radio Term ℕ) → m ≤ n →
-      RadioStands roots partial (Some (record { root = root; count = m })) taken radio → RadioStands roots partial (Some (record { root = root; count = n })) taken radio
+      RadioStands roots partial (Some (record { root = root; count = m })) taken radio →
+      RadioStands roots partial (Some (record { root = root; count = n })) taken radio
   later_radio partial root m n Idle le h = tt
   later_radio partial root m n (Connecting w) le h = (later_mark partial root m n w.kenb le h.0, h.1)
   later_radio partial root m n (Connected l) le h = h
@@ -105,7 +107,8 @@ module _ (roots : ℕ) (taken : Homes) where
 
   module _ (s : Phone Term ℕ) (c : NasContext Term) where
     -- the context's next COUNT rises
-    counts_on : (n : ℕ) → c.send ≤ n → PhoneStands roots taken (record s { context = Some c }) → PhoneStands roots taken (record s { context = Some (record c { send = n }) })
+    counts_on : (n : ℕ) → c.send ≤ n → PhoneStands roots taken (record s { context = Some c })
+        → PhoneStands roots taken (record s { context = Some (record c { send = n }) })
     counts_on n le h = (
       h.0,
       h.1,
@@ -116,7 +119,8 @@ module _ (roots : ℕ) (taken : Homes) where
     )
 
     -- uses stay below the next COUNT
-    counts_nas : (n : ℕ) → c.send ≤ n → (k : Term) (count : ℕ) → NasUp roots s.partial (Some c) k count → NasUp roots s.partial (Some (record c { send = n })) k count
+    counts_nas : (n : ℕ) → c.send ≤ n → (k : Term) (count : ℕ) → NasUp roots s.partial (Some c) k count
+        → NasUp roots s.partial (Some (record c { send = n })) k count
     counts_nas n le k count u = (u.0, u.1, λ e. let x = u.2 e in omega arith)
 
     -- the next COUNT under a NAS key of the context is new
@@ -138,8 +142,11 @@ module _ (roots : ℕ) (taken : Homes) where
 
     -- both are new, under the keys of the context
     both_nas : (radio : Radio Term ℕ) → PhoneStands roots taken (record s { context = Some c }) → BothNas radio c.keys
-    both_nas radio h = subst (BothNas radio) (sym h.1)
-        (new_nas radio 1 (identity_of c.keys.algs.eea) _ (omega arith) h, new_nas radio 2 eia2_identity _ (omega arith) h, types_apart _ _ 1 2 refl refl (λ e. absurd (omega arith)))
+    both_nas radio h = subst (BothNas radio) (sym h.1) (
+      new_nas radio 1 (identity_of c.keys.algs.eea) _ (omega arith) h,
+      new_nas radio 2 eia2_identity _ (omega arith) h,
+      types_apart _ _ 1 2 refl refl (λ e. absurd (omega arith)),
+    )
 
     -- a NAS text takes the next COUNT
     pub sealed : (header : ℕ) (text : List ℕ) → PhoneStands roots taken (record s { context = Some c }) →
@@ -255,56 +262,41 @@ module _ (roots : ℕ) (taken : Homes) where
 
     -- the phone waits with the first KeNB of the new context
     waits : PhoneStands roots taken (record s { partial = Some p }) →
-        RadioStands roots None (Some (record { root = authentication_of p.root; count = 1 })) taken (Connecting (record { root = p.root; kenb = Kenb p.root 0 }))
+        RadioStands roots None (Some (record { root = authentication_of p.root; count = 1 })) taken
+        (Connecting (record { root = p.root; kenb = Kenb p.root 0 }))
     waits h =
         ((h.0.0, tt, (omega arith, λ e. omega arith)), λ t k e. let x = (h.2 t k e).1 in (omega arith, λ f. absurd (omega arith)))
 
+  -- of a phone that stands so
+  abbrev pub Keeps : Phone Term ℕ → PhoneDone Term ℕ → Type 0
+  Keeps s d = PhoneStands roots taken s → PhoneKeeps roots taken s d.0 d.1.sent d.1.took
+
   -- rows of NAS
-
-  -- a Security Mode Reject under the context
-  rejected_keeps : (answer : Answer) (cause : ℕ) (s : Phone Term ℕ) (o : Option (NasContext Term)) → PhoneStands roots taken (record s { context = o }) →
-      let d = rejected_under answer cause (record s { context = o }) o in PhoneKeeps roots taken (record s { context = o }) d.0 d.1.sent d.1.took
-  rejected_keeps answer cause s None h = still (record s { context = None }) h
-  rejected_keeps answer cause s (Some c) h = sealed s c 2 _ h
-
-  -- a NAS text that was taken
-  opened_keeps : (count : ℕ) (text : List ℕ) (s : Phone Term ℕ) (o : Option (NasContext Term)) → PhoneStands roots taken (record s { context = o }) →
-      let d = nas_opened count text (record s { context = o }) o in PhoneKeeps roots taken (record s { context = o }) d.0 d.1.sent d.1.took
-  opened_keeps count text s None h = still (record s { context = None }) h
-  opened_keeps count text s (Some c) h = record {
-    new = taken;
-    grows = λ t k e. e;
-    stands = h;
-    nas = λ k count u. u;
-    link = λ k type count bearer u. u;
-    uses = tt;
-    apart = tt;
-    sends = λ given. tt;
-    takes = tt;
-    rises = tt;
+  nas_cases : (same : Term → Term → Bool) (s : Phone Term ℕ) → NasCases (term_reading_by same) Anything Keeps s
+  nas_cases same s = record {
+    nothing = λ t answer h. still t h;
+    rejected = λ answer cause k h. plain_sent _ s h;
+    rejected_under = λ answer cause c k h. sealed s c 2 _ h;
+    taken = λ algs count p k h.
+        first_sent same algs count s p (Connecting (record { root = p.root; kenb = Kenb p.root 0 })) 4 _ h (waits same algs count s p h) (refl, inl refl)
+        (λ k type count bearer u. (u.0, u.1, tt));
+    taken_connected = λ algs count p k h.
+        first_sent same algs count s p s.radio 4 _ h (taken_radio same algs count s p (phone_mark s.context) s.radio h.3)
+        (taken_older same algs count s p (phone_mark s.context) s.radio (kasme_in_use s.context) h.2 h.3 h.4) (λ k type count bearer u. u);
+    opened = λ count text c k h. record {
+      new = taken;
+      grows = λ t k e. e;
+      stands = h;
+      nas = λ k count u. u;
+      link = λ k type count bearer u. u;
+      uses = tt;
+      apart = tt;
+      sends = λ given. tt;
+      takes = tt;
+      rises = tt;
+    };
   }
 
-  -- a Security Mode Command with no connection
-  taken_keeps : (same : Term → Term → Bool) (algs : Algs) (count : ℕ) (s : Phone Term ℕ) (o : Option (Partial Term)) → PhoneStands roots taken (record s { partial = o }) →
-      let d = context_taken (term_reading_by same) algs count (record s { partial = o }) o in PhoneKeeps roots taken (record s { partial = o }) d.0 d.1.sent d.1.took
-  taken_keeps same algs count s None h = still (record s { partial = None }) h
-  taken_keeps same algs count s (Some p) h =
-      first_sent same algs count s p (Connecting (record { root = p.root; kenb = Kenb p.root 0 })) 4 _ h (waits same algs count s p h) (refl, inl refl) (λ k type count bearer u. (u.0, u.1, tt))
-
-  -- and one on a connection
-  taken_connected_keeps : (same : Term → Term → Bool) (algs : Algs) (count : ℕ) (s : Phone Term ℕ) (o : Option (Partial Term)) → PhoneStands roots taken (record s { partial = o }) →
-      let d = context_taken_connected (term_reading_by same) algs count (record s { partial = o }) o in PhoneKeeps roots taken (record s { partial = o }) d.0 d.1.sent d.1.took
-  taken_connected_keeps same algs count s None h = still (record s { partial = None }) h
-  taken_connected_keeps same algs count s (Some p) h =
-      first_sent same algs count s p s.radio 4 _ h (taken_radio same algs count s p (phone_mark s.context) s.radio h.3)
-      (taken_older same algs count s p (phone_mark s.context) s.radio (kasme_in_use s.context) h.2 h.3 h.4) (λ k type count bearer u. u)
-
-  -- a row of a NAS message
   pub nas_keeps : (same : Term → Term → Bool) (row : NasRow) (s : Phone Term ℕ) → PhoneStands roots taken s →
       let d = nas_does (term_reading_by same) row s in PhoneKeeps roots taken s d.0 d.1.sent d.1.took
-  nas_keeps same (NasRefused answer) s h = still s h
-  nas_keeps same (RejectedPlain answer cause) s h = plain_sent _ s h
-  nas_keeps same (RejectedUnder answer cause) s h = rejected_keeps answer cause s s.context h
-  nas_keeps same (ContextTaken algs count) s h = taken_keeps same algs count s s.partial h
-  nas_keeps same (ContextTakenConnected algs count) s h = taken_connected_keeps same algs count s s.partial h
-  nas_keeps same (NasOpened count text) s h = opened_keeps count text s s.context h
+  nas_keeps same row s h = nas_case (term_reading_by same) Anything Keeps s (nas_cases same s) row tt h

@@ -1,7 +1,6 @@
 -- What each row of the core keeps: it gives each key to one station, since each key that it gives is a later one.
 use Rattle.std.proofs.Common.{◌≡◌, refl, sym, ◌∙◌, subst, ℕ, suc, ◌+◌, ◌≤◌, ◌<◌, ◌⊎◌, inl, inr, Bool, List, [], Option, Some, None, Result, Ok, Err, arith}
 use Rattle.std.specs.Prelude.{⊤}
-use Rattle.alg_choice.specs.declared.algs.Algs.{Algs}
 use Rattle.alg_choice.specs.declared.caps.Caps.{Caps}
 use Rattle.annex_a_keys.specs.Cell.{Place}
 use Rattle.rec_base.specs.declared.faults.RecFault.{RecFault}
@@ -23,19 +22,19 @@ use Rattle.nh_chain.specs.Chain.{ChainState, stepped, present_pair}
 use Rattle.lte_machine.specs.Bearers.{skipped}
 use Rattle.lte_machine.specs.Wire.{Outgoing, Between}
 use Rattle.lte_machine.specs.Opening.{Outcome}
-use Rattle.lte_machine.specs.Reply.{Reply, Tried, ByTarget, only}
+use Rattle.lte_machine.specs.Reply.{Reply, Tried, only}
 use Rattle.lte_machine.specs.CoreState.{Core, CorePartial, CoreContext, CoreLink, CoreInput, CoreActs, CoreNasPdu, CoreRecord}
 use Rattle.lte_machine.specs.CoreChoice.{core_fields_row, core_act_row}
 use Rattle.lte_machine.specs.CoreStep.{plain_core, core_step}
-use Rattle.lte_machine.specs.CoreRows.{CoreNasRow, NasRefused, PlainReject, SmcComplete, ServiceAsked, NasOpened, SealedReject, CoreRecordRow, RecordRefused, PathSwitched, HandoverAsked, HandoverOrdered, HandoverNotified, HandoverCancelled, CoreActRow, ActRefused, SmcStarted, ContextSetUp, ContextReleased, NasSent, NasSkipped, SmcChange}
-use Rattle.lte_machine.specs.CoreKeys.{CoreDone, chain_from, nh_kept, authenticated, smc_started, smc_complete, service_asked, nas_opened, sealed_reject, nas_sent, nas_skipped, context_set_up, path_switched, handover_asked, handover_notified, core_does_nas, core_does_record, core_does_act, key_changed, new_context}
+use Rattle.lte_machine.specs.CoreKeys.{nas_sent_to, CoreDone, chain_from, nh_kept, authenticated, smc_complete, service_asked, context_set_up, path_switched, handover_asked, key_changed, new_context}
 use Rattle.lte_machine.specs.World.{with_one}
+use Rattle.lte_machine.proofs.CoreCases.{with_procedure, with_partial, with_context, with_link, NasCases, nas_case, RecordCases, record_case, ActCases, act_case}
 use Rattle.lte_machine.proofs.ActFacts.{ActHas, act_has}
-use Rattle.lte_machine.proofs.NasFacts.{NasHas, NextIn, nas_row, nas_has, opens_above}
+use Rattle.lte_machine.proofs.NasFacts.{NasHas, nas_row, nas_has, opens_above}
 use Rattle.lte_machine.proofs.S1Facts.{RecordHas, record_has}
 use Rattle.lte_properties.specs.Separation.{GivenTo}
 use Rattle.lte_properties.proofs.ChainNumbers.Lists.{OfSome}
-use Rattle.lte_properties.proofs.KeySeparation.Keys.{Gifts, GivesIn, given_new, given_split, HasTried, FieldsOk, FlyOk, OutsAre}
+use Rattle.lte_properties.proofs.KeySeparation.Keys.{Gifts, GivesIn, given_new, given_split, FieldsOk, FlyOk, OutsAre}
 use Rattle.lte_properties.proofs.KeySeparation.Phone.{root_derives}
 use Rattle.lte_properties.proofs.KeySeparation.CoreKeeps.{root_number, count_of, BelowPartial, next_count, BelowContext, Past, AtMost, PartialOk, ContextOk, TriggerOk, ChainOk, LinkOk, CoreOk, CoreKept, below_partial_same, past_same}
 
@@ -53,7 +52,8 @@ not_below n h = omega arith
 
 -- a chain that begins, with the NH of number 1 kept or not: its key, and what was given no later than KeNB
 module _ (same : Term → Term → Bool) (root : Term) (count : ℕ) where
-  begun_ok : (first : FirstNcc) (roots : ℕ) (p : Option (CorePartial Term)) (c : Option (CoreContext Term)) (tr : Option ℕ) → IsRoot root → Past roots p c tr (Kenb root count)
+  begun_ok : (first : FirstNcc) (roots : ℕ) (p : Option (CorePartial Term)) (c : Option (CoreContext Term)) (tr : Option ℕ) → IsRoot root
+      → Past roots p c tr (Kenb root count)
       → ChainOk roots p c tr (chain_from (term_reading_by same) first root (Kenb root count))
   begun_ok One roots p c tr is past = (is, is, refl, past)
   begun_ok Two roots p c tr is past =
@@ -83,6 +83,10 @@ module _ (roots : ℕ) (xs : List (Outgoing Term ℕ)) (sites : List Site) (trie
   abbrev After : CoreDone Term ℕ → Type 0
   After d = CoreKept roots xs sites tried d
 
+  -- of a core before which all was well
+  abbrev Keeps : Core Term ℕ → CoreDone Term ℕ → Type 0
+  Keeps t d = Before t → After d
+
   -- what was given, where nothing is given now
   still : (x : Option (Outgoing Term ℕ)) (P : Term → Type 0) → ((t : Term) (id : ℕ) → GivesIn x t id → ⊥) → ((t : Term) (id : ℕ) → GivenTo xs t id → P t) →
       (t : Term) (id : ℕ) → GivenTo (with_one x xs) t id → P t
@@ -91,13 +95,15 @@ module _ (roots : ℕ) (xs : List (Outgoing Term ℕ)) (sites : List Site) (trie
     by (inl k) = h t id k
     by (inr k) = absurd (none t id k)
 
-  chain_past : (p q : Option (CorePartial Term)) (c d : Option (CoreContext Term)) (tr ur : Option ℕ) → ((t : Term) → Past roots p c tr t → Past roots q d ur t) → (o : Option (CoreLink Term ℕ)) →
+  chain_past : (p q : Option (CorePartial Term)) (c d : Option (CoreContext Term)) (tr ur : Option ℕ)
+      → ((t : Term) → Past roots p c tr t → Past roots q d ur t) → (o : Option (CoreLink Term ℕ)) →
       LinkOk roots p c tr o → LinkOk roots q d ur o
   chain_past p q c d tr ur f None h = tt
   chain_past p q c d tr ur f (Some l) h = (h.0, h.1, h.2, f l.chain.sync h.3)
 
   -- a step that gives no key, after which the keys of before are past
-  quiet : (old t : Core Term ℕ) (reply : Reply Term ℕ) → Before old → t.link ≡ old.link → PartialOk roots t.partial → ContextOk roots t.partial t.context → TriggerOk t.trigger t.context →
+  quiet : (old t : Core Term ℕ) (reply : Reply Term ℕ) → Before old → t.link ≡ old.link → PartialOk roots t.partial
+      → ContextOk roots t.partial t.context → TriggerOk t.trigger t.context →
       ((u : Term) → Past roots old.partial old.context old.trigger u → Past roots t.partial t.context t.trigger u) →
       ((u : Term) (id : ℕ) → GivesIn reply.sent u id → ⊥) → OutsAre IsWellFormed reply.derived →
       OfSome (FlyOk (GivenTo (with_one reply.sent xs)) sites tried) reply.sent → After (t, reply)
@@ -123,11 +129,10 @@ module _ (roots : ℕ) (xs : List (Outgoing Term ℕ)) (sites : List Site) (trie
 
   -- BY A NAS MESSAGE
 
-  complete_kept : (count : ℕ) (o : Option (CorePartial Term)) (k : Option (Keys Term)) → Before (record s { partial = o }) → After (smc_complete count o k (record s { partial = o }))
-  complete_kept count None k h = calm _ _ h (λ u id g. g) tt tt
-  complete_kept count (Some p) None h = calm _ _ h (λ u id g. g) tt tt
-  complete_kept count (Some p) (Some keys) h =
-      quiet (record s { partial = Some p }) _ _ h refl tt (h.partial.0, h.partial.1, tt) below past (λ u id g. g) tt tt
+  complete_kept : (count : ℕ) (p : CorePartial Term) (keys : Keys Term) → let t = with_procedure s (Some p) (Some keys) in
+      Keeps t (smc_complete count (Some p) (Some keys) t)
+  complete_kept count p keys h =
+      quiet (with_procedure s (Some p) (Some keys)) _ _ h refl tt (h.partial.0, h.partial.1, tt) below past (λ u id g. g) tt tt
     where
       below : count < count + 1
       below = omega arith
@@ -135,15 +140,14 @@ module _ (roots : ℕ) (xs : List (Outgoing Term ℕ)) (sites : List Site) (trie
       least : (a b n : ℕ) → a < b → (a ≤ b) × (a ≡ b → n < count)
       least a b n lt = (omega arith, λ e. omega arith)
 
-      past : (u : Term) → Past roots (Some p) s.context s.trigger u → (root_number u < roots) × ⊤ × ((root_number u ≤ root_number p.root) × (root_number u ≡ root_number p.root → count_of u < count))
+      past : (u : Term) → Past roots (Some p) s.context s.trigger u
+          → (root_number u < roots) × ⊤ × ((root_number u ≤ root_number p.root) × (root_number u ≡ root_number p.root → count_of u < count))
       past u k = (k.0, tt, least (root_number u) (root_number p.root) (count_of u) k.1)
 
   -- the KeNB of the new context is of a later authentication than all that was given
-  changed_kept : (count conn next station : ℕ) (o : Option (CorePartial Term)) (k : Option (Keys Term)) → Before (record s { partial = o }) →
-      After (key_changed (term_reading_by same) count conn next station o k (record s { partial = o }))
-  changed_kept count conn next station None k h = calm _ _ h (λ u id g. g) tt tt
-  changed_kept count conn next station (Some p) None h = calm _ _ h (λ u id g. g) tt tt
-  changed_kept count conn next station (Some p) (Some keys) h = record {
+  changed_kept : (count conn next station : ℕ) (p : CorePartial Term) (keys : Keys Term) → let t = with_procedure s (Some p) (Some keys) in
+      Keeps t (key_changed (term_reading_by same) count conn next station (Some p) (Some keys) t)
+  changed_kept count conn next station p keys h = record {
     ok = record {
       partial = tt;
       context = (h.partial.0, h.partial.1, tt);
@@ -164,23 +168,24 @@ module _ (roots : ℕ) (xs : List (Outgoing Term ℕ)) (sites : List Site) (trie
     below : (m : ℕ) → m < root_number p.root → (m ≤ root_number p.root) × (m ≡ root_number p.root → ⊥)
     below m lt = (omega arith, λ e. omega arith)
 
-    old : (u : Term) (id : ℕ) → GivenTo xs u id → Past roots None (Some (new_context p keys count)) None u × ((root_number u ≤ root_number p.root) × (root_number u ≡ root_number p.root →
+    old : (u : Term) (id : ℕ) → GivenTo xs u id
+        → Past roots None (Some (new_context p keys count)) None u × ((root_number u ≤ root_number p.root) × (root_number u ≡ root_number p.root →
         (count_of u ≤ count) × (count_of u ≡ count → chain_number u ≤ 0)))
     old u id g =
         let q = (h.given u id g).0 in
         let b = below (root_number u) q.1 in
         ((q.0, tt, (b.0, λ e. absurd (b.1 e))), (b.0, λ e. absurd (b.1 e)))
 
-    by : (u : Term) (id : ℕ) → GivenTo xs u id ⊎ GivesIn (Some sent) u id → Past roots None (Some (new_context p keys count)) None u × ((root_number u ≤ root_number p.root) × (root_number u ≡ root_number p.root →
+    by : (u : Term) (id : ℕ) → GivenTo xs u id ⊎ GivesIn (Some sent) u id
+        → Past roots None (Some (new_context p keys count)) None u × ((root_number u ≤ root_number p.root) × (root_number u ≡ root_number p.root →
         (count_of u ≤ count) × (count_of u ≡ count → chain_number u ≤ 0)))
     by u id (inl g) = old u id g
     by u id (inr g) =
         subst (λ v. Past roots None (Some (new_context p keys count)) None v × ((root_number v ≤ root_number p.root) × (root_number v ≡ root_number p.root →
         (count_of v ≤ count) × (count_of v ≡ count → chain_number v ≤ 0)))) g.0 (kenb_past, (omega arith, λ e. (omega arith, λ i. omega arith)))
 
-  asked_kept : (count : ℕ) (o : Option (CoreContext Term)) → NextIn o count → Before (record s { context = o }) → After (service_asked count o (record s { context = o }))
-  asked_kept count None n h = calm _ _ h (λ u id g. g) tt tt
-  asked_kept count (Some c) n h =
+  asked_kept : (count : ℕ) (c : CoreContext Term) → c.nas.receive ≤ count → let t = with_context s (Some c) in Keeps t (service_asked count (Some c) t)
+  asked_kept count c n h =
       quiet (record s { context = Some c }) _ _ h refl h.partial h.context below past (λ u id g. g) tt tt
     where
       below : count < count + 1
@@ -190,7 +195,9 @@ module _ (roots : ℕ) (xs : List (Outgoing Term ℕ)) (sites : List Site) (trie
       rises None k m lt = omega arith
       rises (Some old) k m lt = omega arith
 
-      past : (u : Term) → Past roots s.partial (Some c) s.trigger u → (root_number u < roots) × BelowPartial s.partial u × ((root_number u ≤ root_number c.nas.root) × (root_number u ≡ root_number c.nas.root → count_of u < count))
+      past : (u : Term) → Past roots s.partial (Some c) s.trigger u
+          → (root_number u < roots) × BelowPartial s.partial u
+          × ((root_number u ≤ root_number c.nas.root) × (root_number u ≡ root_number c.nas.root → count_of u < count))
       past u k = (k.0, k.1, (k.2.0, λ e. rises s.trigger h.trigger (count_of u) (k.2.1 e)))
 
   -- a message of this COUNT was taken, and the trigger stays
@@ -215,22 +222,16 @@ module _ (roots : ℕ) (xs : List (Outgoing Term ℕ)) (sites : List Site) (trie
       triggered None k = tt
       triggered (Some old) k = omega arith
 
-  opened_kept : (count : ℕ) (text : List ℕ) (o : Option (CoreContext Term)) → NextIn o count → Before (record s { context = o }) → After (nas_opened count text o (record s { context = o }))
-  opened_kept count text None n h = calm _ _ h (λ u id g. g) tt tt
-  opened_kept count text (Some c) n h = count_kept count c n _ _ h refl refl refl refl refl refl
-
-  reject_kept : (count : ℕ) (o : Option (CoreContext Term)) → NextIn o count → Before (record s { context = o }) → After (sealed_reject count o (record s { context = o }))
-  reject_kept count None n h = calm _ _ h (λ u id g. g) tt tt
-  reject_kept count (Some c) n h = count_kept count c n _ _ h refl refl refl refl refl refl
-
-  nas_kept : (pdu : List ℕ) (outcome : Outcome) (row : CoreNasRow) → NasHas (term_reading_by same) s pdu outcome row → Before s → After (core_does_nas (term_reading_by same) row s)
-  nas_kept pdu outcome (NasRefused answer) f h = calm _ _ h (λ u id g. g) tt tt
-  nas_kept pdu outcome PlainReject f h = quiet s _ _ h refl h.partial h.context h.trigger (λ u k. k) (λ u id g. g) tt tt
-  nas_kept pdu outcome (SmcComplete count) f h = complete_kept count s.partial s.procedure h
-  nas_kept pdu outcome (SmcChange count conn next station) f h = changed_kept count conn next station s.partial s.procedure h
-  nas_kept pdu outcome (ServiceAsked count) f h = asked_kept count s.context (opens_above f) h
-  nas_kept pdu outcome (NasOpened count text) f h = opened_kept count text s.context (opens_above f) h
-  nas_kept pdu outcome (SealedReject count) f h = reject_kept count s.context (opens_above f.3) h
+  nas_kept : (pdu : List ℕ) (outcome : Outcome) → NasCases (term_reading_by same) (λ t row. NasHas (term_reading_by same) t pdu outcome row) Keeps s
+  nas_kept pdu outcome = record {
+    nothing = λ t answer h. calm _ _ h (λ u id g. g) tt tt;
+    closed = λ f h. quiet s _ _ h refl h.partial h.context h.trigger (λ u k. k) (λ u id g. g) tt tt;
+    completed = λ count p keys f h. complete_kept count p keys h;
+    changed = λ count conn next station p keys f h. changed_kept count conn next station p keys h;
+    asked = λ count c f h. asked_kept count c (opens_above f) h;
+    opened = λ count text c f h. count_kept count c (opens_above f) _ _ h refl refl refl refl refl refl;
+    rejected = λ count c f h. count_kept count c (opens_above f.3) _ _ h refl refl refl refl refl refl;
+  }
 
   -- A CHAIN GOES ONE STEP ON
 
@@ -258,7 +259,9 @@ module _ (roots : ℕ) (xs : List (Outgoing Term ℕ)) (sites : List Site) (trie
     next_past = past_same roots s.partial s.context s.trigger link.chain.sync (Nh link.chain.root link.chain.sync) h.link.2 refl h.link.3
 
     moved : (u : Term) → Past roots s.partial s.context s.trigger u → Past roots t.partial t.context t.trigger u
-    moved u q = subst (λ o. Past roots o t.context t.trigger u) (sym i) (subst (λ o. Past roots s.partial o t.trigger u) (sym j) (subst (λ o. Past roots s.partial s.context o u) (sym k) q))
+    moved u q =
+        subst (λ o. Past roots o t.context t.trigger u) (sym i) (subst (λ o. Past roots s.partial o t.trigger u) (sym j)
+        (subst (λ o. Past roots s.partial s.context o u) (sym k) q))
 
     below : (u : Term) → AtMost (Some link) u → AtMost (Some (record new { chain = chain })) u
     below u q = (subst (λ n. root_number u ≤ n) (sym h.link.2) q.0, λ a. let r = q.1 (a ∙ h.link.2) in (r.0, λ b. rise (r.1 b))) where
@@ -271,78 +274,61 @@ module _ (roots : ℕ) (xs : List (Outgoing Term ℕ)) (sites : List Site) (trie
     at_most : (u : Term) → AtMost (Some (record new { chain = chain })) u → AtMost t.link u
     at_most u q = subst (λ o. AtMost o u) (sym g) (subst (λ c. AtMost (Some (record new { chain = c })) u) (sym e) q)
 
-    by : (u : Term) (id : ℕ) → GivenTo xs u id ⊎ GivesIn (Some (pair_sent link target fields)) u id → Past roots t.partial t.context t.trigger u × AtMost t.link u
+    by : (u : Term) (id : ℕ) → GivenTo xs u id ⊎ GivesIn (Some (pair_sent link target fields)) u id
+        → Past roots t.partial t.context t.trigger u × AtMost t.link u
     by u id (inl q) = let r = h.given u id q in (moved u r.0, at_most u (below u r.1))
     by u id (inr q) = subst (λ v. Past roots t.partial t.context t.trigger v × AtMost t.link v) q.0 (moved _ next_past, at_most _ itself)
 
   -- it was given to nobody before
-  step_fresh : (link : CoreLink Term ℕ) (target : ℕ) (fields : Fields) → Before (record s { link = Some link }) → (t : Term) (a b : ℕ) → GivenTo xs t a → GivesIn (Some (pair_sent link target fields)) t b → ⊥
+  step_fresh : (link : CoreLink Term ℕ) (target : ℕ) (fields : Fields) → Before (record s { link = Some link }) → (t : Term) (a b : ℕ)
+      → GivenTo xs t a → GivesIn (Some (pair_sent link target fields)) t b → ⊥
   step_fresh link target fields h t a b g k =
       let q = (h.given (Nh link.chain.root link.chain.sync) a (subst (λ u. GivenTo xs u a) (sym k.0) g)).1 in
       not_itself (chain_number link.chain.sync) ((q.1 h.link.2).1 refl)
 
   step_may : (link : CoreLink Term ℕ) (target : ℕ) (fields : Fields) → Before (record s { link = Some link }) →
-      IsRoot link.chain.root × IsDerivationKey link.chain.sync × GivenTo (with_one (Some (pair_sent link target fields)) xs) (Nh link.chain.root link.chain.sync) target
-  step_may link target fields h = (h.link.0, h.link.1, given_new (Some (pair_sent link target fields)) xs (Nh link.chain.root link.chain.sync) target (refl, refl))
+      IsRoot link.chain.root × IsDerivationKey link.chain.sync
+      × GivenTo (with_one (Some (pair_sent link target fields)) xs) (Nh link.chain.root link.chain.sync) target
+  step_may link target fields h =
+      (h.link.0, h.link.1, given_new (Some (pair_sent link target fields)) xs (Nh link.chain.root link.chain.sync) target (refl, refl))
 
-  switched_kept : (conn station number : ℕ) (alarm : Bool) (o : Option (CoreLink Term ℕ)) → Before (record s { link = o }) →
-      After (path_switched (term_reading_by same) conn station number alarm o (record s { link = o }))
-  switched_kept conn station number alarm None h = calm _ _ h (λ u id g. g) tt tt
-  switched_kept conn station number alarm (Some link) h = record {
-    ok = step_kept link (record { conn = link.conn; chain = stepped (term_reading_by same) link.chain; station = station }) station (PathSwitchAnswer conn number)
-        (path_switched (term_reading_by same) conn station number alarm (Some link) (record s { link = Some link })).0
-        (path_switched (term_reading_by same) conn station number alarm (Some link) (record s { link = Some link })).1
-        h refl refl refl refl refl refl;
-    outs = ((h.link.0, h.link.1), tt);
-    sends = ((step_may link station (PathSwitchAnswer conn number) h, tt), tt);
-    fresh = step_fresh link station (PathSwitchAnswer conn number) h;
+  record_kept : (fields : Fields) (key : Option (NumberedKey Term ℕ)) → FieldsOk tried fields key
+      → RecordCases (term_reading_by same) (λ t row. RecordHas t fields row) Keeps s
+  record_kept fields key k = record {
+    nothing = λ t answer h. calm _ _ h (λ u id g. g) tt tt;
+    switched = λ conn station number alarm link f h. record {
+      ok = step_kept link (record { conn = link.conn; chain = stepped (term_reading_by same) link.chain; station = station })
+          station (PathSwitchAnswer conn number) _ (path_switched (term_reading_by same) conn station number alarm (Some link) (with_link s (Some link))).1
+          h refl refl refl refl refl refl;
+      outs = ((h.link.0, h.link.1), tt);
+      sends = ((step_may link station (PathSwitchAnswer conn number) h, tt), tt);
+      fresh = step_fresh link station (PathSwitchAnswer conn number) h;
+    };
+    asked = λ conn source attempt cell target caps link f h. record {
+      ok = step_kept link (record link { chain = stepped (term_reading_by same) link.chain }) target (HandoverRequest conn source attempt cell caps)
+          _ (handover_asked (term_reading_by same) conn source attempt cell target caps (Some link) (with_link s (Some link))).1
+          h refl refl refl refl refl refl;
+      outs = ((h.link.0, h.link.1), tt);
+      sends = ((step_may link target (HandoverRequest conn source attempt cell caps) h, tt), subst (λ g. FieldsOk tried g key) f.fields_is k);
+      fresh = step_fresh link target (HandoverRequest conn source attempt cell caps) h;
+    };
+    ordered = λ conn source attempt cell ncc algs air f h. calm _ _ h (λ u id g. g) tt (tt, tt);
+    notified = λ station link f h. record {
+      ok = record { partial = h.partial; context = h.context; trigger = h.trigger; link = h.link; given = h.given };
+      outs = tt;
+      sends = tt;
+      fresh = λ u a b g k. k;
+    };
+    cancelled = λ conn source attempt cell target f h. calm _ _ h (λ u id g. g) tt (tt, tt);
   }
-
-  asked_over_kept : (conn source attempt : ℕ) (cell : Place) (target : ℕ) (caps : Caps) (o : Option (CoreLink Term ℕ)) → HasTried tried source attempt ByTarget → Before (record s { link = o }) →
-      After (handover_asked (term_reading_by same) conn source attempt cell target caps o (record s { link = o }))
-  asked_over_kept conn source attempt cell target caps None n h = calm _ _ h (λ u id g. g) tt tt
-  asked_over_kept conn source attempt cell target caps (Some link) n h = record {
-    ok = step_kept link (record link { chain = stepped (term_reading_by same) link.chain }) target (HandoverRequest conn source attempt cell caps)
-        (handover_asked (term_reading_by same) conn source attempt cell target caps (Some link) (record s { link = Some link })).0
-        (handover_asked (term_reading_by same) conn source attempt cell target caps (Some link) (record s { link = Some link })).1
-        h refl refl refl refl refl refl;
-    outs = ((h.link.0, h.link.1), tt);
-    sends = ((step_may link target (HandoverRequest conn source attempt cell caps) h, tt), n);
-    fresh = step_fresh link target (HandoverRequest conn source attempt cell caps) h;
-  }
-
-  notified_kept : (station : ℕ) (o : Option (CoreLink Term ℕ)) → Before (record s { link = o }) → After (handover_notified station o (record s { link = o }))
-  notified_kept station None h = calm _ _ h (λ u id g. g) tt tt
-  notified_kept station (Some link) h = record {
-    ok = record { partial = h.partial; context = h.context; trigger = h.trigger; link = h.link; given = h.given };
-    outs = tt;
-    sends = tt;
-    fresh = λ u a b g k. k;
-  }
-
-  record_kept : (fields : Fields) (key : Option (NumberedKey Term ℕ)) (row : CoreRecordRow) → RecordHas s fields row → FieldsOk tried fields key → Before s → After (core_does_record (term_reading_by same) row s)
-  record_kept fields key (RecordRefused answer) f k h = calm _ _ h (λ u id g. g) tt tt
-  record_kept fields key (PathSwitched conn station number alarm) f k h = switched_kept conn station number alarm s.link h
-  record_kept fields key (HandoverAsked conn source attempt cell target caps) f k h =
-      asked_over_kept conn source attempt cell target caps s.link (subst (λ g. FieldsOk tried g key) f.fields_is k) h
-  record_kept fields key (HandoverOrdered conn source attempt cell ncc algs air) f k h = calm _ _ h (λ u id g. g) tt (tt, tt)
-  record_kept fields key (HandoverNotified station) f k h = notified_kept station s.link h
-  record_kept fields key (HandoverCancelled conn source attempt cell target) f k h = calm _ _ h (λ u id g. g) tt (tt, tt)
 
   -- BY AN ACT
 
-  started_kept : (ksi : ℕ) (algs : Algs) (caps : Caps) (count : ℕ) (o : Option (CorePartial Term)) → Before (record s { partial = o }) →
-      After (smc_started (term_reading_by same) ksi algs caps count o (record s { partial = o }))
-  started_kept ksi algs caps count None h = calm _ _ h (λ u id g. g) tt tt
-  started_kept ksi algs caps count (Some p) h =
-      quiet (record s { partial = Some p }) _ _ h refl h.partial h.context h.trigger (λ u k. k) (λ u id g. g)
-      (root_derives p.root h.partial.0, (root_derives p.root h.partial.0, tt)) tt
-
   -- a KeNB of the COUNT that triggered, which was given to nobody before
-  set_up_kept : (conn : ℕ) (cell : Place) (target : ℕ) (caps : Caps) (count : ℕ) (o : Option (CoreContext Term)) → s.trigger ≡ Some count → Before (record s { context = o }) →
-      After (context_set_up (term_reading_by same) conn cell target caps count o (record s { context = o }))
-  set_up_kept conn cell target caps count None e h = calm _ _ h (λ u id g. g) tt tt
-  set_up_kept conn cell target caps count (Some c) e h = record {
+  set_up_kept : (conn : ℕ) (cell : Place) (target : ℕ) (caps : Caps) (count : ℕ) (c : CoreContext Term) → s.trigger ≡ Some count
+      → let t = with_context s (Some c) in
+      Keeps t (context_set_up (term_reading_by same) conn cell target caps count (Some c) t)
+  set_up_kept conn cell target caps count c e h = record {
     ok = record {
       partial = h.partial;
       context = h.context;
@@ -387,42 +373,39 @@ module _ (roots : ℕ) (xs : List (Outgoing Term ℕ)) (sites : List Site) (trie
         subst (λ v. Past roots s.partial (Some c) None v × ((root_number v ≤ root_number c.nas.root) × (root_number v ≡ root_number c.nas.root →
         (count_of v ≤ count) × (count_of v ≡ count → chain_number v ≤ 0)))) q.0 (kenb_past, (omega arith, λ g. (omega arith, λ i. omega arith)))
 
-  nas_sent_kept : (count : ℕ) (text : List ℕ) (o : Option (CoreContext Term)) → Before (record s { context = o }) → After (nas_sent count text o (record s { context = o }))
-  nas_sent_kept count text None h = calm _ _ h (λ u id g. g) tt tt
-  nas_sent_kept count text (Some c) h =
-      quiet (record s { context = Some c }) _ _ h refl h.partial h.context (triggered s.trigger h.trigger) (λ u k. k) (λ u id g. g) tt tt
+  -- COUNTs of the context in use go on
+  send_kept : (n : ℕ) (c : CoreContext Term) (reply : Reply Term ℕ) → Before (with_context s (Some c))
+      → ((u : Term) (id : ℕ) → GivesIn reply.sent u id → ⊥) → OutsAre IsWellFormed reply.derived →
+      OfSome (FlyOk (GivenTo (with_one reply.sent xs)) sites tried) reply.sent → After (with_context s (Some (nas_sent_to n c)), reply)
+  send_kept n c reply h none outs sends =
+      quiet (with_context s (Some c)) _ _ h refl h.partial h.context (triggered s.trigger h.trigger) (λ u k. k) none outs sends
     where
-      triggered : (tr : Option ℕ) → TriggerOk tr (Some c) → TriggerOk tr (Some (record c { nas = record c.nas { send = count + 1 } }))
+      triggered : (tr : Option ℕ) → TriggerOk tr (Some c) → TriggerOk tr (Some (nas_sent_to n c))
       triggered None k = tt
       triggered (Some old) k = k
 
-  nas_skipped_kept : (n : ℕ) (o : Option (CoreContext Term)) → Before (record s { context = o }) → After (nas_skipped n o (record s { context = o }))
-  nas_skipped_kept n None h = calm _ _ h (λ u id g. g) tt tt
-  nas_skipped_kept n (Some c) h =
-      quiet (record s { context = Some c }) _ _ h refl h.partial h.context (triggered s.trigger h.trigger) (λ u k. k) (λ u id g. g) tt tt
-    where
-      triggered : (tr : Option ℕ) → TriggerOk tr (Some c) → TriggerOk tr (Some (record c { nas = record c.nas { send = skipped n c.nas.send count_limit } }))
-      triggered None k = tt
-      triggered (Some old) k = k
-
-  act_kept : (act : CoreAct) (row : CoreActRow) → ActHas s act row → Before s → After (core_does_act (term_reading_by same) row s)
-  act_kept act (ActRefused answer) f h = calm _ _ h (λ u id g. g) tt tt
-  act_kept act (SmcStarted ksi algs caps count) f h = started_kept ksi algs caps count s.partial h
-  act_kept act (ContextSetUp conn cell target caps count) f h = set_up_kept conn cell target caps count s.context f.triggered h
-  act_kept act (ContextReleased conn station) f h = record {
-    ok = record {
-      partial = h.partial;
-      context = h.context;
-      trigger = h.trigger;
-      link = tt;
-      given = still (Some (Between (StationS1 station) (ContextRelease conn) None)) (λ u. Past roots s.partial s.context s.trigger u × ⊤) (λ u id g. g) (λ u id g. ((h.given u id g).0, tt));
+  act_kept : (act : CoreAct) → ActCases (term_reading_by same) (λ t row. ActHas t act row) Keeps s
+  act_kept act = record {
+    nothing = λ t answer h. calm _ _ h (λ u id g. g) tt tt;
+    started = λ ksi algs caps count p f h. quiet (with_partial s (Some p)) _ _ h refl h.partial h.context h.trigger (λ u k. k) (λ u id g. g)
+        (root_derives p.root h.partial.0, (root_derives p.root h.partial.0, tt)) tt;
+    set_up = λ conn cell target caps count c f h. set_up_kept conn cell target caps count c f.triggered h;
+    released = λ conn station f h. record {
+      ok = record {
+        partial = h.partial;
+        context = h.context;
+        trigger = h.trigger;
+        link = tt;
+        given = still (Some (Between (StationS1 station) (ContextRelease conn) None))
+            (λ u. Past roots s.partial s.context s.trigger u × ⊤) (λ u id g. g) (λ u id g. ((h.given u id g).0, tt));
+      };
+      outs = tt;
+      sends = (tt, tt);
+      fresh = λ u a b g k. k;
     };
-    outs = tt;
-    sends = (tt, tt);
-    fresh = λ u a b g k. k;
+    sent = λ count text c f h. send_kept (count + 1) c _ h (λ u id g. g) tt tt;
+    skipped = λ n c f h. send_kept (skipped n c.nas.send count_limit) c _ h (λ u id g. g) tt tt;
   }
-  act_kept act (NasSent count text) f h = nas_sent_kept count text s.context h
-  act_kept act (NasSkipped m) f h = nas_skipped_kept m s.context h
 
   -- A STEP
 
@@ -431,12 +414,14 @@ module _ (roots : ℕ) (xs : List (Outgoing Term ℕ)) (sites : List Site) (trie
 
   pub act_step : (act : CoreAct) (outcome : Outcome) → Before s → Step (CoreActs act) outcome
   act_step act outcome h =
-      let k = act_kept act (core_act_row (plain_core (term_reading_by same) s) act) (act_has (term_reading_by same) s act) h in
+      let k = act_case (term_reading_by same) _ Keeps s (act_kept act)
+      (core_act_row (plain_core (term_reading_by same) s) act) (act_has (term_reading_by same) s act) h in
       record { ok = k.ok; outs = k.outs; sends = k.sends; fresh = k.fresh }
 
   pub nas_step : (pdu : List ℕ) (outcome : Outcome) → Before s → Step (CoreNasPdu pdu) outcome
   nas_step pdu outcome h =
-      let k = nas_kept pdu outcome (nas_row (term_reading_by same) s pdu outcome) (nas_has (term_reading_by same) s pdu outcome) h in
+      let k = nas_case (term_reading_by same) _ Keeps s (nas_kept pdu outcome)
+      (nas_row (term_reading_by same) s pdu outcome) (nas_has (term_reading_by same) s pdu outcome) h in
       record { ok = k.ok; outs = k.outs; sends = k.sends; fresh = k.fresh }
 
   pub read_step : (read : Result (Content Term ℕ) RecFault) (outcome : Outcome) → ReadOk tried read → Before s → Step (CoreRecord read) outcome
@@ -444,7 +429,8 @@ module _ (roots : ℕ) (xs : List (Outgoing Term ℕ)) (sites : List Site) (trie
       let k = calm s (only (BadRecord fault)) h (λ u id g. g) tt tt in record { ok = k.ok; outs = k.outs; sends = k.sends; fresh = k.fresh }
   read_step (Ok content) outcome f h =
       let row = core_fields_row (plain_core (term_reading_by same) s) content.fields in
-      let k = record_kept content.fields content.key row (record_has (term_reading_by same) s content.fields) f h in
+      let k = record_case (term_reading_by same) _ Keeps s (record_kept content.fields content.key f) row
+      (record_has (term_reading_by same) s content.fields) h in
       record { ok = k.ok; outs = k.outs; sends = k.sends; fresh = k.fresh }
 
 -- AN AUTHENTICATION
@@ -462,10 +448,12 @@ auth_kept roots G s ksi caps root i e h = record {
   more : (n : ℕ) → n < roots → n < roots + 1
   more n lt = omega arith
 
-  past : (t : Term) → Past roots s.partial s.context s.trigger t → (root_number t < roots + 1) × (root_number t < root_number root) × BelowContext s.context s.trigger t
+  past : (t : Term) → Past roots s.partial s.context s.trigger t
+      → (root_number t < roots + 1) × (root_number t < root_number root) × BelowContext s.context s.trigger t
   past t k = (more (root_number t) k.0, subst (λ n. root_number t < n) (sym e) k.0, k.2)
 
-  context : (o : Option (CoreContext Term)) → ContextOk roots s.partial o → OfSome (λ c. IsRoot c.nas.root × (root_number c.nas.root < roots + 1) × (root_number c.nas.root < root_number root)) o
+  context : (o : Option (CoreContext Term)) → ContextOk roots s.partial o
+      → OfSome (λ c. IsRoot c.nas.root × (root_number c.nas.root < roots + 1) × (root_number c.nas.root < root_number root)) o
   context None k = tt
   context (Some c) k = (k.0, more (root_number c.nas.root) k.1, subst (λ n. root_number c.nas.root < n) (sym e) k.1)
 

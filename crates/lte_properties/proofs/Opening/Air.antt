@@ -1,11 +1,8 @@
 -- The keys of packets on the air: those that the phone takes at the packet's station and air address.
-use Rattle.std.proofs.Common.{◌≡◌, ℕ, ◌≤◌, ◌<◌, Bool, List, length, drop, Option, Some, None, refl, ap, sym, subst, ◌∙◌, arith, true, false}
+use Rattle.std.proofs.Common.{◌≡◌, ℕ, ◌≤◌, ◌<◌, Bool, List, length, drop, Option, Some, None, refl, ap, sym, subst, ◌∙◌, arith}
 use Rattle.std.specs.Prelude.{⊤, slice_index}
 use Rattle.rec_base.specs.declared.uses.Dir.{Dir}
-use Rattle.alg_choice.specs.declared.algs.Algs.{Algs}
-use Rattle.annex_a_keys.specs.Cell.{Place}
 use Rattle.lte_events.specs.declared.acts.PhoneAct.{PhoneAct}
-use Rattle.lte_events.specs.declared.answers.Answer.{Answer}
 use Rattle.key_model.specs.HandoverTable.{NumberedKey}
 use Rattle.key_model.specs.Term.{Term}
 use Rattle.key_model.specs.Reading.{Reading, term_reading_by}
@@ -14,23 +11,24 @@ use Rattle.pdcp_guard.specs.AsKeys.{AsKeys}
 use Rattle.rrc_rec.specs.declared.records.RrcRecord.{RrcRecord}
 use Rattle.rrc_rec.specs.declared.records.RrcRecord.TheVariants.{SecurityModeCommand, SecurityModeComplete, Reconfiguration, ReconfigurationComplete, RrcData, KeyChange}
 use Rattle.rrc_rec.specs.Spelling.{spelling_of}
-use Rattle.lte_machine.proofs.StationCases.{Any, AnyKey, record_case, air_case, act_case}
-use Rattle.lte_machine.specs.Bearers.{Srb, Drb, Which, srb_counts, drb_counts}
+use Rattle.lte_machine.proofs.PhoneCases as at_phone
+use Rattle.lte_machine.proofs.StationCases.{Any, record_case, air_case, act_case}
+use Rattle.lte_machine.specs.Bearers.{Srb, Drb, srb_counts, drb_counts}
 use Rattle.lte_machine.specs.Wire.{KeyUse, Ciphering, Outgoing, SealedNas, PlainNas, SealedRrc, UserPacket, Between}
 use Rattle.lte_machine.specs.Ranges.{IsPhoneAct}
-use Rattle.lte_machine.specs.Reply.{Origin, Made, Before, Reply}
-use Rattle.lte_machine.specs.PhoneState.{Partial, NasContext, Radio, Idle, Connecting, Connected, Phone}
+use Rattle.lte_machine.specs.Reply.{Origin, Made, Reply}
+use Rattle.lte_machine.specs.PhoneState.{Radio, Idle, Connecting, Connected, Phone}
 use Rattle.lte_machine.specs.PhoneRows as phone
 use Rattle.lte_machine.specs.PhoneRows.{PhoneRow}
 use Rattle.lte_machine.specs.PhoneKeys as phone_keys
-use Rattle.lte_machine.specs.PhoneKeys.{phone_does}
+use Rattle.lte_machine.specs.PhoneKeys.{PhoneDone, phone_does}
 use Rattle.lte_machine.specs.StationState.{Station, Context}
 use Rattle.lte_machine.specs.StationRows as station
 use Rattle.lte_machine.specs.StationRows.{StationRow}
 use Rattle.lte_machine.specs.StationRecords as station_records
 use Rattle.lte_machine.specs.StationKeys.{station_does}
 use Rattle.lte_machine.proofs.PhoneActFacts.{SendsPacket, SendsRrc, ByAct}
-use Rattle.lte_machine.proofs.Tests.{above_of}
+use Rattle.lte_machine.proofs.Tests.{Anything, above_of}
 use Rattle.lte_properties.specs.Agreement.{made_at}
 use Rattle.lte_properties.proofs.Agreement.Ghost.{Ghost, keys_of, FromIs, RadioOk, CtxOk}
 use Rattle.lte_properties.proofs.Agreement.Later.{Later, same_found, from_later}
@@ -150,7 +148,7 @@ module _ (same : Term → Term → Bool) (g : Ghost) where
     -- any row of a station
     pub station_sends : (row : StationRow) (key : Option (NumberedKey Term ℕ)) → StationNeeds row → Sends (station_does r row key s)
     station_sends (station.OfRecord row) key needs =
-        record_case r s Sends AnyKey
+        record_case r s Sends Anything
         (record {
           nothing = λ answer. tt;
           given = λ conn cell caps algs air kenb k. λ sent x. absurd (no_data (SecurityModeCommand algs s.id air) tt sent x);
@@ -191,7 +189,8 @@ module _ (same : Term → Term → Bool) (g : Ghost) where
           cancelled_within = λ number k. tt;
           asked = λ number k c e. tt;
           packet = λ drb count text k c e. (k.1, k.0, refl, c.keys, subst (ContextKeys g s.id) e keys, refl);
-          text = λ srb count text k c e. λ sent x. (subst (λ t. length t ≤ 200) (data_in text sent x) k.1, k.0, refl, c.keys, subst (ContextKeys g s.id) e keys, (refl, refl));
+          text = λ srb count text k c e. λ sent x.
+              (subst (λ t. length t ≤ 200) (data_in text sent x) k.1, k.0, refl, c.keys, subst (ContextKeys g s.id) e keys, (refl, refl));
           skipped = λ on n k. tt;
         })
         row needs
@@ -228,118 +227,50 @@ module _ (same : Term → Term → Bool) (g : Ghost) where
   auth_from (phone.Authenticated ksi) None s = tt
   auth_from (phone.Authenticated ksi) (Some root) s = tt
 
-  rejected_from : (answer : Answer) (cause : ℕ) (s : Phone Term ℕ) (o : Option (NasContext Term)) → FromPhone (phone_keys.rejected_under answer cause s o).1.sent
-  rejected_from answer cause s None = tt
-  rejected_from answer cause s (Some c) = tt
+  -- of a phone whose connection has its keys
+  abbrev PhoneSends : Phone Term ℕ → PhoneDone Term ℕ → Type 0
+  PhoneSends s d = RadioKeys g s.radio → FromPhone d.1.sent
 
-  taken_from : (algs : Algs) (count : ℕ) (s : Phone Term ℕ) (o : Option (Partial Term)) → FromPhone (phone_keys.context_taken r algs count s o).1.sent
-  taken_from algs count s None = tt
-  taken_from algs count s (Some p) = tt
+  nas_from : (s : Phone Term ℕ) → at_phone.NasCases r Anything PhoneSends s
+  nas_from s = record {
+    nothing = λ t answer keys. tt;
+    rejected = λ answer cause k keys. tt;
+    rejected_under = λ answer cause c k keys. tt;
+    taken = λ algs count p k keys. tt;
+    taken_connected = λ algs count p k keys. tt;
+    opened = λ count text c k keys. tt;
+  }
 
-  connected_from : (algs : Algs) (count : ℕ) (s : Phone Term ℕ) (o : Option (Partial Term)) → FromPhone (phone_keys.context_taken_connected r algs count s o).1.sent
-  connected_from algs count s None = tt
-  connected_from algs count s (Some p) = tt
+  air_from : (s : Phone Term ℕ) → at_phone.AirCases r Anything PhoneSends s
+  air_from s = record {
+    nothing = λ t answer keys. tt;
+    secured = λ id air algs count w k keys. λ sent e. absurd (no_data SecurityModeComplete tt sent e);
+    handed_over = λ cell steps algs id air l k keys. λ sent e. absurd (no_data ReconfigurationComplete tt sent e);
+    changed = λ cell algs id air l c f k keys. λ sent e. absurd (no_data ReconfigurationComplete tt sent e);
+    rrc = λ srb count text l k keys. tt;
+    packet = λ drb count text l k keys. tt;
+  }
 
-  opened_from : (count : ℕ) (text : List ℕ) (s : Phone Term ℕ) (o : Option (NasContext Term)) → FromPhone (phone_keys.nas_opened count text s o).1.sent
-  opened_from count text s None = tt
-  opened_from count text s (Some c) = tt
-
-  nas_from : (row : phone.NasRow) (s : Phone Term ℕ) → FromPhone (phone_keys.nas_does r row s).1.sent
-  nas_from (phone.NasRefused answer) s = tt
-  nas_from (phone.RejectedPlain answer cause) s = tt
-  nas_from (phone.RejectedUnder answer cause) s = rejected_from answer cause s s.context
-  nas_from (phone.ContextTaken algs count) s = taken_from algs count s s.partial
-  nas_from (phone.ContextTakenConnected algs count) s = connected_from algs count s s.partial
-  nas_from (phone.NasOpened count text) s = opened_from count text s s.context
-
-  secured_from : (id air : ℕ) (algs : Algs) (count : ℕ) (s : Phone Term ℕ) (radio : Radio Term ℕ) → FromPhone (phone_keys.link_secured r id air algs count s radio).1.sent
-  secured_from id air algs count s Idle = tt
-  secured_from id air algs count s (Connecting w) = λ sent e. absurd (no_data SecurityModeComplete tt sent e)
-  secured_from id air algs count s (Connected l) = tt
-
-  handed_from : (cell : Place) (steps : ℕ) (algs : Algs) (id air : ℕ) (s : Phone Term ℕ) (radio : Radio Term ℕ) → FromPhone (phone_keys.handed_over r cell steps algs id air s radio).1.sent
-  handed_from cell steps algs id air s Idle = tt
-  handed_from cell steps algs id air s (Connecting w) = tt
-  handed_from cell steps algs id air s (Connected l) = λ sent e. absurd (no_data ReconfigurationComplete tt sent e)
-
-  changed_unless_from : (cell : Place) (algs : Algs) (id air : ℕ) (s : Phone Term ℕ) (before : Before Term ℕ) (root : Term) (same_root : Bool)
-      → FromPhone (phone_keys.changed_unless r cell algs id air s before root same_root).1.sent
-  changed_unless_from cell algs id air s before root true = tt
-  changed_unless_from cell algs id air s before root false = λ sent e. absurd (no_data ReconfigurationComplete tt sent e)
-
-  changed_from : (cell : Place) (algs : Algs) (id air : ℕ) (s : Phone Term ℕ) (radio : Radio Term ℕ) (o : Option (NasContext Term))
-      → FromPhone (phone_keys.key_changed r cell algs id air s radio o).1.sent
-  changed_from cell algs id air s Idle o = tt
-  changed_from cell algs id air s (Connecting w) o = tt
-  changed_from cell algs id air s (Connected l) None = tt
-  changed_from cell algs id air s (Connected l) (Some c) =
-      changed_unless_from cell algs id air s (phone_keys.before_of l) c.root (r.same c.root l.chain.root)
-
-  rrc_opened_from : (srb : Srb) (count : ℕ) (text : List ℕ) (s : Phone Term ℕ) (radio : Radio Term ℕ) → FromPhone (phone_keys.rrc_opened srb count text s radio).1.sent
-  rrc_opened_from srb count text s Idle = tt
-  rrc_opened_from srb count text s (Connecting w) = tt
-  rrc_opened_from srb count text s (Connected l) = tt
-
-  packet_opened_from : (drb : Drb) (count : ℕ) (text : List ℕ) (s : Phone Term ℕ) (radio : Radio Term ℕ) → FromPhone (phone_keys.packet_opened drb count text s radio).1.sent
-  packet_opened_from drb count text s Idle = tt
-  packet_opened_from drb count text s (Connecting w) = tt
-  packet_opened_from drb count text s (Connected l) = tt
-
-  air_from : (row : phone.AirRow) (s : Phone Term ℕ) → FromPhone (phone_keys.air_does r row s).1.sent
-  air_from (phone.AirRefused answer) s = tt
-  air_from (phone.LinkSecured id air algs count) s = secured_from id air algs count s s.radio
-  air_from (phone.HandedOver cell steps algs id air) s = handed_from cell steps algs id air s s.radio
-  air_from (phone.KeyChanged cell algs id air) s = changed_from cell algs id air s s.radio s.context
-  air_from (phone.RrcOpened srb count text) s = rrc_opened_from srb count text s s.radio
-  air_from (phone.PacketOpened drb count text) s = packet_opened_from drb count text s s.radio
-
-  requested_from : (s : Phone Term ℕ) (o : Option (NasContext Term)) → FromPhone (phone_keys.service_requested r s o).1.sent
-  requested_from s None = tt
-  requested_from s (Some c) = tt
-
-  resent_from : (s : Phone Term ℕ) (radio : Radio Term ℕ) → FromPhone (phone_keys.complete_resent s radio).1.sent
-  resent_from s Idle = tt
-  resent_from s (Connecting w) = tt
-  resent_from s (Connected l) = λ sent e. absurd (no_data ReconfigurationComplete tt sent e)
-
-  packet_from : (drb : Drb) (text : List ℕ) (s : Phone Term ℕ) (radio : Radio Term ℕ) → RadioKeys g radio → PacketNeeds drb text radio → FromPhone (phone_keys.packet_sent drb text s radio).1.sent
-  packet_from drb text s Idle keys needs = tt
-  packet_from drb text s (Connecting w) keys needs = tt
-  packet_from drb text s (Connected l) keys needs = (needs.1, needs.0, refl, l.keys, keys, refl)
-
-  rrc_from : (srb : Srb) (text : List ℕ) (s : Phone Term ℕ) (radio : Radio Term ℕ) → RadioKeys g radio → RrcNeeds srb text radio → FromPhone (phone_keys.rrc_sent srb text s radio).1.sent
-  rrc_from srb text s Idle keys needs = tt
-  rrc_from srb text s (Connecting w) keys needs = tt
-  rrc_from srb text s (Connected l) keys needs = λ sent e.
-      (subst (λ t. length t ≤ 200) (data_in text sent e) needs.1, needs.0, refl, l.keys, keys, (refl, refl))
-
-  sent_from : (text : List ℕ) (s : Phone Term ℕ) (o : Option (NasContext Term)) → FromPhone (phone_keys.nas_sent text s o).1.sent
-  sent_from text s None = tt
-  sent_from text s (Some c) = tt
-
-  left_from : (n : ℕ) (s : Phone Term ℕ) (o : Option (NasContext Term)) → FromPhone (phone_keys.nas_skipped n s o).1.sent
-  left_from n s None = tt
-  left_from n s (Some c) = tt
-
-  bearer_from : (on : Which) (n : ℕ) (s : Phone Term ℕ) (radio : Radio Term ℕ) → FromPhone (phone_keys.bearer_skipped on n s radio).1.sent
-  bearer_from on n s Idle = tt
-  bearer_from on n s (Connecting w) = tt
-  bearer_from on n s (Connected l) = tt
-
-  act_from : (row : phone.ActRow) (s : Phone Term ℕ) → RadioKeys g s.radio → ByAct s row → FromPhone (phone_keys.act_does r row s).1.sent
-  act_from (phone.ActRefused answer) s keys needs = tt
-  act_from phone.ServiceRequested s keys needs = requested_from s s.context
-  act_from phone.CompleteResent s keys needs = resent_from s s.radio
-  act_from phone.WentIdle s keys needs = tt
-  act_from (phone.PacketSent drb text) s keys needs = packet_from drb text s s.radio keys (packet_needs s needs.0 drb text needs.1 needs.2)
-  act_from (phone.RrcSent srb text) s keys needs = rrc_from srb text s s.radio keys (rrc_needs s needs.0 srb text needs.1 needs.2)
-  act_from (phone.NasSent text) s keys needs = sent_from text s s.context
-  act_from (phone.NasSkipped n) s keys needs = left_from n s s.context
-  act_from (phone.BearerSkipped on n) s keys needs = bearer_from on n s s.radio
+  act_from : (s : Phone Term ℕ) → at_phone.ActCases r ByAct PhoneSends s
+  act_from s = record {
+    nothing = λ t answer keys. tt;
+    requested = λ c k keys. tt;
+    resent = λ l k keys. λ sent e. absurd (no_data ReconfigurationComplete tt sent e);
+    idle = λ k keys. tt;
+    packet = λ drb text l k keys.
+        let needs = packet_needs (at_phone.with_radio s (Connected l)) k.0 drb text k.1 k.2 in (needs.1, needs.0, refl, l.keys, keys, refl);
+    rrc = λ srb text l k keys. λ sent e.
+        let needs = rrc_needs (at_phone.with_radio s (Connected l)) k.0 srb text k.1 k.2 in
+        (subst (λ t. length t ≤ 200) (data_in text sent e) needs.1, needs.0, refl, l.keys, keys, (refl, refl));
+    nas = λ text c k keys. tt;
+    nas_skipped = λ n c k keys. tt;
+    bearer_skipped = λ on n l k keys. tt;
+  }
 
   -- any row of the phone
-  pub phone_sends : (row : PhoneRow) (root : Option Term) (s : Phone Term ℕ) → RadioKeys g s.radio → PhoneNeeds s row → FromPhone (phone_does r row root s).1.sent
+  pub phone_sends : (row : PhoneRow) (root : Option Term) (s : Phone Term ℕ) → RadioKeys g s.radio → PhoneNeeds s row
+      → FromPhone (phone_does r row root s).1.sent
   phone_sends (phone.OfAuth row) root s keys needs = auth_from row root s
-  phone_sends (phone.OfNas row) root s keys needs = nas_from row s
-  phone_sends (phone.OfAir row) root s keys needs = air_from row s
-  phone_sends (phone.OfAct row) root s keys needs = act_from row s keys needs
+  phone_sends (phone.OfNas row) root s keys needs = at_phone.nas_case r Anything PhoneSends s (nas_from s) row tt keys
+  phone_sends (phone.OfAir row) root s keys needs = at_phone.air_case r Anything PhoneSends s (air_from s) row tt keys
+  phone_sends (phone.OfAct row) root s keys needs = at_phone.act_case r ByAct PhoneSends s (act_from s) row needs keys

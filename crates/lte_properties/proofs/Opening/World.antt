@@ -3,12 +3,9 @@ use Rattle.std.proofs.Common.{◌≡◌, refl, sym, ap, ℕ, ◌<◌, ◌==◌, 
 use Rattle.std.specs.Prelude.{⊤, filter}
 use Rattle.std.proofs.lemmas.Bool.Decides.{nat_tests}
 use Rattle.alg_choice.specs.declared.algs.Algs.{Algs}
-use Rattle.alg_choice.specs.declared.caps.Caps.{Caps}
 use Rattle.alg_choice.specs.declared.choices.NoAlgorithm.{NoAlgorithm as NoneChosen}
 use Rattle.lte_events.specs.declared.answers.Answer.{Answer}
 use Rattle.lte_events.specs.Site.{Site}
-use Rattle.annex_a_keys.specs.Cell.{Place}
-use Rattle.nas_guard.specs.Keys.{Keys}
 use Rattle.key_model.specs.Derivation.{Derivation}
 use Rattle.key_model.specs.Term.{Term, Root}
 use Rattle.key_model.specs.HandoverTable.{NumberedKey}
@@ -26,11 +23,10 @@ use Rattle.lte_machine.specs.PhoneKeys.{PhoneDone}
 use Rattle.lte_machine.specs.PhoneStep.{plain_phone, front_of, phone_root, phone_opens, phone_pdu_in, phone_step}
 use Rattle.lte_machine.specs.StationState.{Station, StationInput}
 use Rattle.lte_machine.specs.StationStep.{station_opens, station_pdu_in, station_step, station_row_of, station_key}
-use Rattle.lte_machine.specs.CoreState.{Core, CorePartial, CoreContext, CoreLink, CoreInput}
+use Rattle.lte_machine.specs.CoreState.{Core, CoreInput}
 use Rattle.lte_machine.specs.CoreRows as core
 use Rattle.lte_machine.specs.CoreRows.{CoreRow}
 use Rattle.lte_machine.specs.CoreChoice.{core_row}
-use Rattle.lte_machine.specs.CoreKeys as core_keys
 use Rattle.lte_machine.specs.CoreKeys.{CoreDone, core_does}
 use Rattle.lte_machine.specs.CoreStep.{plain_core, core_root, core_front_of, core_opens, core_pdu_in, core_step}
 use Rattle.lte_machine.specs.World.{Machine, phone_after, core_after, station_after, by_world, phone_turn, core_turn, turn_of, is_root_row, next_root}
@@ -44,6 +40,8 @@ use Rattle.lte_properties.proofs.Opening.Nas.{Choices, PhoneOk, CoreOk, SentOk, 
 use Rattle.lte_properties.proofs.Opening.NasRows.{RowNeeds, CoreRowNeeds, NoAuth, phone_goes, core_goes}
 use Rattle.lte_properties.proofs.Opening.Air.{AirOk, FromStation, StationNeeds, FromPhone, PhoneNeeds, air_later, radio_keys, context_keys, station_sends, phone_sends}
 use Rattle.lte_machine.proofs.CipherLaws.{AreCiphers}
+use Rattle.lte_machine.proofs.CoreCases.{NasCases, nas_case, RecordCases, record_case, ActCases, act_case}
+use Rattle.lte_machine.proofs.Tests.{Anything}
 
 -- what is known of packets in a world: the NAS keys of core and phone, and how each record that was sent is sealed
 pub record PacketsOk (g : Choices) (k : Conns) (w : TheWorld) : Type 0 where
@@ -122,77 +120,45 @@ module _ (same : Term → Term → Bool) where
   abbrev r : Reading Term ℕ
   r = term_reading_by same
 
-  smc_air : (ksi : ℕ) (algs : Algs) (caps : Caps) (count : ℕ) (o : Option (CorePartial Term)) (s : Core Term ℕ) → FromCore (core_keys.smc_started r ksi algs caps count o s).1.sent
-  smc_air ksi algs caps count None s = tt
-  smc_air ksi algs caps count (Some p) s = tt
+  abbrev SendsSo : Core Term ℕ → CoreDone Term ℕ → Type 0
+  SendsSo s d = FromCore d.1.sent
 
-  complete_air : (count : ℕ) (o : Option (CorePartial Term)) (keys : Option (Keys Term)) (s : Core Term ℕ) → FromCore (core_keys.smc_complete count o keys s).1.sent
-  complete_air count None keys s = tt
-  complete_air count (Some p) None s = tt
-  complete_air count (Some p) (Some keys) s = tt
+  nas_air : (s : Core Term ℕ) → NasCases r Anything SendsSo s
+  nas_air s = record {
+    nothing = λ t answer. tt;
+    closed = λ k. tt;
+    completed = λ count p keys k. tt;
+    changed = λ count conn next station p keys k. tt;
+    asked = λ count c k. tt;
+    opened = λ count text c k. tt;
+    rejected = λ count c k. tt;
+  }
 
-  changed_air : (count conn next station : ℕ) (o : Option (CorePartial Term)) (procedure : Option (Keys Term)) (s : Core Term ℕ) → FromCore (core_keys.key_changed r count conn next station o procedure s).1.sent
-  changed_air count conn next station None procedure s = tt
-  changed_air count conn next station (Some p) None s = tt
-  changed_air count conn next station (Some p) (Some keys) s = tt
+  s1_air : (s : Core Term ℕ) → RecordCases r Anything SendsSo s
+  s1_air s = record {
+    nothing = λ t answer. tt;
+    switched = λ conn station number alarm link k. tt;
+    asked = λ conn source attempt cell target caps link k. tt;
+    ordered = λ conn source attempt cell ncc algs air k. tt;
+    notified = λ station link k. tt;
+    cancelled = λ conn source attempt cell target k. tt;
+  }
 
-  service_air : (count : ℕ) (o : Option (CoreContext Term)) (s : Core Term ℕ) → FromCore (core_keys.service_asked count o s).1.sent
-  service_air count None s = tt
-  service_air count (Some c) s = tt
-
-  opened_air : (count : ℕ) (text : List ℕ) (o : Option (CoreContext Term)) (s : Core Term ℕ) → FromCore (core_keys.nas_opened count text o s).1.sent
-  opened_air count text None s = tt
-  opened_air count text (Some c) s = tt
-
-  reject_air : (count : ℕ) (o : Option (CoreContext Term)) (s : Core Term ℕ) → FromCore (core_keys.sealed_reject count o s).1.sent
-  reject_air count None s = tt
-  reject_air count (Some c) s = tt
-
-  sent_air : (count : ℕ) (text : List ℕ) (o : Option (CoreContext Term)) (s : Core Term ℕ) → FromCore (core_keys.nas_sent count text o s).1.sent
-  sent_air count text None s = tt
-  sent_air count text (Some c) s = tt
-
-  skipped_air : (n : ℕ) (o : Option (CoreContext Term)) (s : Core Term ℕ) → FromCore (core_keys.nas_skipped n o s).1.sent
-  skipped_air n None s = tt
-  skipped_air n (Some c) s = tt
-
-  set_up_air : (conn : ℕ) (cell : Place) (target : ℕ) (caps : Caps) (count : ℕ) (o : Option (CoreContext Term)) (s : Core Term ℕ) → FromCore (core_keys.context_set_up r conn cell target caps count o s).1.sent
-  set_up_air conn cell target caps count None s = tt
-  set_up_air conn cell target caps count (Some c) s = tt
-
-  switched_air : (conn station number : ℕ) (alarm : Bool) (o : Option (CoreLink Term ℕ)) (s : Core Term ℕ) → FromCore (core_keys.path_switched r conn station number alarm o s).1.sent
-  switched_air conn station number alarm None s = tt
-  switched_air conn station number alarm (Some link) s = tt
-
-  asked_air : (conn source attempt : ℕ) (cell : Place) (target : ℕ) (caps : Caps) (o : Option (CoreLink Term ℕ)) (s : Core Term ℕ) → FromCore (core_keys.handover_asked r conn source attempt cell target caps o s).1.sent
-  asked_air conn source attempt cell target caps None s = tt
-  asked_air conn source attempt cell target caps (Some link) s = tt
-
-  notified_air : (station : ℕ) (o : Option (CoreLink Term ℕ)) (s : Core Term ℕ) → FromCore (core_keys.handover_notified station o s).1.sent
-  notified_air station None s = tt
-  notified_air station (Some link) s = tt
+  act_air : (s : Core Term ℕ) → ActCases r Anything SendsSo s
+  act_air s = record {
+    nothing = λ t answer. tt;
+    started = λ ksi algs caps count p k. tt;
+    set_up = λ conn cell target caps count c k. tt;
+    released = λ conn station k. tt;
+    sent = λ count text c k. tt;
+    skipped = λ n c k. tt;
+  }
 
   -- any row of the core
   core_sends : (row : CoreRow) (root : Option Term) (s : Core Term ℕ) → FromCore (core_does r row root s).1.sent
-  core_sends (core.OfNas (core.NasRefused answer)) root s = tt
-  core_sends (core.OfNas core.PlainReject) root s = tt
-  core_sends (core.OfNas (core.SmcComplete count)) root s = complete_air count s.partial s.procedure s
-  core_sends (core.OfNas (core.SmcChange count conn next station)) root s = changed_air count conn next station s.partial s.procedure s
-  core_sends (core.OfNas (core.ServiceAsked count)) root s = service_air count s.context s
-  core_sends (core.OfNas (core.NasOpened count text)) root s = opened_air count text s.context s
-  core_sends (core.OfNas (core.SealedReject count)) root s = reject_air count s.context s
-  core_sends (core.OfRecord (core.RecordRefused answer)) root s = tt
-  core_sends (core.OfRecord (core.PathSwitched conn station number alarm)) root s = switched_air conn station number alarm s.link s
-  core_sends (core.OfRecord (core.HandoverAsked conn source attempt cell target caps)) root s = asked_air conn source attempt cell target caps s.link s
-  core_sends (core.OfRecord (core.HandoverOrdered conn source attempt cell ncc algs air)) root s = tt
-  core_sends (core.OfRecord (core.HandoverNotified station)) root s = notified_air station s.link s
-  core_sends (core.OfRecord (core.HandoverCancelled conn source attempt cell target)) root s = tt
-  core_sends (core.OfAct (core.ActRefused answer)) root s = tt
-  core_sends (core.OfAct (core.SmcStarted ksi algs caps count)) root s = smc_air ksi algs caps count s.partial s
-  core_sends (core.OfAct (core.ContextSetUp conn cell target caps count)) root s = set_up_air conn cell target caps count s.context s
-  core_sends (core.OfAct (core.ContextReleased conn station)) root s = tt
-  core_sends (core.OfAct (core.NasSent count text)) root s = sent_air count text s.context s
-  core_sends (core.OfAct (core.NasSkipped n)) root s = skipped_air n s.context s
+  core_sends (core.OfNas row) root s = nas_case r Anything SendsSo s (nas_air s) row tt
+  core_sends (core.OfRecord row) root s = record_case r Anything SendsSo s (s1_air s) row tt
+  core_sends (core.OfAct row) root s = act_case r Anything SendsSo s (act_air s) row tt
   core_sends (core.OfAuth ksi caps) None s = tt
   core_sends (core.OfAuth ksi caps) (Some root) s = tt
 
