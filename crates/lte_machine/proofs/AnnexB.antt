@@ -1,6 +1,5 @@
 -- The algorithms of Annex B are ciphers, and depend on a key by its octets alone.
-use Rattle.std.proofs.Common.{◌≡◌, ℕ, Bool, true, false, ◌==◌, List, length, Option, Some, None, refl}
-use Rattle.std.specs.Prelude.{◌&&◌}
+use Rattle.std.proofs.Common.{◌≡◌, ℕ, Bool, true, ◌==◌, List, length, Option, Some, None, refl}
 use Rattle.std.specs.Bool.{Decides}
 use Rattle.std.proofs.lemmas.Bool.Decides.{Decides-and, Decides-eqb}
 use Rattle.rec_base.specs.declared.uses.Dir.{Dir}
@@ -19,6 +18,7 @@ use Rattle.lte_machine.specs.Ciphers.{Ciphers, annex_b, under_keys, ciphered_by}
 use Rattle.lte_machine.specs.Opening.{same_dir, same_uses, same_ciphering}
 use Rattle.lte_machine.proofs.Opens.{Respects}
 use Rattle.lte_machine.proofs.CipherLaws.{AreCiphers}
+use Rattle.lte_machine.proofs.Tests.{both_true}
 
 length-ciphered : (eea : Eea) (key : List ℕ) (count bearer : ℕ) (dir : Dir) (text : List ℕ) → length (ciphered eea key count bearer dir text) ≡ length text
 unfolding ciphered
@@ -55,11 +55,6 @@ uses_are same u v e =
     itself : (b : Bool) → Decides b (b ≡ true)
     itself b = (λ e. e, λ e. e)
 
-both : (a b : Bool) → (a && b) ≡ true → (a ≡ true) × (b ≡ true)
-both true true e = (refl, refl)
-both true false e = cc
-both false b e = cc
-
 same_eea : (a b : Eea) → (identity_of a == identity_of b) ≡ true → a ≡ b
 same_eea Eea0 Eea0 e = refl
 same_eea Eea0 Eea2 e = cc
@@ -78,7 +73,7 @@ module _ {K L : Type 0} (same : K → K → Bool) (f : K → L) (sound : (a b : 
   crypt_is None (Some g) h = cc
   crypt_is (Some e) None h = cc
   crypt_is (Some e) (Some g) h =
-      let p = both (same_uses same e.under g.under) (identity_of e.eea == identity_of g.eea) h in
+      let p = both_true (same_uses same e.under g.under) (identity_of e.eea == identity_of g.eea) h in
       let u = use_is e.under g.under p.0 in
       let a = same_eea e.eea g.eea p.1 in
       λ j text. c.crypt (record { under = u j; eea = a j }) text

@@ -1,6 +1,6 @@
 -- The rows of a ladder stand for the distinct terms, each with a value of its own, where no clash has come.
 use Rattle.std.proofs.Common.{◌≡◌, ℕ, ◌+◌, Bool, true, false, List, [], ◌∷◌, ◌++◌, Option, Some, None, refl, ap, sym, ◌∙◌, subst}
-use Rattle.std.specs.Prelude.{◌⊎◌, ◌&&◌, ◌||◌}
+use Rattle.std.specs.Prelude.{◌⊎◌, ◌||◌}
 use Rattle.std.proofs.Common.{inl, inr}
 use Rattle.std.proofs.lemmas.Bool.Decides.{Decides-and, Decides-eqb}
 use Rattle.std.proofs.lemmas.List.{map-append}
@@ -11,6 +11,7 @@ use Rattle.key_model.proofs.TermFacts.{same_term-Decides, same_value-Decides}
 use Rattle.lte_machine.specs.Ladder.{RowOrigin, OfRoot, Of, row_key, same_input, same_origin, Hit, hit_if, hit_from, hit, stands_or_not, added_at, add_row, root_place, root_if, root_row}
 use Rattle.lte_machine.specs.Ranges.{AllOf}
 use Rattle.lte_machine.specs.Distinct.{keys_of, Member, is_member, with_new, OneValueOneTerm}
+use Rattle.lte_machine.proofs.Tests.{both_true}
 
 -- membership
 
@@ -186,11 +187,6 @@ same_made ts own (FromAlg p q) (FromSync u) k l a b e h = cc
 same_made ts own (FromAlg p q) (FromCell r s) k l a b e h = cc
 same_made ts own (FromAlg p q) (FromAlg r s) k l a b e h =
     let both = (Decides-and _ _ (Decides-eqb p r) (Decides-eqb q s)).0 h in λ x. Alg (e x) (both.0 x) (both.1 x)
-
-both_true : (a b : Bool) → (a && b) ≡ true → (a ≡ true) × (b ≡ true)
-both_true true true e = (refl, refl)
-both_true true false e = cc
-both_true false b e = cc
 
 -- a row that stands is the same derivation: its key is the key added
 stands_same : (rows : List (RowOrigin Term)) → Well rows → (o : RowOrigin Term) → Addable rows o → (h : Hit Term) → Found (RowOk (keys_of rows)) (row_key o) rows h

@@ -59,7 +59,7 @@ abbrev pub is_own : PlainStation → Place → Bool
 is_own s cell = is_station s.id (station_of cell s.cells)
 
 -- the number of an attempt
-abbrev pub x2_number : X2State (Unit {0}) ℕ → ℕ
+abbrev pub x2_number : {K C : Type 0} → X2State K C → ℕ
 x2_number (X2Open start) = start.number
 x2_number (X2Ready acked) = acked.start.number
 x2_number (X2Commanded sent) = sent.number

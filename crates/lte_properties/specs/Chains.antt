@@ -8,7 +8,7 @@ use Rattle.ho_prep.specs.Prep.{Prep}
 use Rattle.lte_events.specs.declared.events.Event.{Event}
 use Rattle.lte_events.specs.declared.setups.Setup.{Setup}
 use Rattle.lte_machine.specs.Reply.{From, BySetup, ByAttempt, ByChange, Made, Tried, Came, Changed, Took, Handover, BySource, ByTarget}
-use Rattle.lte_machine.specs.StationState.{Context, Attempt, OverX2, OverS1, Within, Renewing, X2State, X2Open, X2Ready, X2Commanded, S1State, S1Open, S1Ready, S1Commanded}
+use Rattle.lte_machine.specs.StationState.{Context, Attempt, OverX2, OverS1, Within, Renewing}
 use Rattle.lte_machine.specs.CoreState.{CoreLink}
 use Rattle.lte_machine.specs.Wire.{Outgoing, Between}
 use Rattle.lte_machine.specs.World.{Machine, World}
@@ -18,6 +18,7 @@ use Rattle.lte_properties.specs.Origins.{root_of, nas_count_of}
 use Rattle.lte_properties.specs.ChainBelow.{AllOf}
 use Rattle.lte_properties.specs.ChainHolds.{core_numbers, run}
 use Rattle.lte_machine.specs.Distinct.{Member}
+use Rattle.lte_machine.specs.StationChoice.{x2_number, s1_number}
 
 -- the key of a chain, an NH or the KeNB that it begins with, from which a KeNB comes by KeNB* steps
 abbrev pub chain_key : Term → Term
@@ -67,22 +68,12 @@ OpenedUnder tried id x number =
     (e : Tried Term ℕ) × Member e tried × (e.station ≡ id) × (e.attempt ≡ number) × (e.conn ≡ x.conn)
     × (e.key ≡ x.key.kenb) × (e.number ≡ x.key.number)
 
-abbrev pub x2_attempt : X2State Term ℕ → ℕ
-x2_attempt (X2Open start) = start.number
-x2_attempt (X2Ready acked) = acked.start.number
-x2_attempt (X2Commanded sent) = sent.number
-
-abbrev pub s1_attempt : S1State → ℕ
-s1_attempt (S1Open start) = start.number
-s1_attempt (S1Ready acked) = acked.start.number
-s1_attempt (S1Commanded sent) = sent.number
-
 -- an attempt belongs to the context under whose key it was opened, and so does a change of the key
 abbrev pub AttemptOn : List (Made Term ℕ) → List (Tried Term ℕ) → ℕ → Context Term ℕ → Option (Attempt Term ℕ) → Type 0
 AttemptOn made tried id x None = ⊤
-AttemptOn made tried id x (Some (OverX2 state)) = OpenedUnder tried id x (x2_attempt state)
-AttemptOn made tried id x (Some (OverS1 state)) = OpenedUnder tried id x (s1_attempt state)
-AttemptOn made tried id x (Some (Within state)) = OpenedUnder tried id x (x2_attempt state)
+AttemptOn made tried id x (Some (OverX2 state)) = OpenedUnder tried id x (x2_number state)
+AttemptOn made tried id x (Some (OverS1 state)) = OpenedUnder tried id x (s1_number state)
+AttemptOn made tried id x (Some (Within state)) = OpenedUnder tried id x (x2_number state)
 AttemptOn made tried id x (Some (Renewing a)) =
     (m : Made Term ℕ) × (made_at made id a.air ≡ Some m) × (m.from ≡ ByChange x.key.kenb)
 

@@ -17,7 +17,7 @@ use Rattle.lte_machine.specs.StationState.{Context, Attempt, OverX2, OverS1, Wit
 use Rattle.lte_machine.specs.Wire.{Outgoing, Between}
 use Rattle.lte_properties.specs.Agreement.{TookMade, ObeysMade, Grows}
 use Rattle.lte_properties.specs.Origins.{root_of, nas_count_of}
-use Rattle.lte_properties.specs.Chains.{chain_key, OnChain, Chains, IsKeyOf, IsPairOf, ArePairsOf, GivenOn, TriedOn, ContextOn, OpenedUnder, x2_attempt, s1_attempt, AttemptOn, AttemptsOn, PrepOn, LinkOn, RecordOn, StarOf, MadeHow, BelongsTo, TookOn, AreChains}
+use Rattle.lte_properties.specs.Chains.{chain_key, OnChain, Chains, IsKeyOf, IsPairOf, ArePairsOf, GivenOn, TriedOn, ContextOn, OpenedUnder, AttemptOn, AttemptsOn, PrepOn, LinkOn, RecordOn, StarOf, MadeHow, BelongsTo, TookOn, AreChains}
 use Rattle.lte_properties.specs.ChainBelow.{AllOf, LinkTop}
 use Rattle.lte_properties.specs.ChainHolds.{Holds}
 use Rattle.lte_properties.proofs.ChainNumbers.Lists.{all_map}
@@ -29,6 +29,7 @@ use Rattle.lte_properties.proofs.Agreement.PhoneWalk.{both_named}
 use Rattle.lte_properties.proofs.Agreement.Told.{found_holds, term_number}
 use Rattle.lte_properties.proofs.Agreement.World.{TheWorld, Conns, ghost, WorldOk}
 use Rattle.lte_machine.specs.Distinct.{Member}
+use Rattle.lte_machine.specs.StationChoice.{x2_number, s1_number}
 
 -- a key on two chains has one number
 one_number : (r s : Term) (m n i j : ℕ) (t : Term) → OnChain r m t i → OnChain s n t j → i ≡ j
@@ -85,12 +86,12 @@ module _ (cells : List Site) (c : Conns) (w : TheWorld) (h : WorldOk cells c w) 
       let one : e.number ≡ x.key.number = sym (term_number (ghost c w) e.conn e.key e.number term) ∙ ap chain_number k.2 ∙ term_number (ghost c w) x.conn x.key.kenb x.key.number own in
       (e, found_in (is_tried_at id number) w.tried e k.1, at.0, at.1, k.3, k.2, one)
 
-  x2_under : (id : ℕ) (x : Context Term ℕ) (state : X2State Term ℕ) → X2Ok (ghost c w) id x.conn x.key.kenb state → UnderKey (ghost c w) id x.conn x.key.kenb (x2_attempt state)
+  x2_under : (id : ℕ) (x : Context Term ℕ) (state : X2State Term ℕ) → X2Ok (ghost c w) id x.conn x.key.kenb state → UnderKey (ghost c w) id x.conn x.key.kenb (x2_number state)
   x2_under id x (X2Open start) k = (k.0.0, k.0.1, k.0.2, k.0.5)
   x2_under id x (X2Ready acked) k = k.2
   x2_under id x (X2Commanded sent) k = k.1
 
-  s1_under : (id : ℕ) (x : Context Term ℕ) (state : S1State) → S1Ok (ghost c w) id x.conn x.key.kenb state → UnderKey (ghost c w) id x.conn x.key.kenb (s1_attempt state)
+  s1_under : (id : ℕ) (x : Context Term ℕ) (state : S1State) → S1Ok (ghost c w) id x.conn x.key.kenb state → UnderKey (ghost c w) id x.conn x.key.kenb (s1_number state)
   s1_under id x (S1Open start) k = (k.0, k.1, k.2, k.5)
   s1_under id x (S1Ready acked) k = k.1
   s1_under id x (S1Commanded sent) k = k.1
@@ -98,9 +99,9 @@ module _ (cells : List Site) (c : Conns) (w : TheWorld) (h : WorldOk cells c w) 
   attempt_on : (id : ℕ) (x : Context Term ℕ) → TermOk (ghost c w) x.conn x.key.kenb x.key.number → (o : Option (Attempt Term ℕ)) → AttemptOk (ghost c w) id x.conn x.key.kenb o
       → AttemptOn w.made w.tried id x o
   attempt_on id x own None k = tt
-  attempt_on id x own (Some (OverX2 state)) k = opened_under id x (x2_attempt state) own (x2_under id x state k)
-  attempt_on id x own (Some (OverS1 state)) k = opened_under id x (s1_attempt state) own (s1_under id x state k)
-  attempt_on id x own (Some (Within state)) k = opened_under id x (x2_attempt state) own (x2_under id x state k)
+  attempt_on id x own (Some (OverX2 state)) k = opened_under id x (x2_number state) own (x2_under id x state k)
+  attempt_on id x own (Some (OverS1 state)) k = opened_under id x (s1_number state) own (s1_under id x state k)
+  attempt_on id x own (Some (Within state)) k = opened_under id x (x2_number state) own (x2_under id x state k)
   attempt_on id x own (Some (Renewing a)) k = (k.0, k.1, k.2)
 
   attempts_on : (id : ℕ) (o : Option (Context Term ℕ)) → CtxOk (ghost c w) id o → AttemptsOn w.made w.tried id o

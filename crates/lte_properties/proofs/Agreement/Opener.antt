@@ -25,6 +25,7 @@ use Rattle.lte_properties.proofs.Agreement.Openings.{IsHonest, Honest, OpensByTe
 use Rattle.lte_properties.proofs.Agreement.PhoneWalk.{by_test}
 use Rattle.lte_properties.proofs.Agreement.World.{PlainReads, HeaderReads, OctetsTell}
 use Rattle.lte_machine.proofs.CipherLaws.{AreCiphers}
+use Rattle.lte_machine.proofs.Tests.{both_true}
 
 one_dir : (a b : Dir) → same_dir a b ≡ true → a ≡ b
 one_dir Up Up e = refl
@@ -35,11 +36,6 @@ one_dir Down Up e = absurd cc
 itself_dir : (a : Dir) → same_dir a a ≡ true
 itself_dir Up = refl
 itself_dir Down = refl
-
-both_true : (a b : Bool) → (a && b) ≡ true → (a ≡ true) × (b ≡ true)
-both_true true true e = (refl, refl)
-both_true true false e = absurd cc
-both_true false b e = absurd cc
 
 true_both : (a b : Bool) → a ≡ true → b ≡ true → (a && b) ≡ true
 true_both true true d e = refl

@@ -23,7 +23,7 @@ use Rattle.lte_properties.specs.Freshness.{NoUseTwice}
 use Rattle.lte_properties.proofs.Freshness.Premises.{ValuesApart, srb_accepted, SentUnder, AllSentUnder}
 use Rattle.lte_properties.proofs.Freshness.Uses.{StationUse}
 use Rattle.lte_properties.proofs.Freshness.Stands.{StationStands, Fresh}
-use Rattle.lte_machine.proofs.Tests.{by_some, none_some, same_of}
+use Rattle.lte_machine.proofs.Tests.{by_some, none_some, same_of, both_true}
 use Rattle.lte_properties.proofs.Freshness.Lists.{no_use_twice, no_value_twice}
 use Rattle.lte_properties.proofs.Freshness.Run.{run_fresh}
 use Rattle.lte_properties.proofs.SameKeys.{IsReflexive}
@@ -70,11 +70,6 @@ no_use_twice_ever same itself octets sender opener setup es honest =
     no_use_twice _ (run_fresh same itself octets sender opener (first_world setup) es honest (first_fresh setup)).apart
 
 -- COMPARISON OF TERMS
-
--- both tests of two hold where the test of both does
-both_true : (a b : Bool) → (a && b) ≡ true → (a ≡ true) × (b ≡ true)
-both_true true b h = (refl, h)
-both_true false b h = absurd (cc)
 
 -- directions that the test says are one
 dirs_are_one : (d e : Dir) → same_dir d e ≡ true → d ≡ e
