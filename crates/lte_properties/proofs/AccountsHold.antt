@@ -28,6 +28,7 @@ use Rattle.lte_machine.specs.Machines.{machine_by}
 use Rattle.lte_machine.specs.Ranges.{AllOf}
 use Rattle.lte_machine.specs.Run.{run}
 use Rattle.lte_machine.proofs.Routing.{happens_each}
+use Rattle.lte_machine.proofs.KnownLists.{all_append}
 use Rattle.lte_properties.specs.Accounts.{UsesAreThoseSent, IsRowOf, key_at, key_of_record, key_delivered, with_read, each_holds, Gains, HoldersGain}
 
 -- USES
@@ -144,12 +145,8 @@ holders_gain m w [] = tt
 holders_gain m w (e ∷ es) = (happens_gains m w e, holders_gain m (happens m w e).0 es)
 
 -- each row of a run's history is a derivation or a root of the machine
-all_parts : {A : Type 0} (P : A → Type 0) (xs ys : List A) → AllOf P xs → AllOf P ys → AllOf P (xs ++ ys)
-all_parts P [] ys h k = k
-all_parts P (x ∷ xs) ys h k = (h.0, all_parts P xs ys h.1 k)
-
 pub rows_are : {K C S : Type 0} (m : Machine K C S) (w : World K C S) (es : List Event) → AllOf (IsRowOf m) w.history → AllOf (IsRowOf m) (run m w es).history
 rows_are m w [] h = h
 rows_are m w (e ∷ es) h =
     let g = happens_gains m w e in
-    rows_are m (happens m w e).0 es (subst (AllOf (IsRowOf m)) (sym g.history) (all_parts (IsRowOf m) w.history g.derived h g.roots))
+    rows_are m (happens m w e).0 es (subst (AllOf (IsRowOf m)) (sym g.history) (all_append (IsRowOf m) w.history g.derived h g.roots))

@@ -25,7 +25,7 @@ use Rattle.lte_machine.proofs.EventByEvent.{step_takes, step_happens, prefix_goe
 use Rattle.lte_machine.proofs.StillRun.{still_is_run, still_one}
 use Rattle.lte_properties.specs.Agreement.{is_made_at, made_at, ahead, ObeysMade, Obeys, Reported, MadeIsTold, TookIsTold, TellsNote, CompletedLines}
 use Rattle.lte_properties.specs.BySteps.{MakesAt, TakesAt, TellOneKey, Follows}
-use Rattle.lte_properties.proofs.Agreement.Noted.{keys_told}
+use Rattle.lte_properties.proofs.Agreement.Noted.{keys_told, BothTold}
 use Rattle.lte_properties.proofs.Agreement.Told.{made_there}
 use Rattle.lte_properties.proofs.EveryLine.{lines_completed}
 use Rattle.lte_properties.proofs.EveryRun.{agrees}
@@ -38,9 +38,6 @@ module _ (setup : Setup) (events : List Event) where
   start = first_world setup
 
   -- WHAT A STEP TELLS
-
-  abbrev BothTold : TheWorld → TheWorld × Line Term → Type 0
-  BothTold w h = MadeIsTold w h.0 h.1 × TookIsTold w h.0 h.1
 
   pub step_tells : (k : ℕ) (w : TheWorld) (e : Event) (u : TheWorld) (line : Line Term) → IsStep setup events k w e u line → MadeIsTold w u line × TookIsTold w u line
   step_tells k w e u line is =

@@ -128,7 +128,7 @@ took_told : (took : List (Took Term ℕ)) (o : Option (Took Term ℕ)) (l : Line
 took_told took None l is h = inl (refl, λ e. no_note l.note h)
 took_told took (Some x) l is h = inr (x, refl, noted_tells l Who.Phone x.key x.number is l.note refl h)
 
-abbrev BothTold : TheWorld → TheWorld × Line Term → Type 0
+abbrev pub BothTold : TheWorld → TheWorld × Line Term → Type 0
 BothTold w h = MadeIsTold w h.0 h.1 × TookIsTold w h.0 h.1
 
 module _ (same : Term → Term → Bool) (root : ℕ → List ℕ → Term) (octets : Outgoing Term ℕ → List ℕ) (sender : Option (Outgoing Term ℕ) → Option (KeyUse Term)) (opener : Opening Term → List ℕ → Option (Outgoing Term ℕ) → Outcome) where

@@ -172,10 +172,10 @@ plain_text c good between dir station air srb i text =
     let long = length-append text mac in
     take_at text mac (length (i.count % 32 ∷ text ++ mac) - 5) (omega arith)
 
-one_header : (o : Result ℕ Answer) (a b : ℕ) → o ≡ Ok a → o ≡ Ok b → a ≡ b
+pub one_header : (o : Result ℕ Answer) (a b : ℕ) → o ≡ Ok a → o ≡ Ok b → a ≡ b
 one_header o a b e f = cc
 
-no_header : (o : Result ℕ Answer) (a : Answer) (b : ℕ) → o ≡ Err a → o ≡ Ok b → ⊥
+pub no_header : (o : Result ℕ Answer) (a : Answer) (b : ℕ) → o ≡ Err a → o ≡ Ok b → ⊥
 no_header o a b e f = cc
 
 -- the first octet of a NAS message has its header type (TS 24.301 9.2 and 9.3.1)

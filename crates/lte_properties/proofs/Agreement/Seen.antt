@@ -1,11 +1,12 @@
 -- A station takes each attempt of another source once: it keeps the greatest that it has seen of each.
-use Rattle.std.proofs.Common.{◌≡◌, ◌≢◌, ℕ, ◌<◌, ◌≤◌, refl, sym, ◌∙◌, ap, subst, arith, Bool, true, false, List, [], ◌∷◌, length, Option, Some, None}
+use Rattle.std.proofs.Common.{◌≡◌, ◌≢◌, ℕ, ◌<◌, ◌≤◌, refl, sym, ◌∙◌, ap, subst, arith, Bool, true, false, List, length, Option, Some, None}
 use Rattle.std.specs.Prelude.{slice_index, slice_set, ◌==◌}
 use Rattle.std.proofs.lemmas.Bool.{eqb-true, eqb-false}
 use Rattle.std.proofs.lemmas.List.{get_or-set_same, get_or-set_other}
 use Rattle.key_model.specs.Term.{Term}
 use Rattle.lte_machine.specs.Reply.{Origin, From, BySetup, ByAttempt, ByChange, Made, Tried}
 use Rattle.lte_machine.specs.World.{with_one}
+use Rattle.lte_machine.proofs.KnownLists.{all_each}
 use Rattle.lte_properties.specs.Agreement.{OneOf}
 use Rattle.lte_properties.specs.ChainBelow.{AllOf}
 use Rattle.lte_properties.proofs.ChainNumbers.Lists.{all_map, all_both}
@@ -38,13 +39,9 @@ change_no_attempt m k is o e = clash m.from is e
     clash : (from : From Term) → from ≡ ByChange k → from ≡ ByAttempt o → ⊥
     clash from a b = cc
 
-pub all_so : {A : Type 0} (P : A → Type 0) → ((x : A) → P x) → (xs : List A) → AllOf P xs
-all_so P f [] = tt
-all_so P f (x ∷ xs) = (f x, all_so P f xs)
-
 -- what came by no attempt is apart from all
 pub apart_always : (m : Made Term ℕ) → ((o : Origin) → m.from ≡ ByAttempt o → ⊥) → (made : List (Made Term ℕ)) → AllOf (NotBoth m) made
-apart_always m never made = all_so (NotBoth m) (λ n o e f. never o e) made
+apart_always m never made = all_each (NotBoth m) (λ n o e f. never o e) made
 
 -- and so is what came by an attempt that is new
 new_apart : (g : Ghost) (o : Origin) (n : Made Term ℕ) → tried_at g.tried o.source o.attempt ≡ None → MadeOk g n → n.from ≡ ByAttempt o → ⊥

@@ -27,7 +27,7 @@ use Rattle.lte_properties.specs.ChainBelow.{AllOf}
 use Rattle.lte_properties.proofs.Freshness.Sequence.{authentication_of}
 use Rattle.lte_properties.proofs.Freshness.Uses.{Home, home_at, Homes, Grows, OnKey, IsNas, NasDown, CoreUse, AllApart}
 use Rattle.lte_properties.proofs.Freshness.Stands.{IsPast, NasKeysOf, core_partial_root, core_context_root, due, core_mark, CoreStands, RecordStands}
-use Rattle.lte_properties.proofs.Freshness.Order.{homed, homed_here, homed_is, homed_grows}
+use Rattle.lte_properties.proofs.Freshness.Order.{homed, homed_here, homed_is, homed_grows, later_mark}
 use Rattle.lte_properties.proofs.Freshness.Lists.{both_apart}
 use Rattle.lte_properties.proofs.Freshness.PhoneNas.{types_apart}
 
@@ -65,11 +65,6 @@ module _ (roots : ℕ) (given : Homes) where
   still : (s : Core Term ℕ) → CoreStands roots given s → CoreKeeps roots given s s None
   still s h = keeps s s None h (λ k count u. u) tt tt (λ taken. tt)
 
-  -- the mark goes on
-  mark_on : (partial : Option ℕ) (root m n : ℕ) (t : Term) → m ≤ n → IsPast roots partial (Some (record { root = root; count = m })) t →
-      IsPast roots partial (Some (record { root = root; count = n })) t
-  mark_on partial root m n t le h = (h.0, h.1, (h.2.0, λ e. let k = h.2.1 e in omega arith))
-
   module _ (s : Core Term ℕ) (c : CoreContext Term) where
     -- a trigger is below the next COUNT to be taken
     due_below : (o : Option ℕ) → IfSome o (λ count. count < c.nas.receive) → due o c.nas.receive ≤ c.nas.receive
@@ -95,7 +90,7 @@ module _ (roots : ℕ) (given : Homes) where
       h.1,
       p,
       trigger_below s.trigger count le h.3,
-      λ t k e. mark_on (core_partial_root s.partial) (authentication_of c.nas.root) (due s.trigger c.nas.receive) (due s.trigger (count + 1)) t
+      λ t k e. later_mark roots (core_partial_root s.partial) (authentication_of c.nas.root) (due s.trigger c.nas.receive) (due s.trigger (count + 1)) t
           (due_rises s.trigger count le) (h.4 t k e),
     )
 
@@ -107,7 +102,7 @@ module _ (roots : ℕ) (given : Homes) where
       h.1,
       h.2,
       omega arith,
-      λ t k e. mark_on (core_partial_root s.partial) (authentication_of c.nas.root) (due s.trigger c.nas.receive) count t
+      λ t k e. later_mark roots (core_partial_root s.partial) (authentication_of c.nas.root) (due s.trigger c.nas.receive) count t
           (let x = due_below s.trigger h.3 in omega arith) (h.4 t k e),
     )
 
@@ -253,7 +248,7 @@ module _ (roots : ℕ) (given : Homes) where
       all t k f = by_side (homed_is given kenb (home_at target conn) t k f) where
         by_side : ((given t ≡ Some k) ⊎ ((t ≡ kenb) × (home_at target conn ≡ k))) → IsPast roots (core_partial_root s.partial) (core_mark None (Some c)) t
         by_side (inl g) =
-            mark_on (core_partial_root s.partial) (authentication_of c.nas.root) n c.nas.receive t (let x = h.3 in omega arith) (h.4 t k g)
+            later_mark roots (core_partial_root s.partial) (authentication_of c.nas.root) n c.nas.receive t (let x = h.3 in omega arith) (h.4 t k g)
         by_side (inr g) =
             subst (IsPast roots (core_partial_root s.partial) (core_mark None (Some c))) (sym g.0)
             (h.0.1.0, h.0.1.1, (omega arith, λ i. let x = h.3 in let y = by_some e in omega arith))

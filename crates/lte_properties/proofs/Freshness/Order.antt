@@ -138,3 +138,8 @@ on_key P Q f (Root r octets) h = h
 on_key P Q f (Kenb r n) h = h
 on_key P Q f (Nh r t) h = h
 on_key P Q f (Star t pci earfcn) h = h
+
+-- a key that is past stays so as the COUNT rises
+pub later_mark : (roots : ℕ) (partial : Option ℕ) (root m n : ℕ) (t : Term) → m ≤ n → IsPast roots partial (Some (record { root = root; count = m })) t
+    → IsPast roots partial (Some (record { root = root; count = n })) t
+later_mark roots partial root m n t le h = (h.0, h.1, (h.2.0, λ e. let k = h.2.1 e in omega arith))

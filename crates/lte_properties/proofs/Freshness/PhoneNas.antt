@@ -19,7 +19,7 @@ use Rattle.lte_properties.specs.ChainBelow.{AllOf}
 use Rattle.lte_properties.proofs.Freshness.Sequence.{authentication_of, IsBefore}
 use Rattle.lte_properties.proofs.Freshness.Uses.{Home, home_at, Homes, Grows, IsNas, NasUp, AsUp, UpUse, AllApart}
 use Rattle.lte_properties.proofs.Freshness.Stands.{Mark, IsPast, partial_root, phone_mark, RadioStands, PhoneStands, RecordStands, RadioOlder, kasme_in_use}
-use Rattle.lte_properties.proofs.Freshness.Order.{past_is_before}
+use Rattle.lte_properties.proofs.Freshness.Order.{past_is_before, later_mark}
 use Rattle.lte_properties.proofs.Freshness.Lists.{both_apart}
 
 -- a use that the phone had not made before, and has made now
@@ -87,17 +87,12 @@ module _ (roots : ℕ) (taken : Homes) where
 
   -- NAS
 
-  -- a key that is past stays so as the COUNT rises
-  later_mark : (partial : Option ℕ) (root m n : ℕ) (t : Term) → m ≤ n → IsPast roots partial (Some (record { root = root; count = m })) t →
-      IsPast roots partial (Some (record { root = root; count = n })) t
-  later_mark partial root m n t le h = (h.0, h.1, (h.2.0, λ e. let k = h.2.1 e in omega arith))
-
   -- and so the radio
   later_radio : (partial : Option ℕ) (root m n : ℕ) (radio : Radio Term ℕ) → m ≤ n →
       RadioStands roots partial (Some (record { root = root; count = m })) taken radio →
       RadioStands roots partial (Some (record { root = root; count = n })) taken radio
   later_radio partial root m n Idle le h = tt
-  later_radio partial root m n (Connecting w) le h = (later_mark partial root m n w.kenb le h.0, h.1)
+  later_radio partial root m n (Connecting w) le h = (later_mark roots partial root m n w.kenb le h.0, h.1)
   later_radio partial root m n (Connected l) le h = h
 
   -- the KASME of the context in use is another than that of a newer partial context
@@ -112,7 +107,7 @@ module _ (roots : ℕ) (taken : Homes) where
     counts_on n le h = (
       h.0,
       h.1,
-      λ t k e. later_mark (partial_root s.partial) (authentication_of c.root) c.send n t le (h.2 t k e),
+      λ t k e. later_mark roots (partial_root s.partial) (authentication_of c.root) c.send n t le (h.2 t k e),
       later_radio (partial_root s.partial) (authentication_of c.root) c.send n s.radio le h.3,
       h.4,
       let x = h.5 in omega arith,
@@ -194,7 +189,7 @@ module _ (roots : ℕ) (taken : Homes) where
           stands = (
             h.0,
             h.1,
-            λ t k e. later_mark (partial_root s.partial) (authentication_of c.root) c.send (c.send + 1) t (omega arith) (h.2 t k e),
+            λ t k e. later_mark roots (partial_root s.partial) (authentication_of c.root) c.send (c.send + 1) t (omega arith) (h.2 t k e),
             ((h.0.1.0, h.0.1.1, (omega arith, λ e. omega arith)), λ t k e. past_is_before roots (partial_root s.partial) c.root c.send t (h.2 t k e)),
             (refl, inl refl),
             omega arith,

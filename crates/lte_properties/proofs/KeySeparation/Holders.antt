@@ -28,10 +28,11 @@ use Rattle.lte_properties.specs.Separation.{Gives, GivenTo}
 use Rattle.lte_machine.proofs.RecordFacts.{RecordHas, record_has}
 use Rattle.lte_machine.proofs.StationActFacts.{station_act_has}
 use Rattle.lte_machine.proofs.Routing.{address_on}
+use Rattle.lte_machine.proofs.PhoneGives.{NotBetween}
 use Rattle.lte_properties.proofs.ChainNumbers.Lists.{OfSome, all_append, all_one, all_map}
 use Rattle.lte_properties.proofs.KeySeparation.Keys.{Gifts, GivesIn, given_old, given_split, May, MayHold, may_hold, StationOk, OwnCell, TriedOk, KeyGoes, FieldsOk, FlyOk, MadeOk, HoldOk, OutsAre, holder_may_grows, station_ok_grows, tried_ok_grows, fly_grows, made_ok_grows, OwnPlace}
 use Rattle.lte_properties.proofs.KeySeparation.Station.{StationKept, RecordNeeds, record_kept, air_kept, act_kept}
-use Rattle.lte_properties.proofs.KeySeparation.Phone.{PhoneOk, Keyless}
+use Rattle.lte_properties.proofs.KeySeparation.Phone.{PhoneOk}
 use Rattle.lte_properties.proofs.KeySeparation.CoreKeeps as core
 use Rattle.lte_properties.proofs.KeySeparation.CoreKeeps.{CoreOk}
 use Rattle.annex_a_keys.specs.Cell.{Place}
@@ -96,7 +97,7 @@ module _ (x : Option (Outgoing Term ℕ)) (xs : List (Outgoing Term ℕ)) where
     by t id (inl k) = h.given t id k
     by t id (inr k) = absurd (none t id k)
 
-pub keyless_gives : (x : Option (Outgoing Term ℕ)) → Keyless x → (t : Term) (a : ℕ) → GivesIn x t a → ⊥
+pub keyless_gives : (x : Option (Outgoing Term ℕ)) → NotBetween x → (t : Term) (a : ℕ) → GivesIn x t a → ⊥
 keyless_gives None h t a g = g
 keyless_gives (Some (SealedNas dir header u e text)) h t a g = g
 keyless_gives (Some (PlainNas octets)) h t a g = g

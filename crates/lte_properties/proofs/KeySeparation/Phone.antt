@@ -16,6 +16,7 @@ use Rattle.lte_machine.specs.PhoneRows.{AuthRow, Authenticated, PhoneRow, OfAuth
 use Rattle.lte_machine.specs.PhoneKeys.{PhoneDone, auth_does, phone_does}
 use Rattle.lte_machine.proofs.PhoneCases.{NasCases, nas_case, AirCases, air_case, ActCases, act_case}
 use Rattle.lte_machine.proofs.Tests.{Anything}
+use Rattle.lte_machine.proofs.PhoneGives.{NotBetween}
 use Rattle.lte_properties.proofs.ChainNumbers.Lists.{OfSome, all_append}
 use Rattle.lte_properties.proofs.KeySeparation.Keys.{Gifts, FlyOk, OutsAre}
 
@@ -65,11 +66,7 @@ pub record PhoneOk (s : Phone Term ℕ) : Type 0 where
   pub radio : RadioOk s.radio
 
 -- what is sent holds no key
-abbrev pub Keyless : Option (Outgoing Term ℕ) → Type 0
-Keyless (Some (Between to fields key)) = ⊥
-Keyless other = ⊤
-
-pub keyless_flies : (G : Gifts) (sites : List Site) (tried : List (Tried Term ℕ)) (o : Option (Outgoing Term ℕ)) → Keyless o → OfSome (FlyOk G sites tried) o
+pub keyless_flies : (G : Gifts) (sites : List Site) (tried : List (Tried Term ℕ)) (o : Option (Outgoing Term ℕ)) → NotBetween o → OfSome (FlyOk G sites tried) o
 keyless_flies G sites tried None h = tt
 keyless_flies G sites tried (Some (SealedNas dir header u e text)) h = tt
 keyless_flies G sites tried (Some (PlainNas octets)) h = tt
@@ -81,7 +78,6 @@ keyless_flies G sites tried (Some (Between to fields key)) h = absurd h
 pub record PhoneKept (d : Phone Term ℕ × Reply Term ℕ) : Type 0 where
   pub ok : PhoneOk d.0
   pub outs : OutsAre IsWellFormed d.1.derived
-  pub keyless : Keyless d.1.sent
 
 module _ (same : Term → Term → Bool) where
   -- of a phone whose keys are such
@@ -90,29 +86,26 @@ module _ (same : Term → Term → Bool) where
 
   nas_kept : (s : Phone Term ℕ) → NasCases (term_reading_by same) Anything Keeps s
   nas_kept s = record {
-    nothing = λ t answer h. record { ok = h; outs = tt; keyless = tt };
-    rejected = λ answer cause k h. record { ok = h; outs = tt; keyless = tt };
-    rejected_under = λ answer cause c k h. record { ok = record { partial = h.partial; context = h.context; radio = h.radio }; outs = tt; keyless = tt };
+    nothing = λ t answer h. record { ok = h; outs = tt };
+    rejected = λ answer cause k h. record { ok = h; outs = tt };
+    rejected_under = λ answer cause c k h. record { ok = record { partial = h.partial; context = h.context; radio = h.radio }; outs = tt };
     taken = λ algs count p k h. record {
       ok = record { partial = tt; context = h.partial; radio = (h.partial, h.partial) };
       outs = (h.partial, (root_derives p.root h.partial, (root_derives p.root h.partial, tt)));
-      keyless = tt;
     };
     taken_connected = λ algs count p k h. record {
       ok = record { partial = tt; context = h.partial; radio = h.radio };
       outs = (root_derives p.root h.partial, (root_derives p.root h.partial, tt));
-      keyless = tt;
     };
-    opened = λ count text c k h. record { ok = record { partial = h.partial; context = h.context; radio = h.radio }; outs = tt; keyless = tt };
+    opened = λ count text c k h. record { ok = record { partial = h.partial; context = h.context; radio = h.radio }; outs = tt };
   }
 
   air_kept : (s : Phone Term ℕ) → AirCases (term_reading_by same) Anything Keeps s
   air_kept s = record {
-    nothing = λ t answer h. record { ok = h; outs = tt; keyless = tt };
+    nothing = λ t answer h. record { ok = h; outs = tt };
     secured = λ station air algs count w k h. let n = h.radio in record {
       ok = record { partial = h.partial; context = h.context; radio = (n.0, n.1, n.1) };
       outs = (n.1, (n.1, (n.1, tt)));
-      keyless = tt;
     };
     handed_over = λ cell steps algs station air l k h.
         let n = h.radio in
@@ -122,33 +115,31 @@ module _ (same : Term → Term → Bool) where
               (all_append (λ (d : Derivation Term). IsWellFormed d.out) (nhs_made (term_reading_by same) l.chain.root l.chain.sync steps) _
               (nhs_made_well same l.chain.root l.chain.sync n.0 n.1 steps) (base_derives same l.chain l.kenb n.0 n.1 n.2 steps, tt))
               (star, (star, (star, tt)));
-          keyless = tt;
         };
     changed = λ cell algs station air l c e k h. let n = h.context in record {
       ok = record { partial = h.partial; context = n; radio = (n, n, n) };
       outs = (n, (n, (n, (n, (n, tt)))));
-      keyless = tt;
     };
-    rrc = λ srb count text l k h. record { ok = record { partial = h.partial; context = h.context; radio = h.radio }; outs = tt; keyless = tt };
-    packet = λ drb count text l k h. record { ok = record { partial = h.partial; context = h.context; radio = h.radio }; outs = tt; keyless = tt };
+    rrc = λ srb count text l k h. record { ok = record { partial = h.partial; context = h.context; radio = h.radio }; outs = tt };
+    packet = λ drb count text l k h. record { ok = record { partial = h.partial; context = h.context; radio = h.radio }; outs = tt };
   }
 
   act_kept : (s : Phone Term ℕ) → ActCases (term_reading_by same) Anything Keeps s
   act_kept s = record {
-    nothing = λ t answer h. record { ok = h; outs = tt; keyless = tt };
-    requested = λ c k h. let n = h.context in record { ok = record { partial = h.partial; context = n; radio = (n, n) }; outs = (n, tt); keyless = tt };
-    resent = λ l k h. record { ok = record { partial = h.partial; context = h.context; radio = h.radio }; outs = tt; keyless = tt };
-    idle = λ k h. record { ok = record { partial = h.partial; context = h.context; radio = tt }; outs = tt; keyless = tt };
-    packet = λ drb text l k h. record { ok = record { partial = h.partial; context = h.context; radio = h.radio }; outs = tt; keyless = tt };
-    rrc = λ srb text l k h. record { ok = record { partial = h.partial; context = h.context; radio = h.radio }; outs = tt; keyless = tt };
-    nas = λ text c k h. record { ok = record { partial = h.partial; context = h.context; radio = h.radio }; outs = tt; keyless = tt };
-    nas_skipped = λ n c k h. record { ok = record { partial = h.partial; context = h.context; radio = h.radio }; outs = tt; keyless = tt };
-    bearer_skipped = λ bearer n l k h. record { ok = record { partial = h.partial; context = h.context; radio = h.radio }; outs = tt; keyless = tt };
+    nothing = λ t answer h. record { ok = h; outs = tt };
+    requested = λ c k h. let n = h.context in record { ok = record { partial = h.partial; context = n; radio = (n, n) }; outs = (n, tt) };
+    resent = λ l k h. record { ok = record { partial = h.partial; context = h.context; radio = h.radio }; outs = tt };
+    idle = λ k h. record { ok = record { partial = h.partial; context = h.context; radio = tt }; outs = tt };
+    packet = λ drb text l k h. record { ok = record { partial = h.partial; context = h.context; radio = h.radio }; outs = tt };
+    rrc = λ srb text l k h. record { ok = record { partial = h.partial; context = h.context; radio = h.radio }; outs = tt };
+    nas = λ text c k h. record { ok = record { partial = h.partial; context = h.context; radio = h.radio }; outs = tt };
+    nas_skipped = λ n c k h. record { ok = record { partial = h.partial; context = h.context; radio = h.radio }; outs = tt };
+    bearer_skipped = λ bearer n l k h. record { ok = record { partial = h.partial; context = h.context; radio = h.radio }; outs = tt };
   }
 
   auth_kept : (row : AuthRow) (o : Option Term) (s : Phone Term ℕ) → OfSome IsRoot o → PhoneOk s → PhoneKept (auth_does row o s)
-  auth_kept (Authenticated ksi) None s n h = record { ok = h; outs = tt; keyless = tt }
-  auth_kept (Authenticated ksi) (Some root) s n h = record { ok = record { partial = n; context = h.context; radio = h.radio }; outs = tt; keyless = tt }
+  auth_kept (Authenticated ksi) None s n h = record { ok = h; outs = tt }
+  auth_kept (Authenticated ksi) (Some root) s n h = record { ok = record { partial = n; context = h.context; radio = h.radio }; outs = tt }
 
   -- each row
   pub phone_kept : (s : Phone Term ℕ) (row : PhoneRow) (o : Option Term) → OfSome IsRoot o → PhoneOk s → PhoneKept (phone_does (term_reading_by same) row o s)

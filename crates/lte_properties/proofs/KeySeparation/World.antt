@@ -34,6 +34,7 @@ use Rattle.lte_properties.specs.Separation.{GivenTo}
 use Rattle.lte_properties.proofs.ChainNumbers.Lists.{OfSome, all_append, all_put, all_map, roots_kept, one_root_more}
 use Rattle.lte_properties.proofs.KeySeparation.Keys.{Gifts, May, MayHold, StationHas, StationOk, TriedOk, KeyGoes, FlyOk, MadeOk, HoldOk, step_held, holder_may_grows, station_ok_grows, tried_ok_grows, fly_grows, made_ok_grows, OwnPlace, GivesIn}
 use Rattle.lte_machine.proofs.Routing.{address_on, IsTurn, no_root, Found, Turns, happens_by}
+use Rattle.lte_machine.proofs.PhoneGives.{NotBetween, phone_gives}
 use Rattle.lte_properties.proofs.KeySeparation.Phone.{PhoneKept, keyless_flies, phone_kept}
 use Rattle.lte_properties.proofs.KeySeparation.Core as core
 use Rattle.lte_properties.proofs.KeySeparation.CoreKeeps.{CoreOk, CoreKept}
@@ -58,14 +59,14 @@ module _ (sites : List Site) (same : Term → Term → Bool) (octets : Outgoing 
     abbrev G : Gifts
     G = GivenTo w.sent
 
-    phone_after_goes : (d : PhoneState Term ℕ × Reply Term ℕ) → d.1.received ≡ None → PhoneKept d → Goes sites w (phone_after m w d).0
-    phone_after_goes d e k =
-        let none = keyless_gives d.1.sent k.keyless in record {
+    phone_after_goes : (d : PhoneState Term ℕ × Reply Term ℕ) → d.1.received ≡ None → NotBetween d.1.sent → PhoneKept d → Goes sites w (phone_after m w d).0
+    phone_after_goes d e keyless k =
+        let none = keyless_gives d.1.sent keyless in record {
           holders = record {
             phone = k.ok;
             core = subst (λ n. CoreOk n (GivenTo (with_one d.1.sent w.sent)) w.core) (sym (roots_kept w.history d.1.derived)) (core_stays d.1.sent w.sent (next_root w) w.core none h.core);
             stations = stations_grow sites w d.1.sent None w.stations h.stations;
-            flying = flying_grow sites w d.1.sent None h.flying (keyless_flies (GivenTo (with_one d.1.sent w.sent)) sites w.tried d.1.sent k.keyless);
+            flying = flying_grow sites w d.1.sent None h.flying (keyless_flies (GivenTo (with_one d.1.sent w.sent)) sites w.tried d.1.sent keyless);
             held = held_grow sites w d.1.sent None _ h.held
                 (step_held (GivenTo (with_one d.1.sent w.sent)) sites AtPhone d.1.received d.1.derived (subst (OfSome IsWellFormed) (sym e) tt) k.outs);
             once = once_one d.1.sent w.sent (λ t a b g l. none t b l) h.once;
@@ -166,7 +167,8 @@ module _ (sites : List Site) (same : Term → Term → Bool) (octets : Outgoing 
         let outcome = opener (phone_opens (term_reading_by same) w.phone input) (phone_pdu_in input) came in
         let row = phone_row (plain_phone (term_reading_by same) w.phone) (front_of (term_reading_by same) w.phone input) outcome in
         let k = phone_kept same w.phone row (phone_root input) (no_root IsRoot input turn) h.phone in
-        phone_after_goes (phone_step (term_reading_by same) w.phone input outcome) refl (record { ok = k.ok; outs = k.outs; keyless = k.keyless })
+        phone_after_goes (phone_step (term_reading_by same) w.phone input outcome) refl
+        (phone_gives same row (phone_root input) w.phone).0 (record { ok = k.ok; outs = k.outs })
 
     -- AT THE CORE
 

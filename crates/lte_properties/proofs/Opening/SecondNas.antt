@@ -1,6 +1,6 @@
 -- On NAS the second case of opening never comes: a message whose integrity use is the expected one is ciphered as its header type
 -- says, by the one choice of algorithms of its KASME.
-use Rattle.std.proofs.Common.{◌≡◌, refl, sym, ap, ◌∙◌, subst, ℕ, ◌==◌, ◌+◌, ◌*◌, ◌/◌, nat_lt, Bool, true, false, List, length, Option, Some, None, Result, Ok, Err, arith}
+use Rattle.std.proofs.Common.{◌≡◌, refl, sym, ap, ◌∙◌, subst, ℕ, ◌==◌, ◌+◌, ◌*◌, ◌/◌, nat_lt, Bool, true, false, List, length, Option, Some, None, Result, Ok, arith}
 use Rattle.alg_choice.specs.Algs.{eia2_identity}
 use Rattle.alg_choice.specs.declared.algs.Algs.{Algs}
 use Rattle.rec_base.specs.declared.uses.Dir.{Dir}
@@ -28,7 +28,7 @@ use Rattle.lte_machine.specs.Wire.{KeyUse, Ciphering, ciphering_if, ciphering_by
 use Rattle.lte_machine.proofs.NasFacts.{FrontHas as CoreFrontHas, nas_front, front_has as core_front_has}
 use Rattle.lte_machine.proofs.PhoneNasFacts.{FrontHas, phone_nas, front_has}
 use Rattle.lte_properties.specs.SecondCase.{sender_at}
-use Rattle.lte_properties.proofs.Agreement.Opener.{one_use, one_ciphering, plain_header}
+use Rattle.lte_properties.proofs.Agreement.Opener.{one_use, one_ciphering, plain_header, one_header, no_header}
 use Rattle.lte_properties.proofs.Agreement.PhoneWalk.{by_test}
 use Rattle.lte_properties.proofs.Opening.Nas.{Choices, RootHas, PhoneContextOk, CoreContextOk, ProcedureOk, PhoneOk, CoreOk, ciphered_for, SealedOk, one_choice}
 use Rattle.lte_properties.proofs.Opening.NasOpens.{CameDown}
@@ -57,12 +57,6 @@ never_srb u i e f dir station air srb text h second =
     let k = judged_second (same_uses same_term u i) (same_ciphering same_term e f) text second in not_same e f k.1 (h (one_use u i k.0))
 
 -- the header type of a message for the phone is the sender's
-one_header : (o : Result ℕ Answer) (a b : ℕ) → o ≡ Ok a → o ≡ Ok b → a ≡ b
-one_header o a b e f = cc
-
-no_header : (o : Result ℕ Answer) (a : Answer) (b : ℕ) → o ≡ Err a → o ≡ Ok b → ⊥
-no_header o a b e f = cc
-
 phone_header : (c : Ciphers Term) (header : ℕ) (i : KeyUse Term) (e : Option (Ciphering Term)) (text : List ℕ) (h : ℕ) → header_for_phone (nas_octets c header i e text) ≡ Ok h → h ≡ header
 unfolding nas_octets header_for_phone
 phone_header c header i e text h is =
