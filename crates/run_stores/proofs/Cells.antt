@@ -1,6 +1,6 @@
 -- Each KeNB* of a step is for a cell in range: of an act, a record, a context, or a command that was read.
 use Rattle.std.specs.Prelude.{◌&&◌}
-use Rattle.std.proofs.Common.{◌≡◌, refl, ℕ, zero, suc, ◌≤◌, ◌+◌, Bool, true, false, cond, ◌==◌, List, length, Option, Some, None, Result, Ok, Err, subst}
+use Rattle.std.proofs.Common.{◌≡◌, refl, ℕ, zero, suc, ◌≤◌, ◌+◌, Bool, true, false, cond, ◌==◌, List, ◌++◌, length, Option, Some, None, Result, Ok, Err, subst}
 use Rattle.alg_choice.specs.declared.algs.Algs.{Algs}
 use Rattle.alg_choice.specs.declared.caps.Caps.{Caps}
 use Rattle.annex_a_keys.specs.Cell.{Place, IsCell, greatest_pci, greatest_earfcn}
@@ -19,10 +19,10 @@ use Rattle.pdcp_guard.specs.AsKeys.{as_derivations}
 use Rattle.lte_machine.specs.Bearers.{Srb, Signalling1, Signalling2, Drb, Which, OnSrb, OnDrb, which, srb_counts, drb_counts}
 use Rattle.lte_machine.specs.Opening.{Outcome, Opened, Differs}
 use Rattle.lte_machine.specs.Ranges.{AllOf}
-use Rattle.lte_machine.specs.PhoneState.{Partial, NasContext, Link, Radio, Idle, Connecting, Connected, Phone, PhoneInput, PhoneAuth, PhoneActs, PhoneNasPdu, PhoneAirPdu}
-use Rattle.lte_machine.specs.PhoneRows.{Authenticated, NasRow, NasRefused, RejectedPlain, RejectedUnder, ContextTaken, ContextTakenConnected, NasOpened, AirRow, AirRefused, LinkSecured, HandedOver, KeyChanged, RrcOpened, PacketOpened, ActRow, ActRefused, ServiceRequested, CompleteResent, WentIdle, PacketSent, RrcSent, NasSent, NasSkipped, BearerSkipped, PhoneRow, OfAuth, OfNas, OfAir, OfAct}
+use Rattle.lte_machine.specs.PhoneState.{Link, Radio, Idle, Connecting, Connected, Phone, PhoneInput, PhoneAuth, PhoneActs, PhoneNasPdu, PhoneAirPdu}
+use Rattle.lte_machine.specs.PhoneRows.{Authenticated, AirRow, HandedOver, KeyChanged, PhoneRow, OfAuth, OfNas, OfAir, OfAct}
 use Rattle.lte_machine.specs.PhoneChoice.{PlainPhone, PlainInput, unciphered_text, AirFront, AirSettled, AtStart, AtSignalling, AtPacket, start_row, command_taken, change_taken, signalling_read, signalling_row, packet_row, air_row, air_front, waiting_front, linked_front, start_at, start_read, signalling_at, packet_at, phone_row, phone_front}
-use Rattle.lte_machine.specs.PhoneKeys.{authenticated, rejected_under, context_taken, context_taken_connected, nas_opened, link_secured, handed_over, key_changed, changed_unless, before_of, rrc_opened, packet_opened, service_requested, complete_resent, packet_sent, rrc_sent, nas_sent, nas_skipped, bearer_skipped, nas_does, air_does, act_does, phone_does}
+use Rattle.lte_machine.specs.PhoneKeys.{PhoneDone, authenticated, phone_does}
 use Rattle.lte_machine.specs.PhoneStep.{phone_step, plain_phone, plain_input, front_of, phone_root}
 use Rattle.alg_choice.specs.Choice.{are_supported}
 use Rattle.pdcp_guard.specs.declared.pdus.PdcpFault.{PdcpFault}
@@ -30,10 +30,9 @@ use Rattle.pdcp_guard.specs.Srb.{srb_count}
 use Rattle.pdcp_guard.specs.Drb.{drb_count}
 use Rattle.key_model.specs.HandoverLines.{key_after}
 use Rattle.nh_chain.specs.Reach.{phone_of}
-use Rattle.lte_events.specs.declared.answers.Answer.{Answer}
-use Rattle.lte_machine.specs.Reply.{Before}
+use Rattle.lte_machine.proofs.PhoneCases.{NasCases, nas_case, AirCases, air_case, ActCases, act_case}
 use Rattle.lte_machine.proofs.KnownLists.{all_append}
-use Rattle.lte_machine.proofs.Tests.{by_test}
+use Rattle.lte_machine.proofs.Tests.{Anything, by_test}
 
 -- the cell of an input, if it has one, is in range
 abbrev pub InputIn : {K : Type 0} → Input K → Type 0
@@ -215,124 +214,59 @@ nhs_cells r root sync zero = tt
 nhs_cells r root sync (suc steps) = all_append (λ d. InputIn d.input) (nhs_made r root sync steps) _ (nhs_cells r root sync steps) (tt, tt)
 
 module _ {K C : Type 0} (r : Reading K C) (s : Phone K C) where
-  handed_over_cells : (cell : Place) (steps : ℕ) (algs : Algs) (station air : ℕ) (radio : Radio K C) → IsCell cell → CellsIn (handed_over r cell steps algs station air s radio).1.derived
-  handed_over_cells cell steps algs station air Idle h = tt
-  handed_over_cells cell steps algs station air (Connecting w) h = tt
-  handed_over_cells cell steps algs station air (Connected l) h =
+  abbrev Cells : Phone K C → PhoneDone K C → Type 0
+  Cells t d = CellsIn d.1.derived
+
+  handed_over_cells : (cell : Place) (steps : ℕ) (algs : Algs) (l : Link K C) → IsCell cell
+      → CellsIn (handover_made r (phone_of l.chain l.kenb) steps cell ++ as_derivations r (key_after r (phone_of l.chain l.kenb) steps cell.pci cell.earfcn).key algs)
+  handed_over_cells cell steps algs l h =
       let star = key_after r (phone_of l.chain l.kenb) steps cell.pci cell.earfcn in
       all_append (λ d. InputIn d.input) (handover_made r (phone_of l.chain l.kenb) steps cell) (as_derivations r star.key algs)
       (all_append (λ d. InputIn d.input) (nhs_made r l.chain.root l.chain.sync steps) _ (nhs_cells r l.chain.root l.chain.sync steps) (h, tt))
       (tt, (tt, (tt, tt)))
 
-  changed_cells : (cell : Place) (algs : Algs) (station air : ℕ) (before : Before K C) (root : K) (b : Bool) → IsCell cell → CellsIn (changed_unless r cell algs station air s before root b).1.derived
-  changed_cells cell algs station air before root true h = tt
-  changed_cells cell algs station air before root false h = (tt, (h, (tt, (tt, (tt, tt)))))
-
-  key_changed_cells : (cell : Place) (algs : Algs) (station air : ℕ) (radio : Radio K C) (o : Option (NasContext K)) → IsCell cell → CellsIn (key_changed r cell algs station air s radio o).1.derived
-  key_changed_cells cell algs station air Idle c h = tt
-  key_changed_cells cell algs station air (Connecting w) c h = tt
-  key_changed_cells cell algs station air (Connected l) None h = tt
-  key_changed_cells cell algs station air (Connected l) (Some c) h = changed_cells cell algs station air (before_of l) c.root (r.same c.root l.chain.root) h
-
   authenticated_cells : (ksi : ℕ) (o : Option K) → CellsIn (authenticated ksi s o).1.derived
   authenticated_cells ksi None = tt
   authenticated_cells ksi (Some root) = tt
 
-  rejected_cells : (answer : Answer) (cause : ℕ) (o : Option (NasContext K)) → CellsIn (rejected_under answer cause s o).1.derived
-  rejected_cells answer cause None = tt
-  rejected_cells answer cause (Some c) = tt
+  nas_cells : NasCases r Anything Cells s
+  nas_cells = record {
+    nothing = λ t answer. tt;
+    rejected = λ answer cause k. tt;
+    rejected_under = λ answer cause c k. tt;
+    taken = λ algs count p k. (tt, (tt, (tt, tt)));
+    taken_connected = λ algs count p k. (tt, (tt, tt));
+    opened = λ count text c k. tt;
+  }
 
-  taken_cells : (algs : Algs) (count : ℕ) (o : Option (Partial K)) → CellsIn (context_taken r algs count s o).1.derived
-  taken_cells algs count None = tt
-  taken_cells algs count (Some p) = (tt, (tt, (tt, tt)))
+  air_cells : AirCases r (λ t row. AirCell row) Cells s
+  air_cells = record {
+    nothing = λ t answer. tt;
+    secured = λ station air algs count w k. (tt, (tt, (tt, tt)));
+    handed_over = λ cell steps algs station air l k. handed_over_cells cell steps algs l k;
+    changed = λ cell algs station air l c e k. (tt, (k, (tt, (tt, (tt, tt)))));
+    rrc = λ srb count text l k. tt;
+    packet = λ drb count text l k. tt;
+  }
 
-  taken_connected_cells : (algs : Algs) (count : ℕ) (o : Option (Partial K)) → CellsIn (context_taken_connected r algs count s o).1.derived
-  taken_connected_cells algs count None = tt
-  taken_connected_cells algs count (Some p) = (tt, (tt, tt))
-
-  opened_cells : (count : ℕ) (text : List ℕ) (o : Option (NasContext K)) → CellsIn (nas_opened count text s o).1.derived
-  opened_cells count text None = tt
-  opened_cells count text (Some c) = tt
-
-  secured_cells : (station air : ℕ) (algs : Algs) (count : ℕ) (radio : Radio K C) → CellsIn (link_secured r station air algs count s radio).1.derived
-  secured_cells station air algs count Idle = tt
-  secured_cells station air algs count (Connecting w) = (tt, (tt, (tt, tt)))
-  secured_cells station air algs count (Connected l) = tt
-
-  rrc_cells : (srb : Srb) (count : ℕ) (text : List ℕ) (radio : Radio K C) → CellsIn (rrc_opened srb count text s radio).1.derived
-  rrc_cells srb count text Idle = tt
-  rrc_cells srb count text (Connecting w) = tt
-  rrc_cells srb count text (Connected l) = tt
-
-  packet_cells : (drb : Drb) (count : ℕ) (text : List ℕ) (radio : Radio K C) → CellsIn (packet_opened drb count text s radio).1.derived
-  packet_cells drb count text Idle = tt
-  packet_cells drb count text (Connecting w) = tt
-  packet_cells drb count text (Connected l) = tt
-
-  requested_cells : (o : Option (NasContext K)) → CellsIn (service_requested r s o).1.derived
-  requested_cells None = tt
-  requested_cells (Some c) = (tt, tt)
-
-  resent_cells : (radio : Radio K C) → CellsIn (complete_resent s radio).1.derived
-  resent_cells Idle = tt
-  resent_cells (Connecting w) = tt
-  resent_cells (Connected l) = tt
-
-  packet_sent_cells : (drb : Drb) (text : List ℕ) (radio : Radio K C) → CellsIn (packet_sent drb text s radio).1.derived
-  packet_sent_cells drb text Idle = tt
-  packet_sent_cells drb text (Connecting w) = tt
-  packet_sent_cells drb text (Connected l) = tt
-
-  rrc_sent_cells : (srb : Srb) (text : List ℕ) (radio : Radio K C) → CellsIn (rrc_sent srb text s radio).1.derived
-  rrc_sent_cells srb text Idle = tt
-  rrc_sent_cells srb text (Connecting w) = tt
-  rrc_sent_cells srb text (Connected l) = tt
-
-  nas_sent_cells : (text : List ℕ) (o : Option (NasContext K)) → CellsIn (nas_sent text s o).1.derived
-  nas_sent_cells text None = tt
-  nas_sent_cells text (Some c) = tt
-
-  nas_skipped_cells : (n : ℕ) (o : Option (NasContext K)) → CellsIn (nas_skipped n s o).1.derived
-  nas_skipped_cells n None = tt
-  nas_skipped_cells n (Some c) = tt
-
-  skipped_cells : (on : Which) (n : ℕ) (radio : Radio K C) → CellsIn (bearer_skipped on n s radio).1.derived
-  skipped_cells on n Idle = tt
-  skipped_cells on n (Connecting w) = tt
-  skipped_cells on n (Connected l) = tt
-
-  nas_does_cells : (row : NasRow) → CellsIn (nas_does r row s).1.derived
-  nas_does_cells (NasRefused answer) = tt
-  nas_does_cells (RejectedPlain answer cause) = tt
-  nas_does_cells (RejectedUnder answer cause) = rejected_cells answer cause s.context
-  nas_does_cells (ContextTaken algs count) = taken_cells algs count s.partial
-  nas_does_cells (ContextTakenConnected algs count) = taken_connected_cells algs count s.partial
-  nas_does_cells (NasOpened count text) = opened_cells count text s.context
-
-  air_does_cells : (row : AirRow) → AirCell row → CellsIn (air_does r row s).1.derived
-  air_does_cells (AirRefused answer) h = tt
-  air_does_cells (LinkSecured station air algs count) h = secured_cells station air algs count s.radio
-  air_does_cells (HandedOver cell steps algs station air) h = handed_over_cells cell steps algs station air s.radio h
-  air_does_cells (KeyChanged cell algs station air) h = key_changed_cells cell algs station air s.radio s.context h
-  air_does_cells (RrcOpened srb count text) h = rrc_cells srb count text s.radio
-  air_does_cells (PacketOpened drb count text) h = packet_cells drb count text s.radio
-
-  act_does_cells : (row : ActRow) → CellsIn (act_does r row s).1.derived
-  act_does_cells (ActRefused answer) = tt
-  act_does_cells ServiceRequested = requested_cells s.context
-  act_does_cells CompleteResent = resent_cells s.radio
-  act_does_cells WentIdle = tt
-  act_does_cells (PacketSent drb text) = packet_sent_cells drb text s.radio
-  act_does_cells (RrcSent srb text) = rrc_sent_cells srb text s.radio
-  act_does_cells (NasSent text) = nas_sent_cells text s.context
-  act_does_cells (NasSkipped n) = nas_skipped_cells n s.context
-  act_does_cells (BearerSkipped on n) = skipped_cells on n s.radio
+  act_cells : ActCases r Anything Cells s
+  act_cells = record {
+    nothing = λ t answer. tt;
+    requested = λ c k. (tt, tt);
+    resent = λ l k. tt;
+    idle = λ k. tt;
+    packet = λ drb text l k. tt;
+    rrc = λ srb text l k. tt;
+    nas = λ text c k. tt;
+    nas_skipped = λ n c k. tt;
+    bearer_skipped = λ on n l k. tt;
+  }
 
   phone_does_cells : (row : PhoneRow) (root : Option K) → RowCell row → CellsIn (phone_does r row root s).1.derived
   phone_does_cells (OfAuth (Authenticated ksi)) root h = authenticated_cells ksi root
-  phone_does_cells (OfNas row) root h = nas_does_cells row
-  phone_does_cells (OfAir row) root h = air_does_cells row h
-  phone_does_cells (OfAct row) root h = act_does_cells row
+  phone_does_cells (OfNas row) root h = nas_case r Anything Cells s nas_cells row tt
+  phone_does_cells (OfAir row) root h = air_case r _ Cells s air_cells row h
+  phone_does_cells (OfAct row) root h = act_case r Anything Cells s act_cells row tt
 
   pub phone_step_cells : (i : PhoneInput K) (outcome : Outcome) → CellsIn (phone_step r s i outcome).1.derived
   phone_step_cells i outcome =

@@ -1,5 +1,5 @@
 -- Every world of every run in octets: each derivation can be added, and each key that was held was made.
-use Rattle.std.proofs.Common.{◌≡◌, refl, sym, ap, subst, ◌∙◌, ℕ, Bool, true, false, List, [], ◌∷◌, ◌++◌, map, inl, inr}
+use Rattle.std.proofs.Common.{◌≡◌, refl, sym, ap, subst, ◌∙◌, ℕ, Bool, true, false, List, [], ◌∷◌, ◌++◌, map, inl, inr, append_assoc, append-nil}
 use Rattle.std.specs.Prelude.{◌||◌}
 use Rattle.std.specs.List.{list_any}
 use Rattle.std.specs.Str.{bytes_eq}
@@ -67,20 +67,12 @@ first_good setup is = record { grounds = first_grounds setup; ranged = first_ran
 
 -- one event after the other
 good_from : (setup : Setup) (before es : List Event) → AllOf IsEvent es → Good (run m (first_world setup) before) → Good (run m (first_world setup) (before ++ es))
-good_from setup before [] are g = subst (λ l. Good (run m (first_world setup) l)) (sym (append_nil before)) g
-  where
-    append_nil : (xs : List Event) → xs ++ [] ≡ xs
-    append_nil [] = refl
-    append_nil (x ∷ xs) = ap (λ l. x ∷ l) (append_nil xs)
+good_from setup before [] are g = subst (λ l. Good (run m (first_world setup) l)) (sym (append-nil before)) g
 good_from setup before (e ∷ es) are g =
     let more = run_more (first_world setup) before e in
     let well : WellKeys (happens m (run m (first_world setup) before) e).0.history = subst (λ w. WellKeys w.history) more (well_keys setup (before ++ e ∷ [])) in
     let next : Good (run m (first_world setup) (before ++ e ∷ [])) = subst Good (sym more) (happens_good (run m (first_world setup) before) e are.0 well g) in
     subst (λ l. Good (run m (first_world setup) l)) (append_assoc before (e ∷ []) es) (good_from setup (before ++ e ∷ []) es are.1 next)
-  where
-    append_assoc : (xs ys zs : List Event) → (xs ++ ys) ++ zs ≡ xs ++ (ys ++ zs)
-    append_assoc [] ys zs = refl
-    append_assoc (x ∷ xs) ys zs = ap (λ l. x ∷ l) (append_assoc xs ys zs)
 
 pub run_good : (setup : Setup) (es : List Event) → IsSetup setup → AllOf IsEvent es → Good (run m (first_world setup) es)
 run_good setup es is are = good_from setup [] es are (first_good setup is)

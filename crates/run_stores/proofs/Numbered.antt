@@ -1,5 +1,5 @@
 -- The rows of a ladder, numbered and with their holders: what more rows and more holders leave as it was.
-use Rattle.std.proofs.Common.{◌≡◌, ℕ, ◌+◌, ◌<◌, zero, suc, Bool, true, false, Option, Some, None, List, [], ◌∷◌, ◌++◌, length, map, sym, refl, ap, subst, ◌∙◌, arith, length-append, cond}
+use Rattle.std.proofs.Common.{◌≡◌, ℕ, ◌+◌, ◌<◌, zero, suc, Bool, true, false, Option, Some, None, List, [], ◌∷◌, ◌++◌, length, map, sym, refl, ap, subst, ◌∙◌, arith, length-append, cond, append_assoc, append-nil}
 use Rattle.std.proofs.lemmas.Bool.{false≢true}
 use Rattle.std.specs.Prelude.{slice_get, unwrap_or, position, IsSome, option_map}
 use Rattle.std.specs.List.{position_from}
@@ -20,17 +20,9 @@ use Rattle.lte_machine.specs.World.{Holding}
 use Rattle.run_stores.specs.Joins.{HasRow, Placed}
 use Rattle.run_stores.specs.Rows.{origin_in, numbered_after, numbered, noted, all_noted, holder_of}
 
-append_assoc : {A : Type 0} (xs ys zs : List A) → (xs ++ ys) ++ zs ≡ xs ++ (ys ++ zs)
-append_assoc [] ys zs = refl
-append_assoc (x ∷ xs) ys zs = ap (λ l. x ∷ l) (append_assoc xs ys zs)
-
-append_nil : {A : Type 0} (xs : List A) → xs ++ [] ≡ xs
-append_nil [] = refl
-append_nil (x ∷ xs) = ap (λ l. x ∷ l) (append_nil xs)
-
 -- a first place stays the first in a longer list
 pub position_kept : {X : Type 0} (p : X → Bool) (xs ys : List X) (k : ℕ) → position p xs ≡ Some k → position p (xs ++ ys) ≡ Some k
-position_kept p xs [] k e = ap (position p) (append_nil xs) ∙ e
+position_kept p xs [] k e = ap (position p) (append-nil xs) ∙ e
 position_kept p xs (y ∷ ys) k e = ap (position p) (sym (append_assoc xs (y ∷ []) ys)) ∙ position_kept p (xs ++ y ∷ []) ys k (position_stays p xs y k e)
 
 -- its number is the same among more rows
@@ -51,7 +43,7 @@ pub numbered_more : (os : List (RowOrigin (List ℕ))) (o : RowOrigin (List ℕ)
 numbered_more os o = numbered_append [] os (o ∷ [])
 
 pub octets_after : (rows : List LadderRow) (os : List (RowOrigin (List ℕ))) → map (λ r. r.octets) (numbered_after rows os) ≡ map (λ r. r.octets) rows ++ map row_key os
-octets_after rows [] = sym (append_nil (map (λ r. r.octets) rows))
+octets_after rows [] = sym (append-nil (map (λ r. r.octets) rows))
 octets_after rows (o ∷ os) =
     octets_after (rows ++ unheld (origin_in rows o) (row_key o) ∷ []) os
     ∙ ap (λ l. l ++ map row_key os) (mapped rows (unheld (origin_in rows o) (row_key o)))
@@ -176,7 +168,7 @@ placed_more rows (Of d ∷ os) o p f = (p.0, placed_more (rows ++ unheld (origin
 
 -- the rows after others begin with those
 pub numbered_grows : (rows : List LadderRow) (os : List (RowOrigin (List ℕ))) → (more : List LadderRow) × (numbered_after rows os ≡ rows ++ more)
-numbered_grows rows [] = ([], sym (append_nil rows))
+numbered_grows rows [] = ([], sym (append-nil rows))
 numbered_grows rows (o ∷ os) =
     let later = numbered_grows (rows ++ unheld (origin_in rows o) (row_key o) ∷ []) os in
     (unheld (origin_in rows o) (row_key o) ∷ later.0, later.1 ∙ append_assoc rows (unheld (origin_in rows o) (row_key o) ∷ []) later.0)
