@@ -3,8 +3,7 @@ use Rattle.std.proofs.Common.{◌≡◌, ◌⊎◌, inl, inr, ℕ, ◌<◌, Opti
 use Rattle.std.proofs.lemmas.Option.{slice_get_read}
 use Rattle.std.specs.declared.io.Error.{Error}
 use Rattle.growth.specs.Growth.{Refused}
-use Rattle.edge_io.specs.Opening.{loopback}
-use Rattle.edge_io.specs.Serving.{IsEnded, Keeps, NoMemory, NotFound, NotServed, OfNoPeer, OfPeer, Says, WantsMemory}
+use Rattle.edge_io.specs.Serving.{IsEnded, Keeps, NotFound, NotServed, OfNoPeer, OfPeer}
 use Rattle.edge_io.specs.declared.peers.Role.{Role}
 use Rattle.edge_io.specs.declared.programs.Program.{Program}
 use Rattle.edge_io.specs.declared.peer_fault.PeerFault.{PeerFault}
@@ -19,12 +18,6 @@ not_served start kills waits answers remaining connects process ended said after
     record { process = process; said = said; started = started; holds = (record { after = ended; ended = stop }, record { after = after; holds = found }) }
 not_served start kills waits answers remaining connects process ended said after NotSent started stop found = absurd found
 not_served start kills waits answers remaining connects process ended said after NoReply started stop found = absurd found
-
--- a program that was started, whose connection wanted memory, and that was ended
-pub no_memory : {P S C : Type 0} (start : Result (P × S) Error → Type 0) (kills waits : P → P → Type 0) (remaining : S → Option (List ℕ)) (connects : List ℕ → ℕ → Result C Error → Type 0) (process ended : P) (said after : S)
-    → start (Ok (process, said)) → IsEnded kills waits process ended → Says remaining said after (λ number. WantsMemory (connects loopback number)) → NoMemory start kills waits remaining connects
-no_memory start kills waits remaining connects process ended said after started stop wants =
-    inr (inr (record { process = process; said = said; started = started; holds = (record { after = ended; ended = stop }, record { after = after; holds = wants }) }))
 
 -- what failed is told with its role
 pub named : (many : Type 0) (program : Option Program) (role : Role) (fault : PeerFault) (last : Option (Role × PeerFault)) (Holds : Program → PeerFault → Type 0) → last ≡ Some (role, fault) → many ⊎ IfSome program (λ p. Holds p fault) → many ⊎ IfSome program (λ p. IsSomeAnd last (λ f. (f.0 ≡ role) × Holds p f.1))

@@ -1,5 +1,5 @@
 -- The output, line after line.
-use Rattle.std.proofs.Common.{length-append, ◌≡◌, ◌≢◌, ℕ, suc, ◌+◌, ◌<◌, ◌≤◌, ◌⊎◌, ◌||◌, Bool, true, false, cond, Some, None, Ok, Err, List, [], ◌∷◌, ◌++◌, map, length, get_or, drop, sym, refl, ap, subst, ◌∙◌, arith, inl, inr, append_assoc, append-nil, drop_of_length-le}
+use Rattle.std.proofs.Common.{length-append, ◌≡◌, ◌≢◌, ℕ, suc, ◌+◌, ◌<◌, ◌≤◌, ◌⊎◌, ◌||◌, Bool, true, false, cond, Some, None, Ok, Err, List, [], ◌∷◌, ◌++◌, map, length, get_or, drop, sym, refl, ap, subst, ◌∙◌, arith, inl, inr, append_assoc, append-nil}
 use Rattle.std.proofs.lemmas.List.{length-map, get_or-map, map-append}
 use Rattle.std.proofs.lemmas.List.Folds.{list_any_at}
 use Rattle.std.proofs.lemmas.List.Quantifiers.{position-Some}
@@ -187,13 +187,6 @@ next_printed lines i first mid now ladder after line p within is written stand =
           ∙ ap (prefixed p.text) (then_is_prefixed place text (output_from (rows_after place p.rows line) (i + 1 + 1) (drop (i + 1) lines)) ends)
           ∙ prefixed_twice p.text text (output_from (rows_after place p.rows line) (i + 1 + 1) (drop (i + 1) lines));
     }
-
--- all lines are printed
-pub all_printed : (lines : List LadderLine) (i : ℕ) (first now : Told) (ladder : List LadderRow) → Printed lines i first now ladder → length lines ≤ i → Writes (output_from [] 1 lines) Done first now
-all_printed lines i first now ladder p past =
-    let output = p.whole ∙ ap (λ ls. prefixed p.text (output_from p.rows (i + 1) ls)) (drop_of_length-le lines past) in
-    let text = ap (λ o. o.text) output ∙ append-nil p.text in
-    (ap (λ o. o.ends) output, subst (λ t. Grows first.written now.written t) (sym text) p.grown)
 
 -- want of memory before a line
 pub memory_before : (lines : List LadderLine) (i : ℕ) (first now : Told) (ladder : List LadderRow) → Printed lines i first now ladder → Writes (output_from [] 1 lines) Memory first now

@@ -140,18 +140,6 @@ pub is_none : (records : List BagView) (class : Class) (octets : List ℕ) → (
 is_none records class octets none =
     position_nowhere (is_sent class octets) records (λ j r at. none j r (slice_get_within records j r at) at)
 
--- one more record that has not the octets
-pub one_more : (records : List BagView) (class : Class) (octets : List ℕ) (k : ℕ) → option_map (is_sent class octets) (slice_get records k) ≡ Some false → ((j : ℕ) (r : BagView) → j < k → slice_get records j ≡ Some r → is_sent class octets r ≡ false) → (j : ℕ) (r : BagView) → j < k + 1 → slice_get records j ≡ Some r → is_sent class octets r ≡ false
-one_more records class octets k read before j r lt at =
-    elim (cases_lt j k) [
-      | inl low ↦ before j r low at
-      | inr le ↦
-          let same : j ≡ k = omega (arith, le, lt) in
-          let here : option_map (is_sent class octets) (slice_get records j) ≡ Some false = subst (λ n. option_map (is_sent class octets) (slice_get records n) ≡ Some false) (sym same) read in
-          let e : Some (is_sent class octets r) ≡ Some false = sym (ap (option_map (is_sent class octets)) at) ∙ here in
-          cc
-    ]
-
 -- how far a candidate is from the mark
 abbrev pub left : Option ℕ → ℕ → ℕ
 left None mark = 0
