@@ -91,20 +91,6 @@ nearest_below rows ladder mark s fits (suc n) k x below within is =
 pub marks_nearest : (rows : List LadderRow) → IsLadder rows → (mark : ℕ → Option ℕ) (s : ℕ) → MarksFit rows mark s → (k x : ℕ) → k < length rows → mark k ≡ Some x → IsNearest rows s k x
 marks_nearest rows ladder mark s fits k x within is = nearest_below rows ladder mark s fits (suc k) k x (omega arith) within is
 
--- so there is one mark of a row
-pub marks_one : (rows : List LadderRow) → IsLadder rows → (f g : ℕ → Option ℕ) (s : ℕ) → MarksFit rows f s → MarksFit rows g s → (k : ℕ) → k < length rows → f k ≡ g k
-marks_one rows ladder f g s fits fits' k within = by (f k) (g k) refl refl
-  where
-    by : (o p : Option ℕ) → f k ≡ o → g k ≡ p → o ≡ p
-    by None None is is' = refl
-    by (Some x) (Some y) is is' = ap Some (nearest_one rows s (marks_nearest rows ladder f s fits k x within is) (marks_nearest rows ladder g s fits' k y within is'))
-    by None (Some y) is is' =
-        let there = mark_there (f k) ((marks_right rows ladder f s fits k within).1 ((marks_right rows ladder g s fits' k within).0 (marked y is'))) in
-        absurd (none-some there.0 (sym is ∙ there.1))
-    by (Some x) None is is' =
-        let there = mark_there (g k) ((marks_right rows ladder g s fits' k within).1 ((marks_right rows ladder f s fits k within).0 (marked x is))) in
-        absurd (none-some there.0 (sym is' ∙ there.1))
-
 -- enough steps are enough
 steps_same : (rows : List LadderRow) → IsLadder rows → (s n m k : ℕ) → k < n → k < m → mark_within n rows s k ≡ mark_within m rows s k
 steps_same rows ladder s zero m k small large = absurd (omega (arith, small))

@@ -1,6 +1,6 @@
 -- An audit that is filled from the first row to the last fits: a row depends on those before it alone.
-use Rattle.std.proofs.Common.{◌≡◌, ℕ, ◌+◌, ◌<◌, ◌≤◌, inl, inr, Some, List, [], ◌∷◌, ◌++◌, length, get_or, length-append, refl, sym, ap, subst, ◌∙◌, arith}
-use Rattle.std.proofs.lemmas.Option.{slice_get-get_or, none-some}
+use Rattle.std.proofs.Common.{◌≡◌, ℕ, ◌+◌, ◌<◌, ◌≤◌, inl, inr, Some, List, [], ◌∷◌, ◌++◌, length, get_or, length-append, sym, ap, subst, ◌∙◌, arith}
+use Rattle.std.proofs.lemmas.Option.{slice_get-get_or}
 use Rattle.std.proofs.lemmas.Bool.{cases_lt}
 use Rattle.std.specs.List.{slice_get}
 use Rattle.key_terms.specs.declared.row.LadderRow.{LadderRow}
@@ -37,9 +37,6 @@ pub record Filled (rows : List LadderRow) (audit : List AuditRow) (k : ℕ) : Ty
   pub as_many : length audit ≡ k
   pub each : FitBelow rows audit k
   pub clean : AreClean audit
-
-pub filled_none : (rows : List LadderRow) → Filled rows [] 0
-filled_none rows = record { as_many = refl; each = λ j below. absurd (omega (arith, below)); clean = λ j row at. absurd (none-some row at) }
 
 -- a row that stood fits, and the new one does
 fits_still : (rows : List LadderRow) → IsLadder rows → (audit : List AuditRow) (made : AuditRow) (j s : ℕ) → j < length audit → RowFits rows audit j s → RowFits rows (audit ++ made ∷ []) j s

@@ -1,16 +1,15 @@
 -- The way up from a row.
-use Rattle.std.proofs.Common.{◌≡◌, ℕ, zero, suc, ◌<◌, ◌==◌, Option, Some, None, List, [], ◌∷◌, ◌++◌, ◌+◌, ◌-◌, codes, drop, get_or, length, refl, sym, ap, ◌∙◌, arith}
+use Rattle.std.proofs.Common.{◌≡◌, ℕ, zero, suc, ◌<◌, ◌==◌, Option, Some, None, List, [], ◌∷◌, ◌++◌, ◌+◌, ◌-◌, drop, get_or, refl, sym, ap, ◌∙◌, arith}
 use Rattle.std.proofs.lemmas.Bool.{eq-eqb, ne_eqb}
 use Rattle.std.proofs.lemmas.Option.{none-some}
 use Rattle.std.proofs.lemmas.List.{append_assoc, drop_more}
-use Rattle.std.specs.Fmt.{decimal}
 use Rattle.std.specs.Prelude.{if◌then◌else◌}
 use Rattle.std.specs.List.{slice_get}
 use Rattle.key_terms.specs.declared.row.LadderRow.{LadderRow}
 use Rattle.key_terms.specs.Ladder.{AreMade}
 use Rattle.report_text.specs.Ladder.{form_at}
 use Rattle.key_audit.specs.Derives.{key_in, key_row}
-use Rattle.key_audit.specs.Text.{on_from, way_within, way_up, further, for_each, stations, name_if, by_if, names_text, paths_text, line_of, row_line, row_lines}
+use Rattle.key_audit.specs.Text.{on_from, way_within, way_up, for_each, stations, name_if, by_if, names_text, paths_text, line_of, row_line, row_lines}
 use Rattle.key_audit.proofs.Neighbours.{key_before}
 
 -- how far a walk has still to go, at the most
@@ -54,15 +53,6 @@ way_ends rows made to k same = way_on rows made to k ∙ ap (λ b. k ∷ (if b t
 pub way_next : (rows : List LadderRow) → AreMade rows → (to k : ℕ) → (k ≡ to → ⊥) → (o : Option ℕ) → key_row rows k ≡ o → way_up rows to k ≡ k ∷ on_from (way_up rows to) o
 way_next rows made to k differs o is =
     way_on rows made to k ∙ ap (λ b. k ∷ (if b then [] else on_from (way_up rows to) (key_row rows k))) (ne_eqb k to differs) ∙ ap (λ key. k ∷ on_from (way_up rows to) key) is
-
--- one number more of a path
-pub one_further : (path : List ℕ) (i k : ℕ) (so_far after whole : List ℕ) → i < length path → k ≡ get_or path i k → after ≡ so_far ++ (codes ">" ++ decimal k) → so_far ++ further (drop i path) ≡ whole
-    → after ++ further (drop (i + 1) path) ≡ whole
-one_further path i k so_far after whole below is added done =
-    let rest : List ℕ = further (drop (i + 1) path) in
-    ap (λ t. t ++ rest) added ∙ append_assoc so_far (codes ">" ++ decimal k) rest
-    ∙ ap (λ n. so_far ++ ((codes ">" ++ decimal n) ++ rest)) is
-    ∙ ap (λ more. so_far ++ further more) (sym (drop_more path i k below)) ∙ done
 
 -- what is written for one station more
 pub one_station : (text : ℕ → List ℕ) (station : ℕ) (so_far after whole : List ℕ) → station < 8 → after ≡ so_far ++ text station → so_far ++ for_each text (drop station stations) ≡ whole

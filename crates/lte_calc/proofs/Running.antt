@@ -5,7 +5,6 @@ use Rattle.std.proofs.lemmas.List.Folds.{list_all-append}
 use Rattle.std.specs.Io.KnownBytes.{IsAtEnd, prepend_known}
 use Rattle.edge_io.proofs.Known.{gives_none, gives_twice, grows_twice, nothing_out}
 use Rattle.edge_io.specs.Told.{Told, HasEnded}
-use Rattle.edge_io.specs.Cause.{Rose}
 use Rattle.edge_io.specs.Octets.{Grows}
 use Rattle.calc_text.specs.Answer.{answer_to}
 use Rattle.text_lines.specs.Lines.{has_feed, lines_of, ended, last_line}
@@ -84,11 +83,6 @@ answered_on held rest good good' input input' out mid now m a = record {
 -- the run ends
 pub memory_run : (held : List ℕ) (good : Bool) (input input' out out' : Told) → Midway held good input input' out out' → length held ≤ most_octets + 4096 → Run Memory input input' out out'
 memory_run held good input input' out out' m few = record { lines = m.lines; rest = held; are = m.are; came = m.came; few = few; at = m.grows }
-
-pub fault_run : (held : List ℕ) (good : Bool) (input mid now out out' : Told) → Midway held good input mid out out' → IsLine held → Came [] mid now → Rose input.read_faults now.read_faults → now.ended ≡ input.ended → Run ReadFault input now out out'
-fault_run held good input mid now out out' m begun none rose met =
-    let came = came_more held [] held good input mid now out out' m none (sym (append-nil held)) in
-    record { lines = came.lines; rest = held; are = came.are; came = came.came; few = omega (arith, begun.1); at = (rose, met, begun.0, came.grows) }
 
 pub stopped_run : (status : Status) (held : List ℕ) (good : Bool) (input input' out mid now : Told) → Midway held good input input' out mid → length held ≤ most_octets + 4096 → mid.write_faults ≡ out.write_faults → StoppedIn status held mid now → Run status input input' out now
 stopped_run status held good input input' out mid now m few none s = record {
