@@ -1,5 +1,5 @@
 -- What holds of two cores stays so at each event.
-use Rattle.std.proofs.Common.{◌≡◌, refl, sym, ap, ◌∙◌, subst, ℕ, ◌+◌, ◌≤◌, List, [], ◌∷◌, ◌++◌, length, length-append, Bool, true, Option, Some, None, Result, Ok, Err, arith}
+use Rattle.std.proofs.Common.{◌≡◌, refl, sym, ap, ◌∙◌, subst, ℕ, ◌+◌, ◌≤◌, List, [], ◌∷◌, ◌++◌, length, length-append, true, Option, Some, None, Ok, arith}
 use Rattle.lte_events.specs.declared.events.Event.{Event}
 use Rattle.lte_events.specs.declared.lines.Line.{Line}
 use Rattle.lte_events.specs.declared.lines.Who.{Who}
@@ -10,17 +10,14 @@ use Rattle.lte_machine.specs.BothRuns.{written_run}
 use Rattle.lte_machine.specs.Carried.{run_value}
 use Rattle.lte_machine.specs.Ranges.{AllOf, IsEvent, IsSetup}
 use Rattle.lte_machine.proofs.RangeStation.{all_append}
-use Rattle.lte_world.specs.declared.faults.WorldFault.{WorldFault}
-use Rattle.lte_world.specs.Whole.{Whole, run_of, told_of, turned}
+use Rattle.lte_world.specs.Whole.{Whole, run_of, told_of}
 use Rattle.run_report.specs.Events.{GoesOn}
-use Rattle.core_relocation.specs.declared.cores.Cores.{Cores}
 use Rattle.core_relocation.specs.declared.cores.Held.{Held}
-use Rattle.core_relocation.specs.declared.lines.TwoLine.{TwoLine}
 use Rattle.core_relocation.specs.declared.senders.Sender.{Sender}
-use Rattle.core_relocation.specs.Holder.{acting, away, held_after, senders_after, sent_by, station_in}
+use Rattle.core_relocation.specs.Holder.{acting, away, held_after, sent_by, station_in}
 use Rattle.core_relocation.specs.Run.{TwoState, answer_in, state_in, state_by, fields_of_run, cores_of, next_answer, next_state, run_after, told_after, states, two_state, first_state}
 use Rattle.core_relocation.specs.Whole.{TwoWhole, Keeps, StillRuns, state_of, state_written}
-use Rattle.core_relocation.proofs.Told.{told_written, with_line, with_fault}
+use Rattle.core_relocation.proofs.Told.{told_written, with_line}
 
 -- ONE EVENT MORE
 
@@ -124,18 +121,3 @@ module _ (v : TwoWhole) (e : Event) (here : away v.cores (station_in v.senders e
         run = λ runs. written;
         state = λ runs. line_state ∙ next_written v k e is ran ∙ ap (two_state v.world.setup v.cores.core_of) (sym more) ∙ ap (λ s. two_state s v.cores.core_of events) (sym set);
       }
-
--- WITH A COINCIDENCE
-
-pub keeps_fault : (v : TwoWhole) → Keeps v → (e : Event) (fault : WorldFault) → told_of v.world e ≡ Err fault → (w : Whole) → run_of w ≡ turned v.world e → w.setup ≡ v.world.setup → w.journal ≡ v.world.journal
-    → (events : List Event) → events ≡ v.events → (senders : List Sender) → senders ≡ v.senders → Keeps (record { world = w; cores = v.cores; events = events; senders = senders })
-keeps_fault v k e fault told w turns set journal events same senders sent =
-    let never : GoesOn (run_of w) → ⊥ = λ runs. with_fault v.world e fault told (subst GoesOn turns runs) in record {
-      set = subst IsSetup (sym set) k.set;
-      are = subst (AllOf IsEvent) (sym journal) k.are;
-      cells = k.cells ∙ ap (λ s. s.cells) (sym set);
-      heard = omega (arith, ap length journal, ap length same, k.heard);
-      sent = omega (arith, ap length sent, ap length same, k.sent);
-      run = λ runs. absurd (never runs);
-      state = λ runs. absurd (never runs);
-    }

@@ -1,6 +1,5 @@
 -- What a system in octets tells of an event is what the written machine's run tells, in values.
-use Rattle.std.proofs.Common.{◌≡◌, refl, sym, ap, ◌∙◌, ℕ, List, [], ◌∷◌, ◌++◌, map, Option, Some, None, Result, Ok, Err}
-use Rattle.key_model.specs.Term.{Term}
+use Rattle.std.proofs.Common.{◌≡◌, refl, sym, ap, ◌∙◌, ℕ, List, [], ◌∷◌, ◌++◌, map, Option, Some, None, Ok}
 use Rattle.key_terms.specs.declared.proof.Proof.{Proof}
 use Rattle.lte_events.specs.declared.events.Event.{Event}
 use Rattle.lte_events.specs.declared.lines.Line.{Line}
@@ -11,17 +10,15 @@ use Rattle.lte_machine.specs.Ciphers.{annex_b}
 use Rattle.lte_machine.specs.Machines.{Kept, machine_in_octets, written_machine}
 use Rattle.lte_machine.specs.Opening.{open_octets}
 use Rattle.lte_machine.specs.Ranges.{AllOf, IsEvent, IsSetup}
-use Rattle.lte_machine.specs.Run.{RunState, Running, Stopped, EventReport, Reported, Coincided, after, event_report, first_world, reported, turn}
+use Rattle.lte_machine.specs.Run.{RunState, Running, Stopped, after, event_report, first_world, reported, turn}
 use Rattle.lte_machine.specs.Step.{StepResult, Continues, Stops, next}
-use Rattle.lte_machine.specs.World.{World}
 use Rattle.lte_machine.proofs.AnnexB.{annex_b_ciphers}
 use Rattle.lte_machine.proofs.EventByEvent.{tale_snoc}
 use Rattle.lte_machine.proofs.RangeStation.{all_append}
-use Rattle.lte_machine.proofs.WholeRun.{run_is_value, tale_is_value}
-use Rattle.lte_world.specs.declared.faults.WorldFault.{WorldFault}
+use Rattle.lte_machine.proofs.WholeRun.{tale_is_value}
 use Rattle.lte_world.specs.Whole.{Whole, answer_of, run_of, told_of, turned, unless_over}
 use Rattle.run_report.specs.Events.{GoesOn}
-use Rattle.core_relocation.specs.Run.{run_after, told_after}
+use Rattle.core_relocation.specs.Run.{told_after}
 
 -- LISTS
 
@@ -44,10 +41,6 @@ map_more f (y ∷ ys) x = ap (λ zs. f y ∷ zs) (map_more f ys x)
 -- ONE EVENT MORE
 
 module _ (setup : Setup) (set : IsSetup setup) (heard : List Event) (are : AllOf IsEvent heard) where
-  -- the run in octets is that of the written machine, in values
-  pub run_same : (core_of : List ℕ) → octet_run setup heard ≡ run_after setup core_of heard
-  run_same core_of = run_is_value annex_b annex_b_ciphers setup set heard are
-
   -- and so is what it tells of one event more
   pub told_same : (e : Event) → IsEvent e → event_report (open_octets annex_b) (machine_in_octets annex_b) (octet_run setup heard) e
       ≡ report_value (event_report (open_octets annex_b_terms) (written_machine annex_b) (written_run setup heard) e)
@@ -86,22 +79,10 @@ line_goes : (s : StepResult (List ℕ) ℕ Kept) (line : Line) → answer_of (re
 line_goes (Continues w told) line e = tt
 line_goes (Stops chance) line e = cc
 
-fault_stops : (s : StepResult (List ℕ) ℕ Kept) (fault : WorldFault) → answer_of (reported s) ≡ Err fault → GoesOn (after s) → ⊥
-fault_stops (Continues w told) fault e goes = cc
-fault_stops (Stops chance) fault e goes = goes
-
 tells_line : (run : RunState (List ℕ) ℕ Kept) (e : Event) (line : Line) → answer_of (event_report (open_octets annex_b) (machine_in_octets annex_b) run e) ≡ Ok line
     → GoesOn run × GoesOn (turn (open_octets annex_b) (machine_in_octets annex_b) run e)
 tells_line (Running w) e line told = (tt, line_goes (next (open_octets annex_b) (machine_in_octets annex_b) w e) line told)
 tells_line (Stopped chance) e line told = cc
 
-tells_fault : (run : RunState (List ℕ) ℕ Kept) (e : Event) (fault : WorldFault) → answer_of (event_report (open_octets annex_b) (machine_in_octets annex_b) run e) ≡ Err fault
-    → GoesOn (turn (open_octets annex_b) (machine_in_octets annex_b) run e) → ⊥
-tells_fault (Running w) e fault told goes = fault_stops (next (open_octets annex_b) (machine_in_octets annex_b) w e) fault told goes
-tells_fault (Stopped chance) e fault told goes = goes
-
 pub with_line : (v : Whole) (e : Event) (line : Line) → told_of v e ≡ Ok line → GoesOn (run_of v) × GoesOn (turned v e)
 with_line v e line told = tells_line (run_of v) e line told
-
-pub with_fault : (v : Whole) (e : Event) (fault : WorldFault) → told_of v e ≡ Err fault → GoesOn (turned v e) → ⊥
-with_fault v e fault told goes = tells_fault (run_of v) e fault told goes

@@ -1,11 +1,10 @@
 -- The first ladder that passes a test, by what is known of each.
-use Rattle.std.proofs.Common.{◌≡◌, ◌≢◌, refl, sym, ap, subst, ◌∙◌, ℕ, zero, suc, ◌+◌, ◌<◌, ◌≤◌, Bool, true, false, List, [], ◌∷◌, length, map, drop, get_or, set, Option, Some, None, arith}
+use Rattle.std.proofs.Common.{◌≡◌, refl, sym, ap, subst, ◌∙◌, ℕ, zero, suc, ◌+◌, ◌<◌, ◌≤◌, Bool, true, false, List, [], ◌∷◌, length, drop, get_or, Some, None, arith}
 use Rattle.std.proofs.Common.{inl, inr}
 use Rattle.std.specs.Prelude.{◌⊎◌, slice_get, position, option_map, unwrap_or}
 use Rattle.std.specs.Option.{is_some}
 use Rattle.std.proofs.Math.ListN.{length-set}
-use Rattle.std.proofs.Math.Seq.{drop-cons}
-use Rattle.std.proofs.lemmas.List.{get_or-set_same, get_or-set_other, length-map, get_or-map}
+use Rattle.std.proofs.lemmas.List.{get_or-set_same, length-map, get_or-map}
 use Rattle.std.proofs.lemmas.Option.{slice_get-get_or, get_or_from_slice_get, slice_get_within}
 use Rattle.key_terms.specs.declared.row.LadderRow.{LadderRow}
 use Rattle.key_terms.specs.Ladder.{row_of}
@@ -16,7 +15,7 @@ use Rattle.lte_machine.specs.Run.{RunState, Running, Stopped}
 use Rattle.lte_world.specs.Whole.{Whole, InRun, run_of}
 use Rattle.run_stores.specs.Rows.{world_rows}
 use Rattle.fleet_world.specs.Fleets.{GoesOn}
-use Rattle.fleet_world.specs.Meeting.{Meeting, has_root, root_among, has_row, met_in, row_among, met_or, meeting_from, ladder_at}
+use Rattle.fleet_world.specs.Meeting.{has_root, has_row, met_in, row_among, ladder_at}
 use Rattle.fleet_world.specs.Phones.{rows_in, without}
 use Rattle.fleet_world.specs.Worlds.{Goes, rows_at, ladders_in, others_in}
 
@@ -47,10 +46,6 @@ pub own_is_empty : (p k : ℕ) (worlds : List Whole) → k ≡ p → k < length 
 own_is_empty p k worlds is low =
     ap (λ n. ladder_at (without n (ladders_in worlds)) k) (sym is)
     ∙ get_or-set_same (ladders_in worlds) k [] [] (omega (arith, low, length-map worlds rows_at))
-
-pub other_is : (p k : ℕ) (worlds : List Whole) (v : Whole) → k ≢ p → k < length worlds → v ≡ get_or worlds k v → ladder_at (others_in p worlds) k ≡ rows_at v
-other_is p k worlds v differ low is =
-    get_or-set_other (ladders_in worlds) p k [] [] differ ∙ get_or-map rows_at worlds k v [] low ∙ ap rows_at (sym is)
 
 pub ladder_of_phone : (k : ℕ) (worlds : List Whole) (v : Whole) → k < length worlds → v ≡ get_or worlds k v → ladder_at (ladders_in worlds) k ≡ rows_at v
 ladder_of_phone k worlds v low is = get_or-map rows_at worlds k v [] low ∙ ap rows_at (sym is)

@@ -26,7 +26,7 @@ use Rattle.lte_events.specs.declared.setups.Setup.{Setup}
 use Rattle.lte_machine.specs.Machines.{Kept}
 use Rattle.lte_machine.specs.Run.{RunState, Running, EventReport, Reported, Coincided, first_world}
 use Rattle.run_report.specs.Events.{told_of}
-use Rattle.peer_calls.proofs.Composing.{calls-append, none_done, done_twice, cut_after, cut_at, cut_before}
+use Rattle.peer_calls.proofs.Composing.{calls-append, done_twice, cut_after, cut_at, cut_before}
 use Rattle.peer_calls.proofs.Gone.{roles_started-append, started_did, started_went, replied_start}
 use Rattle.peer_calls.proofs.Running.{all_run_did, all_run_went}
 use Rattle.peer_calls.specs.declared.faults.DriveFault.{DriveFault}
@@ -45,9 +45,6 @@ pub record PlanGoing (whole rest : Plan) (first now : Outside) : Type 0 where
   pub made : List Act
   pub is : whole ≡ then_plan made rest
   pub did : AllDone made first now
-
-pub plan_begins : (whole : Plan) (x : Outside) → PlanGoing whole whole x x
-plan_begins whole x = record { made = []; is = refl; did = none_done x }
 
 then_twice : (a b : List Act) (rest : Plan) → then_plan a (then_plan b rest) ≡ then_plan (a ++ b) rest
 then_twice a b rest = ap (λ (acts : List Act). let p : Plan = record { acts = acts; coincides = rest.coincides } in p) (sym (append_assoc a b rest.acts))

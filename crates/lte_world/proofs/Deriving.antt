@@ -120,10 +120,6 @@ AddsUpTo before rows derived left =
     → Midway os held ds rows left
 
 module _ (before : List LadderRow) (derived : List Derived) where
-  -- at first all are left
-  pub all_left : AddsUpTo before before derived derived
-  all_left os held ds k are can = record { origins = os; made = ds; keeps = k; are = are; can = can; same = refl }
-
   -- the ladder can take those that are left
   pub awaits_left : (rows : List LadderRow) (left : List Derived) → Awaits before derived → AddsUpTo before rows derived left → Awaits rows left
   awaits_left rows left a up =

@@ -15,7 +15,6 @@ use Rattle.key_terms.proofs.Holding.{plain_holding, row_of_same}
 use Rattle.lte_machine.specs.Ladder.{RowOrigin, row_key, Clash, Ladder, Hit, hit, same_origin, stands_or_not, added_at, added_unless, add_row, add_next, add_rows, no_rows, ladder_of}
 use Rattle.lte_machine.specs.Ranges.{AllOf}
 use Rattle.lte_machine.specs.World as world
-use Rattle.lte_machine.specs.World.{Holding}
 use Rattle.run_stores.specs.Additions.{IsMadeIn}
 use Rattle.run_stores.specs.Joins.{HasRow, Keeps}
 use Rattle.run_stores.specs.Rows.{numbered}
@@ -27,10 +26,6 @@ use Rattle.lte_world.specs.Networks.{HoldsOne, HoldsAll, holdings}
 use Rattle.lte_world.proofs.Deriving.{left_at, clash_stays}
 
 -- ONE
-
-some_number : (o : Option ℕ) → IsSome o → (n : ℕ) × (o ≡ Some n)
-some_number None h = absurd (false≢true h)
-some_number (Some n) h = (n, refl)
 
 -- who holds a key of a row is noted there
 pub held_one : (who : Holder) (key : List ℕ) (before after : List LadderRow) (n : ℕ) → row_of before key ≡ Some n → after ≡ holding who n before → HoldsOne who key before after

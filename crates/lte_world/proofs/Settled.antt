@@ -118,10 +118,6 @@ uses_back : (o : Option (KeyUse (List ℕ))) → option_map use_in (option_map u
 uses_back None = refl
 uses_back (Some u) = refl
 
-uses_again : (o : Option Use) → option_map use_out (option_map use_in o) ≡ o
-uses_again None = refl
-uses_again (Some u) = refl
-
 sent_kept : (w : World (List ℕ) ℕ Kept) (r : Reply (List ℕ) ℕ) → map view_of (with_one ((machine_in_octets annex_b).keep r.sent) w.sent) ≡ map view_of w.sent ++ sent_in (actor_out r).tuple (actor_out r).sent
 sent_kept w r = by r.sent
   where
@@ -152,14 +148,6 @@ module _ (stores : Stores) (out : ActorOut) (sender : Option Use) (holder : Hold
 
   none : (r : Reply (List ℕ) ℕ) → out ≡ actor_out r → Ok tt ≡ chance_told (tuple_chance bytes_eq (option_map use_in sender) (option_map use_in out.accepted)) → chance r ≡ None
   none r is e = no_chance (chance r) (e ∙ ap (λ a. chance_told (tuple_chance bytes_eq (option_map use_in sender) a)) (accepted_is r is))
-
-  -- a coincidence of the record that was accepted
-  pub settled_by_tuples : (p : Proof) (rows : Stores) → Err p ≡ chance_told (tuple_chance bytes_eq (option_map use_in sender) (option_map use_in out.accepted)) → SettledAs stores rows out sender holder who step (Err p)
-  settled_by_tuples p rows e w by r f is h ev can = at (chance r) (e ∙ ap (λ a. chance_told (tuple_chance bytes_eq (option_map use_in sender) a)) (accepted_is r is))
-    where
-      at : (o : Option (Chance (List ℕ))) → Err p ≡ chance_told o → SettledBy o (ladder_of bytes_eq (after w by r).history).clash w by r who rows (Err p)
-      at None e = absurd (ok_is_no_err (sym e))
-      at (Some c) e = cc
 
   -- what the ladder can take
   pub settles_awaits : Settles stores out → Awaits stores.rows out.derived

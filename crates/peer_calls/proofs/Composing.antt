@@ -109,9 +109,6 @@ pub record Going (whole rest : List Act) (first now : Outside) : Type 0 where
   pub is : whole ≡ made ++ rest
   pub did : AllDone made first now
 
-pub begin : (whole : List Act) (x : Outside) → Going whole whole x x
-begin whole x = record { made = []; is = refl; did = none_done x }
-
 -- a part of what is to do was done
 pub going_on : (whole left part rest : List Act) (o x y : Outside) → Going whole left o x → left ≡ part ++ rest → AllDone part x y → Going whole rest o y
 going_on whole left part rest o x y so_far parts more = record {

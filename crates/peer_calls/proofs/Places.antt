@@ -1,18 +1,16 @@
 -- Starts and stops, and the places of the stations behind phone and core.
-use Rattle.std.proofs.Common.{◌≡◌, ◌≢◌, ℕ, zero, suc, ◌+◌, ◌-◌, ◌≤◌, ◌<◌, ◌⊎◌, inl, inr, Option, Some, None, List, [], ◌∷◌, ◌++◌, length, map, drop, slice_get, get_or, All, Bool, true, false, ◌||◌, ◌==◌, if◌then◌else◌, IsTrue, Ok, Err, IfSome, refl, ap, sym, subst, ◌∙◌, arith, length-append}
+use Rattle.std.proofs.Common.{◌≡◌, ◌≢◌, ℕ, zero, suc, ◌+◌, ◌-◌, ◌≤◌, ◌<◌, Option, Some, None, List, [], ◌∷◌, ◌++◌, length, map, drop, slice_get, get_or, All, Bool, true, false, ◌||◌, ◌==◌, if◌then◌else◌, IsTrue, Err, IfSome, refl, ap, sym, subst, ◌∙◌, arith, length-append}
 use Rattle.std.specs.Option.{option_map}
-use Rattle.std.proofs.Math.Nat.{eq-or-lt_of_le}
 use Rattle.std.proofs.Math.Seq.{drop-cons}
 use Rattle.std.proofs.lemmas.List.{drop_all, length-map}
 use Rattle.std.proofs.lemmas.List.Elements.{All-get_or}
 use Rattle.std.proofs.lemmas.Option.{slice_get-map, slice_get-get_or, slice_get_within, get_or_from_slice_get}
 use Rattle.edge_io.proofs.Changed.{slice_get-change}
-use Rattle.edge_io.proofs.Running.{running_started}
 use Rattle.edge_io.specs.declared.peers.Role.{Role}
 use Rattle.edge_io.specs.declared.peers.Role.TheVariants as role
 use Rattle.edge_io.specs.declared.peers.StartFault.{StartFault}
 use Rattle.edge_io.specs.declared.peers.StartFault.TheVariants as fault
-use Rattle.edge_io.specs.Peers.{PeersTold, IsRunning, IdleFrom, started, stopped_at}
+use Rattle.edge_io.specs.Peers.{PeersTold, IsRunning, started, stopped_at}
 use Rattle.lte_events.specs.Ranges.{has_station}
 use Rattle.lte_events.specs.Reply.{reply_of}
 use Rattle.lte_events.specs.Site.{Site}
@@ -30,10 +28,9 @@ use Rattle.role_wire.specs.declared.frames.FrameIn.TheVariants.{Setup as SetupFr
 use Rattle.role_wire.specs.declared.frames.RoleSetup.{RoleSetup}
 use Rattle.role_wire.specs.declared.frames.RoleSetup.TheVariants as first
 use Rattle.peer_calls.proofs.Composing.{cut_at}
-use Rattle.peer_calls.proofs.Running.{all_run_did}
 use Rattle.peer_calls.specs.declared.faults.DriveFault.TheVariants.{Memory, PeerFault}
 use Rattle.peer_calls.specs.Acts.{Starting, Calling}
-use Rattle.peer_calls.specs.Outside.{outside, AllRun, HasStarted, stopped_below}
+use Rattle.peer_calls.specs.Outside.{outside, stopped_below}
 use Rattle.peer_calls.specs.Exchanges.{core_seed, exchange, roles_of, seeds_of, starts, set_ups, station_peer, peer_of, replied, HasActor}
 use Rattle.peer_calls.specs.Went.{CutAt}
 
@@ -94,48 +91,6 @@ pub start_failed : (written : Option (List ℕ)) (role : Role) (f : StartFault) 
 start_failed written role f old new is told =
     let P : StartFault → Type 0 = λ g. new ≡ option_map (started role (Err g)) old in
     cut_at (Calling (Starting role)) PeerFault (outside written old) (outside written new) (refl, subst P is told)
-
--- how many are started behind one that is
-pub one_more : (role : Role) (place count : ℕ) (old new : Option PeersTold) → new ≡ option_map (started role (Ok place)) old → HasStarted count old → HasStarted (count + 1) new
-one_more role place count None new told has =
-    let P : Option PeersTold → Type 0 = λ t. HasStarted (count + 1) t in
-    subst P (sym told) tt
-one_more role place count (Some t) new told has =
-    let P : Option PeersTold → Type 0 = λ u. HasStarted (count + 1) u in
-    let more : length (t.roles ++ role ∷ []) ≡ count + 1 = omega (arith, length-append t.roles (role ∷ []), has) in
-    subst P (sym told) more
-
-pub none_more : (role : Role) (f : StartFault) (count : ℕ) (old new : Option PeersTold) → new ≡ option_map (started role (Err f)) old → HasStarted count old → HasStarted count new
-none_more role f count None new told has =
-    let P : Option PeersTold → Type 0 = λ t. HasStarted count t in
-    subst P (sym told) tt
-none_more role fault.Memory count (Some t) new told has =
-    let P : Option PeersTold → Type 0 = λ u. HasStarted count u in
-    subst P (sym told) has
-none_more role fault.Failed count (Some t) new told has =
-    let P : Option PeersTold → Type 0 = λ u. HasStarted count u in
-    subst P (sym told) has
-
-by_place : (count peer : ℕ) (u : PeersTold) → AllRun count (Some u) → IsRunning count u → (peer ≡ count) ⊎ (peer < count) → IsRunning peer u
-by_place count peer u others last (inr below) = others peer below
-by_place count peer u others last (inl at) =
-    let P : ℕ → Type 0 = λ q. IsRunning q u in
-    subst P (sym at) last
-
-below_or_at : (count : ℕ) (u : PeersTold) → AllRun count (Some u) → IsRunning count u → (peer : ℕ) → peer < count + 1 → IsRunning peer u
-below_or_at count u others last peer within = by_place count peer u others last (eq-or-lt_of_le (omega (arith, within)))
-
--- and which run
-pub one_runs : (role : Role) (place count : ℕ) (old new : Option PeersTold) → new ≡ option_map (started role (Ok place)) old → HasStarted count old → IfSome old (λ t. IdleFrom (length t.roles) t.peers) → AllRun count old → AllRun (count + 1) new
-one_runs role place count None new told has idle run =
-    let P : Option PeersTold → Type 0 = λ t. AllRun (count + 1) t in
-    subst P (sym told) tt
-one_runs role place count (Some t) new told has idle run =
-    let P : Option PeersTold → Type 0 = λ u. AllRun (count + 1) u in
-    let u : PeersTold = started role (Ok count) t in
-    let last : IsRunning count u = running_started role count (Some t) (Some u) (sym has) idle refl in
-    let others : AllRun count (Some u) = all_run_did count (Starting role ∷ []) (Some t) (Some u) run (record { told = refl; gave = (tt, tt) }) in
-    subst P (sym told) (below_or_at count u others last)
 
 -- STOPS
 

@@ -3,7 +3,7 @@ use Rattle.std.proofs.Common.{◌≡◌, ℕ, ◌+◌, ◌-◌, ◌^◌, Bool, t
 use Rattle.std.proofs.lemmas.Grind.{flat_map-append}
 use Rattle.edge_io.specs.Told.{Told}
 use Rattle.edge_io.specs.Octets.{Gives, Grows}
-use Rattle.edge_io.proofs.Known.{gives_none, gives_twice, nothing_out, grows_twice}
+use Rattle.edge_io.proofs.Known.{gives_twice, grows_twice}
 use Rattle.edge_io.specs.declared.peers.Role.{Role}
 use Rattle.lte_events.specs.declared.replies.ActorOut.{ActorOut}
 use Rattle.role_wire.specs.declared.frames.FrameIn.{FrameIn}
@@ -24,19 +24,6 @@ pub record Going (role : Role) (actor : Option Actor) (place : ℕ) (before now 
   pub next : (more : List FrameIn) → replies role (frames ++ more) ≡ replies role frames ++ replies_from role actor more
   pub first : waits actor ≡ opens frames
   pub place_is : place ≡ place_behind frames
-
--- no frame was read yet
-pub not_begun : (role : Role) (now : Told) → Going role None 0 now now
-not_begun role now = record {
-  frames = [];
-  good = tt;
-  gives = gives_none now.left;
-  grows = nothing_out now.written;
-  ended = refl;
-  next = λ more. refl;
-  first = refl;
-  place_is = refl;
-}
 
 -- the octets of frames and one more
 pub spelled_more : (frames : List FrameIn) (frame : FrameIn) → spelled (frames ++ frame ∷ []) ≡ spelled frames ++ frame_spelling frame

@@ -168,9 +168,6 @@ either : {X : Type 0} (P : X → Type 0) (b : Bool) (x y : X) → P x → P y �
 either P true x y h k = h
 either P false x y h k = k
 
-quiet_told : (s : State) (b : Bool) (answer : Answer) → (b && (is_told answer && may_tell s.context)) ≡ false → Told s b (NasRefused answer)
-quiet_told s b answer h refused = sym h
-
 taken_told : (algs : Algs) (count : ℕ) (s : State) (p : Option (Partial (List ℕ))) → (context_taken octet_reading algs count s p).1.answer ≡ Done
 taken_told algs count s None = refl
 taken_told algs count s (Some p) = refl
@@ -276,9 +273,6 @@ module _ (s : State) (outcome : Outcome) (pdu : List ℕ) where
       by_third : (t : Bool) → Told s t (nas_row s.caps plain.context plain.radio (cond t (command_front s.caps plain.context pdu plain.partial) (message_front header pdu plain.context)) outcome)
       by_third true refused = command_told s s.context plain.radio outcome pdu plain.partial refused
       by_third false refused = message_told s plain.radio outcome header pdu plain.context refused
-
-authenticated_done : (ksi : ℕ) (root : List ℕ) (s : State) → (phone_call s (Auth ksi root)).1.answer ≡ Done
-authenticated_done ksi root s = refl
 
 -- which refusals send one
 pub tells : (s : State) (i : PhoneIn) → (phone_call s i).1.answer ≢ Done → is_some (phone_call s i).1.sent ≡ sends_reject s i (phone_call s i).1.answer

@@ -3,7 +3,6 @@ use Rattle.std.proofs.Common.{◌≡◌, ℕ, ◌<◌, ◌-◌, ◌%◌, Bool, t
 use Rattle.std.specs.Prelude.{Result}
 use Rattle.std.proofs.lemmas.Bool.Decides.{nat_tests}
 use Rattle.alg_choice.specs.declared.algs.Algs.{Algs}
-use Rattle.lte_events.specs.declared.answers.Answer.{Answer}
 use Rattle.lte_events.specs.declared.inputs.PhoneIn.TheVariants.{Air}
 use Rattle.lte_events.specs.declared.replies.ActorOut.{ActorOut}
 use Rattle.lte_events.specs.Reply.{reply_of}
@@ -21,8 +20,7 @@ use Rattle.pdcp_guard.specs.Srb.{srb_count, srb_opened, srb_opened_by, srb_opene
 use Rattle.lte_machine.specs.Bearers.{OnSrb, Signalling1}
 use Rattle.lte_machine.specs.Calls.{phone_call}
 use Rattle.lte_machine.specs.Opening.{Outcome, Opened, OpensSrb, accepted_of}
-use Rattle.lte_machine.specs.PhoneChoice.{AirSettled, AtStart, waiting_front, start_row}
-use Rattle.lte_machine.specs.PhoneRows.{AirRefused}
+use Rattle.lte_machine.specs.PhoneChoice.{AtStart, waiting_front, start_row}
 use Rattle.lte_machine.specs.PhoneState.{Phone, Waiting}
 use Rattle.lte_machine.specs.Refusals.{of_pdcp}
 use Rattle.nas_smc.specs.PhoneNas.{NasPart}
@@ -42,11 +40,6 @@ first_count_is x h =
 
 -- a record that starts security, of which this was read
 module _ (n : NasPart) (w : Waiting (List ℕ)) (station air : ℕ) (pdu : List ℕ) where
-  pub start_refused : (answer : Answer) (out : ActorOut) → waiting_front n.caps station air pdu (OnSrb Signalling1) ≡ AirSettled (AirRefused answer)
-      → out ≡ reply_of answer → (waiting n w, out) ≡ phone_call (waiting n w) (Air station air Srb1 pdu)
-  start_refused answer out front told =
-      ap (λ x. (waiting n w, x)) told ∙ sym (fronted (waiting n w) station air Srb1 pdu (AirSettled (AirRefused answer)) front)
-
   module _ (count : ℕ) (algs : Algs) (named : Bool)
       (front : waiting_front n.caps station air pdu (OnSrb Signalling1) ≡ AtStart count algs named station air)
       (counts : srb_count 0 pdu ≡ Ok count) where
