@@ -1,7 +1,6 @@
 -- The steps at a PDU of a radio bearer, by what the code below opens.
-use Rattle.std.proofs.Common.{◌≡◌, ℕ, ◌≤◌, Bool, true, false, cond, List, length, Some, None, Ok, Err, refl, ap, arith, ◌∙◌, sym, nat_lt}
+use Rattle.std.proofs.Common.{◌≡◌, ℕ, ◌≤◌, Bool, true, false, cond, List, length, Some, None, Ok, Err, refl, ap, ◌∙◌, sym}
 use Rattle.std.specs.Prelude.{◌==◌, Option, Result, option_map}
-use Rattle.std.proofs.lemmas.Bool.Decides.{nat_tests}
 use Rattle.lte_events.specs.declared.answers.Answer.TheVariants.{MacFails, NotAddressed, NotActive}
 use Rattle.lte_events.specs.declared.replies.ActorOut.{ActorOut}
 use Rattle.lte_events.specs.Reply.{reply_of}
@@ -22,6 +21,7 @@ use Rattle.pdcp_guard.specs.AsKeys.{AsKeys}
 use Rattle.rec_base.specs.Bearer.{IsDrb, IsSrb}
 use Rattle.pdcp_guard.specs.Srb.{srb_count, srb_opened, srb_opened_by, srb_opened_at}
 use Rattle.pdcp_guard.specs.Drb.{drb_count, drb_opened, drb_opened_by, drb_opened_at}
+use Rattle.pdcp_guard.proofs.SrbFacts.{long_enough}
 use Rattle.lte_machine.specs.Bearers.{Which, which, Signalling1, Signalling2, OnSrb, OnDrb, srb_counts, drb_counts}
 use Rattle.lte_machine.specs.Ciphers.{annex_b}
 use Rattle.lte_machine.specs.Opening.{Outcome, Opened, Differs, OpensSrb, OpensDrb, open_octets, accepted_of}
@@ -45,14 +45,6 @@ by_front s pdu front =
 pub fronted : (s : Station (List ℕ) ℕ) (air : ℕ) (bearer : Bearer) (pdu : List ℕ) (front : AirFront)
     → air_front (seen_plain s) air (which bearer) pdu ≡ front → answered s (AirPdu air bearer pdu) ≡ by_front s pdu front
 fronted s air bearer pdu front e = ap (by_front s pdu) e
-
-long_enough : (next : ℕ) (pdu : List ℕ) (count : ℕ) → srb_count next pdu ≡ Ok count → 1 ≤ length pdu
-unfolding srb_count
-long_enough next pdu count e = by_test (nat_lt (length pdu) 5) _ refl e
-  where
-    by_test : (b : Bool) (x : Result ℕ PdcpFault) → nat_lt (length pdu) 5 ≡ b → cond b (Err faults.TheVariants.Short) x ≡ Ok count → 1 ≤ length pdu
-    by_test true x h e = cc
-    by_test false x h e = let ge : 5 ≤ length pdu = grind (arith, nat_tests) in omega (arith, ge)
 
 -- what was opened on an SRB
 abbrev pub by_opened : Station (List ℕ) ℕ → AsKeys (List ℕ) → Bearer → (ℕ → Result RrcRecord RecFault → AirRow) → Result PdcpOpened PdcpFault → Station (List ℕ) ℕ × ActorOut

@@ -98,7 +98,7 @@ impl Context {
         self.bearers.skip(bearer, n);
     }
 
-    #[tactic(auto, using(crate::proofs::Serving::which_drb))]
+    #[tactic(auto, using(radio_bearers::proofs::Which::which_drb))]
     fn send_user(&mut self, id: u8, bearer: Bearer, text: &UserText, out: &mut ActorOut)
         requires drb { IsDrb bearer }
         ensures step { (s : State (List ℕ) ℕ) → (serving_at s id self.new, out.new) ≡ answered (serving_at s id self.old) (StationActs (SendUser bearer text.now)) }
@@ -112,7 +112,7 @@ impl Context {
         }
     }
 
-    #[tactic(auto, using(crate::proofs::Serving::which_srb))]
+    #[tactic(auto, using(radio_bearers::proofs::Which::which_srb))]
     fn send_rrc(&mut self, id: u8, bearer: Bearer, text: &ShortText, out: &mut ActorOut)
         requires srb { IsSrb bearer }
         ensures step { (s : State (List ℕ) ℕ) → (serving_at s id self.new, out.new) ≡ answered (serving_at s id self.old) (StationActs (SendRrc bearer text.now)) }

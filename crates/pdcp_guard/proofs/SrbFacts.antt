@@ -1,5 +1,5 @@
 -- On signalling radio bearers what was sealed opens, and what opens was sealed.
-use Rattle.std.proofs.Common.{◌≡◌, ◌≢◌, ℕ, suc, ◌+◌, ◌-◌, ◌%◌, ◌<◌, ◌≤◌, nat_lt, Bool, true, false, if◌then◌else◌, List, [], ◌∷◌, ◌++◌, length, Result, Ok, Err, IfOk, IfErr, refl, ap, ◌∙◌, arith, length-append}
+use Rattle.std.proofs.Common.{◌≡◌, ◌≢◌, ℕ, suc, ◌+◌, ◌-◌, ◌%◌, ◌<◌, ◌≤◌, nat_lt, Bool, true, false, if◌then◌else◌, List, [], ◌∷◌, ◌++◌, length, Result, Ok, Err, IfOk, IfErr, refl, ap, ◌∙◌, arith, length-append, cond}
 use Rattle.std.specs.Str.{bytes_eq}
 use Rattle.std.proofs.lemmas.Slice.Eq.{bytes_eq-Decides}
 use Rattle.std.proofs.lemmas.List.{take-append-drop}
@@ -15,11 +15,20 @@ use Rattle.nas_guard.specs.Open.{first_in}
 use Rattle.nas_guard.proofs.SealFacts.{ciphered-ciphered, length-mac_of}
 use Rattle.pdcp_guard.specs.declared.pdus.PdcpOpened.{PdcpOpened}
 use Rattle.pdcp_guard.specs.declared.pdus.PdcpFault.{PdcpFault}
-use Rattle.pdcp_guard.specs.declared.pdus.PdcpFault.TheVariants.{MacFails}
+use Rattle.pdcp_guard.specs.declared.pdus.PdcpFault.TheVariants.{Short, MacFails}
 use Rattle.pdcp_guard.specs.AsKeys.{AsKeys}
 use Rattle.pdcp_guard.specs.Counts.{count_limit}
 use Rattle.pdcp_guard.specs.Srb.{SrbOpens, SrbRefuses, srb_ciphered, srb_count, srb_got, srb_header, srb_mac, srb_opened, srb_opened_by, srb_opened_at, srb_sealed, srb_sn, srb_text, srb_wanted}
 use Rattle.pdcp_guard.proofs.CountFacts.{expected-is_least, in_32_bits-below, length-ciphered}
+
+-- a PDU that has a COUNT has a first octet
+pub long_enough : (next : ℕ) (pdu : List ℕ) (count : ℕ) → srb_count next pdu ≡ Ok count → 1 ≤ length pdu
+unfolding srb_count
+long_enough next pdu count e = by_test (nat_lt (length pdu) 5) _ refl e
+  where
+    by_test : (b : Bool) (x : Result ℕ PdcpFault) → nat_lt (length pdu) 5 ≡ b → cond b (Err Short) x ≡ Ok count → 1 ≤ length pdu
+    by_test true x h e = cc
+    by_test false x h e = let ge : 5 ≤ length pdu = grind (arith, nat_tests) in omega (arith, ge)
 
 -- to cipher twice gives the octets back
 srb_ciphered-srb_ciphered : (keys : AsKeys (List ℕ)) (cipher : Bool) (bearer : Bearer) (count : ℕ) (dir : Dir) (octets : List ℕ)

@@ -1,7 +1,6 @@
 -- The steps at a PDU of a radio bearer, by what the code below opens.
-use Rattle.std.proofs.Common.{◌≡◌, ℕ, ◌≤◌, Bool, true, false, cond, List, length, Some, None, Ok, Err, refl, ap, arith, ◌∙◌, sym, nat_lt}
+use Rattle.std.proofs.Common.{◌≡◌, ℕ, ◌≤◌, Bool, true, false, cond, List, length, Some, None, Ok, Err, refl, ap, ◌∙◌, sym}
 use Rattle.std.specs.Prelude.{◌==◌, ◌&&◌, take, Result}
-use Rattle.std.proofs.lemmas.Bool.Decides.{nat_tests}
 use Rattle.lte_events.specs.declared.inputs.PhoneIn.TheVariants.{Air}
 use Rattle.lte_events.specs.declared.replies.ActorOut.{ActorOut}
 use Rattle.lte_events.specs.Reply.{reply_of}
@@ -16,6 +15,7 @@ use Rattle.pdcp_guard.specs.declared.pdus.PdcpFault as faults
 use Rattle.rec_base.specs.Bearer.{IsDrb, IsSrb}
 use Rattle.pdcp_guard.specs.Srb.{srb_count, srb_opened, srb_opened_by, srb_opened_at}
 use Rattle.pdcp_guard.specs.Drb.{drb_count, drb_opened, drb_opened_by, drb_opened_at}
+use Rattle.pdcp_guard.proofs.SrbFacts.{long_enough}
 use Rattle.lte_machine.specs.Bearers.{which, OnSrb, OnDrb, srb_counts, drb_counts}
 use Rattle.lte_machine.specs.Calls.{phone_call, use_out}
 use Rattle.lte_machine.specs.Ciphers.{annex_b}
@@ -43,14 +43,6 @@ pub fronted : (s : Phone (List ℕ) ℕ) (station air : ℕ) (bearer : Bearer) (
     → air_front s.caps station air pdu (which bearer) (map_radio unseen octet_reading.ncc s.radio) ≡ front
     → phone_call s (Air station air bearer pdu) ≡ by_front s pdu front
 fronted s station air bearer pdu front e = ap (by_front s pdu) e
-
-pub long_enough : (next : ℕ) (pdu : List ℕ) (count : ℕ) → srb_count next pdu ≡ Ok count → 1 ≤ length pdu
-unfolding srb_count
-long_enough next pdu count e = by_test (nat_lt (length pdu) 5) _ refl e
-  where
-    by_test : (b : Bool) (x : Result ℕ PdcpFault) → nat_lt (length pdu) 5 ≡ b → cond b (Err faults.TheVariants.Short) x ≡ Ok count → 1 ≤ length pdu
-    by_test true x h e = cc
-    by_test false x h e = let ge : 5 ≤ length pdu = grind (arith, nat_tests) in omega (arith, ge)
 
 -- a connection
 module _ (n : NasPart) (l : Link (List ℕ) ℕ) (station air : ℕ) (bearer : Bearer) (pdu : List ℕ)

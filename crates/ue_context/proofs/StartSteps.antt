@@ -17,6 +17,7 @@ use Rattle.pdcp_guard.specs.declared.pdus.PdcpFault as faults
 use Rattle.pdcp_guard.specs.AsKeys.{as_keys_of}
 use Rattle.pdcp_guard.specs.Counts.{in_32_bits}
 use Rattle.pdcp_guard.specs.Srb.{srb_count, srb_opened, srb_opened_by, srb_opened_at}
+use Rattle.pdcp_guard.proofs.SrbFacts.{long_enough}
 use Rattle.lte_machine.specs.Bearers.{OnSrb, Signalling1}
 use Rattle.lte_machine.specs.Calls.{phone_call}
 use Rattle.lte_machine.specs.Opening.{Outcome, Opened, OpensSrb, accepted_of}
@@ -27,7 +28,7 @@ use Rattle.nas_smc.specs.PhoneNas.{NasPart}
 use Rattle.radio_bearers.proofs.Sealing.{srb_opened_is, outcome_of}
 use Rattle.ue_context.specs.Parts.{waiting}
 use Rattle.ue_context.specs.Step.{by_air, to_phone}
-use Rattle.ue_context.proofs.AirSteps.{fronted, long_enough}
+use Rattle.ue_context.proofs.AirSteps.{fronted}
 
 -- the first COUNT with a sequence number is the sequence number
 pub first_count_is : (x : ℕ) → x < 32 → in_32_bits (least 0 (x % 32) 32) ≡ Ok x
