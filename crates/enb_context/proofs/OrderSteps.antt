@@ -12,10 +12,11 @@ use Rattle.lte_machine.specs.Bearers.{is_spent}
 use Rattle.lte_machine.specs.StationKeys.{given_up}
 use Rattle.lte_machine.specs.StationRecords.{to_core, to_station}
 use Rattle.lte_machine.specs.StationState.{Station, Context, Attempt, OverX2, OverS1, Within, Renewing, X2Open, X2Ready, X2Commanded, S1Open, S1Ready, S1Commanded, StationActs}
+use Rattle.lte_machine.specs.Calls.{sending}
 use Rattle.enb_context.specs.Orders.{ordered, commanded_by, cancels_of}
 use Rattle.enb_context.specs.declared.attempt.Cancel.{Cancel as GivenUp}
 use Rattle.enb_context.specs.declared.attempt.Cancel as cancels
-use Rattle.enb_context.specs.Step.{answered, serving, serving_at, sending}
+use Rattle.enb_context.specs.Step.{answered, serving, serving_at}
 
 pub command_is : (s : Station (List ℕ) ℕ) (id : ℕ) (c : Context (List ℕ) ℕ) (a : Attempt (List ℕ) ℕ) (b : Bool)
     → c.attempt ≡ Some a → is_spent c.bearers.srb1 ≡ b

@@ -15,9 +15,10 @@ use Rattle.rrc_rec.specs.Spelling.{spelling_of}
 use Rattle.lte_machine.specs.Bearers.{Signalling1, srb_sent}
 use Rattle.lte_machine.specs.StationRecords.{signalling_sent}
 use Rattle.lte_machine.specs.StationState.{Station, Context, Attempt, OverX2, OverS1, Within, Renewing, X2State, X2Open, X2Ready, X2Commanded, S1State, S1Open, S1Ready, S1Commanded}
+use Rattle.lte_machine.specs.Calls.{sending}
 use Rattle.enb_context.specs.declared.attempt.Cancel.{Cancel}
 use Rattle.enb_context.specs.declared.attempt.Cancel as cancels
-use Rattle.enb_context.specs.Step.{serving_at, sending}
+use Rattle.enb_context.specs.Step.{serving_at}
 
 -- the attempt after its command, and the order; none while it is open
 abbrev pub x2_ordered : X2State (List ℕ) ℕ → Option (X2State (List ℕ) ℕ × Order)

@@ -1,14 +1,13 @@
 -- One step of the station in octets, by the input as it reads.
 use Rattle.std.specs.Prelude.{ℕ, List, Option, None, Some}
-use Rattle.lte_events.specs.declared.answers.Answer.TheVariants.{Done}
 use Rattle.lte_events.specs.declared.replies.ActorOut.{ActorOut}
 use Rattle.key_model.specs.Reading.{octet_reading}
 use Rattle.key_model.specs.HandoverTable.{NumberedKey}
 use Rattle.s1x2_rec.specs.Fields.{Fields}
 use Rattle.lte_machine.specs.Ciphers.{annex_b}
 use Rattle.lte_machine.specs.Opening.{open_octets}
-use Rattle.lte_machine.specs.Reply.{only, finished}
-use Rattle.lte_machine.specs.Wire.{Outgoing, KeyUse, srb_use}
+use Rattle.lte_machine.specs.Reply.{finished}
+use Rattle.lte_machine.specs.Wire.{KeyUse, srb_use}
 use Rattle.lte_machine.specs.StationRows.{AirRow}
 use Rattle.lte_machine.specs.StationKeys.{air_does}
 use Rattle.pdcp_guard.specs.AsKeys.{AsKeys}
@@ -42,10 +41,6 @@ serving s context = record s { context = Some context }
 -- the station as the choice of a row sees it
 abbrev pub seen_plain : Station (List ℕ) ℕ → PlainStation
 seen_plain s = plain_station octet_reading s
-
--- a reply that sends this and nothing else
-abbrev pub sending : Outgoing (List ℕ) ℕ → ActorOut
-sending x = actor_out (record (only {C = ℕ} Done) { sent = Some x })
 
 abbrev pub by_air : Station (List ℕ) ℕ → Option (KeyUse (List ℕ)) → AirRow → Station (List ℕ) ℕ × ActorOut
 by_air s accepted row = let d = air_does octet_reading row s in (d.0, actor_out (finished None accepted d.1))

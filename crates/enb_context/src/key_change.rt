@@ -5,7 +5,8 @@ ghost use Rattle.s1x2_rec.specs.Fields.{ContextModification as Modified};
 ghost use Rattle.lte_machine.specs.Bearers.{Signalling1, srb_sent, is_spent};
 ghost use Rattle.lte_machine.specs.StationState.{Renewing};
 ghost use Rattle.lte_machine.specs.StationRecords.{signalling_sent, change_text};
-ghost use Rattle.enb_context.specs.Step.{on_s1, sending};
+ghost use Rattle.lte_machine.specs.Calls.{sending};
+ghost use Rattle.enb_context.specs.Step.{on_s1};
 
 use crate::Station;
 use crate::attempt::Attempt;

@@ -1,9 +1,9 @@
 ghost use Rattle.std.specs.Prelude.{◌≡◌, ◌+◌, ◌≤◌, ◌∷◌, ◌++◌, Some, ℕ};
 ghost use Rattle.lte_events.specs.Reply.{reply_of};
 ghost use Rattle.lte_machine.specs.Wire.{Between};
+ghost use Rattle.lte_machine.specs.Calls.{sending};
 ghost use Rattle.s1x2_rec.specs.Content.{content_of};
 ghost use Rattle.s1x2_rec.specs.Spelling.{InRange};
-ghost use Rattle.enb_context.specs.Step.{sending};
 
 use lte_events::{ActorOut, Address, Answer, Record};
 use s1x2_rec::CoreRecord;

@@ -6,8 +6,8 @@ ghost use Rattle.rec_base.specs.Bearer.{IsDrb, IsSrb};
 ghost use Rattle.lte_machine.specs.Bearers.{srb_counts, drb_counts, srb_sent, drb_sent, is_spent};
 ghost use Rattle.lte_machine.specs.StationRecords.{packet_sent};
 ghost use Rattle.lte_machine.specs.Wire.{SealedRrc, ciphering_if, srb_use, srb_ciphering};
+ghost use Rattle.lte_machine.specs.Calls.{sending};
 ghost use Rattle.radio_bearers.specs.Bearers.{srb_of, drb_of};
-ghost use Rattle.enb_context.specs.Step.{sending};
 
 use crate::context::Context;
 use annex_a_keys::AlgType;

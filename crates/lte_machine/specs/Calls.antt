@@ -14,6 +14,7 @@ use Rattle.lte_events.specs.declared.lines.Who.{Who}
 use Rattle.lte_events.specs.declared.replies.ActorOut as replies
 use Rattle.lte_events.specs.declared.replies.KeyNote as notes
 use Rattle.lte_events.specs.declared.replies.Record as records
+use Rattle.lte_events.specs.declared.answers.Answer.TheVariants.{Done}
 use Rattle.lte_machine.specs.Ciphers.{annex_b, octets_of, written}
 use Rattle.lte_machine.specs.CoreState.{Core, CoreInput, CoreAuth, CoreActs, CoreNasPdu, CoreRecord}
 use Rattle.lte_machine.specs.CoreStep.{core_step, core_opens, core_pdu_in}
@@ -21,7 +22,7 @@ use Rattle.lte_machine.specs.Machines.{Kept}
 use Rattle.lte_machine.specs.Opening.{open_octets}
 use Rattle.lte_machine.specs.PhoneState.{Phone, PhoneInput, PhoneAuth, PhoneActs, PhoneNasPdu, PhoneAirPdu}
 use Rattle.lte_machine.specs.PhoneStep.{phone_step, phone_opens, phone_pdu_in}
-use Rattle.lte_machine.specs.Reply.{Note, Reply}
+use Rattle.lte_machine.specs.Reply.{Note, Reply, only}
 use Rattle.lte_machine.specs.StationState.{Station, StationInput, StationActs, AirPdu, StationRecord, OnS1, OnX2}
 use Rattle.lte_machine.specs.StationStep.{station_step, station_opens, station_pdu_in}
 use Rattle.lte_machine.specs.Wire.{KeyUse, Outgoing, address_of, integrity_of}
@@ -88,6 +89,10 @@ kept_record tuple x = record { to = x.to; octets = x.octets; tuple = option_map 
 
 abbrev pub record_kept : replies.ActorOut → Option Kept
 record_kept out = option_map (kept_record out.tuple) out.sent
+
+-- a reply that sends this and nothing else
+abbrev pub sending : Outgoing (List ℕ) ℕ → replies.ActorOut
+sending x = actor_out (record (only Done) { sent = Some x })
 
 -- CALLS: the actor afterwards, and its reply
 

@@ -1,9 +1,8 @@
 -- One step of the core in octets, by the input as it reads.
-use Rattle.std.specs.Prelude.{ℕ, List, Option, Some, option_map, Ok}
+use Rattle.std.specs.Prelude.{ℕ, List, Option, option_map, Ok}
 use Rattle.alg_choice.specs.declared.caps.Caps.{Caps}
 use Rattle.key_model.specs.HandoverTable.{NumberedKey}
 use Rattle.key_model.specs.Reading.{octet_reading}
-use Rattle.lte_events.specs.declared.answers.Answer.TheVariants.{Done}
 use Rattle.lte_events.specs.declared.replies.ActorOut.{ActorOut}
 use Rattle.lte_machine.specs.Calls.{actor_out}
 use Rattle.lte_machine.specs.Ciphers.{annex_b}
@@ -11,8 +10,7 @@ use Rattle.lte_machine.specs.CoreChoice.{caps_in_use}
 use Rattle.lte_machine.specs.CoreState.{Core, CoreContext, CoreInput, CoreRecord, map_core_context}
 use Rattle.lte_machine.specs.CoreStep.{core_step, core_opens, core_pdu_in}
 use Rattle.lte_machine.specs.Opening.{open_octets}
-use Rattle.lte_machine.specs.Reply.{only, unseen}
-use Rattle.lte_machine.specs.Wire.{Outgoing}
+use Rattle.lte_machine.specs.Reply.{unseen}
 use Rattle.s1x2_rec.specs.Fields.{Fields}
 
 -- the core afterwards and its reply; a call is this of the input as it reads
@@ -25,10 +23,6 @@ answered s input =
 -- the step at a record on S1
 abbrev pub on_s1 : Core (List ℕ) ℕ → Fields → Option (NumberedKey (List ℕ) ℕ) → Core (List ℕ) ℕ × ActorOut
 on_s1 s fields key = answered s (CoreRecord (Ok (record { fields = fields; key = key })))
-
--- a reply that sends this and nothing else
-abbrev pub sending : Outgoing (List ℕ) ℕ → ActorOut
-sending x = actor_out (record (only {C = ℕ} Done) { sent = Some x })
 
 -- the capabilities of the context in use
 abbrev pub caps_of : Option (CoreContext (List ℕ)) → Caps

@@ -4,9 +4,10 @@ ghost use Rattle.lte_events.specs.declared.acts.CoreAct.TheVariants.{Connect, Re
 ghost use Rattle.lte_machine.specs.CoreChoice.{NUMBERS};
 ghost use Rattle.lte_machine.specs.CoreState.{CoreActs};
 ghost use Rattle.lte_machine.specs.CoreKeys.{to_station};
+ghost use Rattle.lte_machine.specs.Calls.{sending};
 ghost use Rattle.rec_base.specs.declared.ways.Way.TheVariants.{Initial};
 ghost use Rattle.s1x2_rec.specs.Fields.{InitialContext};
-ghost use Rattle.mme_context.specs.Step.{answered, sending};
+ghost use Rattle.mme_context.specs.Step.{answered};
 
 use crate::Core;
 use crate::link::{Link, begin};

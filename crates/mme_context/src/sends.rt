@@ -2,11 +2,11 @@ ghost use Rattle.std.specs.Prelude.{◌≡◌, ◌∷◌, [], Some, option_map};
 ghost use Rattle.lte_events.specs.Reply.{reply_of};
 ghost use Rattle.lte_events.specs.declared.addresses.Address.TheVariants.{StationS1};
 ghost use Rattle.lte_machine.specs.Wire.{Between};
+ghost use Rattle.lte_machine.specs.Calls.{sending};
 ghost use Rattle.nas_smc.specs.CoreNas.{core_reply, to_phone};
 ghost use Rattle.nas_smc.specs.NasOut.{tuple_in};
 ghost use Rattle.s1x2_rec.specs.Content.{content_of};
 ghost use Rattle.s1x2_rec.specs.Spelling.{InRange};
-ghost use Rattle.mme_context.specs.Step.{sending};
 
 use annex_a_keys::Derived;
 use lte_events::{ActorOut, Address, Answer, KeyNote, Record};

@@ -3,7 +3,6 @@ use Rattle.std.specs.Prelude.{ℕ, List, Result, Ok, Err, Option, Some, None}
 use Rattle.rec_base.specs.declared.bearers.Bearer.{Bearer}
 use Rattle.rec_base.specs.declared.uses.Dir.TheVariants.{Down}
 use Rattle.lte_events.specs.declared.answers.Answer.{Answer}
-use Rattle.lte_events.specs.declared.answers.Answer.TheVariants.{Done}
 use Rattle.lte_events.specs.declared.replies.ActorOut.{ActorOut}
 use Rattle.key_model.specs.Reading.{octet_reading}
 use Rattle.pdcp_guard.specs.AsKeys.{AsKeys}
@@ -14,14 +13,10 @@ use Rattle.lte_machine.specs.PhoneKeys.{air_does}
 use Rattle.lte_machine.specs.PhoneRows.{AirRow, AirRefused}
 use Rattle.lte_machine.specs.PhoneState.{Phone, Radio, Connected}
 use Rattle.lte_machine.specs.Refusals.{of_pdcp}
-use Rattle.lte_machine.specs.Reply.{only, finished}
-use Rattle.lte_machine.specs.Wire.{KeyUse, Outgoing, srb_use}
+use Rattle.lte_machine.specs.Reply.{finished}
+use Rattle.lte_machine.specs.Wire.{KeyUse, srb_use}
 use Rattle.radio_bearers.specs.Bearers.{srb_of}
 use Rattle.ue_context.specs.declared.starting.Start.{Start}
-
--- a reply that sends this and nothing else
-abbrev pub sending : Outgoing (List ℕ) ℕ → ActorOut
-sending x = actor_out (record (only {C = ℕ} Done) { sent = Some x })
 
 -- the step of a row by a PDU that was accepted under this use
 abbrev pub by_air : Phone (List ℕ) ℕ → Option (KeyUse (List ℕ)) → AirRow → Phone (List ℕ) ℕ × ActorOut

@@ -12,10 +12,11 @@ ghost use Rattle.lte_machine.specs.Bearers.{Signalling1, Signalling2, new_bearer
 ghost use Rattle.lte_machine.specs.PhoneChoice.{change_taken, command_taken};
 ghost use Rattle.lte_machine.specs.PhoneKeys.{rrc_sealed};
 ghost use Rattle.lte_machine.specs.PhoneRows.{HandedOver, KeyChanged};
+ghost use Rattle.lte_machine.specs.Calls.{sending};
 ghost use Rattle.nas_smc.specs.PhoneNas.{NasPart};
 ghost use Rattle.radio_bearers.specs.Bearers.{srb_of};
 ghost use Rattle.ue_context.specs.Parts.{linked};
-ghost use Rattle.ue_context.specs.Step.{by_air, sending};
+ghost use Rattle.ue_context.specs.Step.{by_air};
 
 use crate::link::Link;
 use alg_choice::{Algs, supports};

@@ -5,8 +5,8 @@ ghost use Rattle.rec_base.specs.declared.uses.Dir.TheVariants.{Up};
 ghost use Rattle.rec_base.specs.Bearer.{IsDrb, IsSrb};
 ghost use Rattle.lte_machine.specs.Bearers.{srb_counts, drb_counts, srb_sent, drb_sent, is_spent, of_srb, of_drb};
 ghost use Rattle.lte_machine.specs.Wire.{SealedRrc, UserPacket, ciphering_if, srb_use, srb_ciphering, drb_ciphering};
+ghost use Rattle.lte_machine.specs.Calls.{sending};
 ghost use Rattle.radio_bearers.specs.Bearers.{srb_of, drb_of};
-ghost use Rattle.ue_context.specs.Step.{sending};
 
 use crate::link::Link;
 use annex_a_keys::AlgType;
