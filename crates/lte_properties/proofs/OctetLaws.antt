@@ -20,7 +20,7 @@ use Rattle.lte_machine.specs.PhoneState.{Link, Radio, Idle, Connecting, Connecte
 use Rattle.lte_machine.specs.Ranges.{AllOf, IsEvent, IsSetup}
 use Rattle.lte_machine.specs.Run.{Running, Reported, run, first_world}
 use Rattle.lte_machine.specs.Standing.{RowsStandForTerms}
-use Rattle.lte_machine.specs.StationState.{Station, Context, map_station}
+use Rattle.lte_machine.specs.StationState.{Station, Context}
 use Rattle.lte_machine.specs.StationState as station
 use Rattle.lte_machine.specs.Wire.{Outgoing}
 use Rattle.lte_machine.specs.World.{World, Line, AtStation, Holding, happens}
@@ -137,7 +137,7 @@ module _ (setup : Setup) (events : List Event) (u : World (List ℕ) ℕ Kept) (
 
 -- WHAT A PACKET OPENS TO
 
-got_map : {A B : Type 0} (f : A → B) (xs : List A) (k : ℕ) (x : A) → slice_get xs k ≡ Some x → slice_get (map f xs) k ≡ Some (f x)
+pub got_map : {A B : Type 0} (f : A → B) (xs : List A) (k : ℕ) (x : A) → slice_get xs k ≡ Some x → slice_get (map f xs) k ≡ Some (f x)
 got_map f [] k x e = absurd cc
 got_map f (y ∷ ys) zero x e = let one : y ≡ x = cc in ap (λ z. Some (f z)) one
 got_map f (y ∷ ys) (suc k) x e = got_map f ys k x e

@@ -1,5 +1,6 @@
 -- What a world answers is what its run tells.
-use Rattle.std.proofs.Common.{◌≡◌, refl, sym, ap, ◌∙◌, ℕ, zero, suc, ◌≤◌, ◌<◌, arith, List, [], ◌∷◌, ◌++◌, length, map, Option, Some, Result, Ok, option_map}
+use Rattle.std.proofs.Common.{◌≡◌, sym, ap, ◌∙◌, ℕ, ◌≤◌, ◌<◌, arith, List, [], ◌∷◌, ◌++◌, length, map, Option, Some, Result, Ok, option_map}
+use Rattle.std.proofs.lemmas.List.{map-append, length-map}
 use Rattle.std.specs.Prelude.{slice_get}
 use Rattle.lte_events.specs.declared.events.Event.{Event}
 use Rattle.lte_events.specs.declared.lines.Line.{Line}
@@ -23,31 +24,19 @@ use Rattle.lte_machine.proofs.AnnexB.{annex_b_ciphers}
 use Rattle.lte_machine.proofs.EventByEvent.{tale_snoc, told_each, step_told}
 use Rattle.lte_machine.proofs.WholeRun.{tale_is_value}
 use Rattle.lte_properties.specs.Agreement.{ahead, ObeysMade}
-use Rattle.lte_properties.specs.BySteps.{TakesAt, Follows}
+use Rattle.lte_properties.specs.BySteps.{Follows}
 use Rattle.lte_properties.specs.Headline.{Headline}
 use Rattle.lte_properties.specs.InOctets.{TellsText}
 use Rattle.lte_properties.proofs.HeadlineHolds.{headline}
 use Rattle.lte_properties.proofs.StepByStep.{takes_tell, makes_tell}
+use Rattle.lte_properties.proofs.OctetLaws.{got_map}
 use Rattle.lte_world.specs.declared.faults.WorldFault.{WorldFault}
-use Rattle.lte_world.specs.InOctets.{answers_of, key_told, IsCommanded, CommandsShare, PacketsOpen}
+use Rattle.lte_world.specs.InOctets.{answers_of, key_told, CommandsShare, PacketsOpen}
 use Rattle.lte_world.specs.Systems.{octets}
 use Rattle.lte_world.proofs.OneTerm.{one_term}
 use Rattle.lte_world.specs.Whole.{Whole, answer_of}
 
 -- LISTS
-
-got_map : {A B : Type 0} (f : A → B) (xs : List A) (k : ℕ) (x : A) → slice_get xs k ≡ Some x → slice_get (map f xs) k ≡ Some (f x)
-got_map f [] k x e = absurd cc
-got_map f (y ∷ ys) zero x e = let one : y ≡ x = cc in ap (λ z. Some (f z)) one
-got_map f (y ∷ ys) (suc k) x e = got_map f ys k x e
-
-map_more : {A B : Type 0} (f : A → B) (xs : List A) (x : A) → map f (xs ++ x ∷ []) ≡ map f xs ++ f x ∷ []
-map_more f [] x = refl
-map_more f (y ∷ ys) x = ap (λ zs. f y ∷ zs) (map_more f ys x)
-
-map_length : {A B : Type 0} (f : A → B) (xs : List A) → length (map f xs) ≡ length xs
-map_length f [] = refl
-map_length f (x ∷ xs) = ap suc (map_length f xs)
 
 same_some : {A : Type 0} {a b : A} → ◌≡◌ {A = Option A} (Some a) (Some b) → a ≡ b
 same_some e = cc
@@ -66,10 +55,10 @@ module _ (setup : Setup) (journal : List Event) (e : Event) where
 
   pub answers_more : answers (journal ++ e ∷ []) ≡ answers journal ++ event_told ∷ []
   answers_more = ap (map answer_of) (tale_snoc (open_octets annex_b) octets (Running (first_world setup)) journal e)
-      ∙ map_more answer_of (octet_report setup journal) (event_report (open_octets annex_b) octets (octet_run setup journal) e)
+      ∙ map-append answer_of (octet_report setup journal) (event_report (open_octets annex_b) octets (octet_run setup journal) e ∷ [])
 
   answers_length : length (answers journal) ≡ length journal
-  answers_length = map_length answer_of (octet_report setup journal) ∙ told_each (open_octets annex_b) octets (Running (first_world setup)) journal
+  answers_length = length-map (octet_report setup journal) answer_of ∙ told_each (open_octets annex_b) octets (Running (first_world setup)) journal
 
   pub last_answer : slice_get (answers (journal ++ e ∷ [])) (length journal) ≡ Some event_told
   last_answer = ap (λ xs. slice_get xs (length journal)) answers_more ∙ ap (λ k. slice_get (answers journal ++ event_told ∷ []) k) (sym answers_length)

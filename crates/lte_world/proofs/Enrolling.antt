@@ -1,5 +1,5 @@
 -- The KASME of an authentication.
-use Rattle.std.proofs.Common.{◌≡◌, refl, sym, ap, subst, ◌∙◌, ℕ, List, [], ◌∷◌, ◌++◌, length, Option, Some, None, Result, Ok, Err}
+use Rattle.std.proofs.Common.{◌≡◌, refl, sym, ap, subst, ◌∙◌, ℕ, List, [], ◌∷◌, ◌++◌, length, Option, Some, None, Result, Ok, Err, append_assoc}
 use Rattle.std.specs.Prelude.{IsSome}
 use Rattle.std.specs.Str.{bytes_eq}
 use Rattle.std.proofs.lemmas.Option.{none-some}
@@ -15,7 +15,7 @@ use Rattle.key_terms.specs.Ladder.{Rows as LadderRows, unheld, row, row_of, orig
 use Rattle.lte_machine.specs.Ladder.{RowOrigin, OfRoot, Clash, Ladder, add_row, ladder_of, root_row}
 use Rattle.lte_machine.specs.Machines.{Kept}
 use Rattle.lte_machine.specs.World as world
-use Rattle.lte_machine.specs.World.{World, Holding}
+use Rattle.lte_machine.specs.World.{World}
 use Rattle.run_stores.specs.Joins.{HasRow, Keeps, Roots, RootComesTo}
 use Rattle.run_stores.specs.Proofs.{clash_proof}
 use Rattle.run_stores.proofs.Joining.{roots}
@@ -24,7 +24,6 @@ use Rattle.lte_machine.specs.Ladder.{no_rows, add_next}
 use Rattle.lte_world.specs.declared.network.Enrolled.{Enrolled}
 use Rattle.lte_world.specs.Enrolling.{with_root, EnrolledBy, EnrolledAs}
 use Rattle.lte_world.specs.Networks.{HoldsOne, Stores, Fits}
-use Rattle.lte_world.proofs.Holders.{append_assoc}
 
 -- the ladder's clauses on a root, by its rows
 pub by_root : (before : List LadderRow) (later old : LadderRows) (octets : List ℕ) (r : Result Row LadderFault) → old.rows ≡ before →

@@ -1,5 +1,5 @@
 -- Holders that are noted one after the other; each key of a history has a row.
-use Rattle.std.proofs.Common.{◌≡◌, refl, sym, ap, subst, ◌∙◌, ℕ, zero, suc, ◌+◌, ◌<◌, ◌≤◌, Bool, true, false, List, [], ◌∷◌, ◌++◌, length, map, take, drop, Option, Some, None, inl, inr, arith, add-one}
+use Rattle.std.proofs.Common.{◌≡◌, refl, sym, ap, subst, ◌∙◌, ℕ, zero, suc, ◌+◌, ◌<◌, ◌≤◌, Bool, true, false, List, [], ◌∷◌, ◌++◌, length, map, take, drop, Option, Some, None, inl, inr, arith, add-one, append_assoc, append-nil}
 use Rattle.std.specs.Prelude.{◌||◌, IsSome, option_map, slice_index_or}
 use Rattle.std.proofs.lemmas.Option.{none-some}
 use Rattle.std.specs.List.{list_any}
@@ -110,16 +110,8 @@ holdings_more : (h : world.Holder) (keys : List (List ℕ)) (key : List ℕ) →
 holdings_more h [] key = refl
 holdings_more h (k ∷ keys) key = ap (λ l. record { holder = h; key = k } ∷ l) (holdings_more h keys key)
 
-pub append_assoc : {A : Type 0} (xs ys zs : List A) → (xs ++ ys) ++ zs ≡ xs ++ (ys ++ zs)
-append_assoc [] ys zs = refl
-append_assoc (x ∷ xs) ys zs = ap (λ l. x ∷ l) (append_assoc xs ys zs)
-
-pub append_nil : {A : Type 0} (xs : List A) → xs ++ [] ≡ xs
-append_nil [] = refl
-append_nil (x ∷ xs) = ap (λ l. x ∷ l) (append_nil xs)
-
 pub holds_none : (who : Holder) (rows : List LadderRow) → HoldsAll who [] rows rows
-holds_none who rows os held h k is = subst (λ l. Keeps os l rows) (sym (append_nil held)) k
+holds_none who rows os held h k is = subst (λ l. Keeps os l rows) (sym (append-nil held)) k
 
 pub holds_more : (who : Holder) (keys : List (List ℕ)) (key : List ℕ) (before mid after : List LadderRow) → HoldsAll who keys before mid → HoldsOne who key mid after → HoldsAll who (keys ++ key ∷ []) before after
 holds_more who keys key before mid after all one os held h k is =

@@ -1,5 +1,5 @@
 -- What is kept of a step is what the world keeps of its reply.
-use Rattle.std.proofs.Common.{◌≡◌, refl, sym, ap, subst, ◌∙◌, ℕ, List, [], ◌∷◌, ◌++◌, length, map, Option, Some, None, Result, Ok, Err}
+use Rattle.std.proofs.Common.{◌≡◌, refl, sym, ap, subst, ◌∙◌, ℕ, List, [], ◌∷◌, ◌++◌, length, map, Option, Some, None, Result, Ok, Err, append_assoc, append-nil}
 use Rattle.std.specs.Prelude.{option_map, IsSome}
 use Rattle.std.specs.Str.{bytes_eq}
 use Rattle.std.proofs.lemmas.List.{map-append, length-map}
@@ -33,7 +33,7 @@ use Rattle.run_stores.proofs.Numbered.{row_noted}
 use Rattle.lte_world.specs.Networks.{HoldsOne, calm, Awaits, AddedBy, Added, AddsAll, HasRows, HasKeys, HoldsAll, holdings, keys_in, Stores, Fits}
 use Rattle.lte_world.specs.Settling.{chance_told, sent_in, number_of, after, Settles, SettledBy, SettledAs}
 use Rattle.lte_world.proofs.Deriving.{ok_is_no_err}
-use Rattle.lte_world.proofs.Holders.{made_has_row, append_assoc, append_nil}
+use Rattle.lte_world.proofs.Holders.{made_has_row}
 
 -- A LADDER THAT GOES ON
 
@@ -107,7 +107,7 @@ outs_held by (d ∷ ds) = ap (λ l. record { holder = by; key = d.out } ∷ l) (
 
 all_held : (by : world.Holder) (held : List (Holding (List ℕ))) (o : Option (List ℕ)) (ds : List (Derivation (List ℕ))) →
     (held ++ holdings by (keys_in o)) ++ holdings by (map (λ d. d.out) (map derived_of ds)) ≡ held ++ holds by o ds
-all_held by held None ds = ap (λ l. l ++ holdings by (map (λ d. d.out) (map derived_of ds))) (append_nil held) ∙ ap (λ l. held ++ l) (outs_held by ds)
+all_held by held None ds = ap (λ l. l ++ holdings by (map (λ d. d.out) (map derived_of ds))) (append-nil held) ∙ ap (λ l. held ++ l) (outs_held by ds)
 all_held by held (Some key) ds =
     append_assoc held (record { holder = by; key = key } ∷ []) (holdings by (map (λ d. d.out) (map derived_of ds)))
     ∙ ap (λ l. held ++ record { holder = by; key = key } ∷ l) (outs_held by ds)
@@ -122,7 +122,7 @@ sent_kept : (w : World (List ℕ) ℕ Kept) (r : Reply (List ℕ) ℕ) → map v
 sent_kept w r = by r.sent
   where
     by : (o : Option (Outgoing (List ℕ) ℕ)) → map view_of (with_one ((machine_in_octets annex_b).keep o) w.sent) ≡ map view_of w.sent ++ sent_in (tuple_out o) (option_map record_out o)
-    by None = sym (append_nil (map view_of w.sent))
+    by None = sym (append-nil (map view_of w.sent))
     by (Some x) = map-append view_of w.sent _
 
 sent_told : (w : World (List ℕ) ℕ Kept) (r : Reply (List ℕ) ℕ) → sent_line (machine_in_octets annex_b) w ((machine_in_octets annex_b).keep r.sent) ≡ number_of (length w.sent) (actor_out r).sent
