@@ -7,12 +7,11 @@ use Rattle.lte_events.specs.declared.events.Event.{Event}
 use Rattle.lte_events.specs.declared.setups.Setup.{Setup}
 use Rattle.lte_machine.specs.BothRuns.{octet_run, octet_report}
 use Rattle.lte_machine.specs.Machines.{Kept}
-use Rattle.lte_machine.specs.Run.{RunState, Running, Stopped}
+use Rattle.lte_machine.specs.Run.{RunState, Running, Stopped, GoesOn}
 use Rattle.lte_world.specs.Whole.{InRun}
 use Rattle.report_text.specs.Chance.{chance_text}
 use Rattle.report_text.specs.Summary.{Tallied}
 use Rattle.run_report.specs.Counted.{Ended}
-use Rattle.run_report.specs.Events.{GoesOn}
 use Rattle.run_report.specs.Ready.{Ready}
 use Rattle.run_report.specs.Summary.{Coincides, outcome_from}
 use Rattle.run_report.proofs.Telling.{in_octets}

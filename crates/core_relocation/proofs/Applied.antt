@@ -1,5 +1,5 @@
 -- One event of two cores, from what its calls say.
-use Rattle.std.proofs.Common.{◌≡◌, ◌≢◌, refl, sym, ap, ◌∙◌, subst, ℕ, List, [], ◌∷◌, ◌++◌, length, true, Option, Some, None, Result, Ok, Err, option_map}
+use Rattle.std.proofs.Common.{◌≡◌, ◌≢◌, sym, ap, ◌∙◌, subst, ℕ, List, [], ◌∷◌, ◌++◌, true, Option, Some, None, Result, Ok, Err, option_map}
 use Rattle.lte_events.specs.declared.events.Event.{Event}
 use Rattle.lte_events.specs.declared.inputs.ActorIn.{ActorIn}
 use Rattle.lte_events.specs.declared.lines.Line.{Line}
@@ -9,11 +9,11 @@ use Rattle.lte_machine.specs.BothRuns.{octet_run, written_run}
 use Rattle.lte_machine.specs.Carried.{run_value}
 use Rattle.lte_machine.specs.Ciphers.{annex_b}
 use Rattle.lte_machine.specs.Ranges.{IsEvent}
+use Rattle.lte_machine.specs.Run.{GoesOn}
 use Rattle.s1x2_rec.specs.declared.records.CoreRecord.{CoreRecord}
 use Rattle.lte_world.specs.declared.faults.WorldFault.{WorldFault}
 use Rattle.lte_world.specs.Replies.{RepliedLast}
 use Rattle.lte_world.specs.Whole.{Whole, run_of, told_of, turned}
-use Rattle.run_report.specs.Events.{GoesOn}
 use Rattle.core_relocation.specs.declared.cores.Held.{Held}
 use Rattle.core_relocation.specs.declared.lines.TwoLine.{TwoLine}
 use Rattle.core_relocation.specs.declared.senders.Sender.{Sender}

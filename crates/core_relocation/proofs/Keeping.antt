@@ -10,8 +10,8 @@ use Rattle.lte_machine.specs.BothRuns.{written_run}
 use Rattle.lte_machine.specs.Carried.{run_value}
 use Rattle.lte_machine.specs.Ranges.{AllOf, IsEvent, IsSetup}
 use Rattle.lte_machine.proofs.RangeStation.{all_append}
+use Rattle.lte_machine.specs.Run.{GoesOn}
 use Rattle.lte_world.specs.Whole.{Whole, run_of, told_of}
-use Rattle.run_report.specs.Events.{GoesOn}
 use Rattle.core_relocation.specs.declared.cores.Held.{Held}
 use Rattle.core_relocation.specs.declared.senders.Sender.{Sender}
 use Rattle.core_relocation.specs.Holder.{acting, away, held_after, sent_by, station_in}

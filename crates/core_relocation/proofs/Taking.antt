@@ -1,8 +1,6 @@
 -- The record on S1 that comes to a core is the one that its input says.
-use Rattle.std.proofs.Common.{◌≡◌, refl, sym, ap, ◌∙◌, subst, ℕ, List, [], ◌∷◌, ◌++◌, Option, Some, None}
-use Rattle.lte_events.specs.declared.acts.CoreAct.{CoreAct}
+use Rattle.std.proofs.Common.{◌≡◌, refl, sym, ap, ◌∙◌, ℕ, List, [], ◌∷◌, ◌++◌, Option, Some, None}
 use Rattle.lte_events.specs.declared.addresses.Address.{Address}
-use Rattle.lte_events.specs.declared.answers.Answer.{Answer}
 use Rattle.lte_events.specs.declared.events.Event.{Event}
 use Rattle.lte_events.specs.declared.inputs.ActorIn.{ActorIn}
 use Rattle.lte_events.specs.declared.inputs.StationIn.{StationIn}
@@ -10,12 +8,11 @@ use Rattle.lte_events.specs.declared.lines.Line.{Line}
 use Rattle.lte_events.specs.declared.replies.ActorOut.{ActorOut}
 use Rattle.lte_machine.specs.BothRuns.{octet_run}
 use Rattle.lte_machine.specs.Machines.{Kept}
-use Rattle.lte_machine.specs.Run.{RunState, Running, Stopped}
+use Rattle.lte_machine.specs.Run.{RunState, Running, Stopped, GoesOn}
 use Rattle.lte_machine.specs.StationState.{Station}
 use Rattle.lte_machine.specs.World.{World, record_at, station_of_id}
 use Rattle.lte_world.specs.Replies.{RepliedLast, delivered_replies, input_at, replies_in, replies_of, station_replies}
 use Rattle.lte_world.specs.Whole.{Whole, run_of}
-use Rattle.run_report.specs.Events.{GoesOn}
 use Rattle.core_relocation.specs.declared.cores.Cores.{Cores}
 use Rattle.core_relocation.specs.Holder.{fields_at, fields_in, fields_to, fields_told, held_after, if_done, moved}
 use Rattle.core_relocation.specs.Run.{fields_of_run}

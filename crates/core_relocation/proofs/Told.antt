@@ -1,5 +1,6 @@
 -- What a system in octets tells of an event is what the written machine's run tells, in values.
 use Rattle.std.proofs.Common.{◌≡◌, refl, sym, ap, ◌∙◌, ℕ, List, [], ◌∷◌, ◌++◌, map, Option, Some, None, Ok}
+use Rattle.std.proofs.lemmas.List.{map-append}
 use Rattle.key_terms.specs.declared.proof.Proof.{Proof}
 use Rattle.lte_events.specs.declared.events.Event.{Event}
 use Rattle.lte_events.specs.declared.lines.Line.{Line}
@@ -10,14 +11,13 @@ use Rattle.lte_machine.specs.Ciphers.{annex_b}
 use Rattle.lte_machine.specs.Machines.{Kept, machine_in_octets, written_machine}
 use Rattle.lte_machine.specs.Opening.{open_octets}
 use Rattle.lte_machine.specs.Ranges.{AllOf, IsEvent, IsSetup}
-use Rattle.lte_machine.specs.Run.{RunState, Running, Stopped, after, event_report, first_world, reported, turn}
+use Rattle.lte_machine.specs.Run.{RunState, Running, Stopped, after, event_report, first_world, reported, turn, GoesOn}
 use Rattle.lte_machine.specs.Step.{StepResult, Continues, Stops, next}
 use Rattle.lte_machine.proofs.AnnexB.{annex_b_ciphers}
 use Rattle.lte_machine.proofs.EventByEvent.{tale_snoc}
 use Rattle.lte_machine.proofs.RangeStation.{all_append}
 use Rattle.lte_machine.proofs.WholeRun.{tale_is_value}
 use Rattle.lte_world.specs.Whole.{Whole, answer_of, run_of, told_of, turned, unless_over}
-use Rattle.run_report.specs.Events.{GoesOn}
 use Rattle.core_relocation.specs.Run.{told_after}
 
 -- LISTS
@@ -34,10 +34,6 @@ last_more d (y ∷ ys) x = last_more y ys x
 last_same : {A : Type 0} (xs ys : List A) (x y : A) → xs ++ x ∷ [] ≡ ys ++ y ∷ [] → x ≡ y
 last_same xs ys x y e = sym (last_more x xs x) ∙ ap (last_of x) e ∙ last_more x ys y
 
-map_more : {A B : Type 0} (f : A → B) (xs : List A) (x : A) → map f (xs ++ x ∷ []) ≡ map f xs ++ f x ∷ []
-map_more f [] x = refl
-map_more f (y ∷ ys) x = ap (λ zs. f y ∷ zs) (map_more f ys x)
-
 -- ONE EVENT MORE
 
 module _ (setup : Setup) (set : IsSetup setup) (heard : List Event) (are : AllOf IsEvent heard) where
@@ -52,7 +48,7 @@ module _ (setup : Setup) (set : IsSetup setup) (heard : List Event) (are : AllOf
       (report_value (event_report (open_octets annex_b_terms) (written_machine annex_b) (written_run setup heard) e))
       (sym (tale_snoc (open_octets annex_b) (machine_in_octets annex_b) (Running (first_world setup)) heard e) ∙ whole
       ∙ ap (map report_value) (tale_snoc (open_octets annex_b_terms) (written_machine annex_b) (Running (first_world setup)) heard e)
-      ∙ map_more report_value (written_report setup heard) (event_report (open_octets annex_b_terms) (written_machine annex_b) (written_run setup heard) e))
+      ∙ map-append report_value (written_report setup heard) (event_report (open_octets annex_b_terms) (written_machine annex_b) (written_run setup heard) e ∷ []))
 
 -- A SYSTEM THAT GOES ON
 

@@ -3,9 +3,9 @@ use Rattle.std.specs.Prelude.{◌≡◌, ◌≤◌, ◌<◌, List, [], ◌∷◌
 use Rattle.lte_events.specs.Conditions.{CanHappen, EventFits}
 use Rattle.lte_events.specs.declared.events.Event.{Event}
 use Rattle.lte_machine.specs.Ranges.{AllOf, IsEvent, IsSetup}
+use Rattle.lte_machine.specs.Run.{GoesOn}
 use Rattle.lte_world.specs.Whole as world
 use Rattle.lte_world.specs.Whole.{most_events, run_of}
-use Rattle.run_report.specs.Events.{GoesOn}
 use Rattle.core_relocation.specs.declared.cores.Cores.{Cores}
 use Rattle.core_relocation.specs.declared.senders.Sender.{Sender}
 use Rattle.core_relocation.specs.Run.{TwoState, run_after, two_state}

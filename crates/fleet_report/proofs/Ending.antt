@@ -1,9 +1,10 @@
 -- The end of a phone's report, by its world.
 use Rattle.std.proofs.Common.{◌≡◌, sym, ap, subst, ◌∙◌, ℕ, ◌≤◌, length, arith}
 use Rattle.lte_machine.specs.Ranges.{IsSetup}
+use Rattle.lte_machine.specs.Run.{GoesOn}
 use Rattle.lte_world.specs.Whole.{Whole, run_of, most_events}
 use Rattle.fleet_world.specs.Answers.{own_at}
-use Rattle.fleet_world.specs.Fleets.{Fleeted, IsOwn, GoesOn, owns_in, world_of}
+use Rattle.fleet_world.specs.Fleets.{Fleeted, IsOwn, owns_in, world_of}
 use Rattle.fleet_world.specs.Phones.{phone_run}
 use Rattle.fleet_world.specs.Worlds.{Goes}
 use Rattle.fleet_world.proofs.Together.{octets_are}

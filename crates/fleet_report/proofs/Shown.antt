@@ -10,7 +10,7 @@ use Rattle.lte_machine.specs.Ciphers.{annex_b}
 use Rattle.lte_machine.specs.Machines.{Kept, machine_in_octets}
 use Rattle.lte_machine.specs.Opening.{open_octets}
 use Rattle.lte_machine.specs.Ranges.{IsEvent, IsSetup}
-use Rattle.lte_machine.specs.Run.{RunState, Running, Stopped, EventReport, Reported, Coincided, event_report}
+use Rattle.lte_machine.specs.Run.{RunState, Running, Stopped, EventReport, Reported, Coincided, event_report, GoesOn}
 use Rattle.lte_machine.proofs.Fitting.{event_fits}
 use Rattle.report_text.specs.Chance.{HasString}
 use Rattle.run_report.specs.Events.{HasCounts}
@@ -26,7 +26,7 @@ use Rattle.run_stores.specs.Proofs.{proof_of}
 use Rattle.fleet_world.specs.declared.faults.FleetFault.{FleetFault}
 use Rattle.fleet_world.specs.declared.faults.FleetFault.TheVariants as fault
 use Rattle.fleet_world.specs.Answers.{own_at, taken_by, crossing, unless_taken, answer}
-use Rattle.fleet_world.specs.Fleets.{Fleeted, CanTake, IsOwn, GoesOn, owns_in, answer_of, unless_over}
+use Rattle.fleet_world.specs.Fleets.{Fleeted, CanTake, IsOwn, owns_in, answer_of, unless_over}
 use Rattle.fleet_world.specs.Meeting.{Meeting}
 use Rattle.fleet_world.specs.Phones.{phone_told}
 use Rattle.fleet_world.proofs.Standing.{told_is}

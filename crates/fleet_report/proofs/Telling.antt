@@ -6,7 +6,7 @@ use Rattle.lte_events.specs.declared.events.Event.{Event}
 use Rattle.lte_events.specs.declared.setups.Setup.{Setup}
 use Rattle.key_terms.specs.declared.row.LadderRow.{LadderRow}
 use Rattle.lte_machine.specs.Machines.{Kept}
-use Rattle.lte_machine.specs.Run.{RunState, Running, Stopped}
+use Rattle.lte_machine.specs.Run.{RunState, Running, Stopped, GoesOn}
 use Rattle.lte_world.specs.Whole.{InRun}
 use Rattle.report_text.specs.End.{end_text}
 use Rattle.report_text.specs.Ladder.{row_text}
@@ -14,7 +14,6 @@ use Rattle.run_stores.specs.Rows.{world_rows}
 use Rattle.fleet_world.specs.declared.faults.FleetFault.{FleetFault}
 use Rattle.fleet_world.specs.declared.lines.FleetLine.{FleetLine}
 use Rattle.fleet_world.specs.Answers.{answer, own_at, owns_after, owns_from, owns_of, no_events}
-use Rattle.fleet_world.specs.Fleets.{GoesOn}
 use Rattle.fleet_world.specs.Phones.{phone_run}
 use Rattle.fleet_world.proofs.Searching.{rows_left}
 use Rattle.fleet_world.proofs.Separating.{length_after}

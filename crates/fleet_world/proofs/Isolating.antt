@@ -2,11 +2,10 @@
 use Rattle.std.proofs.Common.{◌≡◌, ◌≢◌, refl, sym, ap, subst, ◌∙◌, ℕ, ◌<◌, ◌==◌, Bool, true, false, List, [], ◌∷◌, ◌++◌, length, map, set, Option, Some, None, Result, Ok, Err, append_assoc, append-nil}
 use Rattle.std.specs.Prelude.{is_ok, IsOk}
 use Rattle.std.proofs.lemmas.Bool.{false≢true, eqb-true, eqb-false}
-use Rattle.std.proofs.lemmas.List.{length-replicate}
+use Rattle.std.proofs.lemmas.List.{length-replicate, map-append}
 use Rattle.lte_events.specs.declared.events.Event.{Event}
-use Rattle.lte_events.specs.declared.lines.Line.{Line}
 use Rattle.lte_events.specs.declared.setups.Setup.{Setup}
-use Rattle.lte_machine.specs.BothRuns.{annex_b_terms, written_run, written_report}
+use Rattle.lte_machine.specs.BothRuns.{annex_b_terms, written_report}
 use Rattle.lte_machine.specs.Calls.{line_out}
 use Rattle.lte_machine.specs.Carried.{report_value}
 use Rattle.lte_machine.specs.Ciphers.{annex_b}
@@ -30,15 +29,11 @@ lines_append [] x = refl
 lines_append (Reported told ∷ xs) x = ap (λ l. line_out told ∷ l) (lines_append xs x)
 lines_append (Coincided chance ∷ xs) x = lines_append xs x
 
-map_append : {A B : Type 0} (f : A → B) (xs : List A) (x : A) → map f (xs ++ x ∷ []) ≡ map f xs ++ f x ∷ []
-map_append f [] x = refl
-map_append f (y ∷ xs) x = ap (λ l. f y ∷ l) (map_append f xs x)
-
 pub own_more : (setup : Setup) (own : List Event) (e : Event) → own_lines setup (own ++ e ∷ []) ≡ own_lines setup own ++ lines_in (phone_told setup own e ∷ [])
 unfolding phone_told
 own_more setup own e =
     ap (λ l. lines_in (map report_value l)) (tale_snoc (open_octets annex_b_terms) (written_machine annex_b) (Running (first_world setup)) own e)
-    ∙ ap lines_in (map_append report_value (written_report setup own) _)
+    ∙ ap lines_in (map-append report_value (written_report setup own) (_ ∷ []))
     ∙ lines_append (map report_value (written_report setup own)) _
 
 -- what one answer adds to a phone's lines is what its own event adds

@@ -1,20 +1,19 @@
 -- The ladder of a phone: which keys have a row, and what one event more adds.
-use Rattle.std.proofs.Common.{◌≡◌, refl, sym, ap, subst, ◌∙◌, ℕ, zero, suc, ◌+◌, ◌<◌, ◌≤◌, Bool, true, false, List, [], ◌∷◌, ◌++◌, length, map, drop, take, Option, Some, None, inl, inr, arith, length-append, get_or}
-use Rattle.std.specs.Prelude.{◌⊎◌, slice_get, IsSome, position}
+use Rattle.std.proofs.Common.{◌≡◌, refl, sym, ap, subst, ◌∙◌, ℕ, zero, suc, ◌+◌, Bool, true, false, List, [], ◌∷◌, ◌++◌, length, map, drop, Option, Some, None, inl, inr}
+use Rattle.std.specs.Prelude.{◌⊎◌, slice_get}
 use Rattle.std.specs.Option.{is_some}
 use Rattle.std.specs.Str.{bytes_eq}
-use Rattle.std.proofs.lemmas.Bool.{false≢true}
 use Rattle.std.proofs.lemmas.List.{map-append}
 use Rattle.std.proofs.lemmas.Option.{none-some}
 use Rattle.std.proofs.lemmas.Slice.Eq.{bytes_eq-Decides}
 use Rattle.lte_events.specs.declared.events.Event.{Event}
 use Rattle.lte_events.specs.declared.setups.Setup.{Setup}
-use Rattle.key_model.specs.Term.{Term, Root}
+use Rattle.key_model.specs.Term.{Term}
 use Rattle.key_model.specs.Value.{value_of, same_value}
 use Rattle.key_terms.specs.declared.row.LadderRow.{LadderRow}
 use Rattle.key_terms.specs.declared.row.Origin.{Origin}
-use Rattle.key_terms.specs.Ladder.{row_of, octets_at}
-use Rattle.key_terms.proofs.Places.{position_hit, position_map}
+use Rattle.key_terms.specs.Ladder.{row_of}
+use Rattle.key_terms.proofs.Places.{position_hit}
 use Rattle.key_terms.proofs.Holding.{plain}
 use Rattle.lte_machine.specs.BothRuns.{annex_b_terms, written_run}
 use Rattle.lte_machine.specs.ByEvent.{in_octets}
@@ -23,7 +22,7 @@ use Rattle.lte_machine.specs.Ciphers.{annex_b}
 use Rattle.lte_machine.specs.Distinct.{keys_of, Member, distinct_after, distinct_terms, is_member, with_new}
 use Rattle.lte_machine.specs.Known.{AllReported}
 use Rattle.lte_machine.specs.Ladder.{RowOrigin, row_key, ladder_of}
-use Rattle.lte_machine.specs.Machines.{Kept, written_machine, written_in_values}
+use Rattle.lte_machine.specs.Machines.{written_machine, written_in_values}
 use Rattle.lte_machine.specs.Opening.{open_octets, open_by_uses}
 use Rattle.lte_machine.specs.Ciphers.{under_keys}
 use Rattle.lte_machine.specs.Run.{RunState, Running, Stopped, turn, after, first_world}
@@ -32,12 +31,12 @@ use Rattle.lte_machine.specs.Step.{next, Continues, Stops, StepResult}
 use Rattle.lte_machine.specs.Wire.{Outgoing}
 use Rattle.lte_machine.specs.World.{World, happens}
 use Rattle.lte_machine.proofs.EventByEvent.{replay_snoc, step_is}
-use Rattle.lte_machine.proofs.History.{among_distinct}
+use Rattle.lte_machine.proofs.History.{among_distinct, distinct_append}
 use Rattle.lte_machine.proofs.KnownWorld.{Grounds}
 use Rattle.lte_machine.proofs.LadderRun.{still_grounds, octets_always}
 use Rattle.lte_properties.proofs.AccountsHold.{happens_gains}
 use Rattle.run_stores.specs.Rows.{numbered, all_noted, world_rows}
-use Rattle.run_stores.proofs.Adding.{valued, Stands, row_stands}
+use Rattle.run_stores.proofs.Adding.{Stands, row_stands}
 use Rattle.run_stores.proofs.Numbered.{plain_noted, octets_numbered}
 use Rattle.fleet_world.specs.Meeting.{has_row}
 use Rattle.fleet_world.specs.Phones.{phone_run, phone_rows, rows_in}
@@ -111,10 +110,6 @@ distinct_more seen (t ∷ ts) = by (is_member t seen) (distinct_more (with_new (
     by : (b : Bool) → (more : List Term) × (distinct_after (with_new b t seen) ts ≡ with_new b t seen ++ more) → (more : List Term) × (distinct_after (with_new b t seen) ts ≡ seen ++ more)
     by true h = h
     by false h = (t ∷ h.0, h.1 ∙ joined seen h.0)
-
-distinct_append : (seen ts us : List Term) → distinct_after seen (ts ++ us) ≡ distinct_after (distinct_after seen ts) us
-distinct_append seen [] us = refl
-distinct_append seen (t ∷ ts) us = distinct_append (with_new (is_member t seen) t seen) ts us
 
 terms_more : (history more : List (RowOrigin Term)) → (new : List Term) × (distinct_terms (history ++ more) ≡ distinct_terms history ++ new)
 terms_more history more =

@@ -1,51 +1,44 @@
 -- The worlds of a fleet are those of its phones' own events: what they tell, and one event more.
-use Rattle.std.proofs.Common.{◌≡◌, ◌≢◌, refl, sym, ap, subst, ◌∙◌, ℕ, zero, suc, ◌+◌, ◌<◌, ◌≤◌, Bool, true, false, List, [], ◌∷◌, ◌++◌, length, map, drop, replicate, get_or, set, Option, Some, None, Result, Ok, Err, inl, inr, arith, length-append}
+use Rattle.std.proofs.Common.{◌≡◌, refl, sym, ap, subst, ◌∙◌, ℕ, zero, suc, ◌+◌, ◌<◌, ◌≤◌, false, List, [], ◌∷◌, ◌++◌, length, map, drop, get_or, set, Option, Some, None, Ok, Err, arith}
 use Rattle.std.specs.Prelude.{slice_get, is_ok}
 use Rattle.std.proofs.Math.ListN.{length-set}
-use Rattle.std.proofs.lemmas.List.{get_or-set_same, length-map, length-replicate, map-set}
-use Rattle.std.proofs.lemmas.Option.{none-some, slice_get-get_or}
+use Rattle.std.proofs.lemmas.List.{get_or-set_same, length-map, map-set, map-append}
+use Rattle.std.proofs.lemmas.Option.{slice_get-get_or}
 use Rattle.lte_events.specs.Conditions.{CanHappen, EventFits}
 use Rattle.lte_events.specs.declared.events.Event.{Event}
 use Rattle.lte_events.specs.declared.lines.Line.{Line}
 use Rattle.lte_events.specs.declared.setups.Setup.{Setup}
-use Rattle.key_terms.specs.declared.row.LadderRow.{LadderRow}
 use Rattle.key_terms.specs.declared.proof.Proof.{Proof}
 use Rattle.lte_machine.specs.BothRuns.{annex_b_terms, written_run, written_report, octet_run, octet_report}
 use Rattle.lte_machine.specs.Calls.{line_out}
 use Rattle.lte_machine.specs.Carried.{report_value}
 use Rattle.lte_machine.specs.Ciphers.{annex_b}
-use Rattle.lte_machine.specs.Machines.{Kept, machine_in_octets, written_machine}
+use Rattle.lte_machine.specs.Machines.{machine_in_octets, written_machine}
 use Rattle.lte_machine.specs.Opening.{open_octets}
 use Rattle.lte_machine.specs.Ranges.{AllOf, IsEvent, IsSetup}
-use Rattle.lte_machine.specs.Run.{RunState, Running, Stopped, EventReport, Reported, Coincided, event_report, report, first_world}
+use Rattle.lte_machine.specs.Run.{Running, EventReport, Reported, Coincided, event_report, first_world, GoesOn}
 use Rattle.lte_machine.proofs.AnnexB.{annex_b_ciphers}
 use Rattle.lte_machine.proofs.EventByEvent.{tale_snoc}
 use Rattle.lte_machine.proofs.Fitting.{event_fits}
 use Rattle.lte_machine.proofs.WholeRun.{tale_is_value}
-use Rattle.lte_world.specs.declared.faults.WorldFault.{WorldFault}
 use Rattle.lte_world.specs.declared.faults.WorldFault.TheVariants as world_fault
-use Rattle.lte_world.specs.Whole.{Whole, run_of, CanApply, most_events}
+use Rattle.lte_world.specs.Whole.{Whole, run_of, most_events}
 use Rattle.lte_world.specs.Whole as whole
 use Rattle.run_stores.specs.Proofs.{proof_of}
-use Rattle.fleet_world.specs.declared.faults.FleetFault.{FleetFault}
 use Rattle.fleet_world.specs.declared.faults.FleetFault.TheVariants as fault
 use Rattle.fleet_world.specs.declared.lines.FleetLine.{FleetLine}
 use Rattle.fleet_world.specs.declared.lines.FleetLine.TheVariants as line
-use Rattle.fleet_world.specs.Answers.{answer, own_at, taken_by, crossing, cross_of, unless_taken, unless_met, owned_if, owns_after, owns_from, owns_of, no_events}
+use Rattle.fleet_world.specs.Answers.{answer, own_at, taken_by, crossing, cross_of, unless_taken, owned_if, owns_after, owns_from, owns_of, no_events}
 use Rattle.fleet_world.specs.Apart.{IsEventOf, AllAnswered}
-use Rattle.fleet_world.specs.Fleets.{Fleeted, CanTake, IsOwn, Stands, GoesOn, world_of, owns_in, most_phones, answer_of}
+use Rattle.fleet_world.specs.Fleets.{IsOwn, Stands, world_of, most_phones}
 use Rattle.fleet_world.specs.Meeting.{Meeting, root_among, meeting_from, ladder_at}
 use Rattle.fleet_world.specs.Phones.{phone_run, phone_told, phone_rows, rows_in, without, others}
-use Rattle.fleet_world.specs.Worlds.{Goes, rows_at, ladders_in, others_in, taken_in, with_room, Takes, TakesAt, CanTakeAt}
+use Rattle.fleet_world.specs.Worlds.{Goes, rows_at, ladders_in, others_in, taken_in, TakesAt, CanTakeAt}
 use Rattle.fleet_world.proofs.Ladders.{in_values}
 use Rattle.fleet_world.proofs.Separating.{goes_more}
 use Rattle.fleet_world.proofs.Together.{octets_are}
 
 -- WHAT IS TOLD OF ONE EVENT MORE
-
-map_append : {A B : Type 0} (f : A → B) (xs : List A) (x : A) → map f (xs ++ x ∷ []) ≡ map f xs ++ f x ∷ []
-map_append f [] x = refl
-map_append f (y ∷ xs) x = ap (λ l. f y ∷ l) (map_append f xs x)
 
 same_last : {A : Type 0} (xs : List A) (x y : A) → xs ++ x ∷ [] ≡ xs ++ y ∷ [] → x ≡ y
 same_last [] x y e = cc
@@ -64,7 +57,7 @@ told_is setup own e is are good =
     (sym (tale_snoc (open_octets annex_b) (machine_in_octets annex_b) (Running (first_world setup)) own e)
     ∙ tale_is_value annex_b annex_b_ciphers setup is (own ++ e ∷ []) (all_more own e are good)
     ∙ ap (map report_value) (tale_snoc (open_octets annex_b_terms) (written_machine annex_b) (Running (first_world setup)) own e)
-    ∙ map_append report_value (written_report setup own) _
+    ∙ map-append report_value (written_report setup own) (_ ∷ [])
     ∙ ap (λ l. l ++ report_value (event_report (open_octets annex_b_terms) (written_machine annex_b) (written_run setup own) e) ∷ []) (sym (tale_is_value annex_b annex_b_ciphers setup is own are)))
 
 -- THE WORLDS

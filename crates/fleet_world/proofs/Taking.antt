@@ -1,5 +1,5 @@
 -- A world that took an event, and a fleet that begins.
-use Rattle.std.proofs.Common.{◌≡◌, refl, sym, ap, subst, ◌∙◌, ℕ, zero, suc, ◌≤◌, ◌<◌, Bool, true, false, List, [], ◌∷◌, ◌++◌, length, map, replicate, Option, Some, None, Result, Ok, Err, arith}
+use Rattle.std.proofs.Common.{◌≡◌, refl, sym, ap, subst, ◌∙◌, ℕ, zero, suc, ◌≤◌, false, List, [], ◌∷◌, ◌++◌, length, map, replicate, Option, Some, None, Ok, arith}
 use Rattle.std.proofs.lemmas.List.{length-replicate}
 use Rattle.lte_events.specs.declared.events.Event.{Event}
 use Rattle.lte_events.specs.declared.lines.Line.{Line}
@@ -9,15 +9,15 @@ use Rattle.key_terms.specs.declared.row.LadderRow.{LadderRow}
 use Rattle.lte_machine.specs.Ciphers.{annex_b}
 use Rattle.lte_machine.specs.Machines.{Kept}
 use Rattle.lte_machine.specs.Opening.{open_octets}
-use Rattle.lte_machine.specs.Ranges.{AllOf, IsEvent}
-use Rattle.lte_machine.specs.Run.{RunState, Running, Stopped, turn, after, reported, event_report, first_world}
+use Rattle.lte_machine.specs.Ranges.{AllOf}
+use Rattle.lte_machine.specs.Run.{RunState, Running, Stopped, turn, after, reported, event_report, GoesOn}
 use Rattle.lte_machine.specs.Step.{StepResult, Continues, Stops, next}
 use Rattle.lte_machine.proofs.Fitting.{setup_fits}
 use Rattle.lte_world.specs.Systems.{octets}
 use Rattle.lte_world.specs.Whole.{Whole, InRun, run_of, unless_over, told_of, answer_of, turned, begun, CanBegin}
 use Rattle.run_stores.specs.Rows.{world_rows}
-use Rattle.fleet_world.specs.Answers.{owns_of, no_events}
-use Rattle.fleet_world.specs.Fleets.{GoesOn, IsOwn, Stands, StandsUnless, Fleeted, CanTake, most_phones, world_of}
+use Rattle.fleet_world.specs.Answers.{no_events}
+use Rattle.fleet_world.specs.Fleets.{IsOwn, Stands, StandsUnless, most_phones, world_of}
 use Rattle.fleet_world.specs.declared.faults.FleetFault.{FleetFault}
 use Rattle.fleet_world.specs.Phones.{phone_run}
 use Rattle.fleet_world.specs.Worlds.{Goes, rows_at, with_room}

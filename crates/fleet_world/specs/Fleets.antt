@@ -3,12 +3,10 @@ use Rattle.std.specs.Prelude.{◌≡◌, ℕ, ◌<◌, ◌≤◌, false, List, [
 use Rattle.lte_events.specs.declared.events.Event.{Event}
 use Rattle.lte_events.specs.declared.setups.Setup.{Setup}
 use Rattle.lte_events.specs.Conditions.{CanHappen, EventFits}
-use Rattle.lte_machine.specs.Machines.{Kept}
 use Rattle.lte_machine.specs.Ranges.{AllOf, IsEvent, IsSetup}
-use Rattle.lte_machine.specs.Run.{RunState, Running, Stopped}
+use Rattle.lte_machine.specs.Run.{GoesOn}
 use Rattle.lte_world.specs.Whole.{Whole, most_events}
 use Rattle.fleet_world.specs.declared.faults.FleetFault.{FleetFault}
-use Rattle.fleet_world.specs.declared.faults.FleetFault.TheVariants as fault
 use Rattle.fleet_world.specs.declared.lines.FleetLine.{FleetLine}
 use Rattle.fleet_world.specs.Answers.{answer, owns_of, no_events}
 use Rattle.fleet_world.specs.Apart.{IsEventOf, AllAnswered}
@@ -65,11 +63,6 @@ pub record CanTake (v : Fleeted) (p : ℕ) (e : Event) : Type 0 where
   pub few : length v.journal < most_events
 
 -- WHAT HOLDS
-
--- a run that goes on
-abbrev pub GoesOn : RunState (List ℕ) ℕ Kept → Type 0
-GoesOn (Running w) = Unit {0}
-GoesOn (Stopped chance) = ⊥
 
 -- the own events of a phone: each in range, not more than all events, and no coincidence among them
 pub record IsOwn (setup : Setup) (most : ℕ) (events : List Event) : Type 0 where

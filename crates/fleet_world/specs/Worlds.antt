@@ -6,7 +6,7 @@ use Rattle.key_terms.specs.declared.row.LadderRow.{LadderRow}
 use Rattle.lte_world.specs.declared.faults.WorldFault.{WorldFault}
 use Rattle.lte_world.specs.declared.faults.WorldFault.TheVariants as fault
 use Rattle.lte_world.specs.Whole.{Whole, run_of, told_of, CanApply}
-use Rattle.fleet_world.specs.Fleets.{GoesOn}
+use Rattle.lte_machine.specs.Run.{GoesOn}
 use Rattle.fleet_world.specs.Meeting.{root_among}
 use Rattle.fleet_world.specs.Phones.{rows_in, without}
 

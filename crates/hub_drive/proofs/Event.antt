@@ -12,12 +12,12 @@ use Rattle.key_terms.specs.declared.proof.Proof.{Proof}
 use Rattle.lte_machine.specs.BothRuns.{octet_run}
 use Rattle.lte_machine.specs.Machines.{Kept}
 use Rattle.lte_machine.specs.Ranges.{AllOf}
-use Rattle.lte_machine.specs.Run.{RunState, Running, Stopped, EventReport, Reported, Coincided}
+use Rattle.lte_machine.specs.Run.{RunState, Running, Stopped, EventReport, Reported, Coincided, GoesOn}
 use Rattle.lte_world.specs.Replies.{RepliedLast, IsOfSetup}
 use Rattle.lte_world.specs.Whole.{Whole, run_of, unless_over}
 use Rattle.run_report.specs.declared.unwritten.Unwritten.{Unwritten}
 use Rattle.run_report.specs.declared.unwritten.Unwritten.TheVariants as unwritten
-use Rattle.run_report.specs.Events.{event_text, is_coincidence, GoesOn}
+use Rattle.run_report.specs.Events.{event_text, is_coincidence}
 use Rattle.run_report.specs.Written.{Written}
 use Rattle.peer_calls.proofs.Composing.{cut_at, cut_before, did_none, went_on}
 use Rattle.peer_calls.specs.declared.faults.DriveFault.{DriveFault}

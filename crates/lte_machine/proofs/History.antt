@@ -63,7 +63,7 @@ Laddered history = (ladder_of same_value history).clash ≡ None → Stand (ladd
 pub no_history : Laddered []
 no_history calm = record { well = record { own = λ a b m n v. absurd m; made = tt }; keys = refl }
 
-distinct_append : (seen ts us : List Term) → distinct_after seen (ts ++ us) ≡ distinct_after (distinct_after seen ts) us
+pub distinct_append : (seen ts us : List Term) → distinct_after seen (ts ++ us) ≡ distinct_after (distinct_after seen ts) us
 distinct_append seen [] us = refl
 distinct_append seen (t ∷ ts) us = distinct_append (with_new (is_member t seen) t seen) ts us
 

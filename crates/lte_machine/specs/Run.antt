@@ -17,6 +17,11 @@ pub data RunState (K C S : Type 0) : Type 0 where
   Running : World K C S → RunState K C S
   Stopped : Chance K → RunState K C S
 
+-- a run that goes on
+abbrev pub GoesOn : {K C S : Type 0} → RunState K C S → Type 0
+GoesOn (Running w) = Unit {0}
+GoesOn (Stopped chance) = ⊥
+
 abbrev pub after : {K C S : Type 0} → StepResult K C S → RunState K C S
 after (Continues w line) = Running w
 after (Stops chance) = Stopped chance

@@ -7,13 +7,13 @@ use Rattle.key_terms.specs.declared.proof.Proof.{Proof}
 use Rattle.key_terms.specs.declared.row.LadderRow.{LadderRow}
 use Rattle.lte_machine.specs.BothRuns.{octet_run, octet_report}
 use Rattle.lte_machine.specs.Machines.{Kept}
-use Rattle.lte_machine.specs.Run.{RunState, Running, Stopped, EventReport, Reported, Coincided, first_world}
+use Rattle.lte_machine.specs.Run.{RunState, Running, Stopped, EventReport, Reported, Coincided, first_world, GoesOn}
 use Rattle.lte_world.specs.Whole.{InRun}
 use Rattle.lte_world.specs.declared.faults.WorldFault.TheVariants as fault
 use Rattle.report_text.specs.Chance.{chance_text}
 use Rattle.report_text.specs.Summary.{Tallied, tally_of, figures_text}
 use Rattle.run_stores.specs.Rows.{world_rows}
-use Rattle.run_report.specs.Events.{told_of, CanShow, GoesOn}
+use Rattle.run_report.specs.Events.{told_of, CanShow}
 use Rattle.run_report.specs.Counted.{Tells, Ended}
 use Rattle.run_report.specs.Ready.{Ready}
 use Rattle.run_report.specs.Summary.{Coincides, outcome_from, rows_in, summary_with, summary_of}

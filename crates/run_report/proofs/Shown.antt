@@ -13,7 +13,7 @@ use Rattle.lte_machine.specs.Ladder.{RowOrigin, OfRoot, Of, Clash, Ladder, add_n
 use Rattle.lte_machine.specs.Machines.{Kept, machine_in_octets}
 use Rattle.lte_machine.specs.Opening.{open_octets, accepted_of}
 use Rattle.lte_machine.specs.Ranges.{AllOf, IsEvent, IsSetup}
-use Rattle.lte_machine.specs.Run.{RunState, Running, Stopped, EventReport, Reported, Coincided, reported, event_report}
+use Rattle.lte_machine.specs.Run.{RunState, Running, Stopped, EventReport, Reported, Coincided, reported, event_report, GoesOn}
 use Rattle.lte_machine.specs.Step.{StepResult, Continues, Stops, next, attempted, opening_chance, by_chance, by_ladder}
 use Rattle.lte_machine.specs.Tuples.{Chance, Tuples, Rows, tuple_chance, tuples_unless, same_sender}
 use Rattle.lte_machine.specs.World.{World, Line, happens}
@@ -26,7 +26,7 @@ use Rattle.run_stores.specs.Additions.{IsInput, CanAddTo, AllCanAdd}
 use Rattle.run_stores.specs.Proofs.{proof_of, clash_proof}
 use Rattle.run_stores.proofs.EveryRun.{event_keeps}
 use Rattle.report_text.specs.Chance.{HasString}
-use Rattle.run_report.specs.Events.{HasCount, HasCounts, told_of, GoesOn}
+use Rattle.run_report.specs.Events.{HasCount, HasCounts, told_of}
 
 input_fits : (input : KdfInput) → HasCount input → IsInput input → IsKdfInput input
 input_fits (KdfInput.Kenb count) few is = few

@@ -5,9 +5,9 @@ use Rattle.std.proofs.Math.Seq.{drop-cons}
 use Rattle.lte_events.specs.Conditions.{CanHappen, EventFits}
 use Rattle.lte_events.specs.declared.events.Event.{Event}
 use Rattle.lte_events.specs.declared.setups.Setup.{Setup}
-use Rattle.lte_machine.specs.Run.{Running, first_world}
+use Rattle.lte_machine.specs.Run.{Running, first_world, GoesOn}
 use Rattle.lte_world.specs.Whole.{Whole, begun, run_of}
-use Rattle.run_report.specs.Events.{told_of, is_coincidence, GoesOn}
+use Rattle.run_report.specs.Events.{told_of, is_coincidence}
 use Rattle.run_report.specs.Ready.{CanTake, Ready, Takes}
 use Rattle.run_report.proofs.Telling.{still_goes}
 

@@ -10,7 +10,7 @@ use Rattle.lte_machine.specs.Ciphers.{annex_b}
 use Rattle.lte_machine.specs.Machines.{Kept, machine_in_octets}
 use Rattle.lte_machine.specs.Opening.{open_octets}
 use Rattle.lte_machine.specs.Ranges.{AllOf, IsEvent, IsSetup}
-use Rattle.lte_machine.specs.Run.{RunState, Running, Stopped, turn, replay, EventReport, Reported, Coincided, report, reported, after, first_world}
+use Rattle.lte_machine.specs.Run.{RunState, Running, Stopped, turn, replay, EventReport, Reported, Coincided, report, reported, after, first_world, GoesOn}
 use Rattle.lte_machine.specs.Step.{StepResult, Continues, Stops, next}
 use Rattle.lte_machine.proofs.AnnexB.{annex_b_ciphers}
 use Rattle.lte_machine.proofs.Fitting.{setup_fits, events_fit}
@@ -22,7 +22,7 @@ use Rattle.run_stores.specs.Proofs.{proof_of}
 use Rattle.report_text.specs.Line.{line_text}
 use Rattle.report_text.specs.Chance.{chance_text}
 use Rattle.run_report.specs.Counted.{Tells}
-use Rattle.run_report.specs.Events.{told_of, told_report, is_coincidence, CanShow, GoesOn}
+use Rattle.run_report.specs.Events.{told_of, told_report, is_coincidence, CanShow}
 use Rattle.run_report.specs.Ready.{Ready}
 use Rattle.run_report.specs.Report.{Report, told_from, end_of, report_of}
 use Rattle.run_report.proofs.Partly.{followed, Follows}

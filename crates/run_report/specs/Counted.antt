@@ -6,14 +6,14 @@ use Rattle.lte_events.specs.declared.setups.Setup.{Setup}
 use Rattle.lte_machine.specs.BothRuns.{octet_run, octet_report}
 use Rattle.lte_machine.specs.Calls.{line_out}
 use Rattle.lte_machine.specs.Machines.{Kept}
-use Rattle.lte_machine.specs.Run.{RunState, EventReport, Reported, Coincided}
+use Rattle.lte_machine.specs.Run.{RunState, EventReport, Reported, Coincided, GoesOn}
 use Rattle.lte_world.specs.declared.faults.WorldFault.{WorldFault}
 use Rattle.lte_world.specs.declared.faults.WorldFault.TheVariants as fault
 use Rattle.report_text.specs.Summary.{Tallied, tally_of}
 use Rattle.run_stores.specs.Proofs.{proof_of}
 use Rattle.run_report.specs.declared.courses.Course.{Course}
 use Rattle.run_report.specs.declared.courses.Course.TheVariants as course
-use Rattle.run_report.specs.Events.{CanShow, GoesOn}
+use Rattle.run_report.specs.Events.{CanShow}
 use Rattle.run_report.specs.Summary.{AllLines, Coincides, outcome_from}
 
 -- an answer to an event: what is told of it, or that memory ran out

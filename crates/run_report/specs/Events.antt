@@ -9,7 +9,7 @@ use Rattle.lte_machine.specs.Calls.{line_out}
 use Rattle.lte_machine.specs.Ciphers.{annex_b}
 use Rattle.lte_machine.specs.Machines.{Kept, machine_in_octets}
 use Rattle.lte_machine.specs.Opening.{open_octets}
-use Rattle.lte_machine.specs.Run.{RunState, Running, Stopped, EventReport, Reported, Coincided, event_report}
+use Rattle.lte_machine.specs.Run.{RunState, EventReport, Reported, Coincided, event_report}
 use Rattle.report_text.specs.Line.{line_text}
 use Rattle.report_text.specs.Chance.{HasString, chance_text}
 use Rattle.run_stores.specs.Proofs.{proof_of}
@@ -31,11 +31,6 @@ is_coincidence (Coincided chance) = true
 -- and both
 abbrev pub told_report : ℕ → EventReport (List ℕ) → Report
 told_report step told = record { text = event_text step told; coincides = is_coincidence told }
-
--- a run that goes on
-abbrev pub GoesOn : RunState (List ℕ) ℕ Kept → Type 0
-GoesOn (Running w) = Unit {0}
-GoesOn (Stopped chance) = ⊥
 
 -- a COUNT of 32 bits
 abbrev pub HasCount : KdfInput → Type 0

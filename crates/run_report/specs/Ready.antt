@@ -4,7 +4,7 @@ use Rattle.lte_events.specs.Conditions.{CanHappen, EventFits}
 use Rattle.lte_events.specs.declared.events.Event.{Event}
 use Rattle.lte_events.specs.declared.setups.Setup.{Setup}
 use Rattle.lte_world.specs.Whole.{Whole, CanBegin, most_events, run_of, turned}
-use Rattle.run_report.specs.Events.{GoesOn}
+use Rattle.lte_machine.specs.Run.{GoesOn}
 
 -- A setup that a system can begin with, and at most 200,000 events that can happen to it. `event` tells the event of an item.
 pub record ReadyBy {A : Type 0} (event : A → Event) (setup : Setup) (items : List A) : Type 0 where

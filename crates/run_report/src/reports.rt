@@ -3,8 +3,9 @@ ghost use Rattle.std.specs.Prelude.{◌≡◌, ◌≤◌, ℕ, List, true, false
 ghost use Rattle.edge_io.specs.Lines.{are_lines};
 ghost use Rattle.lte_world.specs.Whole.{most_events, run_of};
 ghost use Rattle.report_text.specs.Chance.{chance_text};
+ghost use Rattle.lte_machine.specs.Run.{GoesOn};
 ghost use Rattle.run_report.specs.Report.{report_of, end_of};
-ghost use Rattle.run_report.specs.Events.{told_of, told_report, CanShow, GoesOn, HasCounts};
+ghost use Rattle.run_report.specs.Events.{told_of, told_report, CanShow, HasCounts};
 ghost use Rattle.run_report.specs.Ready.{CanTake, Ready, Takes};
 ghost use Rattle.run_report.specs.Written.{WritesReport, WritesText};
 

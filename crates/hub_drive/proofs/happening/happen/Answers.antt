@@ -6,7 +6,8 @@ use Rattle.peer_calls.specs.Exchanges.{HasActor, replied}
 use Rattle.peer_calls.specs.Outside.{outside}
 use Rattle.peer_calls.specs.Went.{Went}
 use Rattle.run_report.proofs.Telling.{still_goes}
-use Rattle.run_report.specs.Events.{told_of, is_coincidence, GoesOn}
+use Rattle.run_report.specs.Events.{told_of, is_coincidence}
+use Rattle.lte_machine.specs.Run.{GoesOn}
 use Rattle.hub_drive.proofs.Event.{no_chance, replies_are, all_have, event_told, event_coincides, event_unwritten}
 use Rattle.hub_drive.specs.Plan.{replies_at}
 use Rattle.hub_drive.proofs.happening.happen.Goals as goal
