@@ -1,7 +1,7 @@
 // The expected octets come from HMAC-SHA-256, AES-CTR and AES-CMAC of other implementations, under the
 // KASME of octets 00, 01 and so on to 1f.
 ghost use Rattle.std.specs.Prelude.{◌≡◌, ◌<◌, ◌≤◌, length};
-ghost use Rattle.nas_count.specs.Estimate.{count_limit};
+ghost use Rattle.nas_count.specs.Estimate.{nas_count_limit};
 
 use crate::values::same;
 use alg_choice::{Algs, Eea};
@@ -32,7 +32,7 @@ fn keys(eea: Eea) -> NasKeys {
 }
 
 fn receiver_at(next: u32) -> RxCount
-    requires { next < count_limit }
+    requires { next < nas_count_limit }
     ensures { result ≡ next }
 {
     let mut rx = RxCount::new();
@@ -55,7 +55,7 @@ fn expect_both_ways(
     requires above_plain { 1 ≤ header }
     requires at_most_four { header ≤ 4 }
     requires text { length text.now ≤ 201 }
-    requires count { count < count_limit }
+    requires count { count < nas_count_limit }
     requires octets { length octets.now ≤ 1536 }
 {
     let keys = keys(eea);

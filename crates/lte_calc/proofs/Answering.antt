@@ -12,7 +12,7 @@ use Rattle.text_lines.specs.Lines.{is_feed, has_feed, ended, last_line}
 use Rattle.text_lines.proofs.Ended.{AreWhole, ended_append}
 use Rattle.lte_calc.specs.declared.status.Status.{Status}
 use Rattle.lte_calc.specs.declared.status.Status.TheVariants.{Done, Memory, WriteFault, TooLong}
-use Rattle.lte_calc.specs.Output.{most_octets, at_least_refused, with_answer, output_of}
+use Rattle.lte_calc.specs.Output.{longest_line, at_least_refused, with_answer, output_of}
 use Rattle.lte_calc.specs.Run.{IsLine, AreLines, BeginTooLong}
 use Rattle.lte_calc.specs.Lines.{ends_of, all_good, LineAt, AnsweredUpTo, StoppedIn, LastAt}
 
@@ -26,9 +26,9 @@ are_whole [] are = tt
 are_whole (line ∷ xs) are = (are.0.0, are_whole xs are.1)
 
 -- the output for a line that is not too long
-next_output : (line : List ℕ) (lines : List (List ℕ)) → length line ≤ most_octets → output_of (line ∷ lines) ≡ with_answer (answer_to line) (output_of lines)
+next_output : (line : List ℕ) (lines : List (List ℕ)) → length line ≤ longest_line → output_of (line ∷ lines) ≡ with_answer (answer_to line) (output_of lines)
 unfolding output_of
-next_output line lines short = rw (le-ltb most_octets (length line) short) refl
+next_output line lines short = rw (le-ltb longest_line (length line) short) refl
 
 pub no_output : output_of [] ≡ record { text = []; ends = Done }
 unfolding output_of
@@ -41,7 +41,7 @@ text_append (line ∷ xs) ys are =
     ap (λ o. o.text) (next_output line (xs ++ ys) are.0.1) ∙ ap (λ t. answer ++ t) (text_append xs ys are.1) ∙ sym (append_assoc answer (output_of xs).text (output_of ys).text)
     ∙ ap (λ o. o.text ++ (output_of ys).text) (sym (next_output line xs are.0.1))
 
-pub one_text : (line : List ℕ) → length line ≤ most_octets → (output_of (line ∷ [])).text ≡ (answer_to line).text
+pub one_text : (line : List ℕ) → length line ≤ longest_line → (output_of (line ∷ [])).text ≡ (answer_to line).text
 one_text line short = ap (λ o. o.text) (next_output line [] short) ∙ ap (λ o. (answer_to line).text ++ o.text) no_output ∙ append-nil (answer_to line).text
 
 refused_or : (good : Bool) → (all : Bool) → cond good (ends_of all) (at_least_refused (ends_of all)) ≡ ends_of (good && all)
@@ -56,12 +56,12 @@ ends_is (line ∷ xs) are =
     ap (λ o. o.ends) (next_output line xs are.0.1) ∙ ap (λ e. cond good e (at_least_refused e)) (ends_is xs are.1) ∙ refused_or good (all_good xs)
 
 -- lines before one that is too long
-pub ends_too_long : (xs : List (List ℕ)) (line : List ℕ) (more : List (List ℕ)) → AreLines xs → most_octets < length line → ((output_of (xs ++ line ∷ more)).ends ≡ TooLong) × ((output_of (xs ++ line ∷ more)).text ≡ (output_of xs).text)
+pub ends_too_long : (xs : List (List ℕ)) (line : List ℕ) (more : List (List ℕ)) → AreLines xs → longest_line < length line → ((output_of (xs ++ line ∷ more)).ends ≡ TooLong) × ((output_of (xs ++ line ∷ more)).text ≡ (output_of xs).text)
 unfolding output_of
-ends_too_long [] line more are long = rw (lt-ltb most_octets (length line) long) (refl, refl)
+ends_too_long [] line more are long = rw (lt-ltb longest_line (length line) long) (refl, refl)
 ends_too_long (first ∷ xs) line more are long =
     let rest = ends_too_long xs line more are.1 long in
-    rw (le-ltb most_octets (length first) are.0.1) (too_long (answer_to first).good (output_of (xs ++ line ∷ more)).ends rest.0, ap (λ t. (answer_to first).text ++ t) rest.1)
+    rw (le-ltb longest_line (length first) are.0.1) (too_long (answer_to first).good (output_of (xs ++ line ∷ more)).ends rest.0, ap (λ t. (answer_to first).text ++ t) rest.1)
   where
     too_long : (good : Bool) (e : Status) → e ≡ TooLong → cond good e (at_least_refused e) ≡ TooLong
     too_long true e is = is
@@ -106,12 +106,12 @@ feedless (octet ∷ octets) (suc n) (suc k) none within =
     let parts = or_parts (is_feed octet) (has_feed (take k octets)) none in
     rw (parts.0, feedless octets n k parts.1 (omega (arith, within))) refl
 
-pub too_long_at : (rest : List ℕ) (k : ℕ) → has_feed (take k rest) ≡ false → k < length rest → most_octets < k → BeginTooLong rest
-too_long_at rest k none within long = (omega (arith, within, long), feedless rest (most_octets + 1) k none (omega (arith, long)))
+pub too_long_at : (rest : List ℕ) (k : ℕ) → has_feed (take k rest) ≡ false → k < length rest → longest_line < k → BeginTooLong rest
+too_long_at rest k none within long = (omega (arith, within, long), feedless rest (longest_line + 1) k none (omega (arith, long)))
 
-pub too_long_whole : (rest : List ℕ) → has_feed rest ≡ false → most_octets < length rest → BeginTooLong rest
+pub too_long_whole : (rest : List ℕ) → has_feed rest ≡ false → longest_line < length rest → BeginTooLong rest
 too_long_whole rest none long =
-    (long, feedless rest (most_octets + 1) (length rest) (ap has_feed (take-length rest) ∙ none) (omega (arith, long)))
+    (long, feedless rest (longest_line + 1) (length rest) (ap has_feed (take-length rest) ∙ none) (omega (arith, long)))
 
 -- a line at which the run ends
 pub stopped_long : (text rest : List ℕ) (good good' : Bool) (out out' : Told) → AnsweredUpTo text rest good good' out out' → BeginTooLong rest → StoppedIn TooLong text out out'

@@ -11,7 +11,7 @@ use Rattle.text_lines.specs.Lines.{has_feed, lines_of, ended, last_line}
 use Rattle.text_lines.proofs.Ended.{ended_append, lines_first, lines_last, long_first}
 use Rattle.lte_calc.specs.declared.status.Status.{Status}
 use Rattle.lte_calc.specs.declared.status.Status.TheVariants.{Done, Memory, BadWords, Refused, ReadFault, WriteFault, TooLong}
-use Rattle.lte_calc.specs.Output.{most_octets, output_of}
+use Rattle.lte_calc.specs.Output.{longest_line, output_of}
 use Rattle.lte_calc.specs.Run.{IsLine, AreLines, BeginTooLong, Came, AllAnswered, RunAt, Run, RunIsComplete}
 use Rattle.lte_calc.specs.Lines.{ends_of, all_good, AnsweredUpTo, StoppedAt, StoppedIn, LastAt}
 use Rattle.lte_calc.proofs.Answering.{are_append, are_whole, no_output, text_append, ends_is, ends_too_long}
@@ -81,16 +81,16 @@ answered_on held rest good good' input input' out mid now m a = record {
 }
 
 -- the run ends
-pub memory_run : (held : List ℕ) (good : Bool) (input input' out out' : Told) → Midway held good input input' out out' → length held ≤ most_octets + 4096 → Run Memory input input' out out'
+pub memory_run : (held : List ℕ) (good : Bool) (input input' out out' : Told) → Midway held good input input' out out' → length held ≤ longest_line + 4096 → Run Memory input input' out out'
 memory_run held good input input' out out' m few = record { lines = m.lines; rest = held; are = m.are; came = m.came; few = few; at = m.grows }
 
-pub stopped_run : (status : Status) (held : List ℕ) (good : Bool) (input input' out mid now : Told) → Midway held good input input' out mid → length held ≤ most_octets + 4096 → mid.write_faults ≡ out.write_faults → StoppedIn status held mid now → Run status input input' out now
+pub stopped_run : (status : Status) (held : List ℕ) (good : Bool) (input input' out mid now : Told) → Midway held good input input' out mid → length held ≤ longest_line + 4096 → mid.write_faults ≡ out.write_faults → StoppedIn status held mid now → Run status input input' out now
 stopped_run status held good input input' out mid now m few none s = record {
   lines = m.lines ++ s.lines;
   rest = s.rest;
   are = are_append m.lines s.lines m.are s.are;
   came = subst (λ os. Came os input input') (joined m.lines s.lines held s.rest s.is) m.came;
-  few = behind s.lines held s.rest (most_octets + 4096) s.is few;
+  few = behind s.lines held s.rest (longest_line + 4096) s.is few;
   at = at_status status s.lines s.rest s.at;
 }
   where
@@ -192,9 +192,9 @@ long : (lines : List (List ℕ)) (rest octets : List ℕ) (input input' out out'
 long lines rest octets input input' out out' are came left begins grows =
     let k = known octets (ended lines ++ rest) input'.left (sym left ∙ came.gives) in
     let behind = rest ++ k.0 in
-    let long_take : most_octets + 1 ≤ length rest = omega (arith, begins.0) in
-    let no_feed : has_feed (take (suc most_octets) behind) ≡ false = ap has_feed (take-append-le (most_octets + 1) rest k.0 long_take) ∙ begins.1 in
-    let first = long_first behind most_octets no_feed (omega (arith, begins.0, length-append rest k.0)) in
+    let long_take : longest_line + 1 ≤ length rest = omega (arith, begins.0) in
+    let no_feed : has_feed (take (suc longest_line) behind) ≡ false = ap has_feed (take-append-le (longest_line + 1) rest k.0 long_take) ∙ begins.1 in
+    let first = long_first behind longest_line no_feed (omega (arith, begins.0, length-append rest k.0)) in
     let is : lines_of octets ≡ lines ++ (first.0 ∷ first.1) = ap lines_of (k.2 ∙ append_assoc (ended lines) rest k.0) ∙ lines_first lines behind (are_whole lines are) ∙ ap (λ ls. lines ++ ls) first.2 in
     let ends = ends_too_long lines first.0 first.1 are (omega (arith, first.3)) in
     subst (λ ls. (TooLong ≡ (output_of ls).ends) × Grows out.written out'.written (output_of ls).text) (sym is) (sym ends.0, subst (λ t. Grows out.written out'.written t) (sym ends.1) grows)

@@ -6,8 +6,8 @@ use Rattle.lte_calc.specs.declared.status.Status.{Status}
 use Rattle.lte_calc.specs.declared.status.Status.TheVariants.{Done, Refused, TooLong}
 
 -- the greatest number of octets of a line
-abbrev pub most_octets : ℕ
-most_octets = 65536
+abbrev pub longest_line : ℕ
+longest_line = 65536
 
 -- what is written, and the status
 pub record Output : Type 0 where
@@ -27,4 +27,4 @@ with_answer answer rest = record { text = answer.text ++ rest.text; ends = if an
 unfoldable pub output_of : List (List ℕ) → Output
 output_of [] = record { text = []; ends = Done }
 output_of (line ∷ lines) =
-    if nat_lt most_octets (length line) then record { text = []; ends = TooLong } else with_answer (answer_to line) (output_of lines)
+    if nat_lt longest_line (length line) then record { text = []; ends = TooLong } else with_answer (answer_to line) (output_of lines)

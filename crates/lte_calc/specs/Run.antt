@@ -9,11 +9,11 @@ use Rattle.calc_text.specs.Answer.{answer_to}
 use Rattle.text_lines.specs.Lines.{has_feed, lines_of, ended, last_line}
 use Rattle.lte_calc.specs.declared.status.Status.{Status}
 use Rattle.lte_calc.specs.declared.status.Status.TheVariants.{Done, Memory, BadWords, Refused, ReadFault, WriteFault, TooLong}
-use Rattle.lte_calc.specs.Output.{most_octets, output_of}
+use Rattle.lte_calc.specs.Output.{longest_line, output_of}
 
 -- a line has no line feed, and at most 65,536 octets
 abbrev pub IsLine : List ℕ → Type 0
-IsLine line = (has_feed line ≡ false) × (length line ≤ most_octets)
+IsLine line = (has_feed line ≡ false) × (length line ≤ longest_line)
 
 abbrev pub AreLines : List (List ℕ) → Type 0
 AreLines [] = Unit {0}
@@ -21,7 +21,7 @@ AreLines (line ∷ lines) = IsLine line × AreLines lines
 
 -- octets that begin with more than 65,536 of one line
 abbrev pub BeginTooLong : List ℕ → Type 0
-BeginTooLong octets = (most_octets < length octets) × (has_feed (take (most_octets + 1) octets) ≡ false)
+BeginTooLong octets = (longest_line < length octets) × (has_feed (take (longest_line + 1) octets) ≡ false)
 
 -- the next line in these octets, with its line feed, or the last one of an input that is at its end
 abbrev pub IsNext : List ℕ → List ℕ → Option (List ℕ) → Type 0
@@ -67,7 +67,7 @@ pub record Run (status : Status) (input input' out out' : Told) : Type 0 where
   pub rest : List ℕ
   pub are : AreLines lines
   pub came : Came (ended lines ++ rest) input input'
-  pub few : length rest ≤ most_octets + 4096
+  pub few : length rest ≤ longest_line + 4096
   pub at : RunAt status lines rest input input' out out'
 
 -- Where no count rose, the whole output is written and the status is that of the output, unless memory ran out.

@@ -7,7 +7,7 @@ ghost use Rattle.edge_io.specs.Lines.{are_lines};
 ghost use Rattle.edge_io.specs.Used.{UsedAsSource, UsedAsSink};
 ghost use Rattle.calc_text.specs.Answer.{answer_to};
 ghost use Rattle.text_lines.specs.Lines.{has_feed};
-ghost use Rattle.lte_calc.specs.Output.{most_octets};
+ghost use Rattle.lte_calc.specs.Output.{longest_line};
 ghost use Rattle.lte_calc.specs.Run.{IsLine, Run, RunIsComplete};
 ghost use Rattle.lte_calc.specs.Lines.{AnsweredUpTo, StoppedIn, LineAt, LastAt, ends_of};
 

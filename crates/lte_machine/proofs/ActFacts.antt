@@ -10,7 +10,7 @@ use Rattle.lte_events.specs.Site.{station_of}
 use Rattle.lte_events.specs.declared.acts.CoreAct.{CoreAct}
 use Rattle.lte_events.specs.declared.acts.CoreAct.TheVariants.{StartSmc, Connect, Release, SendNas, Skip}
 use Rattle.key_model.specs.Reading.{Reading}
-use Rattle.nas_count.specs.Estimate.{count_limit}
+use Rattle.nas_count.specs.Estimate.{nas_count_limit}
 use Rattle.nas_guard.specs.Keys.{Keys, map_keys}
 use Rattle.lte_machine.specs.CoreState.{Core, CorePartial, CoreContext, CoreLink, map_core_partial, map_core_context, map_core_link}
 use Rattle.lte_machine.specs.CoreRows.{CoreActRow, ActRefused, SmcStarted, ContextSetUp, ContextReleased, NasSent, NasSkipped}
@@ -30,7 +30,7 @@ pub record Starts {K C : Type 0} (s : Core K C) (act : CoreAct) (ksi : ℕ) (alg
   pub ksi_is : ksi ≡ partial.ksi
   pub caps_is : caps ≡ partial.caps
   pub count_is : count ≡ partial.send
-  pub left : nat_le count_limit partial.send ≡ false
+  pub left : nat_le nas_count_limit partial.send ≡ false
 
 -- a connection under the next number, for the trigger, at the station of the cell
 pub record SetsUp {K C : Type 0} (s : Core K C) (act : CoreAct) (conn : ℕ) (cell : Place) (target : ℕ) (caps : Caps) (count : ℕ) : Type 0 where
@@ -57,7 +57,7 @@ pub record Sends {K C : Type 0} (s : Core K C) (act : CoreAct) (count : ℕ) (te
   pub context : CoreContext K
   pub in_use : s.context ≡ Some context
   pub count_is : count ≡ context.nas.send
-  pub left : nat_le count_limit context.nas.send ≡ false
+  pub left : nat_le nas_count_limit context.nas.send ≡ false
 
 -- COUNTs of the context in use are left out
 pub record Skips {K C : Type 0} (s : Core K C) (act : CoreAct) (n : ℕ) : Type 0 where
@@ -79,7 +79,7 @@ module _ {K C : Type 0} (r : Reading K C) (s : Core K C) where
       → ActHas s StartSmc (smc_row (map_core_partial unseen p) chosen)
   smc_has p e f (Err none) g = tt
   smc_has p e f (Ok algs) g =
-      by_test (ActHas s StartSmc) (nat_le count_limit p.send) _ _ (λ b. tt)
+      by_test (ActHas s StartSmc) (nat_le nas_count_limit p.send) _ _ (λ b. tt)
       (λ b. record { act_is = refl; partial = p; holds = e; idle = f; chosen = g; ksi_is = refl; caps_is = refl; count_is = refl; left = b })
 
   start_has : (o : Option (CorePartial K)) (k : Option (Keys K)) → s.partial ≡ o → s.procedure ≡ k
@@ -104,7 +104,7 @@ module _ {K C : Type 0} (r : Reading K C) (s : Core K C) where
   send_has : (text : List ℕ) (o : Option (CoreContext K)) → s.context ≡ o → ActHas s (SendNas text) (send_nas_row (option_map (map_core_context unseen) o) text)
   send_has text None e = tt
   send_has text (Some c) e =
-      by_test (ActHas s (SendNas text)) (nat_le count_limit c.nas.send) _ _ (λ b. tt)
+      by_test (ActHas s (SendNas text)) (nat_le nas_count_limit c.nas.send) _ _ (λ b. tt)
       (λ b. record { act_is = refl; context = c; in_use = e; count_is = refl; left = b })
 
   skip_has : (n : ℕ) (o : Option (CoreContext K)) → s.context ≡ o → ActHas s (Skip n) (skip_nas_row (option_map (map_core_context unseen) o) n)

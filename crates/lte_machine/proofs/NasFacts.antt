@@ -7,7 +7,7 @@ use Rattle.lte_events.specs.declared.answers.Answer.{Answer}
 use Rattle.lte_events.specs.declared.answers.Answer.TheVariants.{OldConnection, Repeated}
 use Rattle.key_model.specs.Least.{least}
 use Rattle.key_model.specs.Reading.{Reading}
-use Rattle.nas_count.specs.Estimate.{estimate_of, count_limit}
+use Rattle.nas_count.specs.Estimate.{estimate_of, nas_count_limit}
 use Rattle.nas_count.specs.declared.sending.CountSpent.{CountSpent as NoneLeft}
 use Rattle.nas_guard.specs.Keys.{Keys, map_keys}
 use Rattle.nas_guard.specs.Open.{first_in, sn_in}
@@ -107,7 +107,7 @@ FrontHas r s pdu (OpensProtected header count) = ByContext s pdu header count
 estimate_above : (next sn count : ℕ) → estimate_of next sn ≡ Ok count → next ≤ count
 unfolding estimate_of least
 estimate_above next sn count e =
-    by_test (λ (n : Result ℕ NoneLeft). n ≡ Ok count → next ≤ count) (nat_lt (least next sn 256) count_limit) _ _
+    by_test (λ (n : Result ℕ NoneLeft). n ≡ Ok count → next ≤ count) (nat_lt (least next sn 256) nas_count_limit) _ _
     (λ b f. subst (λ n. next ≤ n) (taken (least next sn 256) f) (omega arith)) (λ b f. absurd cc) e
   where
     taken : (n : ℕ) → (let x : Result ℕ NoneLeft = Ok n in let y : Result ℕ NoneLeft = Ok count in x ≡ y) → n ≡ count

@@ -5,7 +5,7 @@ use Rattle.std.specs.Prelude.{⊤}
 use Rattle.lte_events.specs.declared.acts.PhoneAct as acts
 use Rattle.lte_events.specs.declared.acts.PhoneAct.{PhoneAct}
 use Rattle.key_model.specs.Reading.{Reading}
-use Rattle.nas_count.specs.Estimate.{count_limit}
+use Rattle.nas_count.specs.Estimate.{nas_count_limit}
 use Rattle.rec_base.specs.declared.bearers.Bearer.{Bearer}
 use Rattle.lte_machine.specs.Bearers.{Srb, Drb, Which, OnSrb, OnDrb, which, srb_counts, drb_counts, is_spent}
 use Rattle.lte_machine.specs.PhoneChoice.{unless_spent, under_context, service_row, resend_row, idle_row, packet_sent_row, rrc_sent_row, nas_skipped_row, bearer_skipped_row, act_row}
@@ -20,7 +20,7 @@ use Rattle.lte_machine.proofs.Tests.{by_test}
 pub record HasCount {K C : Type 0} (s : Phone K C) : Type 0 where
   pub context : NasContext K
   pub in_use : s.context ≡ Some context
-  pub left : nat_le count_limit context.send ≡ false
+  pub left : nat_le nas_count_limit context.send ≡ false
 
 -- the completion of a handover goes out once more, under the next COUNT of SRB1
 pub record Resends {K C : Type 0} (s : Phone K C) : Type 0 where
@@ -68,7 +68,7 @@ module _ {K C : Type 0} (r : Reading K C) (s : Phone K C) where
 
   under_has : (act : PhoneAct) (row : ActRow) → (HasCount s → Has act row) → (o : Option (NasContext K)) → s.context ≡ o → Has act (under_context (option_map (map_context unseen) o) row)
   under_has act row f None e = tt
-  under_has act row f (Some c) e = left_has act (nat_le count_limit c.send) row (λ b. f (record { context = c; in_use = e; left = b }))
+  under_has act row f (Some c) e = left_has act (nat_le nas_count_limit c.send) row (λ b. f (record { context = c; in_use = e; left = b }))
 
   service_has : (radio : Radio K C) → Has acts.TheVariants.ServiceRequest (service_row (plain_phone r s).context (map_radio unseen r.ncc radio))
   service_has Idle = under_has acts.TheVariants.ServiceRequest ServiceRequested (λ h. h) s.context refl

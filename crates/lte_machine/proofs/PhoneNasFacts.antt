@@ -8,7 +8,7 @@ use Rattle.alg_choice.specs.declared.caps.Caps.{Caps}
 use Rattle.rec_base.specs.declared.faults.RecFault.{RecFault}
 use Rattle.lte_events.specs.declared.answers.Answer.{Answer}
 use Rattle.key_model.specs.Reading.{Reading}
-use Rattle.nas_count.specs.Estimate.{estimate_of, count_limit}
+use Rattle.nas_count.specs.Estimate.{estimate_of, nas_count_limit}
 use Rattle.nas_count.specs.declared.sending.CountSpent.{CountSpent as NoneLeft}
 use Rattle.nas_guard.specs.Open.{sn_in, sent_in}
 use Rattle.nas_rec.specs.Reading.{read_nas}
@@ -81,7 +81,7 @@ module _ {K C : Type 0} (r : Reading K C) (s : Phone K C) (pdu : List ℕ) where
   rejected_has : (outcome : Outcome) (answer : Answer) (cause : ℕ) (o : Option (NasContext K)) → s.context ≡ o → NasHas outcome (rejected answer cause (option_map (map_context unseen) o))
   rejected_has outcome answer cause None e = e
   rejected_has outcome answer cause (Some c) e =
-      by_test (NasHas outcome) (nat_le count_limit c.send) _ _ (λ b. tt) (λ b. record { context = c; in_use = e; left = b })
+      by_test (NasHas outcome) (nat_le nas_count_limit c.send) _ _ (λ b. tt) (λ b. record { context = c; in_use = e; left = b })
 
   -- a command
   command_at_has : header_for_phone pdu ≡ Ok 3 → (p : Partial K) → s.partial ≡ Some p → (algs : Algs) (caps : Caps) → read_nas (sent_in pdu) ≡ Ok (SecurityModeCommand p.ksi algs caps)

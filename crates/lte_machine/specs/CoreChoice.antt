@@ -13,7 +13,7 @@ use Rattle.lte_events.specs.declared.acts.CoreAct.TheVariants.{StartSmc, Connect
 use Rattle.lte_events.specs.declared.answers.Answer.{Answer}
 use Rattle.lte_events.specs.declared.answers.Answer.TheVariants.{NoContext, MacFails, CountSpent, SmcOpen, NoAlgorithm, BadRecord, Short, BadHeader, WrongKind, NoUe, OldConnection, UnknownCell, Repeated, NumberSpent, NoTrigger, NoSmc}
 use Rattle.lte_events.specs.Site.{station_of}
-use Rattle.nas_count.specs.Estimate.{count_limit, estimate_of}
+use Rattle.nas_count.specs.Estimate.{nas_count_limit, estimate_of}
 use Rattle.nas_count.specs.declared.sending.CountSpent.{CountSpent as NoneLeft}
 use Rattle.nas_guard.specs.Keys.{Keys}
 use Rattle.nas_guard.specs.Open.{first_in, header_in, sn_in}
@@ -199,7 +199,7 @@ core_record_row s (Ok content) = core_fields_row s content.fields
 abbrev pub smc_row : CorePartial (Unit {0}) → Result Algs NoneChosen → CoreActRow
 smc_row partial (Err none) = ActRefused NoAlgorithm
 smc_row partial (Ok algs) =
-    if nat_le count_limit partial.send then ActRefused CountSpent else SmcStarted partial.ksi algs partial.caps partial.send
+    if nat_le nas_count_limit partial.send then ActRefused CountSpent else SmcStarted partial.ksi algs partial.caps partial.send
 
 -- one procedure at a time (TS 24.301 5.4.3.2)
 abbrev pub start_smc_row : List Eea → Option (CorePartial (Unit {0})) → Option (Keys (Unit {0})) → CoreActRow
@@ -228,7 +228,7 @@ release_row (Some link) = ContextReleased link.conn link.station
 abbrev pub send_nas_row : Option (CoreContext (Unit {0})) → List ℕ → CoreActRow
 send_nas_row None text = ActRefused NoContext
 send_nas_row (Some context) text =
-    if nat_le count_limit context.nas.send then ActRefused CountSpent else NasSent context.nas.send text
+    if nat_le nas_count_limit context.nas.send then ActRefused CountSpent else NasSent context.nas.send text
 
 -- downlink messages that are lost, each with its COUNT
 abbrev pub skip_nas_row : Option (CoreContext (Unit {0})) → ℕ → CoreActRow

@@ -12,7 +12,7 @@ use Rattle.lte_events.specs.declared.answers.Answer.{Answer}
 use Rattle.lte_events.specs.declared.answers.Answer.TheVariants.{Done}
 use Rattle.key_model.specs.Derivation.{Derivation, kenb_made, nh_made}
 use Rattle.key_model.specs.Reading.{Reading}
-use Rattle.nas_count.specs.Estimate.{count_limit}
+use Rattle.nas_count.specs.Estimate.{nas_count_limit}
 use Rattle.nas_guard.specs.Keys.{Keys}
 use Rattle.nas_guard.specs.Seal.{is_ciphered}
 use Rattle.nas_rec.specs.Spelling.{spelling_of}
@@ -198,7 +198,7 @@ nas_sent count text (Some c) s =
 
 abbrev pub nas_skipped : {K C : Type 0} → ℕ → Option (CoreContext K) → Core K C → CoreDone K C
 nas_skipped n None s = silent s
-nas_skipped n (Some c) s = silent (record s { context = Some (nas_sent_to (skipped n c.nas.send count_limit) c) })
+nas_skipped n (Some c) s = silent (record s { context = Some (nas_sent_to (skipped n c.nas.send nas_count_limit) c) })
 
 -- connections and their chains
 

@@ -13,7 +13,7 @@ use Rattle.lte_events.specs.declared.answers.Answer.TheVariants.{Done, NoContext
 use Rattle.lte_events.specs.declared.acts.PhoneAct as acts
 use Rattle.lte_events.specs.declared.acts.PhoneAct.{PhoneAct}
 use Rattle.nas_count.specs.declared.sending.CountSpent as spent
-use Rattle.nas_count.specs.Estimate.{count_limit, estimate_of}
+use Rattle.nas_count.specs.Estimate.{nas_count_limit, estimate_of}
 use Rattle.nas_guard.specs.Open.{first_in, header_in, sn_in, sent_in}
 use Rattle.nas_rec.specs.declared.records.NasRecord as nas
 use Rattle.nas_rec.specs.declared.records.NasRecord.{NasRecord}
@@ -79,7 +79,7 @@ header_for_phone pdu =
 -- where no uplink COUNT is left, nothing is sent
 abbrev pub rejected : Answer → ℕ → Option (NasContext (Unit {0})) → NasRow
 rejected answer cause None = RejectedPlain answer cause
-rejected answer cause (Some c) = if nat_le count_limit c.send then NasRefused answer else RejectedUnder answer cause
+rejected answer cause (Some c) = if nat_le nas_count_limit c.send then NasRefused answer else RejectedUnder answer cause
 
 -- causes of 9.9.3.9: the replayed capabilities are not the phone's, and any other
 abbrev pub capabilities_mismatch : ℕ
@@ -257,7 +257,7 @@ unless_spent false row = row
 -- one under the NAS context in use
 abbrev pub under_context : Option (NasContext (Unit {0})) → ActRow → ActRow
 under_context None row = ActRefused NoContext
-under_context (Some c) row = unless_spent (nat_le count_limit c.send) row
+under_context (Some c) row = unless_spent (nat_le nas_count_limit c.send) row
 
 -- a SERVICE REQUEST, of a phone with no connection (TS 24.301 5.6.1.1)
 abbrev pub service_row : Option (NasContext (Unit {0})) → Radio (Unit {0}) ℕ → ActRow

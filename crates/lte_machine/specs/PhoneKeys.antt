@@ -10,7 +10,7 @@ use Rattle.lte_events.specs.declared.answers.Answer.TheVariants.{Done, NoTrigger
 use Rattle.key_model.specs.Reading.{Reading}
 use Rattle.key_model.specs.Derivation.{kenb_made, star_made}
 use Rattle.key_model.specs.HandoverLines.{change_line}
-use Rattle.nas_count.specs.Estimate.{count_limit}
+use Rattle.nas_count.specs.Estimate.{nas_count_limit}
 use Rattle.nas_guard.specs.Keys.{Keys}
 use Rattle.nas_guard.specs.Seal.{is_ciphered, first_octet}
 use Rattle.nas_rec.specs.declared.records.NasRecord as nas
@@ -332,7 +332,7 @@ nas_sent text s (Some c) =
 -- COUNTs left out, as if so many records were lost on the way
 abbrev pub nas_skipped : {K C : Type 0} → ℕ → Phone K C → Option (NasContext K) → PhoneDone K C
 nas_skipped n s None = (s, only Done)
-nas_skipped n s (Some c) = (record s { context = Some (record c { send = skipped n c.send count_limit }) }, only Done)
+nas_skipped n s (Some c) = (record s { context = Some (record c { send = skipped n c.send nas_count_limit }) }, only Done)
 
 abbrev pub bearer_skipped : {K C : Type 0} → Which → ℕ → Phone K C → Radio K C → PhoneDone K C
 bearer_skipped bearer n s (Connected l) = (record s { radio = with_bearers l (skipped_on bearer n l.bearers) }, only Done)

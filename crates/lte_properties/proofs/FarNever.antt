@@ -26,7 +26,7 @@ use Rattle.lte_machine.specs.World.{World, Line}
 use Rattle.lte_machine.proofs.AnnexB.{annex_b_ciphers}
 use Rattle.lte_machine.proofs.EventByEvent.{step_takes, written_still, each_of_first}
 use Rattle.lte_machine.proofs.StillRun.{still_is_run}
-use Rattle.lte_properties.specs.Agreement.{is_made_at, made_at, ContextAt, AtStation, IsFar, NoneThere, MadeIsTold, TookIsTold, MadeOnce}
+use Rattle.lte_properties.specs.Agreement.{is_made_at, made_at, ContextAt, EachStation, IsFar, NoneThere, MadeIsTold, TookIsTold, MadeOnce}
 use Rattle.lte_properties.specs.BySteps.{MakesAt, TakesAt}
 use Rattle.lte_properties.specs.InOctets.{TakesFar, NoContextAt, FarNeverThere}
 use Rattle.lte_properties.proofs.Agreement.Holds.{of_each}
@@ -92,7 +92,7 @@ module _ (setup : Setup) (events : List Event) where
     module _ (x : Took Term ℕ) (h : TakesFar setup events x) where
       -- by the world after the order, or by a later one
       by_later : (p n : ℕ) → n ≤ p → h.step < p → (w v : TheWorld) → written_run setup (take n events) ≡ Running w → written_run setup (take p events) ≡ Running v
-          → AtStation w x.station (λ s. ContextAt x.air s.context (λ c. ⊥))
+          → EachStation w x.station (λ s. ContextAt x.air s.context (λ c. ⊥))
       by_later p n low after w v runs ends =
           let way : take n (take p events) ≡ take n events = take-take n p events low in
           let none = none_ever annex_b annex_b_ciphers setup (take p events) v ends set (first p) n in
@@ -101,13 +101,13 @@ module _ (setup : Setup) (events : List Event) where
           let apart : NoneThere w v = subst (λ (a : TheWorld). NoneThere w a) (sym there) (subst (λ (a : TheWorld). NoneThere a (run (written_machine annex_b) (first_world setup) (take p events))) (sym here) none) in
           let found : made_at v.made x.station x.air ≡ Some h.made =
           (λ j. made_at v.made (sym h.there.0 j) (sym h.there.1 j)) ∙ made_later h.when h.made h.line h.makes p (omega (arith, after, h.earlier)) v ends in
-          of_each (λ y. IsFar v.made y → AtStation w y.station (λ s. ContextAt y.air s.context (λ c. ⊥))) v.took x apart
+          of_each (λ y. IsFar v.made y → EachStation w y.station (λ s. ContextAt y.air s.context (λ c. ⊥))) v.took x apart
           (took_later h.step x h.told h.takes p after v ends) (h.made, found, h.far)
 
-      none_at : (n : ℕ) (w : TheWorld) → written_run setup (take n events) ≡ Running w → AtStation w x.station (λ s. ContextAt x.air s.context (λ c. ⊥))
+      none_at : (n : ℕ) (w : TheWorld) → written_run setup (take n events) ≡ Running w → EachStation w x.station (λ s. ContextAt x.air s.context (λ c. ⊥))
       none_at n w runs = by (nat_lt h.step n) refl
         where
-          by : (b : Bool) → nat_lt h.step n ≡ b → AtStation w x.station (λ s. ContextAt x.air s.context (λ c. ⊥))
+          by : (b : Bool) → nat_lt h.step n ≡ b → EachStation w x.station (λ s. ContextAt x.air s.context (λ c. ⊥))
           by true e = by_later n n (omega arith) (grind (arith, nat_tests)) w w runs runs
           by false e = by_later (suc h.step) n (grind (arith, nat_tests)) (omega arith) w h.takes.after runs (step_takes setup events h.step h.takes.world h.takes.event h.takes.after h.told h.takes.step)
 

@@ -86,17 +86,17 @@ ObeysAgreement w = AllOf (Obeys w.made) w.took
 
 -- under one connection number the phone's keys grow: the chain number rises, and the key is a KeNB* of the NH of that number
 -- on the chain of the key before, or it stays and the key is a KeNB* of the one before (7.2.8.4.4). A key change begins anew with the KeNB of its KASME and of COUNT 0 (7.2.9.2)
-abbrev pub Grows : Took Term ℕ → Came Term ℕ → Type 0
-Grows x Secured = ⊤
-Grows x (Commanded before) =
+abbrev pub KeyGrows : Took Term ℕ → Came Term ℕ → Type 0
+KeyGrows x Secured = ⊤
+KeyGrows x (Commanded before) =
     ((before.number < x.number) × (pci : ℕ) × (earfcn : ℕ)
     × (x.key ≡ Star (nh (root_of before.key) (nas_count_of before.key) x.number) pci earfcn))
     ⊎ ((x.number ≡ before.number) × (pci : ℕ) × (earfcn : ℕ) × (x.key ≡ Star before.key pci earfcn))
-Grows x (Changed before root) =
+KeyGrows x (Changed before root) =
     (x.number ≡ 0) × (pci : ℕ) × (earfcn : ℕ) × (x.key ≡ Star (Kenb root 0) pci earfcn)
 
 abbrev pub TermsGrow : {S : Type 0} → World Term ℕ S → Type 0
-TermsGrow w = AllOf (λ x. Grows x x.came) w.took
+TermsGrow w = AllOf (λ x. KeyGrows x x.came) w.took
 
 -- what the phone had before an order is what it took last, at the station where it took it
 abbrev pub Joins : Came Term ℕ → Option (Before Term ℕ) → Type 0
@@ -132,8 +132,8 @@ ContextAt air None P = ⊤
 ContextAt air (Some c) P = c.air ≡ air → P c
 
 -- of each station of this number
-abbrev pub AtStation : {K C S : Type 0} → World K C S → ℕ → (Station K C → Type 0) → Type 0
-AtStation w id P = AllOf (λ s. s.id ≡ id → P s) w.stations
+abbrev pub EachStation : {K C S : Type 0} → World K C S → ℕ → (Station K C → Type 0) → Type 0
+EachStation w id P = AllOf (λ s. s.id ≡ id → P s) w.stations
 
 -- phone and station have one key, one chain number and the same algorithms
 abbrev pub Agree : {K C : Type 0} → Link K C → Context K C → Type 0
@@ -142,7 +142,7 @@ Agree l c = (l.kenb ≡ c.key.kenb) × (l.chain.number ≡ c.key.number) × (l.k
 abbrev pub JoinedBy : {K C S : Type 0} → World K C S → Radio K C → Type 0
 JoinedBy w Idle = ⊤
 JoinedBy w (Connecting waiting) = ⊤
-JoinedBy w (Connected l) = AtStation w l.station (λ s. ContextAt l.air s.context (Agree l))
+JoinedBy w (Connected l) = EachStation w l.station (λ s. ContextAt l.air s.context (Agree l))
 
 -- wherever the phone is connected at a station and air address, and the station's context has that air address
 abbrev pub JoinedAgree : {K C S : Type 0} → World K C S → Type 0
@@ -167,7 +167,7 @@ NoneUnder w = AllOf (λ x. IsFar w.made x → AllOf (λ y. key_before y.came ≢
 -- steps ahead; in world v, of what the phone took in world w
 abbrev pub NoneThere : {S : Type 0} → World Term ℕ S → World Term ℕ S → Type 0
 NoneThere v w =
-    AllOf (λ x. IsFar w.made x → AtStation v x.station (λ s. ContextAt x.air s.context (λ c. ⊥))) w.took
+    AllOf (λ x. IsFar w.made x → EachStation v x.station (λ s. ContextAt x.air s.context (λ c. ⊥))) w.took
 
 -- in no world on the way of the run has a context the air address of a far command, whenever in the run that command came
 abbrev pub NoneEver : Machine Term ℕ (Outgoing Term ℕ) → World Term ℕ (Outgoing Term ℕ) → List Event → Type 0
@@ -205,7 +205,7 @@ PrepsMade w = AllOf (λ s. AllOf (PrepMade w s.id) s.preps) w.stations
 
 -- there is a station of this number, and of each of this number this holds
 abbrev pub OfStation : {S : Type 0} → World Term ℕ S → ℕ → (Station Term ℕ → Type 0) → Type 0
-OfStation w id P = (s : Station Term ℕ) × Member s w.stations × (s.id ≡ id) × AtStation w id P
+OfStation w id P = (s : Station Term ℕ) × Member s w.stations × (s.id ≡ id) × EachStation w id P
 
 -- the context of a station
 abbrev pub HasContext : Option (Context Term ℕ) → (Context Term ℕ → Type 0) → Type 0

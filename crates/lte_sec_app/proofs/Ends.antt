@@ -7,7 +7,7 @@ use Rattle.edge_io.specs.Lines.{EndsLine, are_lines}
 use Rattle.edge_io.proofs.Ending.{feed, is_lines, on}
 use Rattle.scenario_file.specs.declared.faults.ScenarioFault.{ScenarioFault}
 use Rattle.scenario_file.specs.Refused.{fault_text, refused_text}
-use Rattle.lte_sec_app.specs.Drive.{place_text, difference_text}
+use Rattle.lte_sec_app.specs.Drive.{wanted_text, difference_text}
 use Rattle.lte_sec_app.specs.Serve.{bad_frame_text}
 
 refused_ends : (fault : ScenarioFault) → EndsLine (refused_text fault)
@@ -20,7 +20,7 @@ refused_is fault = is_lines _ (refused_ends fault)
 difference_ends : (step : Option ℕ) (wanted got : List ℕ) → EndsLine (difference_text step wanted got)
 unfolding difference_text
 difference_ends step wanted got =
-    on (place_text step) _ (on (codes " differs ") _ (on (encode_lower wanted) _ (on (codes " ") _ (on (encode_lower got) _ feed))))
+    on (wanted_text step) _ (on (codes " differs ") _ (on (encode_lower wanted) _ (on (codes " ") _ (on (encode_lower got) _ feed))))
 
 pub difference_is : (step : Option ℕ) (wanted got : List ℕ) → are_lines (difference_text step wanted got) ≡ true
 difference_is step wanted got = is_lines _ (difference_ends step wanted got)

@@ -24,14 +24,14 @@ use Rattle.lte_sec_app.specs.declared.status.Status.TheVariants.{Done, Memory, R
 use Rattle.lte_sec_app.specs.Run.{most_octets, WritesAt}
 
 -- where a reply was wanted: at the event with this number, or where a peer was set up
-abbrev pub place_text : Option ℕ → List ℕ
-place_text (Some step) = decimal step
-place_text None = codes "setup"
+abbrev pub wanted_text : Option ℕ → List ℕ
+wanted_text (Some step) = decimal step
+wanted_text None = codes "setup"
 
 -- the line for a reply that differs: where, the wanted reply, and what came of it
 unfoldable pub difference_text : Option ℕ → List ℕ → List ℕ → List ℕ
 difference_text step wanted got =
-    place_text step ++ (codes " differs " ++ (encode_lower wanted ++ (codes " " ++ (encode_lower got ++ codes "\n"))))
+    wanted_text step ++ (codes " differs " ++ (encode_lower wanted ++ (codes " " ++ (encode_lower got ++ codes "\n"))))
 
 -- what was written of this line at the status with which it was written; no other status comes
 abbrev pub LineAt : List ℕ → Status → Told → Told → Type 0

@@ -7,7 +7,7 @@ use Rattle.edge_io.specs.Octets.{Grows, GrowsByProperPrefix}
 use Rattle.edge_io.specs.declared.peers.Role.{Role}
 use Rattle.role_wire.specs.declared.frames.FrameIn.{FrameIn}
 use Rattle.role_wire.specs.declared.frames.FrameFault.{FrameFault}
-use Rattle.role_wire.specs.Frame.{fault_number}
+use Rattle.role_wire.specs.Frame.{frame_fault_number}
 use Rattle.role_node.specs.declared.serving.ServeEnd.{ServeEnd}
 use Rattle.role_node.specs.Actor.{replies}
 use Rattle.role_node.specs.Session.{AreFrames, spelled, Session}
@@ -29,7 +29,7 @@ pub record EndsBad (role : Role) (port port' : Told) (Said : List ℕ → Type 0
   pub place : ℕ
   pub fault : FrameFault
   pub session : Session role (ServeEnd.BadFrame place fault) port port'
-  pub said : Said (bad_frame_text place (fault_number fault))
+  pub said : Said (bad_frame_text place (frame_fault_number fault))
 
 -- the port did not open, and nothing was read or written
 pub record NotOpened (port port' : Told) : Type 0 where

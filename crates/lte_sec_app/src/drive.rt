@@ -5,7 +5,7 @@ ghost use Rattle.edge_io.specs.Used.{UsedAsSource, UsedAsSink};
 ghost use Rattle.lte_events.specs.Conditions.{CanStart, CanHappen, SetupFits, EventFits};
 ghost use Rattle.peer_calls.specs.Driven.{AllStopped};
 ghost use Rattle.scenario_file.specs.Reading.{reading_of};
-ghost use Rattle.lte_sec_app.specs.Drive.{AllGoes, DriveAt, DriveIsComplete, LineAt, ScenarioAt, TextAt, TextGoes, difference_text, place_text};
+ghost use Rattle.lte_sec_app.specs.Drive.{AllGoes, DriveAt, DriveIsComplete, LineAt, ScenarioAt, TextAt, TextGoes, difference_text, wanted_text};
 ghost use Rattle.lte_sec_app.specs.Run.{WhereRun};
 ghost use Rattle.lte_sec_app.specs.Scenario.{HasHeadline, run_output};
 ghost use Rattle.lte_sec_app.specs.Text.{HoldsOf};
@@ -149,15 +149,15 @@ fn difference_line(
 ) -> Result<String, AllocError>
     ensures { IfOk result (λ text. string_bytes text ≡ difference_text step wanted.now got.now) }
 {
-    let place = place_text(alloc, step)?;
+    let place = wanted_text(alloc, step)?;
     let wanted = hex::encode(alloc, wanted.as_slice())?;
     let got = hex::encode(alloc, got.as_slice())?;
     format!(in alloc; "{place} differs {wanted} {got}\n")
 }
 
 // Where the reply was wanted.
-fn place_text(alloc: Global, step: Option<u32>) -> Result<String, AllocError>
-    ensures { IfOk result (λ text. string_bytes text ≡ place_text step) }
+fn wanted_text(alloc: Global, step: Option<u32>) -> Result<String, AllocError>
+    ensures { IfOk result (λ text. string_bytes text ≡ wanted_text step) }
 {
     match step {
         Some(step) => format!(in alloc; "{step}"),

@@ -10,7 +10,7 @@ use Rattle.pdu_guard.specs.declared.am.AmFound.{AmFound}
 use Rattle.lte_sec_c.specs.declared.drb.DrbContext.{DrbContext}
 use Rattle.lte_sec_c.specs.declared.fault.Fault.{Fault}
 use Rattle.lte_sec_c.specs.declared.fault.Fault.TheVariants.{OutOfRange, NoRoom}
-use Rattle.lte_sec_c.specs.Drb.{drb_expects, drb_header, drb_keys_in, is_drb, numbers_in}
+use Rattle.lte_sec_c.specs.Drb.{drb_expects, drb_header, drb_keys_in, is_drb, numbers_by}
 use Rattle.lte_sec_c.specs.Ranges.{dir_of, is_direction}
 use Rattle.lte_sec_c.specs.Status.{of_am}
 
@@ -18,7 +18,7 @@ use Rattle.lte_sec_c.specs.Status.{of_am}
 -- and a DIRECTION in range
 abbrev pub is_am : DrbContext → ℕ → ℕ → Bool
 is_am c last direction =
-    is_drb c && (not (c.bits == 7) && (nat_lt last (values_of (numbers_in c.bits)) && is_direction direction))
+    is_drb c && (not (c.bits == 7) && (nat_lt last (values_of (numbers_by c.bits)) && is_direction direction))
 
 abbrev pub am_answer : Result AmFound AmFault → Result AmFound Fault
 am_answer (Ok found) = Ok found
@@ -29,7 +29,7 @@ abbrev pub am_found : DrbContext → ℕ → ℕ → List ℕ → ℕ → Result
 am_found c last direction pdu room =
     if is_am c last direction
     then (if nat_lt room (length pdu - drb_header c) then Err NoRoom
-    else am_answer (am_count_of (numbers_in c.bits) last c.receive pdu))
+    else am_answer (am_count_of (numbers_by c.bits) last c.receive pdu))
     else Err OutOfRange
 
 -- what it opens to

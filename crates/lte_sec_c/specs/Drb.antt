@@ -18,8 +18,8 @@ use Rattle.lte_sec_c.specs.Status.{done, status_of}
 abbrev pub is_bits : ℕ → Bool
 is_bits bits = (bits == 7) || ((bits == 12) || ((bits == 15) || (bits == 18)))
 
-abbrev pub numbers_in : ℕ → Numbers
-numbers_in bits =
+abbrev pub numbers_by : ℕ → Numbers
+numbers_by bits =
     if bits == 7 then Seven else (if bits == 12 then Twelve else (if bits == 15 then Fifteen else Eighteen))
 
 -- a bearer in range
@@ -29,11 +29,11 @@ is_drb c =
 
 -- its keys
 abbrev pub drb_keys_in : DrbContext → DrbKeys
-drb_keys_in c = record { enc = c.enc_key; eea = eea_of c.eea; bearer = c.bearer; numbers = numbers_in c.bits }
+drb_keys_in c = record { enc = c.enc_key; eea = eea_of c.eea; bearer = c.bearer; numbers = numbers_by c.bits }
 
 -- how many octets its header has
 abbrev pub drb_header : DrbContext → ℕ
-drb_header c = header_octets (numbers_in c.bits)
+drb_header c = header_octets (numbers_by c.bits)
 
 -- the bearer with this next COUNT to send, or to receive
 abbrev pub drb_sends : DrbContext → ℕ → DrbContext
@@ -81,7 +81,7 @@ drb_opens c next direction pdu room =
 abbrev pub drb_opens_at : DrbContext → ℕ → ℕ → List ℕ → ℕ → Result NasOpening Fault
 drb_opens_at c count direction pdu room =
     if is_drb_opening c count direction
-    then (if is_other count (drb_count_of (numbers_in c.bits) count pdu) then Err OtherCount
+    then (if is_other count (drb_count_of (numbers_by c.bits) count pdu) then Err OtherCount
     else drb_opens c count direction pdu room)
     else Err OutOfRange
 

@@ -1,6 +1,6 @@
 -- NAS messages under a context that C holds (TS 24.301 4.4).
 use Rattle.std.specs.Prelude.{ℕ, ◌+◌, ◌-◌, ◌==◌, ◌&&◌, nat_le, nat_lt, Bool, false, not, if◌then◌else◌, List, length, Result, Ok, Err}
-use Rattle.nas_count.specs.Estimate.{count_limit}
+use Rattle.nas_count.specs.Estimate.{nas_count_limit}
 use Rattle.nas_guard.specs.declared.opening.OpenFault.{OpenFault}
 use Rattle.pdu_guard.specs.Nas.{NasOpening, nas_head_of, nas_opened}
 use Rattle.pdu_guard.specs.declared.nas.NasHead.{NasHead}
@@ -15,7 +15,7 @@ use Rattle.lte_sec_c.specs.Status.{done, status_of}
 -- a context in range
 abbrev pub is_nas : NasContext → Bool
 is_nas c =
-    is_identity c.eea && (is_identity c.eia && (nat_le c.send count_limit && nat_le c.receive count_limit))
+    is_identity c.eea && (is_identity c.eia && (nat_le c.send nas_count_limit && nat_le c.receive nas_count_limit))
 
 -- its keys
 abbrev pub nas_keys_in : NasContext → NasKeys
@@ -36,14 +36,14 @@ is_header header = nat_le 1 header && nat_le header 4
 abbrev pub nas_seal_status : NasContext → ℕ → ℕ → List ℕ → ℕ → ℕ
 nas_seal_status c header direction text room =
     if is_nas c && (is_header header && is_direction direction)
-    then (if c.send == count_limit then status_of CountSpent
+    then (if c.send == nas_count_limit then status_of CountSpent
     else (if nat_lt room (length text + 6) then status_of NoRoom
     else done))
     else status_of OutOfRange
 
 -- what an opening needs: a context, a next COUNT and a DIRECTION in range
 abbrev pub is_nas_opening : NasContext → ℕ → ℕ → Bool
-is_nas_opening c next direction = is_nas c && (nat_le next count_limit && is_direction direction)
+is_nas_opening c next direction = is_nas c && (nat_le next nas_count_limit && is_direction direction)
 
 -- what a message opens to where this COUNT comes next, with so many octets of room
 abbrev pub nas_opens : NasContext → ℕ → ℕ → List ℕ → ℕ → Result NasOpening Fault
@@ -61,6 +61,6 @@ has_other count (Err fault) = false
 -- what a message opens to at this COUNT
 abbrev pub nas_opens_at : NasContext → ℕ → ℕ → List ℕ → ℕ → Result NasOpening Fault
 nas_opens_at c count direction pdu room =
-    if nat_lt count count_limit && is_nas_opening c count direction
+    if nat_lt count nas_count_limit && is_nas_opening c count direction
     then (if has_other count (nas_head_of count pdu) then Err OtherCount else nas_opens c count direction pdu room)
     else Err OutOfRange

@@ -1,6 +1,6 @@
 -- What a check of a Service Request comes to (TS 24.301 8.2.25).
 use Rattle.std.specs.Prelude.{ℕ, ◌&&◌, nat_le, if◌then◌else◌, List, [], ◌∷◌, ◌++◌, Result, Ok, Err}
-use Rattle.nas_count.specs.Estimate.{count_limit}
+use Rattle.nas_count.specs.Estimate.{nas_count_limit}
 use Rattle.pdu_guard.specs.Nas.{NasOpening}
 use Rattle.pdu_guard.specs.ShortMacs.{service_checked}
 use Rattle.pdu_guard.specs.declared.short_macs.ServiceFound.{ServiceFound}
@@ -27,6 +27,6 @@ service_answer (Err fault) = Err (service_fault fault)
 -- what four octets are where this COUNT comes next
 abbrev pub service_opens : ℕ → List ℕ → ℕ → List ℕ → Result NasOpening Fault
 service_opens eia int next request =
-    if is_identity eia && nat_le next count_limit
+    if is_identity eia && nat_le next nas_count_limit
     then service_answer (service_checked (eia_of eia) int next request)
     else Err OutOfRange

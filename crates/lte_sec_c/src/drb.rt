@@ -3,7 +3,7 @@ ghost use Rattle.std.specs.Prelude.{◌≡◌, ◌≢◌, ◌+◌, ◌<◌, ◌�
 ghost use Rattle.pdcp_guard.specs.Counts.{count_limit};
 ghost use Rattle.pdu_guard.specs.Drb.{drb_count_of, drb_pdu};
 ghost use Rattle.lte_sec_c.specs.Found.{found_after, status_after, text_after};
-ghost use Rattle.lte_sec_c.specs.Drb.{drb_after, drb_header, drb_keys_in, drb_opens, drb_opens_at, drb_send_status, drb_sends, is_bits, is_drb, is_drb_opening, numbers_in};
+ghost use Rattle.lte_sec_c.specs.Drb.{drb_after, drb_header, drb_keys_in, drb_opens, drb_opens_at, drb_send_status, drb_sends, is_bits, is_drb, is_drb_opening, numbers_by};
 ghost use Rattle.lte_sec_c.specs.Ranges.{dir_of};
 ghost use Rattle.lte_sec_c.specs.Srb.{is_other};
 ghost use Rattle.lte_sec_c.specs.Status.{done};
@@ -107,7 +107,7 @@ pub extern "C" fn ltesec_drb_open_at(
     if !is_opening(context, count, direction) {
         return Fault::OutOfRange.status();
     }
-    if is_other(count, numbers_in(context.bits), pdu) {
+    if is_other(count, numbers_by(context.bits), pdu) {
         return Fault::OtherCount.status();
     }
     open(context, count, direction, pdu, text, found)
@@ -163,8 +163,8 @@ fn is_bits(bits: u32) -> bool
 }
 
 // The sequence numbers of so many bits.
-pub(crate) fn numbers_in(bits: u32) -> Numbers
-    ensures { result ≡ numbers_in bits }
+pub(crate) fn numbers_by(bits: u32) -> Numbers
+    ensures { result ≡ numbers_by bits }
 {
     match bits {
         7 => Numbers::Seven,
@@ -202,6 +202,6 @@ pub(crate) fn keys_in(context: &DrbContext) -> DrbKeys
         enc: AlgKey::of_octets(enc),
         eea: eea_of(context.eea),
         bearer: context.bearer as u8,
-        numbers: numbers_in(context.bits),
+        numbers: numbers_by(context.bits),
     }
 }

@@ -1,6 +1,6 @@
 // NAS messages (TS 24.301 4.4).
 ghost use Rattle.std.specs.Prelude.{◌≡◌, ◌≢◌, ◌+◌, ◌<◌, ◌≤◌, ◌↔◌, IsTrue, drop, length, take};
-ghost use Rattle.nas_count.specs.Estimate.{count_limit};
+ghost use Rattle.nas_count.specs.Estimate.{nas_count_limit};
 ghost use Rattle.lte_sec_c.specs.Found.{found_after, status_after, text_after};
 ghost use Rattle.lte_sec_c.specs.Nas.{is_header, is_nas, nas_expects, nas_keys_in, has_other, is_nas_opening, nas_opens, nas_opens_at, nas_seal_status, nas_sends};
 ghost use Rattle.pdu_guard.specs.Nas.{nas_head_of, nas_pdu};
@@ -115,7 +115,7 @@ pub extern "C" fn ltesec_nas_open_at(
 /// Takes the COUNT of a message that opened as the last accepted one (4.4.3.1): the one after it is the next to receive.
 #[unsafe(no_mangle)]
 pub extern "C" fn ltesec_nas_accept(context: &mut NasContext, count: u32) -> u32
-    ensures done { result ≡ done ↔ (IsTrue (is_nas context.old) × (context.old.receive ≤ count) × (count < count_limit)) }
+    ensures done { result ≡ done ↔ (IsTrue (is_nas context.old) × (context.old.receive ≤ count) × (count < nas_count_limit)) }
     ensures moves { result ≡ done → context.new ≡ nas_expects context.old (count + 1) }
     ensures cause { result ≢ done → result ≡ status_of Fault.OutOfRange }
     ensures kept { result ≢ done → context.new ≡ context.old }
@@ -181,7 +181,7 @@ fn is_opening(context: &NasContext, next: u32, direction: u32) -> bool
 
 // Whether a message has another COUNT than this one.
 fn has_other(count: u32, pdu: &[u8]) -> bool
-    requires { count < count_limit }
+    requires { count < nas_count_limit }
     ensures { result ≡ has_other count (nas_head_of count pdu.now) }
 {
     match nas_head(count, pdu) {

@@ -1,6 +1,6 @@
 // The short MACs of a Service Request and of re-establishment.
 ghost use Rattle.std.specs.Prelude.{◌≡◌, ◌≢◌, ◌<◌, ◌≤◌, ◌↔◌, IsTrue};
-ghost use Rattle.nas_count.specs.Estimate.{count_limit};
+ghost use Rattle.nas_count.specs.Estimate.{nas_count_limit};
 ghost use Rattle.pdu_guard.specs.ShortMacs.{service_request_of, short_mac_i_of};
 ghost use Rattle.lte_sec_c.specs.Found.{found_after, status_after};
 ghost use Rattle.lte_sec_c.specs.ShortMacs.{in_four, service_fault, service_opens};
@@ -23,7 +23,7 @@ pub extern "C" fn ltesec_service_request(
     count: u32,
     request: &mut [u8; 4],
 ) -> u32
-    ensures done { result ≡ done ↔ (IsTrue (is_identity eia) × (ksi < 8) × (count < count_limit)) }
+    ensures done { result ≡ done ↔ (IsTrue (is_identity eia) × (ksi < 8) × (count < nas_count_limit)) }
     ensures value { result ≡ done → request.new ≡ service_request_of (eia_of eia) int_key.now ksi count }
     ensures cause { result ≢ done → result ≡ status_of Fault.OutOfRange }
     ensures kept { result ≢ done → request.new ≡ request.old }

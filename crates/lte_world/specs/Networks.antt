@@ -115,8 +115,8 @@ pub record Fits (w : World (List ℕ) ℕ Kept) (s : Stores) : Type 0 where
 -- HOW MANY RECORDS AND ROWS THERE ARE
 
 -- one event adds a record and 12 rows at the most
-abbrev pub Grows : Stores → Stores → Type 0
-Grows before after = (length after.records ≤ length before.records + 1) × (length after.rows ≤ length before.rows + 12)
+abbrev pub AddsFew : Stores → Stores → Type 0
+AddsFew before after = (length after.records ≤ length before.records + 1) × (length after.rows ≤ length before.rows + 12)
 
 -- no more than so many events add
 abbrev pub Within : ℕ → Stores → Type 0

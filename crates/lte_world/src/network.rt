@@ -6,7 +6,7 @@ ghost use Rattle.lte_machine.specs.Calls.{use_in, line_of_reply};
 ghost use Rattle.lte_machine.specs.Tuples.{tuple_chance};
 ghost use Rattle.std.specs.Str.{bytes_eq};
 ghost use Rattle.lte_machine.specs.Tuples as tuples;
-ghost use Rattle.lte_world.specs.Networks.{Grows, HasPlace};
+ghost use Rattle.lte_world.specs.Networks.{AddsFew, HasPlace};
 ghost use Rattle.lte_world.specs.Systems.{HasRoom};
 ghost use Rattle.net_bag.specs.Bag.{first_sent};
 ghost use Rattle.lte_machine.specs.World.{record_at};
@@ -103,7 +103,7 @@ impl Network {
     pub fn enroll(&mut self, root: [u8; 32]) -> Enrolled
         requires { 0 < self.old.row_room }
         ensures enrolled { EnrolledAs self.old self.new root result }
-        ensures grows { Grows self.old self.new }
+        ensures grows { AddsFew self.old self.new }
     {
         match self.ladder.root(root) {
             Ok(_) => {}
@@ -149,7 +149,7 @@ impl Network {
         requires holder { IsHolder holder }
         requires awaits { Settles self.old out.now }
         ensures settled { SettledAs self.old self.new out.now sender holder who step result }
-        ensures grows { Grows self.old self.new }
+        ensures grows { AddsFew self.old self.new }
     {
         match accepted_so(out.accepted, sender) {
             Ok(()) => {}

@@ -6,7 +6,7 @@ ghost use Rattle.lte_events.specs.Reply.{reply_of};
 ghost use Rattle.lte_events.specs.declared.events.Event.TheVariants.{Auth, Deliver, Inject};
 ghost use Rattle.lte_events.specs.declared.lines.Who.TheVariants.{World};
 ghost use Rattle.lte_machine.specs.Calls.{line_of_reply};
-ghost use Rattle.lte_world.specs.Networks.{Grows, HasPlace};
+ghost use Rattle.lte_world.specs.Networks.{AddsFew, HasPlace};
 ghost use Rattle.lte_world.specs.Systems.{ArrivalCan, Arrives, EventCan, Happens, HasRoom, MayHappen, PhoneTurns, PhoneCan, CoreTurns, CoreCan, StationTurns, StationCan, with_room};
 ghost use Rattle.lte_events.specs.declared.inputs.ActorIn.{ActorIn};
 ghost use Rattle.lte_world.specs.Replies.{input_at, replies_by, Tells};
@@ -70,7 +70,7 @@ impl System {
         requires can { PhoneCan self.old input }
         requires none { told.old ≡ [] }
         ensures turns { PhoneTurns self.old self.new input sender step result }
-        ensures grows { Grows self.old.stores self.new.stores }
+        ensures grows { AddsFew self.old.stores self.new.stores }
         ensures told { told.new ≡ replies_by self.old.phone self.old.core self.old.stations (ActorIn.Phone input) }
     {
         told.phone(&mut self.phone, input);
@@ -91,7 +91,7 @@ impl System {
         requires can { CoreCan self.old input }
         requires none { told.old ≡ [] }
         ensures turns { CoreTurns self.old self.new input sender step result }
-        ensures grows { Grows self.old.stores self.new.stores }
+        ensures grows { AddsFew self.old.stores self.new.stores }
         ensures told { told.new ≡ replies_by self.old.phone self.old.core self.old.stations (ActorIn.Core input) }
     {
         told.core(&mut self.core, input);
@@ -106,7 +106,7 @@ impl System {
         requires can { EventCan self.old event.now }
         requires none { told.old ≡ [] }
         ensures happens { Happens self.old self.new event.now step result }
-        ensures grows { Grows self.old.stores self.new.stores }
+        ensures grows { AddsFew self.old.stores self.new.stores }
         ensures told { OnOk result (Tells self.old event.now told.new) }
     {
         match event {
@@ -133,7 +133,7 @@ impl System {
         requires can { EventCan self.old (Auth ksi root caps) }
         requires none { told.old ≡ [] }
         ensures happens { Happens self.old self.new (Auth ksi root caps) step result }
-        ensures grows { Grows self.old.stores self.new.stores }
+        ensures grows { AddsFew self.old.stores self.new.stores }
         ensures told { OnOk result (Tells self.old (Auth ksi root caps) told.new) }
     {
         match self.network.enroll(root) {
@@ -154,7 +154,7 @@ impl System {
         requires can { EventCan self.old (Event.Phone act.now) }
         requires none { told.old ≡ [] }
         ensures happens { Happens self.old self.new (Event.Phone act.now) step result }
-        ensures grows { Grows self.old.stores self.new.stores }
+        ensures grows { AddsFew self.old.stores self.new.stores }
         ensures told { OnOk result (Tells self.old (Event.Phone act.now) told.new) }
     {
         let input = PhoneIn::Act(copied_phone_act(act));
@@ -174,7 +174,7 @@ impl System {
         requires can { EventCan self.old (Event.Station id act.now) }
         requires none { told.old ≡ [] }
         ensures happens { Happens self.old self.new (Event.Station id act.now) step result }
-        ensures grows { Grows self.old.stores self.new.stores }
+        ensures grows { AddsFew self.old.stores self.new.stores }
         ensures told { OnOk result (Tells self.old (Event.Station id act.now) told.new) }
     {
         let input = StationIn::Act(copied_station_act(act));
@@ -187,7 +187,7 @@ impl System {
         requires can { EventCan self.old (Event.Core act.now) }
         requires none { told.old ≡ [] }
         ensures happens { Happens self.old self.new (Event.Core act.now) step result }
-        ensures grows { Grows self.old.stores self.new.stores }
+        ensures grows { AddsFew self.old.stores self.new.stores }
         ensures told { OnOk result (Tells self.old (Event.Core act.now) told.new) }
     {
         let input = CoreIn::Act(copied_core_act(act));
@@ -200,7 +200,7 @@ impl System {
         requires can { EventCan self.old (Deliver i.now) }
         requires none { told.old ≡ [] }
         ensures happens { Happens self.old self.new (Deliver i.now) step result }
-        ensures grows { Grows self.old.stores self.new.stores }
+        ensures grows { AddsFew self.old.stores self.new.stores }
         ensures told { OnOk result (Tells self.old (Deliver i.now) told.new) }
     {
         let Some(sent) = self.network.record_at(i) else {
@@ -222,7 +222,7 @@ impl System {
         requires can { EventCan self.old (Inject to.now octets.now) }
         requires none { told.old ≡ [] }
         ensures happens { Happens self.old self.new (Inject to.now octets.now) step result }
-        ensures grows { Grows self.old.stores self.new.stores }
+        ensures grows { AddsFew self.old.stores self.new.stores }
         ensures told { OnOk result (Tells self.old (Inject to.now octets.now) told.new) }
     {
         if let Some(number) = self.network.found(to.class(), octets.as_slice()) {
@@ -244,7 +244,7 @@ impl System {
         requires can { ArrivalCan self.old to octets }
         requires none { told.old ≡ [] }
         ensures arrives { Arrives self.old self.new to octets sender step result }
-        ensures grows { Grows self.old.stores self.new.stores }
+        ensures grows { AddsFew self.old.stores self.new.stores }
         ensures told { told.new ≡ replies_by self.old.phone self.old.core self.old.stations (input_at to octets) }
     {
         match to {
@@ -295,7 +295,7 @@ impl System {
         requires can { StationCan self.old id input }
         requires none { told.old ≡ [] }
         ensures turns { StationTurns self.old self.new id input sender step result }
-        ensures grows { Grows self.old.stores self.new.stores }
+        ensures grows { AddsFew self.old.stores self.new.stores }
         ensures told { told.new ≡ replies_by self.old.phone self.old.core self.old.stations (ActorIn.Station id input) }
     {
         let Some(place) = place_of(self.ids.as_slice(), id) else {

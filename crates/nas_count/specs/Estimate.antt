@@ -4,9 +4,9 @@ use Rattle.key_model.specs.Least.{least}
 use Rattle.nas_count.specs.declared.sending.CountSpent.{CountSpent}
 
 -- every NAS COUNT is below this: 16 bits of overflow counter and 8 of sequence number
-abbrev pub count_limit : ℕ
-count_limit = 2 ^ 24
+abbrev pub nas_count_limit : ℕ
+nas_count_limit = 2 ^ 24
 
 -- the least COUNT at or above the next one with this sequence number, if it has 24 bits
 unfoldable pub estimate_of : ℕ → ℕ → Result ℕ CountSpent
-estimate_of next sn = let count = least next sn 256 in if nat_lt count count_limit then Ok count else Err (record {})
+estimate_of next sn = let count = least next sn 256 in if nat_lt count nas_count_limit then Ok count else Err (record {})

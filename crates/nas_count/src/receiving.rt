@@ -1,6 +1,6 @@
 ghost use Rattle.std.specs.Prelude.{◌≡◌, ◌+◌, ◌<◌, ◌≤◌, ◌↔◌, IfOk, IsErr};
 ghost use Rattle.key_model.specs.Least.{least};
-ghost use Rattle.nas_count.specs.Estimate.{count_limit, estimate_of};
+ghost use Rattle.nas_count.specs.Estimate.{nas_count_limit, estimate_of};
 
 use crate::{CountSpent, LIMIT};
 use std::marker::Model;
@@ -14,13 +14,13 @@ pub struct RxCount {
 
 impl Model for RxCount {
     ghost use Rattle.std.specs.Prelude.{ℕ, ◌≤◌};
-    ghost use Rattle.nas_count.specs.Estimate.{count_limit};
+    ghost use Rattle.nas_count.specs.Estimate.{nas_count_limit};
 
     ghost Value = { ℕ };
 
     ghost view = { λ c. c.next };
 
-    ghost invariant = { λ c. c.next ≤ count_limit };
+    ghost invariant = { λ c. c.next ≤ nas_count_limit };
 
     ghost inverse = { λ next. record { next = next } };
 }
@@ -40,8 +40,8 @@ impl RxCount {
         ensures value { result ≡ estimate_of self.now sn }
         ensures least { IfOk result (λ count. count ≡ least self.now sn 256) }
         ensures at_or_above { IfOk result (λ count. self.now ≤ count) }
-        ensures below { IfOk result (λ count. count < count_limit) }
-        ensures spent { IsErr result ↔ (count_limit ≤ least self.now sn 256) }
+        ensures below { IfOk result (λ count. count < nas_count_limit) }
+        ensures spent { IsErr result ↔ (nas_count_limit ≤ least self.now sn 256) }
     {
         let count = least(self.next, sn);
         if count >= LIMIT {
@@ -53,7 +53,7 @@ impl RxCount {
     /// Takes a COUNT whose message was verified as the last accepted one: at or above the next one, and below 2^24.
     pub fn accept(&mut self, count: u32)
         requires at_or_above { self.old ≤ count }
-        requires below { count < count_limit }
+        requires below { count < nas_count_limit }
         ensures { self.new ≡ count + 1 }
     {
         self.next = count + 1;
@@ -63,7 +63,7 @@ impl RxCount {
 // The least number at or above `low` that ends in this sequence number.
 #[tactic(auto, unfolding(key_model::specs::Least::least))]
 fn least(low: u32, sn: u8) -> u32
-    requires { low ≤ count_limit }
+    requires { low ≤ nas_count_limit }
     ensures value { result ≡ least low sn 256 }
     ensures at_or_above { low ≤ result }
 {

@@ -1,5 +1,5 @@
 ghost use Rattle.std.specs.Prelude.{◌≡◌, ◌+◌, ◌<◌, ◌↔◌, IfOk, IsErr, OnErr, min};
-ghost use Rattle.nas_count.specs.Estimate.{count_limit};
+ghost use Rattle.nas_count.specs.Estimate.{nas_count_limit};
 
 use std::marker::Model;
 
@@ -20,13 +20,13 @@ pub struct TxCount {
 
 impl Model for TxCount {
     ghost use Rattle.std.specs.Prelude.{ℕ, ◌≤◌};
-    ghost use Rattle.nas_count.specs.Estimate.{count_limit};
+    ghost use Rattle.nas_count.specs.Estimate.{nas_count_limit};
 
     ghost Value = { ℕ };
 
     ghost view = { λ c. c.next };
 
-    ghost invariant = { λ c. c.next ≤ count_limit };
+    ghost invariant = { λ c. c.next ≤ nas_count_limit };
 
     ghost inverse = { λ next. record { next = next } };
 }
@@ -42,9 +42,9 @@ impl TxCount {
     /// Takes the next COUNT, once. None is left exactly where the next one would be 2^24.
     pub fn take(&mut self) -> Result<u32, CountSpent>
         ensures count { IfOk result (λ count. count ≡ self.old) }
-        ensures below { IfOk result (λ count. count < count_limit) }
+        ensures below { IfOk result (λ count. count < nas_count_limit) }
         ensures moves { IfOk result (λ count. self.new ≡ count + 1) }
-        ensures spent { IsErr result ↔ (self.old ≡ count_limit) }
+        ensures spent { IsErr result ↔ (self.old ≡ nas_count_limit) }
         ensures err { OnErr result (self.new ≡ self.old) }
     {
         if self.next == LIMIT {
@@ -57,7 +57,7 @@ impl TxCount {
 
     /// Leaves out so many COUNTs, to 2^24 at the most.
     pub fn skip(&mut self, n: u32)
-        ensures { self.new ≡ min (self.old + n) count_limit }
+        ensures { self.new ≡ min (self.old + n) nas_count_limit }
     {
         self.next = self.next.saturating_add(n).min(LIMIT);
     }

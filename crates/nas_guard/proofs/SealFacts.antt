@@ -19,7 +19,7 @@ use Rattle.cmac_eia2.specs.Eia2.{eia2_of}
 use Rattle.key_model.specs.Least.{least}
 use Rattle.key_model.proofs.LeastFacts.{least_in_window, least_is}
 use Rattle.nas_guard.specs.declared.opening.Opened.{Opened}
-use Rattle.nas_count.specs.Estimate.{count_limit}
+use Rattle.nas_count.specs.Estimate.{nas_count_limit}
 use Rattle.nas_count.specs.Estimate.{estimate_of}
 use Rattle.nas_guard.specs.Cipher.{ciphered, mac_of}
 use Rattle.nas_guard.specs.Keys.{Keys}
@@ -76,10 +76,10 @@ is_protected-first_octet header low high =
     rw (discriminator-first_octet header, header-first_octet header) (grind (arith, nat_tests))
 
 -- a COUNT below 2^24 that is the least with its sequence number is estimated
-pub estimate_of-is : (next sn count : ℕ) → least next sn 256 ≡ count → count < count_limit → estimate_of next sn ≡ Ok count
+pub estimate_of-is : (next sn count : ℕ) → least next sn 256 ≡ count → count < nas_count_limit → estimate_of next sn ≡ Ok count
 unfolding estimate_of
 estimate_of-is next sn count is_least below =
-    let test : nat_lt count count_limit ≡ true = grind (arith, nat_tests) in
+    let test : nat_lt count nas_count_limit ≡ true = grind (arith, nat_tests) in
     rw (is_least, test) refl
 
 not_short : (n : ℕ) → nat_lt (suc (suc (suc (suc (suc (suc n)))))) 6 ≡ false
@@ -101,7 +101,7 @@ opened-octets keys header count next dir (a ∷ b ∷ c ∷ d ∷ e ∷ mac) sn 
 
 -- what was sealed opens
 pub opened-sealed : (keys : Keys (List ℕ)) (header count next : ℕ) (dir : Dir) (text : List ℕ)
-    → 1 ≤ header → header ≤ 4 → count < count_limit → least next (count % 256) 256 ≡ count
+    → 1 ≤ header → header ≤ 4 → count < nas_count_limit → least next (count % 256) 256 ≡ count
     → opened keys next dir (sealed keys header count dir text) ≡ Ok (record { header = header; count = count; text = text })
 unfolding sealed
 opened-sealed keys header count next dir text low high below is_least =
@@ -140,16 +140,16 @@ is_protected-true : (octet : ℕ) → is_protected octet ≡ true → IsProtecte
 is_protected-true octet h = (grind (arith, nat_tests), grind (arith, nat_tests), grind (arith, nat_tests))
 
 -- an estimate is the least COUNT with the sequence number, of 24 bits
-estimated : (next sn count : ℕ) → estimate_of next sn ≡ Ok count → (count ≡ least next sn 256) × (count < count_limit)
+estimated : (next sn count : ℕ) → estimate_of next sn ≡ Ok count → (count ≡ least next sn 256) × (count < nas_count_limit)
 unfolding estimate_of
-estimated next sn count h = by_test (nat_lt (least next sn 256) count_limit) refl h
+estimated next sn count h = by_test (nat_lt (least next sn 256) nas_count_limit) refl h
   where
-    by_test : (b : Bool) → nat_lt (least next sn 256) count_limit ≡ b
+    by_test : (b : Bool) → nat_lt (least next sn 256) nas_count_limit ≡ b
         → (let spent : Result ℕ CountSpent = Err (record {}) in if b then Ok (least next sn 256) else spent) ≡ Ok count
-        → (count ≡ least next sn 256) × (count < count_limit)
+        → (count ≡ least next sn 256) × (count < nas_count_limit)
     by_test true e found =
         let same : least next sn 256 ≡ count = cc in
-        let below : least next sn 256 < count_limit = grind (arith, nat_tests) in
+        let below : least next sn 256 < nas_count_limit = grind (arith, nat_tests) in
         (sym same, omega arith)
     by_test false e found = absurd (cc)
 
@@ -160,7 +160,7 @@ abbrev failed_at : Keys (List ℕ) → Dir → List ℕ → ℕ → OpenFault
 failed_at keys dir pdu count = MacFails count (mac_at keys dir pdu count) (mac_in pdu)
 
 opened_at-Opens : (keys : Keys (List ℕ)) (next : ℕ) (dir : Dir) (pdu : List ℕ) (o : Opened) (count : ℕ) → 6 ≤ length pdu → IsProtected (first_in pdu)
-    → count ≡ least next (sn_in pdu) 256 → count < count_limit → opened_at keys dir pdu count ≡ Ok o → Opens keys next dir pdu o
+    → count ≡ least next (sn_in pdu) 256 → count < nas_count_limit → opened_at keys dir pdu count ≡ Ok o → Opens keys next dir pdu o
 opened_at-Opens keys next dir pdu o count long protected is_least below found = by_mac (bytes_eq (mac_at keys dir pdu count) (mac_in pdu)) refl found
   where
     by_mac : (b : Bool) → bytes_eq (mac_at keys dir pdu count) (mac_in pdu) ≡ b

@@ -3,7 +3,7 @@ use Rattle.std.specs.Prelude.{◌≡◌, ◌≢◌, ℕ, ◌/◌, ◌%◌, ◌<�
 use Rattle.std.specs.Str.{bytes_eq}
 use Rattle.key_model.specs.Least.{least}
 use Rattle.nas_count.specs.declared.sending.CountSpent.{CountSpent}
-use Rattle.nas_count.specs.Estimate.{count_limit}
+use Rattle.nas_count.specs.Estimate.{nas_count_limit}
 use Rattle.nas_count.specs.Estimate.{estimate_of}
 use Rattle.rec_base.specs.declared.uses.Dir.{Dir}
 use Rattle.nas_guard.specs.declared.opening.Opened.{Opened}
@@ -75,7 +75,7 @@ pub record Opens (keys : Keys (List ℕ)) (next : ℕ) (dir : Dir) (pdu : List �
   pub protected : IsProtected (first_in pdu)
   pub header : o.header ≡ header_in pdu
   pub count : o.count ≡ least next (sn_in pdu) 256
-  pub below : o.count < count_limit
+  pub below : o.count < nas_count_limit
   pub mac : mac_at keys dir pdu o.count ≡ mac_in pdu
   pub text : o.text ≡ sent_text keys o.header o.count dir (sent_in pdu)
 
@@ -85,7 +85,7 @@ Refuses keys next dir pdu Short = length pdu < 6
 Refuses keys next dir pdu (BadHeader octet) =
     (6 ≤ length pdu) × (octet ≡ first_in pdu) × (¬ IsProtected octet)
 Refuses keys next dir pdu faults.TheVariants.CountSpent =
-    (6 ≤ length pdu) × IsProtected (first_in pdu) × (count_limit ≤ least next (sn_in pdu) 256)
+    (6 ≤ length pdu) × IsProtected (first_in pdu) × (nas_count_limit ≤ least next (sn_in pdu) 256)
 Refuses keys next dir pdu (MacFails count wanted got) =
-    (6 ≤ length pdu) × IsProtected (first_in pdu) × (count ≡ least next (sn_in pdu) 256) × (count < count_limit)
+    (6 ≤ length pdu) × IsProtected (first_in pdu) × (count ≡ least next (sn_in pdu) 256) × (count < nas_count_limit)
     × (wanted ≡ mac_at keys dir pdu count) × (got ≡ mac_in pdu) × (wanted ≢ got)

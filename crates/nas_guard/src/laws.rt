@@ -1,7 +1,7 @@
 // Laws of sealing and opening.
 ghost use Rattle.std.specs.Prelude.{◌≡◌, ℕ, ◌%◌, ◌<◌, ◌≤◌, List};
 ghost use Rattle.key_model.specs.Least.{least};
-ghost use Rattle.nas_count.specs.Estimate.{count_limit};
+ghost use Rattle.nas_count.specs.Estimate.{nas_count_limit};
 ghost use Rattle.rec_base.specs.declared.uses.Dir.{Dir};
 ghost use Rattle.alg_choice.specs.declared.algs.Eea.{Eea};
 ghost use Rattle.nas_guard.specs.Cipher.{ciphered};
@@ -14,7 +14,7 @@ ghost use Rattle.nas_guard.specs.Open.{opened};
 /// least with its sequence number.
 pub fn sealed_opens()
     ensures { (keys : Keys (List ℕ)) (header count next : ℕ) (dir : Dir) (text : List ℕ)
-        → 1 ≤ header → header ≤ 4 → count < count_limit → least next (count % 256) 256 ≡ count
+        → 1 ≤ header → header ≤ 4 → count < nas_count_limit → least next (count % 256) 256 ≡ count
         → opened keys next dir (sealed keys header count dir text) ≡ Ok (record { header = header; count = count; text = text }) }
 {}
 

@@ -1,5 +1,5 @@
 ghost use Rattle.std.specs.Prelude.{◌≡◌, ℕ, ◌+◌, ◌-◌, ◌<◌, ◌≤◌, ◌↔◌, IfOk, IsErr, OnErr, length};
-ghost use Rattle.nas_count.specs.Estimate.{count_limit};
+ghost use Rattle.nas_count.specs.Estimate.{nas_count_limit};
 ghost use Rattle.nas_guard.specs.Seal.{sealed};
 ghost use Rattle.nas_guard.specs.Open.{opened};
 
@@ -27,14 +27,14 @@ pub fn seal(
     requires length { length text.now ≤ 201 }
     ensures octets { IfOk result (λ sent. sent.0 ≡ sealed keys.now header tx.old dir text.now) }
     ensures count { IfOk result (λ sent. sent.1 ≡ tx.old) }
-    ensures below { IfOk result (λ sent. sent.1 < count_limit) }
+    ensures below { IfOk result (λ sent. sent.1 < nas_count_limit) }
     ensures moves { IfOk result (λ sent. tx.new ≡ sent.1 + 1) }
 
     // A receiver whose next COUNT is no more than 255 below opens them to the text.
     ensures opens { IfOk result (λ sent. (next : ℕ) → next ≤ sent.1 → sent.1 - next < 256
         → opened keys.now next dir sent.0 ≡ Ok (record { header = header; count = sent.1; text = text.now })) }
 
-    ensures spent { IsErr result ↔ (tx.old ≡ count_limit) }
+    ensures spent { IsErr result ↔ (tx.old ≡ nas_count_limit) }
     ensures err { OnErr result (tx.new ≡ tx.old) }
 {
     let count = tx.take()?;

@@ -1,7 +1,7 @@
 -- Reading a NAS text: no octet, unknown kind, size, and then the fields from left to right.
 use Rattle.std.specs.Prelude.{ℕ, List, [], ◌∷◌, Result}
 use Rattle.rec_base.specs.declared.faults.RecFault.{RecFault}
-use Rattle.rec_fields.specs.Layout.{Empty, Rows}
+use Rattle.rec_fields.specs.Layout.{Empty, Readers}
 use Rattle.rec_fields.specs.Record.{read_layout, record_by, read_kinds}
 use Rattle.nas_rec.specs.declared.records.NasRecord.{NasRecord}
 use Rattle.nas_rec.specs.declared.records.NasRecord.TheVariants.{SecurityModeComplete, ServiceRequest}
@@ -21,7 +21,7 @@ unfoldable pub data_of : List ℕ → Result NasRecord RecFault
 data_of octets = record_by any_text octets
 
 -- the kinds
-abbrev pub nas_rows : Rows RecFault NasRecord
+abbrev pub nas_rows : Readers RecFault NasRecord
 nas_rows =
     (command.kind, command_of)
     ∷ (complete.kind, λ octets. bare octets SecurityModeComplete)

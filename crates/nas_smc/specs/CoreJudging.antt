@@ -3,7 +3,7 @@ use Rattle.std.specs.Prelude.{◌≡◌, ℕ, ◌<◌, ◌≤◌, Bool, true, fa
 use Rattle.lte_events.specs.declared.answers.Answer.{Answer}
 use Rattle.lte_events.specs.declared.replies.ActorOut.{ActorOut}
 use Rattle.key_model.specs.Reading.{octet_reading}
-use Rattle.nas_count.specs.Estimate.{count_limit}
+use Rattle.nas_count.specs.Estimate.{nas_count_limit}
 use Rattle.nas_guard.specs.Keys.{Keys, map_keys}
 use Rattle.lte_machine.specs.Calls.{actor_out, use_out}
 use Rattle.lte_machine.specs.Ciphers.{annex_b}
@@ -41,14 +41,14 @@ row_of rest (verdicts.TheVariants.Rejected count) = SealedReject count
 -- with the procedure that is open
 abbrev pub FitsContext : Option (CoreContext (List ℕ)) → ℕ → Type 0
 FitsContext None count = ⊥
-FitsContext (Some c) count = (c.nas.receive ≤ count) × (count < count_limit)
+FitsContext (Some c) count = (c.nas.receive ≤ count) × (count < nas_count_limit)
 
 abbrev pub IsOpen : Option (Keys (List ℕ)) → Type 0
 IsOpen None = ⊥
 IsOpen (Some keys) = Unit {0}
 
 abbrev pub CountFits : CorePart → CoreVerdict → Type 0
-CountFits s (verdicts.TheVariants.Completed count) = (count < count_limit) × IsOpen (procedure_in s.left)
+CountFits s (verdicts.TheVariants.Completed count) = (count < nas_count_limit) × IsOpen (procedure_in s.left)
 CountFits s (verdicts.TheVariants.Asked count) = FitsContext s.context count
 CountFits s (verdicts.TheVariants.Opened count text) = FitsContext s.context count
 CountFits s (verdicts.TheVariants.Rejected count) = FitsContext s.context count

@@ -4,7 +4,7 @@ use Rattle.lte_events.specs.declared.answers.Answer.{Answer}
 use Rattle.lte_events.specs.declared.answers.Answer.TheVariants.{CapsMismatch}
 use Rattle.lte_events.specs.declared.replies.ActorOut.{ActorOut}
 use Rattle.key_model.specs.Reading.{octet_reading}
-use Rattle.nas_count.specs.Estimate.{count_limit}
+use Rattle.nas_count.specs.Estimate.{nas_count_limit}
 use Rattle.lte_machine.specs.Calls.{actor_out, use_out}
 use Rattle.lte_machine.specs.Ciphers.{annex_b}
 use Rattle.lte_machine.specs.Opening.{Opening, Outcome, accepted_of, open_octets}
@@ -44,8 +44,8 @@ row_of context radio (verdicts.TheVariants.Opened count text) = NasOpened count 
 
 -- a COUNT that was found is one of 24 bits, at or above the next one
 abbrev pub CountFits : Option (NasContext (List ℕ)) → Verdict → Type 0
-CountFits context (verdicts.TheVariants.Taken algs count) = count < count_limit
-CountFits (Some c) (verdicts.TheVariants.Opened count text) = (c.receive ≤ count) × (count < count_limit)
+CountFits context (verdicts.TheVariants.Taken algs count) = count < nas_count_limit
+CountFits (Some c) (verdicts.TheVariants.Opened count text) = (c.receive ≤ count) × (count < nas_count_limit)
 CountFits context other = Unit {0}
 
 -- how far a message is looked at before it is opened, what would be opened, and how that comes out

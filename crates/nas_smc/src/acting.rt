@@ -2,7 +2,7 @@
 ghost use Rattle.std.specs.Prelude.{◌≡◌, ◌<◌, ◌≤◌, ◌∷◌, ℕ, List};
 ghost use Rattle.nas_guard.specs.Seal.{first_octet};
 ghost use Rattle.nas_rec.specs.Spelling.{spelling_of, InRange};
-ghost use Rattle.nas_count.specs.Estimate.{count_limit};
+ghost use Rattle.nas_count.specs.Estimate.{nas_count_limit};
 ghost use Rattle.lte_machine.specs.PhoneState.{Radio};
 ghost use Rattle.nas_smc.specs.declared.judging.Verdict.TheVariants.{Rejected, Taken, Opened};
 ghost use Rattle.nas_smc.specs.Judging.{CountFits, cause_of, done_by};
@@ -68,7 +68,7 @@ impl PhoneNas {
     // Takes the partial context as the one in use, and completes the procedure under it (TS 24.301
     // 5.4.3.3).
     fn take(&mut self, algs: Algs, count: u32, accepted: Option<Use>) -> NasOut
-        requires { count < count_limit }
+        requires { count < nas_count_limit }
         ensures { (radio : Radio (List ℕ) ℕ) →
             done_by self.old radio (record { verdict = Taken algs count; accepted = accepted }) ≡ phone_after self.new result radio }
     {

@@ -1,7 +1,7 @@
 ghost use Rattle.std.specs.Prelude.{◌≡◌, ◌+◌, ◌≤◌, ◌<◌, IfNone, IfSome, true, false, nat_le};
 ghost use Rattle.rec_base.specs.declared.uses.Dir.TheVariants.{Up};
 ghost use Rattle.lte_events.specs.declared.answers.Answer.TheVariants.{Done};
-ghost use Rattle.nas_count.specs.Estimate.{count_limit};
+ghost use Rattle.nas_count.specs.Estimate.{nas_count_limit};
 ghost use Rattle.nas_guard.specs.Seal.{is_ciphered};
 ghost use Rattle.nas_rec.specs.Spelling.{spelling_of, InRange};
 ghost use Rattle.lte_machine.specs.PhoneKeys.{one_nas_sent};
@@ -29,14 +29,14 @@ pub(crate) struct Context {
 
 impl Model for Context {
     ghost use Rattle.std.specs.Prelude.{List, ℕ, ◌≤◌};
-    ghost use Rattle.nas_count.specs.Estimate.{count_limit};
+    ghost use Rattle.nas_count.specs.Estimate.{nas_count_limit};
     ghost use Rattle.lte_machine.specs.PhoneState.{NasContext};
 
     ghost Value = { NasContext (List ℕ) };
 
     ghost view = { λ c. record { root = c.root; keys = c.keys; send = c.send; receive = c.receive } };
 
-    ghost invariant = { λ c. c.send ≤ count_limit };
+    ghost invariant = { λ c. c.send ≤ nas_count_limit };
 }
 
 impl Context {
@@ -46,9 +46,9 @@ impl Context {
         requires above_plain { 1 ≤ header }
         requires at_most_four { header ≤ 4 }
         requires in_range { InRange told.now }
-        ensures spent { IfNone result (nat_le count_limit self.old.send ≡ true) }
+        ensures spent { IfNone result (nat_le nas_count_limit self.old.send ≡ true) }
         ensures same { IfNone result (self.new ≡ self.old) }
-        ensures left { IfSome result (λ sent. nat_le count_limit self.old.send ≡ false) }
+        ensures left { IfSome result (λ sent. nat_le nas_count_limit self.old.send ≡ false) }
         ensures new { IfSome result (λ sent. self.new ≡ one_nas_sent self.old) }
         ensures count { IfSome result (λ sent. sent.1 ≡ self.old.send) }
         ensures value { IfSome result (λ sent. sent.0 ≡ sending Done
@@ -69,9 +69,9 @@ impl Context {
         requires above_plain { 1 ≤ header }
         requires at_most_four { header ≤ 4 }
         requires in_range { InRange told.now }
-        ensures spent { IfNone result (nat_le count_limit self.old.send ≡ true) }
+        ensures spent { IfNone result (nat_le nas_count_limit self.old.send ≡ true) }
         ensures same { IfNone result (self.new ≡ self.old) }
-        ensures left { IfSome result (λ sent. nat_le count_limit self.old.send ≡ false) }
+        ensures left { IfSome result (λ sent. nat_le nas_count_limit self.old.send ≡ false) }
         ensures new { IfSome result (λ sent. self.new ≡ record self.old { send = self.old.send + 1 }) }
         ensures count { IfSome result (λ sent. sent.1 ≡ self.old.send) }
         ensures value { IfSome result (λ sent. sent.0 ≡ sending Done
@@ -85,7 +85,7 @@ impl Context {
     // Takes a COUNT whose message was verified (TS 24.301 4.4.3.1).
     pub(crate) fn accept(&mut self, count: u32)
         requires at_or_above { self.old.receive ≤ count }
-        requires below { count < count_limit }
+        requires below { count < nas_count_limit }
         ensures { self.new ≡ record self.old { receive = count + 1 } }
     {
         self.receive.accept(count);
@@ -94,7 +94,7 @@ impl Context {
     // Leaves out so many sending COUNTs.
     #[tactic(auto, using(crate::proofs::Counting::skipped_is))]
     pub(crate) fn skip(&mut self, n: u32)
-        ensures { self.new ≡ record self.old { send = skipped n self.old.send count_limit } }
+        ensures { self.new ≡ record self.old { send = skipped n self.old.send nas_count_limit } }
     {
         self.send.skip(n);
     }

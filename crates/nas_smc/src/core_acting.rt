@@ -1,6 +1,6 @@
 // What is done by a verdict at the core.
 ghost use Rattle.std.specs.Prelude.{◌≡◌, ◌<◌, Bool, true, false, option_map};
-ghost use Rattle.nas_count.specs.Estimate.{count_limit};
+ghost use Rattle.nas_count.specs.Estimate.{nas_count_limit};
 ghost use Rattle.lte_machine.specs.CoreKeys.{nas_taken};
 ghost use Rattle.lte_machine.specs.CoreRows.{PlainReject, ServiceAsked, NasOpened, SealedReject};
 ghost use Rattle.nas_smc.specs.declared.core_judging.CoreVerdict.TheVariants.{Completed};
@@ -46,7 +46,7 @@ impl CoreNas {
     // What the authentication left is the context in use: its uplink goes on behind the COMPLETE, and its
     // downlink behind the COMMAND (TS 24.301 4.4.3.1 and 5.4.3.4).
     fn take(&mut self, count: u32, accepted: Option<Use>) -> NasOut
-        requires below { count < count_limit }
+        requires below { count < nas_count_limit }
         requires open { IsOpen (procedure_in self.old.left) }
         ensures { (rest : CoreRest) →
             done_by self.old rest (row_of rest (Completed count)) accepted ≡ core_after (core_of self.new rest) result true }

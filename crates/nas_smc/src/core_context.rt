@@ -1,7 +1,7 @@
 ghost use Rattle.std.specs.Prelude.{◌≡◌, ◌+◌, ◌≤◌, ◌<◌, IfNone, IfSome, true, false, nat_le};
 ghost use Rattle.rec_base.specs.declared.uses.Dir.TheVariants.{Down};
 ghost use Rattle.lte_events.specs.declared.answers.Answer.TheVariants.{Done};
-ghost use Rattle.nas_count.specs.Estimate.{count_limit};
+ghost use Rattle.nas_count.specs.Estimate.{nas_count_limit};
 ghost use Rattle.nas_rec.specs.Spelling.{InRange};
 ghost use Rattle.nas_rec.specs.declared.records.NasRecord.TheVariants.{NasData};
 ghost use Rattle.lte_machine.specs.Bearers.{skipped};
@@ -36,9 +36,9 @@ impl CoreContext {
     // Sends a NAS text, ciphered, under the next downlink COUNT, which it takes, or nothing where none is
     // left (TS 24.301 4.4.5).
     pub(crate) fn send(&mut self, text: &ShortText) -> Option<NasOut>
-        ensures spent { IfNone result (nat_le count_limit self.old.nas.send ≡ true) }
+        ensures spent { IfNone result (nat_le nas_count_limit self.old.nas.send ≡ true) }
         ensures same { IfNone result (self.new ≡ self.old) }
-        ensures left { IfSome result (λ out. nat_le count_limit self.old.nas.send ≡ false) }
+        ensures left { IfSome result (λ out. nat_le nas_count_limit self.old.nas.send ≡ false) }
         ensures new { IfSome result (λ out. self.new ≡ nas_sent_to (self.old.nas.send + 1) self.old) }
         ensures value { IfSome result (λ out. out ≡ sending Done (nas_text self.old.nas.keys self.old.nas.send text.now)) }
     {
@@ -49,7 +49,7 @@ impl CoreContext {
     // Takes an uplink COUNT whose message was verified (TS 24.301 4.4.3.1).
     pub(crate) fn accept(&mut self, count: u32)
         requires at_or_above { self.old.nas.receive ≤ count }
-        requires below { count < count_limit }
+        requires below { count < nas_count_limit }
         ensures { self.new ≡ nas_taken count self.old }
     {
         self.nas.accept(count);
@@ -57,7 +57,7 @@ impl CoreContext {
 
     // Leaves out so many downlink COUNTs.
     pub(crate) fn skip(&mut self, n: u32)
-        ensures { self.new ≡ nas_sent_to (skipped n self.old.nas.send count_limit) self.old }
+        ensures { self.new ≡ nas_sent_to (skipped n self.old.nas.send nas_count_limit) self.old }
     {
         self.nas.skip(n);
     }

@@ -2,7 +2,7 @@ ghost use Rattle.std.specs.Prelude.{◌≡◌, ◌+◌, ◌≤◌, IfNone, IfSom
 ghost use Rattle.lte_events.specs.declared.answers.Answer.TheVariants.{Done};
 ghost use Rattle.key_model.specs.Derivation.{derived_of};
 ghost use Rattle.key_model.specs.Reading.{octet_reading};
-ghost use Rattle.nas_count.specs.Estimate.{count_limit};
+ghost use Rattle.nas_count.specs.Estimate.{nas_count_limit};
 ghost use Rattle.lte_machine.specs.CoreKeys.{smc_command};
 ghost use Rattle.lte_machine.specs.PhoneState.{nas_keys_of, nas_derivations};
 ghost use Rattle.nas_smc.specs.NasOut.{sending};
@@ -47,9 +47,9 @@ impl CorePartial {
     // Opens the procedure with a SECURITY MODE COMMAND, under the keys of these algorithms and the next
     // downlink COUNT, or does nothing where none is left (TS 24.301 5.4.3.2).
     pub(crate) fn command(&mut self, algs: Algs) -> Option<NasOut>
-        ensures spent { IfNone result (nat_le count_limit self.old.partial.send ≡ true) }
+        ensures spent { IfNone result (nat_le nas_count_limit self.old.partial.send ≡ true) }
         ensures same { IfNone result (self.new ≡ self.old) }
-        ensures left { IfSome result (λ out. nat_le count_limit self.old.partial.send ≡ false) }
+        ensures left { IfSome result (λ out. nat_le nas_count_limit self.old.partial.send ≡ false) }
         ensures new { IfSome result (λ out. self.new ≡ record {
           partial = record self.old.partial { send = self.old.partial.send + 1 };
           procedure = Some (nas_keys_of octet_reading self.old.partial.root algs);

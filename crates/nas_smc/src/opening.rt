@@ -2,7 +2,7 @@
 ghost use Rattle.std.specs.Prelude.{◌≡◌, ◌<◌, ◌≤◌, length};
 ghost use Rattle.rec_base.specs.Lengths.{longest_record};
 ghost use Rattle.key_model.specs.Least.{least};
-ghost use Rattle.nas_count.specs.Estimate.{count_limit};
+ghost use Rattle.nas_count.specs.Estimate.{nas_count_limit};
 ghost use Rattle.nas_guard.specs.Open.{IsProtected, first_in, header_in, sn_in};
 ghost use Rattle.nas_guard.specs.Seal.{is_ciphered};
 ghost use Rattle.lte_events.specs.declared.answers.Answer.TheVariants.{MacFails};
@@ -51,7 +51,7 @@ pub(crate) fn opened(
     requires protected { IsProtected (first_in pdu.now) }
     requires header { header ≡ header_in pdu.now }
     requires count { count ≡ least receive.now (sn_in pdu.now) 256 }
-    requires below { count < count_limit }
+    requires below { count < nas_count_limit }
     ensures { open_octets annex_b
         (OpensNas (nas_use dir keys.now.int count) (ciphering_if (is_ciphered header) (nas_ciphering dir keys.now count))) pdu.now
         ≡ outcome_of result }

@@ -1,7 +1,7 @@
 // Sending NAS messages under keys and their COUNT.
 ghost use Rattle.std.specs.Prelude.{◌≡◌, ◌+◌, ◌≤◌, IfNone, IfSome, true, false, map, nat_le, ◌++◌, ◌∷◌, []};
 ghost use Rattle.lte_events.specs.declared.answers.Answer.TheVariants.{Done};
-ghost use Rattle.nas_count.specs.Estimate.{count_limit};
+ghost use Rattle.nas_count.specs.Estimate.{nas_count_limit};
 ghost use Rattle.nas_guard.specs.Seal.{is_ciphered};
 ghost use Rattle.nas_rec.specs.Spelling.{spelling_of, InRange};
 ghost use Rattle.lte_machine.specs.Calls.{use_out};
@@ -29,9 +29,9 @@ pub(crate) fn protect(
     requires above_plain { 1 ≤ header }
     requires at_most_four { header ≤ 4 }
     requires in_range { InRange told.now }
-    ensures spent { IfNone result (nat_le count_limit send.old ≡ true) }
+    ensures spent { IfNone result (nat_le nas_count_limit send.old ≡ true) }
     ensures same { IfNone result (send.new ≡ send.old) }
-    ensures left { IfSome result (λ sent. nat_le count_limit send.old ≡ false) }
+    ensures left { IfSome result (λ sent. nat_le nas_count_limit send.old ≡ false) }
     ensures new { IfSome result (λ sent. send.new ≡ send.old + 1) }
     ensures count { IfSome result (λ sent. sent.1 ≡ send.old) }
     ensures value { IfSome result (λ sent. sent.0 ≡ sending Done

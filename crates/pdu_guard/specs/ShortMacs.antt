@@ -3,7 +3,7 @@ use Rattle.std.specs.Prelude.{ℕ, ◌+◌, ◌*◌, ◌%◌, ◌-◌, ◌^◌, 
 use Rattle.alg_suite.specs.Suite.{mac_by}
 use Rattle.alg_suite.specs.declared.integrity.Integrity.{Integrity}
 use Rattle.key_model.specs.Least.{least}
-use Rattle.nas_count.specs.Estimate.{count_limit}
+use Rattle.nas_count.specs.Estimate.{nas_count_limit}
 use Rattle.rec_base.specs.declared.uses.Dir.TheVariants.{Up, Down}
 use Rattle.nas_guard.specs.Seal.{nas_bearer}
 use Rattle.pdu_guard.specs.Checks.{is_checked, is_taken}
@@ -43,7 +43,7 @@ unfoldable pub service_checked : Integrity → List ℕ → ℕ → List ℕ →
 service_checked eia int next request =
     let count = least next (slice_index request 1 % 32) 32 in
     if slice_index request 0 == service_first
-    then (if nat_lt count count_limit then service_at eia int request count else Err CountSpent)
+    then (if nat_lt count nas_count_limit then service_at eia int request count else Err CountSpent)
     else Err (BadHeader (slice_index request 0))
 
 -- shortMAC-I: the last two octets of the MAC over the VarShortMAC-Input, where all bits of COUNT, BEARER and DIRECTION are

@@ -1,5 +1,5 @@
 ghost use Rattle.std.specs.Prelude.{◌≡◌, ◌+◌, ◌-◌, ◌<◌, ◌≤◌, IfErr, IfOk, OnErr, length};
-ghost use Rattle.nas_count.specs.Estimate.{count_limit};
+ghost use Rattle.nas_count.specs.Estimate.{nas_count_limit};
 ghost use Rattle.nas_guard.specs.Open.{header_in, sent_in};
 ghost use Rattle.pdu_guard.specs.Nas.{mac_checked, nas_covered, nas_head_of, nas_mac_of, nas_opened, nas_pdu, nas_sent};
 
@@ -40,7 +40,7 @@ pub struct NasHead {
 pub fn seal_nas(keys: &NasKeys, header: u8, count: u32, dir: Dir, text: &[u8], pdu: &mut [u8])
     requires above_plain { 1 ≤ header }
     requires at_most_four { header ≤ 4 }
-    requires count { count < count_limit }
+    requires count { count < nas_count_limit }
     requires room { length pdu.old ≡ length text.now + 6 }
     ensures { pdu.new ≡ nas_pdu keys.now header count dir text.now }
 {
@@ -86,7 +86,7 @@ fn cipher_nas(keys: &NasKeys, header: u8, count: u32, dir: Dir, text: &mut [u8])
 /// else `CountSpent` if that COUNT is 2^24 or more.
 #[tactic(auto, unfolding(crate::specs::Nas::nas_head_of))]
 pub fn nas_head(next: u32, pdu: &[u8]) -> Result<NasHead, OpenFault>
-    requires { next ≤ count_limit }
+    requires { next ≤ nas_count_limit }
     ensures value { result ≡ nas_head_of next pdu.now }
     ensures long { IfOk result (λ _. 6 ≤ length pdu.now) }
     ensures header { IfOk result (λ head. head.header ≡ header_in pdu.now) }
@@ -128,7 +128,7 @@ pub fn open_nas(
     pdu: &[u8],
     text: &mut [u8],
 ) -> Result<NasFound, OpenFault>
-    requires next { next ≤ count_limit }
+    requires next { next ≤ nas_count_limit }
     requires room { length text.old ≡ length pdu.now - 6 }
     ensures opens { IfOk result (λ found. nas_opened keys.now next dir pdu.now ≡ Ok (record { header = found.header; count = found.count; checked = found.checked; text = text.new })) }
     ensures refused { IfErr result (λ fault. nas_opened keys.now next dir pdu.now ≡ Err fault) }
@@ -174,7 +174,7 @@ fn check_mac(keys: &NasKeys, count: u32, dir: Dir, pdu: &[u8]) -> Result<(), Ope
 
 // A receiver that expects this COUNT next.
 pub(crate) fn expecting(next: u32) -> RxCount
-    requires { next ≤ count_limit }
+    requires { next ≤ nas_count_limit }
     ensures { result ≡ next }
 {
     let mut rx = RxCount::new();

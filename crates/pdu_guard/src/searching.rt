@@ -1,6 +1,6 @@
 // The COUNT of a message of which the overflow is not known.
 ghost use Rattle.std.specs.Prelude.{◌≡◌, ◌<◌, ◌≤◌, IfSome, length};
-ghost use Rattle.nas_count.specs.Estimate.{count_limit};
+ghost use Rattle.nas_count.specs.Estimate.{nas_count_limit};
 ghost use Rattle.pdu_guard.specs.Search.{nas_right, nas_search, service_right, service_search};
 
 use crate::checks::is_taken;
@@ -15,7 +15,7 @@ use rec_base::Dir;
 pub fn find_nas(keys: &NasKeys, dir: Dir, pdu: &[u8]) -> Option<u32>
     requires { 6 ≤ length pdu.now }
     ensures value { result ≡ nas_search keys.now dir pdu.now }
-    ensures below { IfSome result (λ count. count < count_limit) }
+    ensures below { IfSome result (λ count. count < nas_count_limit) }
 {
     for overflow in 0..65536u32 {
         if is_nas_right(keys, dir, pdu, overflow) {
@@ -41,7 +41,7 @@ fn is_nas_right(keys: &NasKeys, dir: Dir, pdu: &[u8], overflow: u32) -> bool
 /// `int` is KNASint. Under EIA0 any short MAC is right.
 pub fn find_service_request(eia: Integrity, int: &AlgKey, request: &[u8; 4]) -> Option<u32>
     ensures value { result ≡ service_search eia int.now request.now }
-    ensures below { IfSome result (λ count. count < count_limit) }
+    ensures below { IfSome result (λ count. count < nas_count_limit) }
 {
     for overflow in 0..524_288u32 {
         if is_service_right(eia, int, request, overflow) {

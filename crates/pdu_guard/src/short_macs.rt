@@ -1,7 +1,7 @@
 // Short MACs: of a Service Request, and of re-establishment.
 ghost use Rattle.std.specs.Prelude.{◌≡◌, ◌<◌, ◌≤◌, drop};
 ghost use Rattle.key_model.specs.Least.{least};
-ghost use Rattle.nas_count.specs.Estimate.{count_limit};
+ghost use Rattle.nas_count.specs.Estimate.{nas_count_limit};
 ghost use Rattle.rec_base.specs.declared.uses.Dir.{Dir as Direction};
 ghost use Rattle.alg_suite.specs.Suite.{mac_by};
 ghost use Rattle.pdu_guard.specs.ShortMacs.{service_checked, service_request_of, short_mac_i_of};
@@ -46,7 +46,7 @@ pub struct ServiceFound {
 #[tactic(auto, unfolding(crate::specs::ShortMacs::service_request_of))]
 pub fn service_request(eia: Integrity, int: &AlgKey, ksi: u8, count: u32) -> [u8; 4]
     requires ksi { ksi < 8 }
-    requires count { count < count_limit }
+    requires count { count < nas_count_limit }
     ensures { result ≡ service_request_of eia int.now ksi count }
 {
     let second = 32 * ksi + (count % 32) as u8;
@@ -66,7 +66,7 @@ pub fn check_service_request(
     next: u32,
     request: &[u8; 4],
 ) -> Result<ServiceFound, ServiceFault>
-    requires { next ≤ count_limit }
+    requires { next ≤ nas_count_limit }
     ensures { result ≡ service_checked eia int.now next request.now }
 {
     let [first, second, c, d] = *request;
@@ -118,7 +118,7 @@ pub(crate) fn short_mac(
 // The least number at or above `low` that ends in these 5 bits.
 #[tactic(auto, unfolding(key_model::specs::Least::least))]
 fn least(low: u32, bits: u8) -> u32
-    requires low { low ≤ count_limit }
+    requires low { low ≤ nas_count_limit }
     requires bits { bits < 32 }
     ensures { result ≡ least low bits 32 }
 {

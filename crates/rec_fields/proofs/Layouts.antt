@@ -5,7 +5,7 @@ use Rattle.std.proofs.Math.Seq.{drop-append_seam, take-append_seam}
 use Rattle.rec_base.specs.BigEndian.{number_of, octets_of, field_at, number_at}
 use Rattle.rec_base.proofs.Numbers.{AreOctets, number_of-octets_of, number_of-one, length-octets_of}
 use Rattle.rec_fields.specs.Field.{◌>>=◌}
-use Rattle.rec_fields.specs.Layout.{Field, Ending, Layout, Empty, Last, Rest, Then, Values, read_by, spelled_by, width_of, Rows, by_kind, read_rows}
+use Rattle.rec_fields.specs.Layout.{Field, Ending, Layout, Empty, Last, Rest, Then, Values, read_by, spelled_by, width_of, Readers, by_kind, read_rows}
 use Rattle.rec_fields.proofs.Fields.{bind_ok, passes, kind_takes, octet_is}
 
 -- each value is one of its field
@@ -133,7 +133,7 @@ Spelled spell Fits octets x = (octets ≡ spell x) × Fits x
 abbrev pub IsRow : {F A : Type 0} → (A → List ℕ) → (A → Type 0) → ℕ × (List ℕ → Result A F) → Type 0
 IsRow {A} spell Fits row = (octets : List ℕ) (x : A) → AreOctets octets → octets ≡ row.0 ∷ drop 1 octets → row.1 octets ≡ Ok x → Spelled spell Fits octets x
 
-abbrev pub AreRows : {F A : Type 0} → (A → List ℕ) → (A → Type 0) → Rows F A → Type 0
+abbrev pub AreRows : {F A : Type 0} → (A → List ℕ) → (A → Type 0) → Readers F A → Type 0
 AreRows spell Fits [] = Unit {0}
 AreRows spell Fits (row ∷ rows) = IsRow spell Fits row × AreRows spell Fits rows
 
@@ -142,7 +142,7 @@ by_test P true u v x f g e = f refl e
 by_test P false u v x f g e = g e
 
 -- what is read by a table is spelled so
-pub kinds_take : {F A : Type 0} (unknown : F) (spell : A → List ℕ) (Fits : A → Type 0) (rows : Rows F A) (octets : List ℕ) (kind : ℕ) (x : A) → AreRows spell Fits rows → AreOctets octets
+pub kinds_take : {F A : Type 0} (unknown : F) (spell : A → List ℕ) (Fits : A → Type 0) (rows : Readers F A) (octets : List ℕ) (kind : ℕ) (x : A) → AreRows spell Fits rows → AreOctets octets
     → octets ≡ kind ∷ drop 1 octets → by_kind unknown rows kind octets ≡ Ok x → Spelled spell Fits octets x
 kinds_take unknown spell Fits [] octets kind x are fit front e = absurd cc
 kinds_take unknown spell Fits (row ∷ rows) octets kind x are fit front e =
@@ -151,7 +151,7 @@ kinds_take unknown spell Fits (row ∷ rows) octets kind x are fit front e =
     (λ k. kinds_take unknown spell Fits rows octets kind x are.1 fit front k) e
 
 -- the same of octets that begin with their kind
-pub rows_take : {F A : Type 0} (none unknown : F) (spell : A → List ℕ) (Fits : A → Type 0) (rows : Rows F A) (octets : List ℕ) (x : A) → AreRows spell Fits rows → AreOctets octets
+pub rows_take : {F A : Type 0} (none unknown : F) (spell : A → List ℕ) (Fits : A → Type 0) (rows : Readers F A) (octets : List ℕ) (x : A) → AreRows spell Fits rows → AreOctets octets
     → read_rows none unknown rows octets ≡ Ok x → Spelled spell Fits octets x
 rows_take none unknown spell Fits rows octets x are fit e =
     let some = passes (eqb (length octets) 0) none (by_kind unknown rows (number_at octets 0 1) octets) x e in
@@ -159,7 +159,7 @@ rows_take none unknown spell Fits rows octets x are fit e =
     kinds_take unknown spell Fits rows octets (number_at octets 0 1) x are fit (kind_takes octets (number_at octets 0 1) (omega arith) refl) some.1
 
 -- reading goes on by the kind
-pub rows_on : {F A : Type 0} (none unknown : F) (rows : Rows F A) (kind : ℕ) (rest : List ℕ) → read_rows none unknown rows (kind ∷ rest) ≡ by_kind unknown rows kind (kind ∷ rest)
+pub rows_on : {F A : Type 0} (none unknown : F) (rows : Readers F A) (kind : ℕ) (rest : List ℕ) → read_rows none unknown rows (kind ∷ rest) ≡ by_kind unknown rows kind (kind ∷ rest)
 rows_on none unknown rows kind rest =
     let octets : List ℕ = kind ∷ rest in
     let differs : eqb (length octets) 0 ≡ false = ne_eqb _ _ (omega arith) in

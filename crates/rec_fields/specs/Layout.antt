@@ -55,14 +55,14 @@ width_of (Rest most) = 0
 width_of (Then f l) = f.width + width_of l
 
 -- kinds, each with how a record of the kind is read
-abbrev pub Rows : Type 0 → Type 0 → Type 0
-Rows F A = List (ℕ × (List ℕ → Result A F))
+abbrev pub Readers : Type 0 → Type 0 → Type 0
+Readers F A = List (ℕ × (List ℕ → Result A F))
 
 -- by the kind; another kind has this fault
-abbrev pub by_kind : {F A : Type 0} → F → Rows F A → ℕ → List ℕ → Result A F
+abbrev pub by_kind : {F A : Type 0} → F → Readers F A → ℕ → List ℕ → Result A F
 by_kind unknown [] kind octets = Err unknown
 by_kind unknown (row ∷ rows) kind octets = if kind == row.0 then row.1 octets else by_kind unknown rows kind octets
 
 -- the same of octets that begin with their kind; no octet has a fault of its own
-abbrev pub read_rows : {F A : Type 0} → F → F → Rows F A → List ℕ → Result A F
+abbrev pub read_rows : {F A : Type 0} → F → F → Readers F A → List ℕ → Result A F
 read_rows none unknown rows octets = if length octets == 0 then Err none else by_kind unknown rows (number_at octets 0 1) octets

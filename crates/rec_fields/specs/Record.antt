@@ -10,7 +10,7 @@ use Rattle.alg_choice.specs.declared.caps.Caps.{Caps}
 use Rattle.annex_a_keys.specs.Cell.{Place, IsCell}
 use Rattle.rec_fields.specs.Field.{◌>>=◌, of_size, number_in, from_one_at, algs_at, caps_at, cell_at, rest_at}
 use Rattle.rec_fields.specs.Spelled.{algs_octet, cell_octets}
-use Rattle.rec_fields.specs.Layout.{Field, Ending, Layout, Rest, Values, read_by, spelled_by, width_of, Rows, read_rows}
+use Rattle.rec_fields.specs.Layout.{Field, Ending, Layout, Rest, Values, read_by, spelled_by, width_of, Readers, read_rows}
 
 -- an octet from `low` to `high`
 abbrev pub octet : ℕ → ℕ → Field RecFault ℕ
@@ -87,5 +87,5 @@ abbrev pub spelled : {A : Type 0} → (form : Form A) → Values form.layout →
 spelled form vs = form.kind ∷ spelled_by form.layout vs
 
 -- the record that begins with its kind: no octet is Short, and then an unknown kind is BadKind
-abbrev pub read_kinds : {A : Type 0} → Rows RecFault A → List ℕ → Result A RecFault
+abbrev pub read_kinds : {A : Type 0} → Readers RecFault A → List ℕ → Result A RecFault
 read_kinds rows octets = read_rows Short BadKind rows octets

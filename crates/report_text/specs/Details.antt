@@ -21,11 +21,11 @@ abbrev pub algs_digits : Algs → List ℕ
 algs_digits algs = eea_digits algs.eea
 
 -- the fault of a record, and the place of the field where it is one of a field
-abbrev pub fault_number : RecFault → ℕ
-fault_number fault.Short = 1
-fault_number fault.Long = 2
-fault_number fault.BadKind = 3
-fault_number (fault.BadField place) = 4
+abbrev pub record_fault_number : RecFault → ℕ
+record_fault_number fault.Short = 1
+record_fault_number fault.Long = 2
+record_fault_number fault.BadKind = 3
+record_fault_number (fault.BadField place) = 4
 
 abbrev pub fault_place : RecFault → ℕ
 fault_place (fault.BadField place) = place
@@ -46,7 +46,7 @@ details_text (answer.WrongKsi held got) = codes " held=" ++ (decimal held ++ (co
 details_text (answer.CapsMismatch own got) = caps_text own got
 details_text (answer.AlgUnsupported algs) = codes " algs=" ++ algs_digits algs
 details_text (answer.MacFails count wanted got) = mac_text count wanted got
-details_text (answer.BadRecord fault) = codes " fault=" ++ (decimal (fault_number fault) ++ (codes " place=" ++ decimal (fault_place fault)))
+details_text (answer.BadRecord fault) = codes " fault=" ++ (decimal (record_fault_number fault) ++ (codes " place=" ++ decimal (fault_place fault)))
 details_text (answer.BadHeader octet) = codes " octet=" ++ encode_lower (octet ∷ [])
 details_text (answer.WrongKind kind) = codes " kind=" ++ encode_lower (kind ∷ [])
 details_text (answer.Stale outstanding got) = codes " outstanding=" ++ (decimal outstanding ++ (codes " got=" ++ decimal got))

@@ -2,7 +2,7 @@
 ghost use Rattle.growth.specs.Growth.{WasRefused};
 ghost use Rattle.std.specs.Prelude.{◌≡◌, IfOk, OnErr};
 ghost use Rattle.std.specs.String.{string_bytes};
-ghost use Rattle.report_text.specs.Details.{algs_digits, fault_number, fault_place, caps_text, mac_text, details_text};
+ghost use Rattle.report_text.specs.Details.{algs_digits, record_fault_number, fault_place, caps_text, mac_text, details_text};
 
 use alg_choice::{Algs, Caps, Eea};
 use lte_events::Answer;
@@ -25,7 +25,7 @@ pub(crate) fn details_text(alloc: Global, answer: &Answer) -> Result<String, All
         }
         Answer::MacFails(count, wanted, got) => mac_text(alloc, count, wanted, got),
         Answer::BadRecord(fault) => {
-            let number = fault_number(fault);
+            let number = record_fault_number(fault);
             let place = fault_place(fault);
             growth::format(alloc, format_args!(" fault={number} place={place}"))
         }
@@ -109,8 +109,8 @@ fn algs_digits(algs: Algs) -> &'static str
     }
 }
 
-fn fault_number(fault: RecFault) -> u8
-    ensures { result ≡ fault_number fault }
+fn record_fault_number(fault: RecFault) -> u8
+    ensures { result ≡ record_fault_number fault }
 {
     match fault {
         RecFault::Short => 1,

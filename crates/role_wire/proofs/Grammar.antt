@@ -16,7 +16,7 @@ use Rattle.role_wire.specs.declared.frames.FrameIn.{FrameIn}
 use Rattle.role_wire.specs.declared.frames.FrameIn.TheVariants.{Setup, Input}
 use Rattle.role_wire.specs.declared.frames.RoleSetup.{RoleSetup}
 use Rattle.rec_fields.specs.Field.{◌>>=◌}
-use Rattle.rec_fields.specs.Layout.{Rows, by_kind}
+use Rattle.rec_fields.specs.Layout.{Readers, by_kind}
 use Rattle.role_wire.specs.Reading.{body_by, phone_rows, station_rows, core_rows, setup_rows, input_of, body_of}
 use Rattle.role_wire.specs.Spelling.{phone_octets, station_octets, core_octets, setup_octets, body_spelling}
 use Rattle.lte_events.specs.Ranges.{StationTakes, CoreTakes}
@@ -34,13 +34,13 @@ row {A} {B} {read} {form} {FormFits} spell Fits kind make is same fits octets x 
     let t = is.takes octets a.0 fit a.1 in
     subst (Spelled spell Fits octets) (ok_is (make a.0) x a.2) (front ∙ ap (λ t. kind ∷ t) t.0 ∙ same a.0, fits a.0 t.1)
 
-read_takes : {A : Type 0} (spell : A → List ℕ) (Fits : A → Type 0) (rows : Rows ℕ A) (octets : List ℕ) (x : A) → AreRows spell Fits rows → AreOctets octets
+read_takes : {A : Type 0} (spell : A → List ℕ) (Fits : A → Type 0) (rows : Readers ℕ A) (octets : List ℕ) (x : A) → AreRows spell Fits rows → AreOctets octets
     → body_by rows octets ≡ Ok x → Spelled spell Fits octets x
 unfolding body_by
 read_takes spell Fits rows octets x are fit e = rows_take 0 0 spell Fits rows octets x are fit e
 
 -- reading goes on by the kind
-read_on : {A : Type 0} (rows : Rows ℕ A) (kind : ℕ) (rest : List ℕ) → body_by rows (kind ∷ rest) ≡ by_kind 0 rows kind (kind ∷ rest)
+read_on : {A : Type 0} (rows : Readers ℕ A) (kind : ℕ) (rest : List ℕ) → body_by rows (kind ∷ rest) ≡ by_kind 0 rows kind (kind ∷ rest)
 unfolding body_by
 read_on rows kind rest = rows_on 0 0 rows kind rest
 

@@ -24,12 +24,12 @@ abbrev pub frame_spelling : FrameIn → List ℕ
 frame_spelling frame = framed (body_spelling frame)
 
 -- the number of a fault
-abbrev pub fault_number : FrameFault → ℕ
-fault_number Ended = 1
-fault_number Truncated = 2
-fault_number (TooLong size) = 3
-fault_number (BadBody place) = 4
-fault_number ReadFault = 5
+abbrev pub frame_fault_number : FrameFault → ℕ
+frame_fault_number Ended = 1
+frame_fault_number Truncated = 2
+frame_fault_number (TooLong size) = 3
+frame_fault_number (BadBody place) = 4
+frame_fault_number ReadFault = 5
 
 -- the length that octets begin with
 abbrev pub size_of : List ℕ → ℕ

@@ -14,15 +14,15 @@ use Rattle.role_wire.specs.declared.frames.FrameIn.TheVariants.{Setup, Input}
 use Rattle.role_wire.specs.declared.frames.RoleSetup.{RoleSetup}
 use Rattle.role_wire.specs.Codes.{bearers, nas_alone, nas_octet, nas_or_bearer, skip_octet}
 use Rattle.rec_fields.specs.Field.{◌>>=◌}
-use Rattle.rec_fields.specs.Layout.{Rows, read_rows}
+use Rattle.rec_fields.specs.Layout.{Readers, read_rows}
 use Rattle.role_wire.specs.Body.{nothing_of, caps_of, auth_of, auth_caps_of, pdu_of, air_of, station_air_of, user_of, rrc_of, nas_of, skip_of, connect_of, start_of, first_of}
 
 -- by the kind; another kind is bad at place 0, and so is no octet
-unfoldable pub body_by : {A : Type 0} → Rows ℕ A → List ℕ → Result A ℕ
+unfoldable pub body_by : {A : Type 0} → Readers ℕ A → List ℕ → Result A ℕ
 body_by rows octets = read_rows 0 0 rows octets
 
 -- an act of the phone
-abbrev pub phone_act_rows : Rows ℕ PhoneIn
+abbrev pub phone_act_rows : Readers ℕ PhoneIn
 phone_act_rows =
     (0x10, λ octets. nothing_of octets >>= λ none. Ok (PhoneIn.Act PhoneAct.ServiceRequest))
     ∷ (0x11, λ octets. nothing_of octets >>= λ none. Ok (PhoneIn.Act PhoneAct.ResendComplete))
@@ -34,7 +34,7 @@ phone_act_rows =
     ∷ []
 
 -- an input of the phone
-abbrev pub phone_rows : Rows ℕ PhoneIn
+abbrev pub phone_rows : Readers ℕ PhoneIn
 phone_rows =
     (0x01, λ octets. auth_of octets >>= λ a. Ok (PhoneIn.Auth a.0 a.1))
     ∷ (0x02, λ octets. pdu_of octets >>= λ pdu. Ok (PhoneIn.Nas pdu))
@@ -42,7 +42,7 @@ phone_rows =
     ∷ phone_act_rows
 
 -- an act of a station
-abbrev pub station_act_rows : Rows ℕ StationIn
+abbrev pub station_act_rows : Readers ℕ StationIn
 station_act_rows =
     (0x13, λ octets. user_of octets >>= λ u. Ok (StationIn.Act (StationAct.SendUser u.0 u.1)))
     ∷ (0x14, λ octets. rrc_of octets >>= λ r. Ok (StationIn.Act (StationAct.SendRrc r.0 r.1)))
@@ -54,7 +54,7 @@ station_act_rows =
     ∷ []
 
 -- an input of a station
-abbrev pub station_rows : Rows ℕ StationIn
+abbrev pub station_rows : Readers ℕ StationIn
 station_rows =
     (0x03, λ octets. air_of octets >>= λ a. Ok (StationIn.Air a.0 a.1 a.2))
     ∷ (0x04, λ octets. pdu_of octets >>= λ pdu. Ok (StationIn.S1 pdu))
@@ -62,7 +62,7 @@ station_rows =
     ∷ station_act_rows
 
 -- an act of the core
-abbrev pub core_act_rows : Rows ℕ CoreIn
+abbrev pub core_act_rows : Readers ℕ CoreIn
 core_act_rows =
     (0x15, λ octets. nas_of octets >>= λ text. Ok (CoreIn.Act (CoreAct.SendNas text)))
     ∷ (0x16, λ octets. skip_of nas_octet nas_alone octets >>= λ s. Ok (CoreIn.Act (CoreAct.Skip s.1)))
@@ -72,7 +72,7 @@ core_act_rows =
     ∷ []
 
 -- an input of the core
-abbrev pub core_rows : Rows ℕ CoreIn
+abbrev pub core_rows : Readers ℕ CoreIn
 core_rows =
     (0x01, λ octets. auth_caps_of octets >>= λ a. Ok (CoreIn.Auth a.0 a.1 a.2))
     ∷ (0x02, λ octets. pdu_of octets >>= λ pdu. Ok (CoreIn.Nas pdu))
@@ -80,7 +80,7 @@ core_rows =
     ∷ core_act_rows
 
 -- what the actor of a role starts with
-abbrev pub setup_rows : Role → Rows ℕ RoleSetup
+abbrev pub setup_rows : Role → Readers ℕ RoleSetup
 setup_rows Role.Phone = (0x00, λ octets. caps_of octets >>= λ caps. Ok (RoleSetup.Phone caps)) ∷ []
 setup_rows (Role.Station id) = (0x00, λ octets. first_of octets >>= λ f. Ok (RoleSetup.Station f.0 f.1 f.2)) ∷ []
 setup_rows Role.Core =

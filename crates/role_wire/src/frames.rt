@@ -51,11 +51,11 @@ pub enum FrameFault {
 
 impl FrameFault {
     ghost use Rattle.std.specs.Prelude.{◌≡◌};
-    ghost use Rattle.role_wire.specs.Frame.{fault_number};
+    ghost use Rattle.role_wire.specs.Frame.{frame_fault_number};
 
     /// The number of the fault, 1 to 5 in the order above.
     pub fn number(&self) -> u8
-        ensures { result ≡ fault_number self.now }
+        ensures { result ≡ frame_fault_number self.now }
     {
         match self {
             FrameFault::Ended => 1,

@@ -2,7 +2,7 @@
 use Rattle.std.specs.Prelude.{ℕ, List, [], ◌∷◌, Result}
 use Rattle.rec_base.specs.declared.faults.RecFault.{RecFault}
 use Rattle.rec_base.specs.declared.faults.RecFault.TheVariants.{BadKind}
-use Rattle.rec_fields.specs.Layout.{Empty, Rows, by_kind}
+use Rattle.rec_fields.specs.Layout.{Empty, Readers, by_kind}
 use Rattle.rec_fields.specs.Record.{read_layout, record_by, read_kinds}
 use Rattle.rrc_rec.specs.declared.records.RrcRecord.{RrcRecord}
 use Rattle.rrc_rec.specs.declared.records.RrcRecord.TheVariants.{SecurityModeComplete, ReconfigurationComplete}
@@ -25,7 +25,7 @@ unfoldable pub key_change_of : List ℕ → Result RrcRecord RecFault
 key_change_of octets = record_by key_change octets
 
 -- the kinds
-abbrev pub rrc_rows : Rows RecFault RrcRecord
+abbrev pub rrc_rows : Readers RecFault RrcRecord
 rrc_rows =
     (command.kind, command_of)
     ∷ (complete.kind, λ octets. bare octets SecurityModeComplete)

@@ -1,7 +1,7 @@
 -- Reading a record of S1 or X2: no octet, unknown kind, size, and then the fields from left to right.
 use Rattle.std.specs.Prelude.{ℕ, List, [], ◌∷◌, Result, Ok, Err}
 use Rattle.rec_base.specs.declared.faults.RecFault.{RecFault}
-use Rattle.rec_fields.specs.Layout.{Rows}
+use Rattle.rec_fields.specs.Layout.{Readers}
 use Rattle.rec_fields.specs.Record.{record_by, read_kinds}
 use Rattle.s1x2_rec.specs.declared.records.CoreRecord.{CoreRecord}
 use Rattle.s1x2_rec.specs.Content.{Content, content_of}
@@ -54,7 +54,7 @@ unfoldable pub context_modification_of : List ℕ → Result CoreRecord RecFault
 context_modification_of octets = record_by context_modification octets
 
 -- the kinds
-abbrev pub core_rows : Rows RecFault CoreRecord
+abbrev pub core_rows : Readers RecFault CoreRecord
 core_rows =
     (initial_context.kind, initial_context_of)
     ∷ (context_release.kind, context_release_of)

@@ -31,7 +31,7 @@ use Rattle.scenario_file.specs.declared.systems.System.TheVariants as system
 use Rattle.scenario_file.specs.Systems.{more_at_top, more_of_station}
 use Rattle.scenario_file.specs.Keys.{only_in}
 use Rattle.scenario_file.specs.Values.{or_default, number_in, first_in, first_ncc_in, priority_in, array_in, table_in, tables_in, cell_of, count_of}
-use Rattle.scenario_file.specs.Setup.{usual_priority, phones_in, phones_of, phone_of, numbers_in, core_in, core_of, id_in, with_site, sites_from, cells_in, core_number_in, with_station, station_from, stations_from, no_stations, network_of, start_of}
+use Rattle.scenario_file.specs.Setup.{usual_priority, phones_in, phones_of, phone_of, shared_in, core_in, core_of, id_in, with_site, sites_from, cells_in, core_number_in, with_station, station_from, stations_from, no_stations, network_of, start_of}
 use Rattle.scenario_file.proofs.FirstFault.{then_ok, then_some, ok_or_ok, ok_same, not_read, default_ok, number_in_range}
 use Rattle.scenario_file.proofs.Ranges.{caps_fit, cell_of_place}
 
@@ -44,8 +44,8 @@ first_good table n given =
     let range = number_in_range 1 (2 ^ 32 - 1) First table n given in
     (range.0, omega (arith, range.1))
 
-numbers_good : (table : Members) (numbers : Numbers) → numbers_in table ≡ Ok numbers → IsFirst numbers.first
-unfolding numbers_in
+numbers_good : (table : Members) (numbers : Numbers) → shared_in table ≡ Ok numbers → IsFirst numbers.first
+unfolding shared_in
 numbers_good table numbers =
     then_ok (IsFirst numbers.first) (or_default usual_priority priority_in Priority table) _ numbers (λ priority e more.
     then_ok (IsFirst numbers.first) (or_default 1 first_in First table) _ numbers (λ first read whole.
@@ -57,7 +57,7 @@ unfolding core_in
 core_in_good document core =
     then_ok (IsFirst core.numbers.first) (table_in Core document) _ core (λ table e1.
     then_ok (IsFirst core.numbers.first) (only_in (Priority ∷ First ∷ FirstNcc ∷ []) table) _ core (λ known e2.
-    then_ok (IsFirst core.numbers.first) (numbers_in table) _ core (λ numbers read_numbers.
+    then_ok (IsFirst core.numbers.first) (shared_in table) _ core (λ numbers read_numbers.
     then_ok (IsFirst core.numbers.first) (or_default One first_ncc_in FirstNcc table) _ core (λ first_ncc e3 whole.
     subst (λ (c : CoreStart). IsFirst c.numbers.first) (ok_same _ _ core refl whole) (numbers_good table numbers read_numbers)))))
 
@@ -170,7 +170,7 @@ unfolding with_station
 with_station_good system network table next good =
     then_ok (GoodNetwork next) (only_in (Id ∷ Priority ∷ First ∷ Cells ∷ more_of_station system) table) _ next (λ known e1.
     then_ok (GoodNetwork next) (id_in network.stations table) _ next (λ id read_id.
-    then_ok (GoodNetwork next) (numbers_in table) _ next (λ numbers read_numbers.
+    then_ok (GoodNetwork next) (shared_in table) _ next (λ numbers read_numbers.
     then_ok (GoodNetwork next) (cells_in network.cells id table) _ next (λ cells read_cells.
     then_ok (GoodNetwork next) (core_number_in table) _ next (λ core read_core whole.
     subst GoodNetwork (ok_same _ _ next refl whole)
@@ -232,7 +232,7 @@ unfolding with_station
 station_has_cells system network table next =
     then_ok (1 ≤ length next.cells) (only_in (Id ∷ Priority ∷ First ∷ Cells ∷ more_of_station system) table) _ next (λ known e1.
     then_ok (1 ≤ length next.cells) (id_in network.stations table) _ next (λ id read_id.
-    then_ok (1 ≤ length next.cells) (numbers_in table) _ next (λ numbers read_numbers.
+    then_ok (1 ≤ length next.cells) (shared_in table) _ next (λ numbers read_numbers.
     then_ok (1 ≤ length next.cells) (cells_in network.cells id table) _ next (λ cells read_cells.
     then_ok (1 ≤ length next.cells) (core_number_in table) _ next (λ core read_core whole.
     subst (λ (n : Network). 1 ≤ length n.cells) (ok_same _ _ next refl whole)

@@ -50,8 +50,8 @@ phone_of document = do
   caps_in CapsField phone
 
 -- what the core and a station share
-unfoldable pub numbers_in : Members → Result Numbers Refusal
-numbers_in table = do
+unfoldable pub shared_in : Members → Result Numbers Refusal
+shared_in table = do
   priority ← or_default usual_priority priority_in Priority table
   first ← or_default 1 first_in First table
   Ok (record { priority = priority; first = first })
@@ -61,7 +61,7 @@ unfoldable pub core_in : Field → Members → Result CoreStart Refusal
 core_in field document = do
   core ← table_in field document
   known ← only_in (Priority ∷ First ∷ FirstNcc ∷ []) core
-  numbers ← numbers_in core
+  numbers ← shared_in core
   first_ncc ← or_default One first_ncc_in FirstNcc core
   Ok (record { numbers = numbers; first_ncc = first_ncc })
 
@@ -102,7 +102,7 @@ unfoldable pub with_station : System → Network → Members → Result Network 
 with_station system network table = do
   known ← only_in (Id ∷ Priority ∷ First ∷ Cells ∷ more_of_station system) table
   id ← id_in network.stations table
-  numbers ← numbers_in table
+  numbers ← shared_in table
   cells ← cells_in network.cells id table
   core ← core_number_in table
   Ok (record {

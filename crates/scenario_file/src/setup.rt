@@ -4,7 +4,7 @@ ghost use Rattle.toml.specs.View.{table_view, items_view, view};
 ghost use Rattle.scenario_file.specs.declared.fields.Field.TheVariants.{Priority as PriorityField, First, FirstNcc as FirstNccField};
 ghost use Rattle.lte_events.specs.declared.setups.FirstNcc.TheVariants.{One};
 ghost use Rattle.scenario_file.specs.Values.{count_of, or_default, priority_in, first_in, first_ncc_in};
-ghost use Rattle.scenario_file.specs.Setup.{usual_priority, phones_in, phones_of, phone_of, numbers_in, core_in, usual_core, core_of, id_in, with_site, sites_from, cells_in, core_number_in, with_station, station_from, stations_from, no_stations, network_of, start_of};
+ghost use Rattle.scenario_file.specs.Setup.{usual_priority, phones_in, phones_of, phone_of, shared_in, core_in, usual_core, core_of, id_in, with_site, sites_from, cells_in, core_number_in, with_station, station_from, stations_from, no_stations, network_of, start_of};
 
 use crate::faults::Refusal;
 use crate::keys::only;
@@ -124,7 +124,7 @@ fn core_in(document: &Table, field: Field) -> Result<CoreStart, Refusal>
 {
     let core = values::table(document, field)?;
     only(core, &[Field::Priority, Field::First, Field::FirstNcc], &[])?;
-    let numbers = numbers_in(core)?;
+    let numbers = shared_in(core)?;
     let first_ncc = first_ncc_in(core)?;
     Ok(CoreStart { numbers, first_ncc })
 }
@@ -144,9 +144,9 @@ fn usual_core() -> CoreStart
 }
 
 // The fields that the core and a station share.
-#[tactic(auto, unfolding(crate::specs::Setup::numbers_in))]
-fn numbers_in(table: &Table) -> Result<Numbers, Refusal>
-    ensures { result ≡ numbers_in (table_view table.now) }
+#[tactic(auto, unfolding(crate::specs::Setup::shared_in))]
+fn shared_in(table: &Table) -> Result<Numbers, Refusal>
+    ensures { result ≡ shared_in (table_view table.now) }
 {
     let priority = priority_in(table)?;
     let first = first_in(table)?;
@@ -261,7 +261,7 @@ fn with_station(network: Network, table: &Table, system: System) -> Result<Netwo
         system.more_of_station(),
     )?;
     let id = id_in(table, stations.as_slice())?;
-    let numbers = numbers_in(table)?;
+    let numbers = shared_in(table)?;
     let cells = cells_in(table, cells, id)?;
     core_of[id as usize] = core_number_in(table)?;
     stations.push(StationSetup {

@@ -13,7 +13,7 @@ use Rattle.lte_events.specs.declared.inputs.PhoneIn.TheVariants.{Auth, Act, Nas,
 use Rattle.lte_events.specs.declared.replies.ActorOut.{ActorOut}
 use Rattle.key_model.specs.Reading.{octet_reading}
 use Rattle.nas_count.specs.declared.sending.CountSpent as spent
-use Rattle.nas_count.specs.Estimate.{count_limit, estimate_of}
+use Rattle.nas_count.specs.Estimate.{nas_count_limit, estimate_of}
 use Rattle.nas_guard.specs.Open.{sn_in, sent_in}
 use Rattle.nas_rec.specs.declared.records.NasRecord.{NasRecord}
 use Rattle.nas_rec.specs.declared.records.NasRecord as nas
@@ -191,7 +191,7 @@ module _ (s : State) (o : Option (NasContext (List ℕ))) where
 
 rejected_told : (s : State) (answer : Answer) (cause : ℕ) (o : Option (NasContext (List ℕ))) → is_told answer ≡ true → Told (here s o) true (rejected answer cause (seen s o))
 rejected_told s answer cause None told refused = rw told refl
-rejected_told s answer cause (Some c) told refused = by_test (nat_le count_limit c.send) refused
+rejected_told s answer cause (Some c) told refused = by_test (nat_le nas_count_limit c.send) refused
   where
     by_test : (b : Bool) → (let done = nas_does octet_reading (cond b (NasRefused answer) (RejectedUnder answer cause)) (here s (Some c)) in
         done.1.answer ≢ Done → is_some (actor_out done.1).sent ≡ (true && (is_told done.1.answer && not b)))

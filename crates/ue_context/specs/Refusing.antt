@@ -8,7 +8,7 @@ use Rattle.lte_events.specs.declared.inputs.PhoneIn.TheVariants.{Nas}
 use Rattle.lte_events.specs.declared.replies.ActorOut.{ActorOut}
 use Rattle.lte_events.specs.Reply.{reply_of}
 use Rattle.key_model.specs.Reading.{octet_reading}
-use Rattle.nas_count.specs.Estimate.{count_limit}
+use Rattle.nas_count.specs.Estimate.{nas_count_limit}
 use Rattle.lte_machine.specs.Calls.{phone_input, use_out}
 use Rattle.lte_machine.specs.Ciphers.{annex_b}
 use Rattle.lte_machine.specs.Opening.{accepted_of, open_octets}
@@ -46,7 +46,7 @@ is_told other = false
 -- no context is in use, or an uplink NAS COUNT of it is left
 abbrev pub may_tell : Option (NasContext (List ℕ)) → Bool
 may_tell None = true
-may_tell (Some c) = not (nat_le count_limit c.send)
+may_tell (Some c) = not (nat_le nas_count_limit c.send)
 
 -- the refusals that send one
 abbrev pub sends_reject : Phone (List ℕ) ℕ → PhoneIn → Answer → Bool

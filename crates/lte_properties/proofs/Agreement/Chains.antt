@@ -15,7 +15,7 @@ use Rattle.lte_machine.specs.CoreState.{CoreLink}
 use Rattle.lte_machine.specs.Reply.{From, BySetup, ByAttempt, ByChange, Made, Tried, Came, Secured, Commanded, Changed, Took, Handover, BySource, ByTarget}
 use Rattle.lte_machine.specs.StationState.{Context, Attempt, OverX2, OverS1, Within, Renewing, X2State, X2Open, X2Ready, X2Commanded, S1State, S1Open, S1Ready, S1Commanded}
 use Rattle.lte_machine.specs.Wire.{Outgoing, Between}
-use Rattle.lte_properties.specs.Agreement.{TookMade, ObeysMade, Grows}
+use Rattle.lte_properties.specs.Agreement.{TookMade, ObeysMade, KeyGrows}
 use Rattle.lte_properties.specs.Origins.{root_of, nas_count_of}
 use Rattle.lte_properties.specs.Chains.{chain_key, OnChain, Chains, IsKeyOf, IsPairOf, ArePairsOf, GivenOn, TriedOn, ContextOn, OpenedUnder, AttemptOn, AttemptsOn, PrepOn, LinkOn, RecordOn, StarOf, MadeHow, BelongsTo, TookOn, AreChains}
 use Rattle.lte_properties.specs.ChainBelow.{AllOf, LinkTop}
@@ -181,7 +181,7 @@ module _ (cells : List Site) (c : Conns) (w : TheWorld) (h : WorldOk cells c w) 
       there ∙ (λ j. nh (c.root (one j)) (c.count (one j)) (number j))
 
   belongs : (x : Took Term ℕ) → TookOk (ghost c w) x → (m : Made Term ℕ) → MadeOk (ghost c w) m → FromIs (ghost c w) m x.key m.from
-      → (came : Came Term ℕ) → ObeysMade x came m → Grows x came → (x.number ≤ top m.conn) × BelongsTo chains m x came
+      → (came : Came Term ℕ) → ObeysMade x came m → KeyGrows x came → (x.number ≤ top m.conn) × BelongsTo chains m x came
   belongs x k m ok from Secured obeys grows =
       let own = made_of x m (key_of m.conn m.key m.number ok.5) obeys.0 in (own.1, own)
   belongs x k m ok from (Commanded before) obeys grows =

@@ -31,7 +31,7 @@ use Rattle.lte_machine.specs.StationState.{Station, Context, Attempt, OverX2, Ov
 use Rattle.lte_machine.specs.CoreState.{Core, CoreLink}
 use Rattle.std.specs.Prelude.{slice_index, length, ◌==◌, ◌&&◌, Bool, true, false, find, ⊤}
 use Rattle.lte_properties.specs.ChainBelow.{AllOf}
-use Rattle.lte_properties.specs.Agreement.{made_at, Obeys, Grows, HadTaken, TakenIfTried}
+use Rattle.lte_properties.specs.Agreement.{made_at, Obeys, KeyGrows, HadTaken, TakenIfTried}
 use Rattle.lte_properties.specs.Origins.{root_of, nas_count_of}
 use Rattle.lte_properties.proofs.Agreement.Terms.{lands, ChainOf}
 use Rattle.lte_properties.specs.Chains.{chain_key, OnChain}
@@ -144,7 +144,7 @@ UnderIs g (Changed before root) = HadMade g before.station before.key
 -- what was taken
 abbrev pub TookOk : Ghost → Took Term ℕ → Type 0
 TookOk g x =
-    HereIs g x.station x.air x.key × Obeys g.made x × Grows x x.came
+    HereIs g x.station x.air x.key × Obeys g.made x × KeyGrows x x.came
     × OnChain (root_of x.key) (nas_count_of x.key) x.key x.number × UnderIs g x.came
 
 -- a context or preparation is what was made for its air address

@@ -16,7 +16,7 @@ use Rattle.lte_machine.specs.PhoneState.{Radio, Idle, Connecting, Connected, Lin
 use Rattle.lte_machine.specs.StationState.{Station, Context}
 use Rattle.lte_machine.specs.Run.{stations_of, first_world}
 use Rattle.lte_properties.specs.ChainBelow.{AllOf}
-use Rattle.lte_properties.specs.Agreement.{made_at, ahead, ObeysMade, Obeys, Grows, OneTerm, key_before, NoneUnder, ContextAt, AtStation, Agree, JoinedBy, IsFar, NoneThere, ComesMade, PrepMade, Agrees}
+use Rattle.lte_properties.specs.Agreement.{made_at, ahead, ObeysMade, Obeys, KeyGrows, OneTerm, key_before, NoneUnder, ContextAt, EachStation, Agree, JoinedBy, IsFar, NoneThere, ComesMade, PrepMade, Agrees}
 use Rattle.lte_properties.proofs.ChainNumbers.Lists.{all_map}
 use Rattle.lte_properties.proofs.Agreement.Ghost.{MadeOk, SeenBy, Ghost, tried_at, keys_of, taken, FromIs, HereIs, CtxOk, PrepOk, StationOk, LinkIs, RadioOk, HadMade, UnderIs, TookOk}
 use Rattle.lte_properties.proofs.Freshness.Order.{not_before_itself}
@@ -190,7 +190,7 @@ module _ (cells : List Site) (c : Conns) (w : TheWorld) (h : WorldOk cells c w) 
     tried_once = h.once;
     made_once = all_map (MadeOk (ghost c w)) (λ m. made_at w.made m.station m.air ≡ Some m) (λ m k. k.4) w.made h.made;
     obeyed = all_map (TookOk (ghost c w)) (Obeys w.made) (λ x k. k.1) w.took h.took;
-    grow = all_map (TookOk (ghost c w)) (λ x. Grows x x.came) (λ x k. k.2) w.took h.took;
+    grow = all_map (TookOk (ghost c w)) (λ x. KeyGrows x x.came) (λ x k. k.2) w.took h.took;
     one_term = one_term;
     none_under = none_under order;
     joined = joined w.phone.radio h.radio;
@@ -218,7 +218,7 @@ module _ (cells : List Site) (c d : Conns) (v u : TheWorld) (l : Later (ghost c 
 
   pub none_before : NoneThere v u
   none_before =
-      all_map (TookOk (ghost d u)) (λ x. IsFar u.made x → AtStation v x.station (λ s. ContextAt x.air s.context (λ y. ⊥)))
+      all_map (TookOk (ghost d u)) (λ x. IsFar u.made x → EachStation v x.station (λ s. ContextAt x.air s.context (λ y. ⊥)))
       (λ x k far. all_map (StationOk cells (ghost c v)) (λ s. s.id ≡ x.station → ContextAt x.air s.context (λ y. ⊥))
       (λ s ok is. none_before_at x k far s is s.context ok.0) v.stations a.stations)
       u.took b.took

@@ -17,7 +17,7 @@ use Rattle.lte_machine.specs.PhoneState.{Waiting, Link, Radio, Connecting, Conne
 use Rattle.lte_machine.specs.PhoneRows.{AuthRow, Authenticated, AirRow, LinkSecured, HandedOver, KeyChanged, PhoneRow, OfAuth, OfNas, OfAir, OfAct}
 use Rattle.lte_machine.specs.PhoneKeys.{PhoneDone, auth_does, link_secured, handed_over, before_of, changed_unless, phone_does}
 use Rattle.lte_properties.specs.ChainBelow.{AllOf}
-use Rattle.lte_properties.specs.Agreement.{made_at, change_ahead, ahead, TookMade, ObeysCommand, ObeysChange, Obeys, Grows, HadTaken}
+use Rattle.lte_properties.specs.Agreement.{made_at, change_ahead, ahead, TookMade, ObeysCommand, ObeysChange, Obeys, KeyGrows, HadTaken}
 use Rattle.lte_properties.specs.Origins.{root_of, nas_count_of}
 use Rattle.lte_properties.proofs.Agreement.Terms.{climb, lands, climb-nh, IsKenb, number_lands, ChainOf, reached_key, reached_number, reached_chain, steps_below, steps_near, lands_near, steps_far, lands_far}
 use Rattle.lte_properties.specs.Chains.{chain_key}
@@ -119,7 +119,7 @@ obeys_command e m x before o from source own number leads key reached algs =
 grows : (same : Term → Term → Bool) (l : Link Term ℕ) (steps : ℕ) (cell : Place) → ChainOf l.kenb l.chain
     → (x : Took Term ℕ) → x.key ≡ (reached_after (term_reading_by same) l.chain l.kenb steps cell).star.key
     → x.number ≡ (reached_after (term_reading_by same) l.chain l.kenb steps cell).star.number
-    → Grows x (Commanded (before_of l))
+    → KeyGrows x (Commanded (before_of l))
 grows same l zero cell chain x key number = inr (number, cell.pci, cell.earfcn, key)
 grows same l (suc steps) cell chain x key number =
     let reached = number ∙ reached_number same l.kenb l.chain (suc steps) cell chain in

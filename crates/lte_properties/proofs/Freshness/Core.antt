@@ -9,7 +9,7 @@ use Rattle.rec_base.specs.declared.uses.Dir.TheVariants.{Down}
 use Rattle.lte_events.specs.declared.acts.CoreAct.{CoreAct}
 use Rattle.key_model.specs.Term.{Term, Kenb, Alg}
 use Rattle.key_model.specs.Reading.{term_reading_by}
-use Rattle.nas_count.specs.Estimate.{count_limit}
+use Rattle.nas_count.specs.Estimate.{nas_count_limit}
 use Rattle.nas_guard.specs.Keys.{Keys}
 use Rattle.nas_guard.specs.Seal.{nas_bearer}
 use Rattle.lte_machine.specs.Bearers.{skipped}
@@ -25,7 +25,7 @@ use Rattle.lte_machine.proofs.NasFacts.{NasHas, opens_above}
 use Rattle.lte_machine.proofs.Tests.{Anything, by_some}
 use Rattle.lte_properties.specs.ChainBelow.{AllOf}
 use Rattle.lte_properties.proofs.Freshness.Sequence.{authentication_of}
-use Rattle.lte_properties.proofs.Freshness.Uses.{Home, home_at, Homes, Grows, OnKey, IsNas, NasDown, CoreUse, AllApart}
+use Rattle.lte_properties.proofs.Freshness.Uses.{Home, home_at, Homes, HomesStay, OnKey, IsNas, NasDown, CoreUse, AllApart}
 use Rattle.lte_properties.proofs.Freshness.Stands.{IsPast, NasKeysOf, core_partial_root, core_context_root, due, core_mark, CoreStands, RecordStands}
 use Rattle.lte_properties.proofs.Freshness.Order.{homed, homed_here, homed_is, homed_grows, later_mark}
 use Rattle.lte_properties.proofs.Freshness.Lists.{both_apart}
@@ -38,7 +38,7 @@ NewDown roots s t u = (u.dir ≡ Down) × OnKey (λ k type. IsNas type) u.key ×
 -- what a step of the core keeps, with the homes of keys afterwards
 pub record CoreKeeps (roots : ℕ) (given : Homes) (s t : Core Term ℕ) (sent : Option (Outgoing Term ℕ)) : Type 0 where
   pub new : Homes
-  pub grows : Grows given new
+  pub grows : HomesStay given new
   pub stands : CoreStands roots new t
   pub nas : (k : Term) (count : ℕ) → NasDown roots s.partial s.context k count → NasDown roots t.partial t.context k count
   pub uses : AllOf (NewDown roots s t) (uses_in sent)
@@ -261,7 +261,7 @@ module _ (roots : ℕ) (given : Homes) where
     set_up = λ conn cell target caps count c f h. set_up_keeps same conn cell target caps count s c s.trigger f.triggered h;
     released = λ conn station f h. keeps s _ _ h (λ k count u. u) tt tt (λ taken. tt);
     sent = λ count text c f h. sent_keeps count text s c (subst (λ o. IfSome o (λ x. count ≡ x.nas.send)) (sym f.in_use) f.count_is) h;
-    skipped = λ n c f h. skipped_on s c (skipped n c.nas.send count_limit) (omega arith) h;
+    skipped = λ n c f h. skipped_on s c (skipped n c.nas.send nas_count_limit) (omega arith) h;
   }
 
   pub core_act_keeps : (same : Term → Term → Bool) (s : Core Term ℕ) (act : CoreAct) (row : CoreActRow) → ActHas s act row → CoreStands roots given s →

@@ -11,7 +11,7 @@ use Rattle.nh_chain.specs.Chain.{ChainState}
 use Rattle.nh_chain.specs.Reach.{reached_after}
 use Rattle.lte_properties.proofs.Freshness.Sequence.{authentication_of, IsBefore, IsNotAfter, IsLevel}
 use Rattle.lte_properties.specs.Origins.{nas_count_of}
-use Rattle.lte_properties.proofs.Freshness.Uses.{Home, Homes, Grows, OnKey, home_of}
+use Rattle.lte_properties.proofs.Freshness.Uses.{Home, Homes, HomesStay, OnKey, home_of}
 use Rattle.lte_properties.proofs.Freshness.Stands.{Mark, IsPast}
 use Rattle.lte_machine.proofs.Tests.{by_some}
 
@@ -122,11 +122,11 @@ grown_by true f t u h k e none g = absurd (none k (ap f (sym ((same_term-Decides
 grown_by false f t u h k e none g = g
 
 -- where the key had none, homes only grow
-pub homed_grows : (f : Homes) (u : Term) (h : Home) → ((k : Home) → f u ≡ Some k → ⊥) → Grows f (homed f u h)
+pub homed_grows : (f : Homes) (u : Term) (h : Home) → ((k : Home) → f u ≡ Some k → ⊥) → HomesStay f (homed f u h)
 homed_grows f u h none t k g = grown_by (same_term t u) f t u h k refl none g
 
 -- homes only grow
-pub home_grows : (b : Bool) (taken taken' given given' : Homes) (t : Term) (h : Home) → Grows taken taken' → Grows given given' →
+pub home_grows : (b : Bool) (taken taken' given given' : Homes) (t : Term) (h : Home) → HomesStay taken taken' → HomesStay given given' →
     home_of b (taken t) (given t) ≡ Some h → home_of b (taken' t) (given' t) ≡ Some h
 home_grows true taken taken' given given' t h f g e = f t h e
 home_grows false taken taken' given given' t h f g e = g t h e

@@ -8,7 +8,7 @@ use Rattle.rec_base.specs.declared.uses.Dir.TheVariants.{Up}
 use Rattle.rec_base.specs.Bearer.{bearer5_of}
 use Rattle.key_model.specs.Term.{Term, Kenb, Star, Alg}
 use Rattle.key_model.specs.Reading.{term_reading, term_reading_by}
-use Rattle.nas_count.specs.Estimate.{count_limit}
+use Rattle.nas_count.specs.Estimate.{nas_count_limit}
 use Rattle.rrc_rec.specs.declared.records.RrcRecord.{RrcRecord}
 use Rattle.nh_chain.specs.Chain.{begun}
 use Rattle.nh_chain.specs.Reach.{reached_after}
@@ -293,7 +293,7 @@ module _ (roots : ℕ) (taken : Homes) where
     packet = λ drb text l k h. packet_keeps s l _ drb text refl h;
     rrc = λ srb text l k h. rrc_keeps s l _ srb _ refl h;
     nas = λ text c k h. sealed roots taken s c 2 _ h;
-    nas_skipped = λ n c k h. left_out roots taken s c (skipped n c.send count_limit) (omega arith) h;
+    nas_skipped = λ n c k h. left_out roots taken s c (skipped n c.send nas_count_limit) (omega arith) h;
     bearer_skipped = λ on n l k h. bearers_keep s l _ None (left_out_rises on n l.bearers) h tt tt (λ given. tt);
   }
 

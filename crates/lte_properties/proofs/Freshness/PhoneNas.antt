@@ -17,7 +17,7 @@ use Rattle.lte_machine.proofs.PhoneCases.{NasCases, nas_case}
 use Rattle.lte_machine.proofs.Tests.{Anything}
 use Rattle.lte_properties.specs.ChainBelow.{AllOf}
 use Rattle.lte_properties.proofs.Freshness.Sequence.{authentication_of, IsBefore}
-use Rattle.lte_properties.proofs.Freshness.Uses.{Home, home_at, Homes, Grows, IsNas, NasUp, AsUp, UpUse, AllApart}
+use Rattle.lte_properties.proofs.Freshness.Uses.{Home, home_at, Homes, HomesStay, IsNas, NasUp, AsUp, UpUse, AllApart}
 use Rattle.lte_properties.proofs.Freshness.Stands.{Mark, IsPast, partial_root, phone_mark, RadioStands, PhoneStands, RecordStands, RadioOlder, kasme_in_use}
 use Rattle.lte_properties.proofs.Freshness.Order.{past_is_before, later_mark}
 use Rattle.lte_properties.proofs.Freshness.Lists.{both_apart}
@@ -29,7 +29,7 @@ NewUp roots taken new s t u = (u.dir ≡ Up) × UpUse roots new t u × (UpUse ro
 -- what a step of the phone keeps, with the homes of keys afterwards
 pub record PhoneKeeps (roots : ℕ) (taken : Homes) (s t : Phone Term ℕ) (sent : Option (Outgoing Term ℕ)) (took : Option (Took Term ℕ)) : Type 0 where
   pub new : Homes
-  pub grows : Grows taken new
+  pub grows : HomesStay taken new
   pub stands : PhoneStands roots new t
   pub nas : (k : Term) (count : ℕ) → NasUp roots s.partial s.context k count → NasUp roots t.partial t.context k count
   pub link : (k : Term) (type count bearer : ℕ) → AsUp taken s.radio k type count bearer → AsUp new t.radio k type count bearer

@@ -25,8 +25,8 @@ abbrev pub Homes : Type 0
 Homes = Term → Option Home
 
 -- homes of keys are never lost
-abbrev pub Grows : Homes → Homes → Type 0
-Grows old new = (t : Term) (h : Home) → old t ≡ Some h → new t ≡ Some h
+abbrev pub HomesStay : Homes → Homes → Type 0
+HomesStay old new = (t : Term) (h : Home) → old t ≡ Some h → new t ≡ Some h
 
 -- a KeNB*, which a handover made (TS 33.401 A.5)
 abbrev pub is_star : Term → Bool

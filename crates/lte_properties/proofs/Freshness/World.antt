@@ -15,7 +15,7 @@ use Rattle.lte_machine.specs.StationState.{Station, Context}
 use Rattle.lte_machine.specs.CoreState.{Core}
 use Rattle.lte_machine.specs.World.{Machine, World, uses_in, with_one, phone_after, core_after, station_after}
 use Rattle.lte_properties.specs.ChainBelow.{AllOf}
-use Rattle.lte_properties.proofs.Freshness.Uses.{Home, home_at, Homes, Grows, OnKey, IsNas, IsAs, is_star, home, NasUp, AsUp, UpUse, NasDown, CoreUse, ContextAhead, AsDown, StationUse}
+use Rattle.lte_properties.proofs.Freshness.Uses.{Home, home_at, Homes, HomesStay, OnKey, IsNas, IsAs, is_star, home, NasUp, AsUp, UpUse, NasDown, CoreUse, ContextAhead, AsDown, StationUse}
 use Rattle.lte_properties.proofs.Freshness.Stands.{ContextStands, StationStands, BetweenStands, RecordStands, Fresh}
 use Rattle.lte_machine.proofs.Tests.{by_some}
 use Rattle.lte_properties.proofs.ChainNumbers.Lists.{OfSome, all_append, all_one, all_map, all_both, all_put, roots_kept}
@@ -43,7 +43,7 @@ some_of P (Some x) h = h
 
 -- AS HOMES GROW
 
-module _ (taken taken' given given' : Homes) (f : Grows taken taken') (g : Grows given given') where
+module _ (taken taken' given given' : Homes) (f : HomesStay taken taken') (g : HomesStay given given') where
   -- a context stands
   context_grows : (s : Station Term ℕ) (o : Option (Context Term ℕ)) → IfSome o (ContextStands taken given s) → IfSome o (ContextStands taken' given' s)
   context_grows s None h = h

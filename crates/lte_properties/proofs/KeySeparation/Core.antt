@@ -10,7 +10,7 @@ use Rattle.lte_events.specs.declared.addresses.Address.TheVariants.{StationS1}
 use Rattle.lte_events.specs.declared.answers.Answer.TheVariants.{BadRecord}
 use Rattle.lte_events.specs.declared.setups.FirstNcc.{FirstNcc}
 use Rattle.lte_events.specs.declared.setups.FirstNcc.TheVariants.{One, Two}
-use Rattle.nas_count.specs.Estimate.{count_limit}
+use Rattle.nas_count.specs.Estimate.{nas_count_limit}
 use Rattle.nas_guard.specs.Keys.{Keys}
 use Rattle.key_model.specs.Term.{Term, Kenb, Nh, IsRoot, IsDerivationKey, IsWellFormed}
 use Rattle.key_model.specs.HandoverTable.{NumberedKey}
@@ -404,7 +404,7 @@ module _ (roots : ℕ) (xs : List (Outgoing Term ℕ)) (sites : List Site) (trie
       fresh = λ u a b g k. k;
     };
     sent = λ count text c f h. send_kept (count + 1) c _ h (λ u id g. g) tt tt;
-    skipped = λ n c f h. send_kept (skipped n c.nas.send count_limit) c _ h (λ u id g. g) tt tt;
+    skipped = λ n c f h. send_kept (skipped n c.nas.send nas_count_limit) c _ h (λ u id g. g) tt tt;
   }
 
   -- A STEP

@@ -8,7 +8,7 @@ use Rattle.rec_base.specs.declared.uses.Dir.{Dir}
 use Rattle.rec_base.specs.declared.uses.Dir.TheVariants.{Up, Down}
 use Rattle.lte_events.specs.Site.{Site}
 use Rattle.key_model.specs.Term.{Term, Alg}
-use Rattle.nas_count.specs.Estimate.{count_limit}
+use Rattle.nas_count.specs.Estimate.{nas_count_limit}
 use Rattle.nas_rec.specs.declared.records.NasRecord.{NasRecord}
 use Rattle.nas_rec.specs.declared.records.NasRecord.TheVariants.{SecurityModeCommand, SecurityModeComplete, SecurityModeReject, ServiceRequest, NasData}
 use Rattle.nas_rec.specs.Spelling.{spelling_of}
@@ -59,7 +59,7 @@ differ kind low e = absurd (omega arith)
 abbrev DataSealed : Choices → ℕ → Dir → ℕ → KeyUse Term → Option (Ciphering Term) → List ℕ → Type 0
 DataSealed g next dir header u e sent =
     (root : Term) × (algs : Algs) × RootHas g next root algs × (u ≡ nas_use dir (Alg root 2 eia2_identity) u.count)
-    × (header ≡ 2) × (e ≡ Some (ciphering_by algs.eea (nas_use dir (nas_keys root algs).enc u.count))) × (u.count < count_limit) × (length sent ≤ 200)
+    × (header ≡ 2) × (e ≡ Some (ciphering_by algs.eea (nas_use dir (nas_keys root algs).enc u.count))) × (u.count < nas_count_limit) × (length sent ≤ 200)
 
 data_sealed : (g : Choices) (next : ℕ) (dir : Dir) (header : ℕ) (u : KeyUse Term) (e : Option (Ciphering Term)) (text sent : List ℕ) → SealedOk g next dir header u e text
     → text ≡ spelling_of (NasData sent) → DataSealed g next dir header u e sent

@@ -9,7 +9,7 @@ use Rattle.alg_choice.specs.declared.algs.Eea.{Eea}
 use Rattle.alg_choice.specs.declared.choices.NoAlgorithm.{NoAlgorithm as NoneChosen}
 use Rattle.key_model.specs.Term.{Term, Root, Alg}
 use Rattle.key_model.specs.Reading.{term_reading}
-use Rattle.nas_count.specs.Estimate.{count_limit}
+use Rattle.nas_count.specs.Estimate.{nas_count_limit}
 use Rattle.nas_guard.specs.Keys.{Keys}
 use Rattle.nas_rec.specs.declared.records.NasRecord.{NasRecord}
 use Rattle.nas_rec.specs.declared.records.NasRecord.TheVariants.{SecurityModeCommand, SecurityModeComplete, SecurityModeReject, ServiceRequest, NasData}
@@ -80,7 +80,7 @@ SealedSo dir header u e root algs (SecurityModeReject cause) = header ≡ 2
 SealedSo dir header u e root algs ServiceRequest = header ≡ 1
 SealedSo dir header u e root algs (NasData text) =
     (header ≡ 2) × (e ≡ Some (ciphering_by algs.eea (nas_use dir (nas_keys root algs).enc u.count)))
-    × (u.count < count_limit) × (length text ≤ 200)
+    × (u.count < nas_count_limit) × (length text ≤ 200)
 
 -- the ciphering of a message by its header type (TS 24.301 9.3.1)
 abbrev pub ciphered_for : Dir → ℕ → KeyUse Term → Term → Algs → Option (Ciphering Term)

@@ -10,7 +10,7 @@ use Rattle.alg_choice.specs.declared.caps.Caps.{Caps}
 use Rattle.lte_events.specs.declared.acts.CoreAct.{CoreAct}
 use Rattle.key_model.specs.Term.{Term}
 use Rattle.key_model.specs.Reading.{Reading, term_reading_by}
-use Rattle.nas_count.specs.Estimate.{count_limit}
+use Rattle.nas_count.specs.Estimate.{nas_count_limit}
 use Rattle.nas_rec.specs.declared.records.NasRecord.{NasRecord}
 use Rattle.nas_rec.specs.declared.records.NasRecord.TheVariants.{SecurityModeCommand, SecurityModeComplete, SecurityModeReject, ServiceRequest, NasData}
 use Rattle.nas_rec.specs.Spelling.{spelling_of}
@@ -44,9 +44,9 @@ started_needs : (s : Core Term ℕ) (act : CoreAct) (ksi : ℕ) (algs : Algs) (c
 started_needs s act ksi algs caps count f = subst (StartNeeds s.priority ksi algs) (sym f.holds) (f.ksi_is, f.chosen)
 
 sent_needs : (s : Core Term ℕ) (act : CoreAct) (count : ℕ) (text : List ℕ) → Sends s act count text → IsCoreAct act
-    → (count < count_limit) × (length text ≤ 200)
+    → (count < nas_count_limit) × (length text ≤ 200)
 sent_needs s act count text f is =
-    (subst (λ n. n < count_limit) (sym f.count_is) (above_of count_limit f.context.nas.send f.left), (subst IsCoreAct f.act_is is).1)
+    (subst (λ n. n < nas_count_limit) (sym f.count_is) (above_of nas_count_limit f.context.nas.send f.left), (subst IsCoreAct f.act_is is).1)
 
 abbrev pub CoreRowNeeds : Core Term ℕ → CoreRow → Type 0
 CoreRowNeeds s (core.OfAct row) = (act : CoreAct) × ActHas s act row × IsCoreAct act
@@ -161,10 +161,10 @@ module _ (same : Term → Term → Bool) (g : Choices) (next : ℕ) where
 
   abbrev pub SendNeeds : Option (NasContext Term) → Type 0
   SendNeeds None = ⊤
-  SendNeeds (Some c) = c.send < count_limit
+  SendNeeds (Some c) = c.send < nas_count_limit
 
   count_left : (s : Phone Term ℕ) → HasCount s → SendNeeds s.context
-  count_left s f = subst SendNeeds (sym f.in_use) (above_of count_limit f.context.send f.left)
+  count_left s f = subst SendNeeds (sym f.in_use) (above_of nas_count_limit f.context.send f.left)
 
   abbrev pub AuthNeeds : Option Term → Type 0
   AuthNeeds None = ⊤

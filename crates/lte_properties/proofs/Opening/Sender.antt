@@ -32,12 +32,12 @@ use Rattle.lte_properties.proofs.Opening.Openings.{SenderIs, SameRoot}
 -- WHAT IS REPORTED STAYS SO
 
 module _ (m : Machine Term ℕ (Outgoing Term ℕ)) (w : World Term ℕ (Outgoing Term ℕ)) where
-  abbrev Grows : World Term ℕ (Outgoing Term ℕ) × Line Term → Type 0
-  Grows h = (t : Term) → IsReported w t → IsReported h.0 t
+  abbrev ReportsStay : World Term ℕ (Outgoing Term ℕ) × Line Term → Type 0
+  ReportsStay h = (t : Term) → IsReported w t → IsReported h.0 t
 
-  happens_grows : (e : Event) → Grows (happens m w e)
+  happens_grows : (e : Event) → ReportsStay (happens m w e)
   happens_grows =
-      happens_each m w (λ done a. Grows done) (λ ksi octets caps t h. still_in w.history _ t h) (λ input came turn t h. still_in w.history _ t h) (λ input came t h. still_in w.history _ t h)
+      happens_each m w (λ done a. ReportsStay done) (λ ksi octets caps t h. still_in w.history _ t h) (λ input came turn t h. still_in w.history _ t h) (λ input came t h. still_in w.history _ t h)
       (λ id input came s there own t h. still_in w.history _ t h) (λ answer t h. h)
 
   -- WHAT COMES WAS SENT UNDER REPORTED KEYS

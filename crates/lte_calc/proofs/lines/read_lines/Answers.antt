@@ -1,6 +1,6 @@
 use Rattle.std.proofs.Common.{length-append, length-take, ◌≡◌, ◌+◌, ◌≤◌, [], ◌++◌, length, take, refl, sym, ap, subst, append-nil, rules, arith}
 use Rattle.edge_io.specs.Told.{HasEnded}
-use Rattle.lte_calc.specs.Output.{most_octets}
+use Rattle.lte_calc.specs.Output.{longest_line}
 use Rattle.lte_calc.specs.Run.{IsLine, Came}
 use Rattle.lte_calc.specs.Lines.{AnsweredUpTo, StoppedIn, LastAt}
 use Rattle.lte_calc.proofs.Running.{Midway, midway_first, came_more, answered_on, memory_run, stopped_run, last_run}
@@ -41,7 +41,7 @@ returns-then-is_err-clause-run g c =
     let piece = take c.in-Ok.count c.read.new.buf in
     let came : Came piece mid now = record { gives = c.in-Ok.ensures.octets; most = c.in-Ok.ensures.most } in
     let small : c.in-Ok.count ≤ 4096 = search rules in
-    let few : length (held ++ piece) ≤ most_octets + 4096 = omega (arith, length-append held piece, length-take c.in-Ok.count c.read.new.buf, c.pieces.invariant.begun.1, small) in
+    let few : length (held ++ piece) ≤ longest_line + 4096 = omega (arith, length-append held piece, length-take c.in-Ok.count c.read.new.buf, c.pieces.invariant.begun.1, small) in
     memory_run (held ++ piece) c.pieces.good _ now _ _ (came_more held piece (held ++ piece) c.pieces.good _ mid now _ _ c.pieces.invariant.midway came refl) few
 
 pub returns-in-Err-answer_whole-clause-run : goal.returns-in-Err-answer_whole-clause-run
@@ -55,7 +55,7 @@ returns-in-Err-answer_whole-clause-run g c =
     let put : after ≡ held ++ piece = search rules in
     let stopped = subst (λ t. StoppedIn c.in-Err-answer_whole.status t (g.W.Edge.told c.pieces.out) (g.W.Edge.told c.answer_whole.new.out)) c.as_slice-in-pieces.ensures.value c.in-Err-answer_whole.ensures.stopped in
     let small : c.in-Ok.count ≤ 4096 = search rules in
-    let few : length after ≤ most_octets + 4096 = omega (arith, ap length put, length-append held piece, length-take c.in-Ok.count c.read.new.buf, c.pieces.invariant.begun.1, small) in
+    let few : length after ≤ longest_line + 4096 = omega (arith, ap length put, length-append held piece, length-take c.in-Ok.count c.read.new.buf, c.pieces.invariant.begun.1, small) in
     stopped_run c.in-Err-answer_whole.status after c.pieces.good _ now _ _ _
     (came_more held piece after c.pieces.good _ mid now _ _ c.pieces.invariant.midway came put)
     few c.pieces.invariant.no_write_fault.writes stopped
