@@ -1,14 +1,14 @@
 // Sessions over memory. The frames and replies of a run of the ordinary scenario were computed by another
 // implementation; all others were written down from the table of frames (`docs/FRAMES.md`) and the rows of the
 // written machine.
-ghost use Rattle.role_wire.specs.Ranges.{IsRole};
+ghost use Rattle.actor_frames.specs.Ranges.{IsRole};
 
 mod ends;
 mod kinds;
 mod ordinary;
 
+use actor_serve::{ServeEnd, serve};
 use edge_io::{MemPort, MemSink, MemSource, Port, Role};
-use role_node::{ServeEnd, serve};
 use std::process::Abort;
 use std::test::Fail;
 

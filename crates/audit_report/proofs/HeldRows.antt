@@ -10,9 +10,9 @@ use Rattle.key_terms.specs.Ladder as ladder
 use Rattle.lte_machine.specs.Ladder.{RowOrigin, row_key}
 use Rattle.lte_machine.specs.Ranges.{AllOf}
 use Rattle.lte_machine.specs.World.{Holder, AtPhone, AtCore, AtStation, Holding}
-use Rattle.run_stores.specs.Joins.{HasRow}
-use Rattle.run_stores.specs.Rows.{origin_in, numbered_after, noted, all_noted, holder_of}
-use Rattle.run_stores.proofs.Numbered.{number_of, row_noted}
+use Rattle.store_laws.specs.Joins.{HasRow}
+use Rattle.store_laws.specs.Rows.{origin_in, numbered_after, noted, all_noted, holder_of}
+use Rattle.store_laws.proofs.Numbered.{number_of, row_noted}
 
 -- ROWS THAT NOBODY HOLDS
 

@@ -31,10 +31,10 @@ use Rattle.lte_properties.proofs.AccountsHold.{rows_are}
 use Rattle.lte_world.specs.Whole.{InRun}
 use Rattle.run_report.specs.Ready.{Ready}
 use Rattle.run_report.proofs.Telling.{is_setup, are_events}
-use Rattle.run_stores.specs.Additions.{CanKeep}
-use Rattle.run_stores.specs.Rows.{numbered, all_noted, world_rows}
-use Rattle.run_stores.proofs.Adding.{valued}
-use Rattle.run_stores.proofs.EveryRun.{world_keeps}
+use Rattle.store_laws.specs.Additions.{CanKeep}
+use Rattle.store_laws.specs.Rows.{numbered, all_noted, world_rows}
+use Rattle.store_laws.proofs.Adding.{valued}
+use Rattle.store_laws.proofs.EveryRun.{world_keeps}
 use Rattle.audit_report.specs.OfRun.{AreOf, AuditIsOfRun}
 use Rattle.audit_report.proofs.Rooted.{AllRooted, rows_rooted}
 use Rattle.audit_report.proofs.RowKeys.{IsKasme, RunRows, rows_are_of}

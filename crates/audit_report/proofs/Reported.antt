@@ -15,7 +15,7 @@ use Rattle.run_report.specs.Counted.{Ended}
 use Rattle.run_report.specs.Ready.{Ready}
 use Rattle.run_report.specs.Summary.{Coincides, outcome_from}
 use Rattle.run_report.proofs.Telling.{in_octets}
-use Rattle.run_stores.specs.Rows.{world_rows}
+use Rattle.store_laws.specs.Rows.{world_rows}
 use Rattle.audit_report.specs.AuditReport.{audit_in, audit_with, audit_report_of}
 
 audit_is : {setup : Setup} {events : List Event} → Ready setup events → audit_report_of setup events ≡ audit_with (audit_in (octet_run setup events)) (outcome_from [] (octet_report setup events))

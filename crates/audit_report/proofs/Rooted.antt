@@ -7,10 +7,10 @@ use Rattle.key_model.specs.Derivation.{Input, FromCount, FromSync, FromCell, Fro
 use Rattle.key_terms.specs.declared.row.LadderRow.{LadderRow}
 use Rattle.key_terms.specs.Ladder.{unheld, row_of, HasSync}
 use Rattle.lte_machine.specs.Ladder.{RowOrigin, OfRoot, Of, row_key, same_origin, Clash, Ladder, Hit, hit, stands_or_not, added_at, added_unless, add_next, add_rows}
-use Rattle.run_stores.specs.Additions.{CanAddTo, AllCanAdd}
-use Rattle.run_stores.specs.Joins.{HasRow, Placed}
-use Rattle.run_stores.specs.Rows.{origin_in, numbered_after, numbered}
-use Rattle.run_stores.proofs.Numbered.{row_kept, number_of, numbered_grows}
+use Rattle.store_laws.specs.Additions.{CanAddTo, AllCanAdd}
+use Rattle.store_laws.specs.Joins.{HasRow, Placed}
+use Rattle.store_laws.specs.Rows.{origin_in, numbered_after, numbered}
+use Rattle.store_laws.proofs.Numbered.{row_kept, number_of, numbered_grows}
 
 abbrev pub Origins : Type 0
 Origins = List (RowOrigin (List ℕ))

@@ -28,10 +28,10 @@ use Rattle.lte_machine.specs.Ranges.{AllOf}
 use Rattle.lte_machine.specs.World.{Holder, AtPhone, AtCore, AtStation, Holding}
 use Rattle.lte_machine.proofs.Rows.{Well, From, SyncIn, made_of}
 use Rattle.lte_properties.specs.Separation.{IsStationOf}
-use Rattle.run_stores.specs.Joins.{HasRow}
-use Rattle.run_stores.specs.Rows.{origin_in, numbered, all_noted}
-use Rattle.run_stores.proofs.Adding.{valued, term_stands}
-use Rattle.run_stores.proofs.Numbered.{octets_numbered, origin_noted, origin_stands, plain_noted, row_noted}
+use Rattle.store_laws.specs.Joins.{HasRow}
+use Rattle.store_laws.specs.Rows.{origin_in, numbered, all_noted}
+use Rattle.store_laws.proofs.Adding.{valued, term_stands}
+use Rattle.store_laws.proofs.Numbered.{octets_numbered, origin_noted, origin_stands, plain_noted, row_noted}
 use Rattle.audit_report.specs.Alone.{HeldAlone}
 use Rattle.audit_report.specs.OfRun.{unnumbered, AreOf}
 use Rattle.audit_report.proofs.HeldRows.{IsFree, IsNoted, all_free, free_flags, free_held, held_where}

@@ -22,7 +22,7 @@ use Rattle.key_audit.proofs.Exactness.{marks_right, marks_nearest, exact_marks_f
 use Rattle.key_terms.specs.declared.row.LadderRow.{LadderRow}
 use Rattle.key_terms.specs.Ladder.{IsLadder}
 use Rattle.lte_world.specs.Whole.{InRun}
-use Rattle.run_stores.specs.Rows.{world_rows}
+use Rattle.store_laws.specs.Rows.{world_rows}
 use Rattle.audit_report.specs.Audited.{IsExact}
 use Rattle.audit_report.specs.Alone.{HeldAlone, OneDerives, AloneAsTogether, EachAlone}
 

@@ -11,7 +11,7 @@ use Rattle.lte_machine.specs.Run.{RunState, Running, Stopped}
 use Rattle.report_text.specs.Chance.{chance_text}
 use Rattle.run_report.specs.Report.{Report}
 use Rattle.run_report.specs.Summary.{Outcome, AllLines, Coincides, outcome_from}
-use Rattle.run_stores.specs.Rows.{world_rows}
+use Rattle.store_laws.specs.Rows.{world_rows}
 
 -- the text of the exact audit of the ladder of a run
 abbrev pub audit_in : RunState (List ℕ) ℕ Kept → List ℕ

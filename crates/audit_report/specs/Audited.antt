@@ -7,7 +7,7 @@ use Rattle.lte_events.specs.declared.events.Event.{Event}
 use Rattle.lte_events.specs.declared.setups.Setup.{Setup}
 use Rattle.lte_machine.specs.BothRuns.{octet_run}
 use Rattle.lte_world.specs.Whole.{InRun}
-use Rattle.run_stores.specs.Rows.{world_rows}
+use Rattle.store_laws.specs.Rows.{world_rows}
 
 -- a station has a mark in a row exactly where it can derive the key of the row from the keys that it holds, and the mark is the
 -- nearest of them on the way up

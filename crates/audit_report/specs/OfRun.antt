@@ -13,7 +13,7 @@ use Rattle.lte_machine.specs.Distinct.{distinct_terms}
 use Rattle.lte_machine.specs.Run.{Running}
 use Rattle.lte_machine.specs.Wire.{Outgoing}
 use Rattle.lte_machine.specs.World.{World, Holding}
-use Rattle.run_stores.specs.Rows.{world_rows}
+use Rattle.store_laws.specs.Rows.{world_rows}
 use Rattle.audit_report.specs.Alone.{HeldAlone}
 
 -- a key without the numbers of the roots in it: a root is told by its octets alone

@@ -27,7 +27,7 @@ use Rattle.report_text.specs.End.{end_text}
 use Rattle.report_text.specs.Ladder.{rows_from, row_text}
 use Rattle.report_text.specs.Line.{line_text}
 use Rattle.run_report.specs.Report.{told_from, end_of, report_of}
-use Rattle.run_stores.specs.Rows.{world_rows}
+use Rattle.store_laws.specs.Rows.{world_rows}
 use Rattle.fleet_world.specs.declared.faults.FleetFault.{FleetFault}
 use Rattle.fleet_world.specs.declared.lines.FleetLine.{FleetLine}
 use Rattle.fleet_world.specs.declared.lines.FleetLine.TheVariants as line

@@ -10,7 +10,7 @@ use Rattle.lte_machine.specs.Run.{RunState, Running, Stopped, GoesOn}
 use Rattle.lte_world.specs.Whole.{InRun}
 use Rattle.report_text.specs.End.{end_text}
 use Rattle.report_text.specs.Ladder.{row_text}
-use Rattle.run_stores.specs.Rows.{world_rows}
+use Rattle.store_laws.specs.Rows.{world_rows}
 use Rattle.fleet_world.specs.declared.faults.FleetFault.{FleetFault}
 use Rattle.fleet_world.specs.declared.lines.FleetLine.{FleetLine}
 use Rattle.fleet_world.specs.Answers.{answer, own_at, owns_after, owns_from, owns_of, no_events}

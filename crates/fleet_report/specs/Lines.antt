@@ -9,7 +9,7 @@ use Rattle.report_text.specs.Chance.{HasString, chance_text}
 use Rattle.report_text.specs.End.{end_text}
 use Rattle.report_text.specs.Ladder.{row_text}
 use Rattle.report_text.specs.Line.{line_text}
-use Rattle.run_stores.specs.Rows.{world_rows}
+use Rattle.store_laws.specs.Rows.{world_rows}
 use Rattle.fleet_world.specs.declared.faults.FleetFault.{FleetFault}
 use Rattle.fleet_world.specs.declared.faults.FleetFault.TheVariants as fault
 use Rattle.fleet_world.specs.declared.lines.FleetLine.{FleetLine}

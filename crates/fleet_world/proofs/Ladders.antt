@@ -35,9 +35,9 @@ use Rattle.lte_machine.proofs.History.{among_distinct, distinct_append}
 use Rattle.lte_machine.proofs.KnownWorld.{Grounds}
 use Rattle.lte_machine.proofs.LadderRun.{still_grounds, octets_always}
 use Rattle.lte_properties.proofs.AccountsHold.{happens_gains}
-use Rattle.run_stores.specs.Rows.{numbered, all_noted, world_rows}
-use Rattle.run_stores.proofs.Adding.{Stands, row_stands}
-use Rattle.run_stores.proofs.Numbered.{plain_noted, octets_numbered}
+use Rattle.store_laws.specs.Rows.{numbered, all_noted, world_rows}
+use Rattle.store_laws.proofs.Adding.{Stands, row_stands}
+use Rattle.store_laws.proofs.Numbered.{plain_noted, octets_numbered}
 use Rattle.fleet_world.specs.Meeting.{has_row}
 use Rattle.fleet_world.specs.Phones.{phone_run, phone_rows, rows_in}
 

@@ -13,7 +13,7 @@ use Rattle.lte_machine.specs.Machines.{Kept}
 use Rattle.lte_machine.specs.Ranges.{AllOf}
 use Rattle.lte_machine.specs.Run.{RunState, Running, Stopped, GoesOn}
 use Rattle.lte_world.specs.Whole.{Whole, InRun, run_of}
-use Rattle.run_stores.specs.Rows.{world_rows}
+use Rattle.store_laws.specs.Rows.{world_rows}
 use Rattle.fleet_world.specs.Meeting.{has_root, has_row, met_in, row_among, ladder_at}
 use Rattle.fleet_world.specs.Phones.{rows_in, without}
 use Rattle.fleet_world.specs.Worlds.{Goes, rows_at, ladders_in, others_in}

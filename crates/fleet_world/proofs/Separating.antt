@@ -20,7 +20,7 @@ use Rattle.lte_machine.specs.Run.{RunState, Running, Stopped, turn, after, Event
 use Rattle.lte_machine.specs.Step.{next, Continues, Stops, StepResult}
 use Rattle.lte_machine.specs.Wire.{Outgoing}
 use Rattle.lte_machine.proofs.EventByEvent.{replay_snoc}
-use Rattle.run_stores.proofs.Adding.{Stands}
+use Rattle.store_laws.proofs.Adding.{Stands}
 use Rattle.fleet_world.specs.Answers.{answer, own_at, taken_by, crossing, unless_taken, unless_met, owned_if, owns_after, owns_from, no_events}
 use Rattle.fleet_world.specs.Apart.{IsEventOf, AllAnswered}
 use Rattle.fleet_world.specs.Meeting.{Meeting, has_row, row_among, met_in, met_or, meeting_from, ladder_at}

@@ -24,7 +24,7 @@ use Rattle.lte_machine.proofs.WholeRun.{tale_is_value}
 use Rattle.lte_world.specs.declared.faults.WorldFault.TheVariants as world_fault
 use Rattle.lte_world.specs.Whole.{Whole, run_of, most_events}
 use Rattle.lte_world.specs.Whole as whole
-use Rattle.run_stores.specs.Proofs.{proof_of}
+use Rattle.store_laws.specs.Proofs.{proof_of}
 use Rattle.fleet_world.specs.declared.faults.FleetFault.TheVariants as fault
 use Rattle.fleet_world.specs.declared.lines.FleetLine.{FleetLine}
 use Rattle.fleet_world.specs.declared.lines.FleetLine.TheVariants as line

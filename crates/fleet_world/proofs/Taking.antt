@@ -15,7 +15,7 @@ use Rattle.lte_machine.specs.Step.{StepResult, Continues, Stops, next}
 use Rattle.lte_machine.proofs.Fitting.{setup_fits}
 use Rattle.lte_world.specs.Systems.{octets}
 use Rattle.lte_world.specs.Whole.{Whole, InRun, run_of, unless_over, told_of, answer_of, turned, begun, CanBegin}
-use Rattle.run_stores.specs.Rows.{world_rows}
+use Rattle.store_laws.specs.Rows.{world_rows}
 use Rattle.fleet_world.specs.Answers.{no_events}
 use Rattle.fleet_world.specs.Fleets.{IsOwn, Stands, StandsUnless, most_phones, world_of}
 use Rattle.fleet_world.specs.declared.faults.FleetFault.{FleetFault}

@@ -5,7 +5,7 @@ use Rattle.lte_events.specs.declared.setups.Setup.{Setup}
 use Rattle.key_terms.specs.Ladder.{row}
 use Rattle.lte_machine.specs.Calls.{line_out}
 use Rattle.lte_machine.specs.Run.{EventReport, Reported, Coincided}
-use Rattle.run_stores.specs.Proofs.{proof_of}
+use Rattle.store_laws.specs.Proofs.{proof_of}
 use Rattle.fleet_world.specs.declared.faults.FleetFault.{FleetFault}
 use Rattle.fleet_world.specs.declared.faults.FleetFault.TheVariants as fault
 use Rattle.fleet_world.specs.declared.lines.FleetLine.{FleetLine}

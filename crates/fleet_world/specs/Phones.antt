@@ -9,7 +9,7 @@ use Rattle.lte_machine.specs.Ciphers.{annex_b}
 use Rattle.lte_machine.specs.Machines.{Kept, written_machine}
 use Rattle.lte_machine.specs.Opening.{open_octets}
 use Rattle.lte_machine.specs.Run.{RunState, Running, Stopped, EventReport, event_report}
-use Rattle.run_stores.specs.Rows.{world_rows}
+use Rattle.store_laws.specs.Rows.{world_rows}
 
 -- the written machine's run of a phone's own events, in values
 unfoldable pub phone_run : Setup → List Event → RunState (List ℕ) ℕ Kept

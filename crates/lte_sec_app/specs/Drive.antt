@@ -8,13 +8,13 @@ use Rattle.edge_io.specs.Octets.{Grows, GrowsByPrefix, GrowsByProperPrefix, Lose
 use Rattle.edge_io.specs.Peers.{PeersTold}
 use Rattle.lte_events.specs.declared.events.Event.{Event}
 use Rattle.lte_events.specs.declared.setups.Setup.{Setup}
-use Rattle.peer_calls.specs.declared.faults.DriveFault.{DriveFault}
-use Rattle.peer_calls.specs.declared.faults.DriveFault.TheVariants as fault
-use Rattle.peer_calls.specs.Acts.{Call, calls}
-use Rattle.peer_calls.specs.Driven.{Driven, WhereTold, FailedNext, GivesAll}
-use Rattle.peer_calls.specs.Outside.{outside}
-use Rattle.peer_calls.specs.Peerwise.{Made}
-use Rattle.hub_drive.specs.Plan.{plan_of}
+use Rattle.actor_drive.specs.declared.faults.DriveFault.{DriveFault}
+use Rattle.actor_drive.specs.declared.faults.DriveFault.TheVariants as fault
+use Rattle.actor_drive.specs.Acts.{Call, calls}
+use Rattle.actor_drive.specs.Driven.{Driven, WhereTold, FailedNext, GivesAll}
+use Rattle.actor_drive.specs.Outside.{outside}
+use Rattle.actor_drive.specs.Peerwise.{Made}
+use Rattle.actor_drive.specs.Plan.{plan_of}
 use Rattle.run_report.specs.Report.{report_of}
 use Rattle.scenario_file.specs.declared.faults.ScenarioFault.{ScenarioFault}
 use Rattle.scenario_file.specs.Reading.{reading_of}

@@ -4,7 +4,7 @@ ghost use Rattle.edge_io.specs.Cause.{NoFault, NoCountFell, Rose};
 ghost use Rattle.edge_io.specs.Used.{UsedAsSource, UsedAsSink};
 ghost use Rattle.lte_properties.specs.Headline.{Headline};
 ghost use Rattle.scenario_file.specs.Draws.{generated_setup, generated};
-ghost use Rattle.peer_calls.specs.Driven.{AllStopped};
+ghost use Rattle.actor_drive.specs.Driven.{AllStopped};
 ghost use Rattle.lte_sec_app.specs.Command.{named};
 ghost use Rattle.lte_sec_app.specs.Drive.{DriveAt, DriveIsComplete};
 ghost use Rattle.lte_sec_app.specs.Generated.{gen_output, WritingIsComplete};

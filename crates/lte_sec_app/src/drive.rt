@@ -3,7 +3,7 @@ ghost use Rattle.std.specs.String.{string_bytes};
 ghost use Rattle.edge_io.specs.Cause.{NoFault, Rose};
 ghost use Rattle.edge_io.specs.Used.{UsedAsSource, UsedAsSink};
 ghost use Rattle.lte_events.specs.Conditions.{CanStart, CanHappen, SetupFits, EventFits};
-ghost use Rattle.peer_calls.specs.Driven.{AllStopped};
+ghost use Rattle.actor_drive.specs.Driven.{AllStopped};
 ghost use Rattle.scenario_file.specs.Reading.{reading_of};
 ghost use Rattle.lte_sec_app.specs.Drive.{AllGoes, DriveAt, DriveIsComplete, LineAt, ScenarioAt, TextAt, TextGoes, difference_text, wanted_text};
 ghost use Rattle.lte_sec_app.specs.Run.{WhereRun};
@@ -14,10 +14,10 @@ ghost use Rattle.lte_sec_app.specs.declared.command.TextCommand.{TextCommand};
 use crate::reading::read_text;
 use crate::scenario::unless_refused;
 use crate::status::Status;
+use actor_drive::DriveFault;
+use actor_frames::Frame;
 use edge_io::{Peers, Sink, Source, write_all};
-use hub_drive::DriveFault;
 use lte_events::{Events, Setup};
-use role_wire::Frame;
 use scenario_file::read;
 use std::alloc::{AllocError, Global};
 
@@ -103,7 +103,7 @@ fn drive_scenario<P: Peers, W: Sink>(
     ensures no_write_fault { result ≢ Status.WriteFault → NoFault (W.told out.old) (W.told out.new) }
     ensures out { UsedAsSink (W.told out.old) (W.told out.new) }
 {
-    match hub_drive::drive(alloc, setup, events, peers, out) {
+    match actor_drive::drive(alloc, setup, events, peers, out) {
         Ok(()) => Status::Done,
         Err(DriveFault::Memory) => Status::Memory,
         Err(DriveFault::PeerFault) => Status::PeerFault,

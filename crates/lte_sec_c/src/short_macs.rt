@@ -1,6 +1,6 @@
 // The short MACs of a Service Request and of re-establishment.
 ghost use Rattle.std.specs.Prelude.{◌≡◌, ◌≢◌, ◌<◌, ◌≤◌, ◌↔◌, IsTrue};
-ghost use Rattle.nas_count.specs.Estimate.{nas_count_limit};
+ghost use Rattle.nas_guard.specs.Estimate.{nas_count_limit};
 ghost use Rattle.pdu_guard.specs.ShortMacs.{service_request_of, short_mac_i_of};
 ghost use Rattle.lte_sec_c.specs.Found.{found_after, status_after};
 ghost use Rattle.lte_sec_c.specs.ShortMacs.{in_four, service_fault, service_opens};
@@ -11,7 +11,7 @@ use crate::fault::{DONE, Fault};
 use crate::found::Found;
 use crate::ranges::{eia_of, is_identity};
 use annex_a_keys::AlgKey;
-use nas_count::LIMIT;
+use nas_guard::LIMIT;
 use pdu_guard::{ServiceFault, check_service_request, service_request, short_mac_i};
 
 /// A Service Request under KNASint at an uplink NAS COUNT, with its KSI (TS 24.301 8.2.25 and 9.9.3.28).

@@ -22,10 +22,10 @@ use Rattle.lte_machine.proofs.Fitting.{takes}
 use Rattle.lte_machine.proofs.KnownLists.{all_append}
 use Rattle.lte_machine.proofs.Routing.{happens_each}
 use Rattle.lte_machine.proofs.WholeRun.{run_is_value}
-use Rattle.run_stores.specs.Additions.{CanKeep}
-use Rattle.run_stores.specs.Proofs.{chance_of}
-use Rattle.run_stores.proofs.EveryRun.{event_keeps}
-use Rattle.run_stores.proofs.Shown.{chance_back}
+use Rattle.store_laws.specs.Additions.{CanKeep}
+use Rattle.store_laws.specs.Proofs.{chance_of}
+use Rattle.store_laws.proofs.EveryRun.{event_keeps}
+use Rattle.store_laws.proofs.Shown.{chance_back}
 use Rattle.lte_world.specs.declared.faults.WorldFault.{WorldFault}
 use Rattle.lte_world.specs.Systems.{octets, Actors, CameOut, Happens, EventCan, MayHappen}
 use Rattle.lte_world.specs.Whole.{answer_of, Goes}

@@ -14,12 +14,12 @@ use Rattle.key_terms.specs.Ladder.{Rows as LadderRows, unheld, row, row_of, orig
 use Rattle.key_terms.proofs.Holding.{root_same, sync_same}
 use Rattle.lte_machine.specs.Ladder.{RowOrigin, Of, Clash, Ladder, add_row, add_rows}
 use Rattle.lte_machine.specs.World.{Holding}
-use Rattle.run_stores.specs.Additions.{IsInput, CanAdd, AllCanAdd}
-use Rattle.run_stores.specs.Joins.{Keeps, Adds, ComesTo}
-use Rattle.run_stores.specs.Proofs.{clash_proof}
-use Rattle.run_stores.specs.Rows.{numbered, all_noted}
-use Rattle.run_stores.proofs.Joining.{adds}
-use Rattle.run_stores.proofs.Numbered.{plain_noted, row_noted}
+use Rattle.store_laws.specs.Additions.{IsInput, CanAdd, AllCanAdd}
+use Rattle.store_laws.specs.Joins.{Keeps, Adds, ComesTo}
+use Rattle.store_laws.specs.Proofs.{clash_proof}
+use Rattle.store_laws.specs.Rows.{numbered, all_noted}
+use Rattle.store_laws.proofs.Joining.{adds}
+use Rattle.store_laws.proofs.Numbered.{plain_noted, row_noted}
 use Rattle.lte_world.specs.Networks.{calm, told, Awaits, AddedBy, Added, AddsAll, CountIn}
 
 pub nil_cons : {A : Type 0} {x : A} {xs : List A} → [] ≡ x ∷ xs → ⊥

@@ -16,10 +16,10 @@ use Rattle.lte_machine.specs.Ladder.{RowOrigin, OfRoot, Clash, Ladder, add_row, 
 use Rattle.lte_machine.specs.Machines.{Kept}
 use Rattle.lte_machine.specs.World as world
 use Rattle.lte_machine.specs.World.{World}
-use Rattle.run_stores.specs.Joins.{HasRow, Keeps, Roots, RootComesTo}
-use Rattle.run_stores.specs.Proofs.{clash_proof}
-use Rattle.run_stores.proofs.Joining.{roots}
-use Rattle.run_stores.proofs.Keeping.{rows_append}
+use Rattle.store_laws.specs.Joins.{HasRow, Keeps, Roots, RootComesTo}
+use Rattle.store_laws.specs.Proofs.{clash_proof}
+use Rattle.store_laws.proofs.Joining.{roots}
+use Rattle.store_laws.proofs.Keeping.{rows_append}
 use Rattle.lte_machine.specs.Ladder.{no_rows, add_next}
 use Rattle.lte_world.specs.declared.network.Enrolled.{Enrolled}
 use Rattle.lte_world.specs.Enrolling.{with_root, EnrolledBy, EnrolledAs}

@@ -15,13 +15,13 @@ use Rattle.key_terms.proofs.Holding.{plain_holding, row_of_same}
 use Rattle.lte_machine.specs.Ladder.{RowOrigin, row_key, Clash, Ladder, Hit, hit, same_origin, stands_or_not, added_at, added_unless, add_row, add_next, add_rows, no_rows, ladder_of}
 use Rattle.lte_machine.specs.Ranges.{AllOf}
 use Rattle.lte_machine.specs.World as world
-use Rattle.run_stores.specs.Additions.{IsMadeIn}
-use Rattle.run_stores.specs.Joins.{HasRow, Keeps}
-use Rattle.run_stores.specs.Rows.{numbered}
+use Rattle.store_laws.specs.Additions.{IsMadeIn}
+use Rattle.store_laws.specs.Joins.{HasRow, Keeps}
+use Rattle.store_laws.specs.Rows.{numbered}
 use Rattle.lte_machine.proofs.KnownLists.{all_more}
-use Rattle.run_stores.proofs.Joining.{holds_one}
-use Rattle.run_stores.proofs.Numbered.{row_kept, hit_row, numbered_more, octets_numbered}
-use Rattle.run_stores.proofs.Adding.{row_stands, Stands}
+use Rattle.store_laws.proofs.Joining.{holds_one}
+use Rattle.store_laws.proofs.Numbered.{row_kept, hit_row, numbered_more, octets_numbered}
+use Rattle.store_laws.proofs.Adding.{row_stands, Stands}
 use Rattle.lte_world.specs.Networks.{HoldsOne, HoldsAll, holdings}
 use Rattle.lte_world.proofs.Deriving.{left_at, clash_stays}
 

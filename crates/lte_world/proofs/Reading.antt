@@ -20,8 +20,8 @@ use Rattle.lte_machine.proofs.EventByEvent.{written_still}
 use Rattle.lte_properties.specs.Agreement.{ContextAt, Agree, JoinedBy, JoinedAgree}
 use Rattle.lte_properties.specs.Freshness.{NoUseTwice}
 use Rattle.lte_properties.proofs.OctetLaws.{uses_octets, joined_octets}
-use Rattle.run_stores.specs.Records.{view_of, world_uses}
-use Rattle.run_stores.specs.Rows.{world_rows}
+use Rattle.store_laws.specs.Records.{view_of, world_uses}
+use Rattle.store_laws.specs.Rows.{world_rows}
 use Rattle.lte_world.specs.InOctets.{NoTwoEqual, IsJoined}
 use Rattle.lte_world.specs.Systems.{Actors, Are}
 use Rattle.lte_world.specs.Whole.{Whole, unless_over, run_of, InRun, Goes, Stands, context_kenb, phone_kenb_in, station_kenb_in}

@@ -22,9 +22,9 @@ use Rattle.lte_machine.specs.Ranges.{TakesInjected}
 use Rattle.lte_machine.specs.Step.{by_ladder, opens_none, delivery_attempts, injection_attempts}
 use Rattle.lte_events.specs.Class.{class_of}
 use Rattle.lte_machine.specs.World.{World, by_world, newest_if, record_at, delivery, injected, is_sent}
-use Rattle.run_stores.specs.Additions.{CanKeep}
-use Rattle.run_stores.specs.Records.{view_of}
-use Rattle.run_stores.proofs.Found.{first_is}
+use Rattle.store_laws.specs.Additions.{CanKeep}
+use Rattle.store_laws.specs.Records.{view_of}
+use Rattle.store_laws.proofs.Found.{first_is}
 use Rattle.lte_world.specs.Systems.{octets, Actors, Are, CameOut, comes, Happens, EventCan, ReadsAt, Arrives, ArrivalCan}
 
 -- an event that reaches no actor

@@ -27,7 +27,7 @@ use Rattle.lte_machine.specs.PhoneState.{Phone}
 use Rattle.lte_machine.specs.StationState.{Station}
 use Rattle.lte_events.specs.Class.{class_of}
 use Rattle.lte_machine.specs.World.{World, station_of_id, record_at}
-use Rattle.run_stores.specs.Records.{view_of}
+use Rattle.store_laws.specs.Records.{view_of}
 use Rattle.lte_world.specs.declared.network.Enrolled.{Enrolled}
 use Rattle.lte_world.specs.Enrolling.{with_root, EnrolledBy, EnrolledAs}
 use Rattle.lte_world.specs.Networks.{Stores, Fits}

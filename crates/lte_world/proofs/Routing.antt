@@ -16,7 +16,7 @@ use Rattle.lte_machine.specs.CoreState.{CoreRecord}
 use Rattle.lte_machine.specs.StationState.{StationRecord, OnS1, OnX2}
 use Rattle.lte_machine.specs.Step.{core_attempts, station_attempts}
 use Rattle.lte_machine.specs.World.{core_turn, station_turn}
-use Rattle.run_stores.specs.Additions.{CanKeep}
+use Rattle.store_laws.specs.Additions.{CanKeep}
 use Rattle.lte_world.specs.Systems.{octets, Actors, CameOut, comes, PhoneTurns, CoreTurns, StationTurns, Happens, Arrives}
 
 module _ (a b : Actors) (step : ℕ) (result : Result Line Proof) where

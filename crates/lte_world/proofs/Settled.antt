@@ -24,12 +24,12 @@ use Rattle.lte_machine.specs.Wire.{KeyUse, Outgoing}
 use Rattle.lte_machine.specs.World as world
 use Rattle.lte_machine.specs.World.{World, Holding, holds, uses_in, with_one, line_of, sent_line}
 use Rattle.lte_machine.proofs.KnownLists.{all_more}
-use Rattle.run_stores.specs.Additions.{AllCanAdd, CanKeep, IsMadeIn}
-use Rattle.run_stores.specs.Joins.{HasRow, Keeps}
-use Rattle.run_stores.specs.Records.{view_of, world_records, world_uses}
-use Rattle.run_stores.specs.Rows.{numbered}
-use Rattle.run_stores.proofs.Keeping.{rows_append}
-use Rattle.run_stores.proofs.Numbered.{row_noted}
+use Rattle.store_laws.specs.Additions.{AllCanAdd, CanKeep, IsMadeIn}
+use Rattle.store_laws.specs.Joins.{HasRow, Keeps}
+use Rattle.store_laws.specs.Records.{view_of, world_records, world_uses}
+use Rattle.store_laws.specs.Rows.{numbered}
+use Rattle.store_laws.proofs.Keeping.{rows_append}
+use Rattle.store_laws.proofs.Numbered.{row_noted}
 use Rattle.lte_world.specs.Networks.{HoldsOne, calm, Awaits, AddedBy, Added, AddsAll, HasRows, HasKeys, HoldsAll, holdings, keys_in, Stores, Fits}
 use Rattle.lte_world.specs.Settling.{chance_told, sent_in, number_of, after, Settles, SettledBy, SettledAs}
 use Rattle.lte_world.proofs.Deriving.{ok_is_no_err}

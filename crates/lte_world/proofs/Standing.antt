@@ -11,7 +11,7 @@ use Rattle.lte_machine.specs.Carried.{run_value}
 use Rattle.lte_machine.specs.Ciphers.{annex_b}
 use Rattle.lte_machine.specs.Ranges.{AllOf, IsEvent, IsSetup}
 use Rattle.lte_machine.specs.Run.{Stopped}
-use Rattle.run_stores.specs.Proofs.{chance_of}
+use Rattle.store_laws.specs.Proofs.{chance_of}
 use Rattle.lte_world.specs.declared.faults.WorldFault.{WorldFault}
 use Rattle.lte_world.specs.Systems.{Actors, Happens, EventCan, HasRoom}
 use Rattle.lte_world.specs.Whole.{Whole, unless_over, told_of, turned, CanApply, Goes, Stands}

@@ -32,7 +32,7 @@ use Rattle.lte_machine.specs.Tuples.{Chance, tuple_chance}
 use Rattle.lte_machine.specs.Wire.{KeyUse}
 use Rattle.lte_machine.specs.World as world
 use Rattle.lte_machine.specs.World.{World, line_of, phone_after, core_after, station_after, station_turn, turn_of, put_station, station_of_id}
-use Rattle.run_stores.specs.Additions.{CanKeep}
+use Rattle.store_laws.specs.Additions.{CanKeep}
 use Rattle.lte_world.specs.Networks.{Stores, Fits}
 use Rattle.lte_world.specs.Settling.{after, Settles, SettledBy, SettledAs}
 use Rattle.lte_world.specs.Systems.{octets, Actors, Are, CameOut, comes, PhoneTurns, PhoneCan, CoreTurns, CoreCan, StationTurns, StationCan, StepsAt}

@@ -6,7 +6,7 @@ use Rattle.lte_machine.specs.Ladder.{OfRoot, Clash, ladder_of, root_row}
 use Rattle.lte_machine.specs.Machines.{Kept}
 use Rattle.lte_machine.specs.Tuples.{Rows}
 use Rattle.lte_machine.specs.World.{World, AtPhone, AtCore}
-use Rattle.run_stores.specs.Proofs.{proof_of}
+use Rattle.store_laws.specs.Proofs.{proof_of}
 use Rattle.lte_world.specs.declared.network.Enrolled.{Enrolled}
 use Rattle.lte_world.specs.Networks.{Stores, Fits}
 

@@ -17,11 +17,11 @@ use Rattle.key_terms.specs.declared.row.Holder.{Holder}
 use Rattle.lte_machine.specs.Ranges.{AllOf}
 use Rattle.lte_machine.specs.World as world
 use Rattle.lte_machine.specs.World.{World, Holding}
-use Rattle.run_stores.specs.Rows.{holder_of}
-use Rattle.run_stores.specs.Additions.{AllCanAdd}
-use Rattle.run_stores.specs.Joins.{HasRow, Keeps}
-use Rattle.run_stores.specs.Proofs.{proof_of}
-use Rattle.run_stores.specs.Records.{world_records, world_uses}
+use Rattle.store_laws.specs.Rows.{holder_of}
+use Rattle.store_laws.specs.Additions.{AllCanAdd}
+use Rattle.store_laws.specs.Joins.{HasRow, Keeps}
+use Rattle.store_laws.specs.Proofs.{proof_of}
+use Rattle.store_laws.specs.Records.{world_records, world_uses}
 
 -- rows without a clash
 abbrev pub calm : List (RowOrigin (List ℕ)) → Ladder (List ℕ)

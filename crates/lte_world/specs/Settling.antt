@@ -19,9 +19,9 @@ use Rattle.lte_machine.specs.Reply.{Reply}
 use Rattle.lte_machine.specs.Tuples.{Chance, Rows, tuple_chance}
 use Rattle.lte_machine.specs.World as world
 use Rattle.lte_machine.specs.World.{World, world_with, line_of}
-use Rattle.run_stores.specs.Additions.{CanKeep}
-use Rattle.run_stores.specs.Proofs.{proof_of}
-use Rattle.run_stores.specs.Rows.{holder_of}
+use Rattle.store_laws.specs.Additions.{CanKeep}
+use Rattle.store_laws.specs.Proofs.{proof_of}
+use Rattle.store_laws.specs.Rows.{holder_of}
 use Rattle.lte_world.specs.Networks.{Stores, Fits}
 
 -- a coincidence as an error

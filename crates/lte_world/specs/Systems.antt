@@ -22,8 +22,8 @@ use Rattle.lte_machine.specs.World.{Machine, World, phone_turn, core_turn, stati
 use Rattle.lte_machine.specs.World as world
 use Rattle.s1x2_rec.specs.Reading.{read_core}
 use Rattle.lte_events.specs.Ranges.{PhoneDoes, StationDoes, TakesInjected}
-use Rattle.run_stores.specs.Additions.{CanKeep}
-use Rattle.run_stores.specs.Proofs.{proof_of}
+use Rattle.store_laws.specs.Additions.{CanKeep}
+use Rattle.store_laws.specs.Proofs.{proof_of}
 use Rattle.lte_world.specs.Networks.{Stores, Fits}
 
 -- the machine in octets, with the algorithms of TS 33.401 Annex B

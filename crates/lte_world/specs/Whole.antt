@@ -16,8 +16,8 @@ use Rattle.lte_machine.specs.Run.{RunState, Running, Stopped, turn, EventReport,
 use Rattle.lte_machine.specs.StationState.{Station}
 use Rattle.lte_machine.specs.World.{World, station_of_id}
 use Rattle.ue_context.specs.Step.{kenb_of}
-use Rattle.run_stores.specs.Proofs.{proof_of, chance_of}
-use Rattle.run_stores.specs.Rows.{world_rows}
+use Rattle.store_laws.specs.Proofs.{proof_of, chance_of}
+use Rattle.store_laws.specs.Rows.{world_rows}
 use Rattle.lte_world.specs.declared.faults.WorldFault.{WorldFault}
 use Rattle.lte_world.specs.Systems.{octets, Actors, Are}
 

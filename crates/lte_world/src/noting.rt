@@ -1,7 +1,7 @@
 // The ladder with what a step derived, and with who holds it.
 ghost use Rattle.std.specs.Prelude.{◌≡◌, ◌+◌, ◌≤◌, ◌<◌, [], ◌∷◌, List, ℕ, length, map};
 ghost use Rattle.key_terms.specs.Ladder.{IsHolder};
-ghost use Rattle.run_stores.specs.Joins.{HasRow};
+ghost use Rattle.store_laws.specs.Joins.{HasRow};
 ghost use Rattle.lte_world.specs.Networks.{Awaits, AddsAll, CountIn, HasKeys, HasRows, HoldsAll, HoldsOne, keys_in, told};
 
 use annex_a_keys::Derived;

@@ -2,3 +2,4 @@ pub mod Cipher
 pub mod Keys
 pub mod Seal
 pub mod Open
+pub mod Estimate

@@ -3,8 +3,7 @@ ghost use Rattle.rec_base.specs.Lengths.{longest_record};
 ghost use Rattle.nas_guard.specs.Open.{Opens, Refuses, opened};
 ghost use Rattle.nas_guard.specs.Seal.{sealed};
 
-use crate::NasKeys;
-use nas_count::RxCount;
+use crate::{NasKeys, RxCount};
 use rec_base::{Dir, Octets};
 
 /// What a protected NAS message held.

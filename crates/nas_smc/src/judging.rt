@@ -15,8 +15,7 @@ use crate::opening::{integrity_use, opened};
 use alg_choice::{Algs, Caps, supports};
 use annex_a_keys::{AlgType, Derived, Kasme};
 use lte_events::{Answer, Few};
-use nas_count::RxCount;
-use nas_guard::NasKeys;
+use nas_guard::{NasKeys, RxCount};
 use nas_rec::NasRecord;
 use rec_base::{Dir, ShortText, Use};
 

@@ -1,6 +1,6 @@
 // The COUNT of a message of which the overflow is not known.
 ghost use Rattle.std.specs.Prelude.{◌≡◌, ◌<◌, ◌≤◌, IfSome, length};
-ghost use Rattle.nas_count.specs.Estimate.{nas_count_limit};
+ghost use Rattle.nas_guard.specs.Estimate.{nas_count_limit};
 ghost use Rattle.pdu_guard.specs.Search.{nas_right, nas_search, service_right, service_search};
 
 use crate::checks::is_taken;

@@ -1,7 +1,7 @@
 // Short MACs: of a Service Request, and of re-establishment.
 ghost use Rattle.std.specs.Prelude.{◌≡◌, ◌<◌, ◌≤◌, drop};
 ghost use Rattle.key_model.specs.Least.{least};
-ghost use Rattle.nas_count.specs.Estimate.{nas_count_limit};
+ghost use Rattle.nas_guard.specs.Estimate.{nas_count_limit};
 ghost use Rattle.rec_base.specs.declared.uses.Dir.{Dir as Direction};
 ghost use Rattle.alg_suite.specs.Suite.{mac_by};
 ghost use Rattle.pdu_guard.specs.ShortMacs.{service_checked, service_request_of, short_mac_i_of};
@@ -9,7 +9,7 @@ ghost use Rattle.pdu_guard.specs.ShortMacs.{service_checked, service_request_of,
 use crate::checks::{is_checked, is_taken};
 use alg_suite::{Integrity, mac};
 use annex_a_keys::AlgKey;
-use nas_count::LIMIT;
+use nas_guard::LIMIT;
 use rec_base::Dir;
 
 /// Why four octets are no Service Request that was made under a key.

@@ -12,7 +12,7 @@ use Rattle.lte_world.specs.Whole.{InRun}
 use Rattle.lte_world.specs.declared.faults.WorldFault.TheVariants as fault
 use Rattle.report_text.specs.Chance.{chance_text}
 use Rattle.report_text.specs.Summary.{Tallied, tally_of, figures_text}
-use Rattle.run_stores.specs.Rows.{world_rows}
+use Rattle.store_laws.specs.Rows.{world_rows}
 use Rattle.run_report.specs.Events.{told_of, CanShow}
 use Rattle.run_report.specs.Counted.{Tells, Ended}
 use Rattle.run_report.specs.Ready.{Ready}

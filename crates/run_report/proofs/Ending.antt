@@ -6,7 +6,7 @@ use Rattle.lte_machine.specs.Run.{RunState, Running, Stopped, GoesOn}
 use Rattle.lte_world.specs.Whole.{InRun}
 use Rattle.report_text.specs.End.{end_text}
 use Rattle.report_text.specs.Ladder.{ladder_text}
-use Rattle.run_stores.specs.Rows.{world_rows}
+use Rattle.store_laws.specs.Rows.{world_rows}
 use Rattle.run_report.specs.Report.{end_of}
 
 -- its text, by the rows and the number of records that a caller is told

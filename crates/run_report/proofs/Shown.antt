@@ -22,9 +22,9 @@ use Rattle.lte_machine.proofs.Fitting.{event_fits}
 use Rattle.lte_world.specs.declared.faults.WorldFault.TheVariants as fault
 use Rattle.lte_world.specs.Whole.{Whole, run_of, unless_over, answer_of}
 use Rattle.lte_world.specs.Whole as whole
-use Rattle.run_stores.specs.Additions.{IsInput, CanAddTo, AllCanAdd}
-use Rattle.run_stores.specs.Proofs.{proof_of, clash_proof}
-use Rattle.run_stores.proofs.EveryRun.{event_keeps}
+use Rattle.store_laws.specs.Additions.{IsInput, CanAddTo, AllCanAdd}
+use Rattle.store_laws.specs.Proofs.{proof_of, clash_proof}
+use Rattle.store_laws.proofs.EveryRun.{event_keeps}
 use Rattle.report_text.specs.Chance.{HasString}
 use Rattle.run_report.specs.Events.{HasCount, HasCounts, told_of}
 

@@ -18,7 +18,7 @@ use Rattle.lte_machine.proofs.WholeRun.{tale_is_value, run_is_value}
 use Rattle.lte_world.specs.declared.faults.WorldFault.{WorldFault}
 use Rattle.lte_world.specs.declared.faults.WorldFault.TheVariants as fault
 use Rattle.lte_world.specs.Whole.{answer_of}
-use Rattle.run_stores.specs.Proofs.{proof_of}
+use Rattle.store_laws.specs.Proofs.{proof_of}
 use Rattle.report_text.specs.Line.{line_text}
 use Rattle.report_text.specs.Chance.{chance_text}
 use Rattle.run_report.specs.Counted.{Tells}

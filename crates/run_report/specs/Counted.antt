@@ -10,7 +10,7 @@ use Rattle.lte_machine.specs.Run.{RunState, EventReport, Reported, Coincided, Go
 use Rattle.lte_world.specs.declared.faults.WorldFault.{WorldFault}
 use Rattle.lte_world.specs.declared.faults.WorldFault.TheVariants as fault
 use Rattle.report_text.specs.Summary.{Tallied, tally_of}
-use Rattle.run_stores.specs.Proofs.{proof_of}
+use Rattle.store_laws.specs.Proofs.{proof_of}
 use Rattle.run_report.specs.declared.courses.Course.{Course}
 use Rattle.run_report.specs.declared.courses.Course.TheVariants as course
 use Rattle.run_report.specs.Events.{CanShow}

@@ -12,7 +12,7 @@ use Rattle.lte_machine.specs.Opening.{open_octets}
 use Rattle.lte_machine.specs.Run.{RunState, EventReport, Reported, Coincided, event_report}
 use Rattle.report_text.specs.Line.{line_text}
 use Rattle.report_text.specs.Chance.{HasString, chance_text}
-use Rattle.run_stores.specs.Proofs.{proof_of}
+use Rattle.store_laws.specs.Proofs.{proof_of}
 use Rattle.run_report.specs.Report.{Report}
 
 -- in a run in octets

@@ -14,8 +14,8 @@ use Rattle.report_text.specs.Line.{line_text}
 use Rattle.report_text.specs.Chance.{chance_text}
 use Rattle.report_text.specs.End.{end_text}
 use Rattle.report_text.specs.Ladder.{ladder_text}
-use Rattle.run_stores.specs.Proofs.{proof_of}
-use Rattle.run_stores.specs.Rows.{world_rows}
+use Rattle.store_laws.specs.Proofs.{proof_of}
+use Rattle.store_laws.specs.Rows.{world_rows}
 
 -- a report, and whether a coincidence ends it
 pub record Report : Type 0 where

@@ -12,8 +12,8 @@ use Rattle.lte_machine.specs.Machines.{Kept}
 use Rattle.lte_machine.specs.Run.{RunState, Running, Stopped, EventReport, Reported, Coincided}
 use Rattle.report_text.specs.Chance.{chance_text}
 use Rattle.report_text.specs.Summary.{summary_text}
-use Rattle.run_stores.specs.Proofs.{proof_of}
-use Rattle.run_stores.specs.Rows.{world_rows}
+use Rattle.store_laws.specs.Proofs.{proof_of}
+use Rattle.store_laws.specs.Rows.{world_rows}
 use Rattle.run_report.specs.Report.{Report}
 
 -- how a run comes out: all its lines, or a coincidence at a step

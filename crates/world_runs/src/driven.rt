@@ -1,8 +1,8 @@
 // The ordinary scenario against peers in memory.
 use crate::kept::{CORE, PHONE, REPORT, SCENARIO, STATION_0, STATION_1};
 use crate::values::{same, same_at};
+use actor_drive::{DriveFault, drive};
 use edge_io::{MemPeers, MemSink};
-use hub_drive::{DriveFault, drive};
 use scenario_file::read;
 use std::process::Abort;
 

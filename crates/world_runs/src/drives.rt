@@ -1,6 +1,6 @@
 use crate::values::{same, same_at};
+use actor_drive::{DriveFault, drive};
 use edge_io::{MemPeers, MemSink};
-use hub_drive::{DriveFault, drive};
 use scenario_file::read;
 use std::process::Abort;
 use std::test::Fail;

@@ -2,8 +2,8 @@
 // another implementation.
 use super::{octets_of, session};
 use crate::values::same_at;
+use actor_serve::ServeEnd;
 use edge_io::Role;
-use role_node::ServeEnd;
 use std::test::Fail;
 
 static PHONE: [(&str, &str); 8] = [

@@ -7,7 +7,7 @@ use Rattle.std.proofs.Math.Nat.{mod-mod}
 use Rattle.key_model.specs.Least.{least}
 use Rattle.key_model.proofs.LeastFacts.{least_in_window}
 use Rattle.key_model.specs.Term.{Term}
-use Rattle.nas_count.specs.Estimate.{estimate_of, count_limit as nas_limit}
+use Rattle.nas_guard.specs.Estimate.{estimate_of, count_limit as nas_limit}
 use Rattle.nas_guard.specs.Seal.{first_octet}
 use Rattle.nas_guard.specs.Open.{sn_in, sent_in, first_in}
 use Rattle.pdcp_guard.specs.Counts.{count_limit, in_32_bits}

@@ -1,5 +1,5 @@
 use Rattle.std.proofs.Common.{◌∙◌, ◌≡◌}
-use Rattle.run_stores.specs.Rows.{world_rows}
+use Rattle.store_laws.specs.Rows.{world_rows}
 use Rattle.lte_world.proofs.Reading.{rows_read}
 use Rattle.lte_world.proofs.world.World.ladder.Goals as goal
 

@@ -1,5 +1,5 @@
 use Rattle.std.proofs.Common.{◌∙◌, ◌≡◌}
-use Rattle.run_stores.specs.Records.{world_uses}
+use Rattle.store_laws.specs.Records.{world_uses}
 use Rattle.lte_world.proofs.Reading.{uses_read, differ}
 use Rattle.lte_world.proofs.world.World.uses.Goals as goal
 

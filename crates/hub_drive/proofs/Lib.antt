@@ -1,4 +1,0 @@
-mod Event
-mod Planned
-mod Texts
-mod Comes

@@ -1,7 +1,0 @@
-pub mod Composing
-pub mod Gone
-pub mod Peerwise
-pub mod Running
-mod Exchanging
-mod Places
-mod Receiving
