@@ -138,7 +138,7 @@ fn connected<H: Host>(
         Says H.Said.remaining said.old said.new (λ number. WantsMemory (H.connects host.now loopback number))) }
 {
     match reached(host, said) {
-        Ok(connection) => Ok(connection),
+        Ok(stream) => Ok(stream),
         Err(e) => {
             end::<H>(process);
             Err(e)
