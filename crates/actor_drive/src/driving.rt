@@ -1,4 +1,5 @@
 ghost use Rattle.std.specs.Prelude.{◌≡◌, ◌≢◌, ◌<◌, ◌≤◌, ◌⊎◌, [], false, true, Ok, Err, ℕ, IsTrue, IsErrOf, OnOk, OnErr, IfSome, length};
+ghost use Rattle.growth.specs.Growth.{WasRefused};
 ghost use Rattle.edge_io.specs.Cause.{NoFault, Rose};
 ghost use Rattle.edge_io.specs.Octets.{Grows, GrowsByPrefix, GrowsByProperPrefix};
 ghost use Rattle.edge_io.specs.Used.{UsedAsSink};
@@ -7,7 +8,7 @@ ghost use Rattle.lte_world.specs.Whole.{begun, run_of};
 ghost use Rattle.actor_drive.specs.Acts.{calls};
 ghost use Rattle.actor_drive.specs.Driven.{PlanWent, Driven, WhereTold, AllStopped, FailedNext, GivesAll};
 ghost use Rattle.actor_drive.specs.Exchanges.{roles_of};
-ghost use Rattle.actor_drive.specs.Outside.{AllRun, HasStarted, outside};
+ghost use Rattle.actor_drive.specs.Outside.{AllRun, HasStarted, LacksMemory, outside};
 ghost use Rattle.actor_drive.specs.Peerwise.{Made};
 ghost use Rattle.run_report.specs.Ready.{Ready};
 ghost use Rattle.run_report.specs.Report.{report_of};
@@ -26,7 +27,7 @@ use std::alloc::Global;
 /// what its actor is told; its reply is compared with the local actor's. Behind the last event the end of the
 /// report is written. All peers that were started are stopped, whatever it answers.
 ///
-/// `Memory` where memory ran out, `PeerFault` where a call on a peer failed, `Differs` at the first reply that is
+/// `Memory` where std refused memory or a start of a peer lacked it, `PeerFault` where a call on a peer failed, `Differs` at the first reply that is
 /// not the local one, `Chance` at a coincidence, `WriteFault` where the output failed.
 pub fn drive<P: Peers, W: Sink>(
     alloc: Global,
@@ -60,7 +61,9 @@ pub fn drive<P: Peers, W: Sink>(
     ensures failed { result ≡ Err DriveFault.PeerFault → WhereTold (FailedNext (calls (plan_of setup.now events.now.items).acts)) (P.told peers.old) (P.told peers.new) }
     ensures stopped { IfSome (P.told peers.new) AllStopped }
 
-    // The cause of each fault. With every other answer there was none.
+    // The cause of each fault. With every other answer there was none. Memory is wanted where std refused it, or where the peers say
+    // that a start lacked it.
+    ensures memory { IsErrOf result DriveFault.Memory → WasRefused ⊎ LacksMemory P.lacks_memory }
     ensures peer_cause { IsErrOf result DriveFault.PeerFault → Rose (P.faults peers.old) (P.faults peers.new) }
     ensures write_cause { IsErrOf result DriveFault.WriteFault → Rose (W.told out.old).write_faults (W.told out.new).write_faults }
     ensures no_peer_fault { result ≢ Err DriveFault.PeerFault → P.faults peers.new ≡ P.faults peers.old }
@@ -91,6 +94,7 @@ fn drive_plan<P: Peers, W: Sink>(
     requires out_ready { IsTrue (W.told out.old).ready }
     ensures driven { Driven (plan_of setup.now events.now.items) result
         (outside (W.told out.old).written (P.told peers.old)) (outside (W.told out.new).written (P.told peers.new)) }
+    ensures memory { IsErrOf result DriveFault.Memory → WasRefused ⊎ LacksMemory P.lacks_memory }
     ensures peer_cause { IsErrOf result DriveFault.PeerFault → Rose (P.faults peers.old) (P.faults peers.new) }
     ensures write_cause { IsErrOf result DriveFault.WriteFault → Rose (W.told out.old).write_faults (W.told out.new).write_faults }
     ensures no_peer_fault { result ≢ Err DriveFault.PeerFault → P.faults peers.new ≡ P.faults peers.old }
@@ -125,6 +129,7 @@ fn play<P: Peers, W: Sink>(
         (outside (W.told out.old).written (P.told peers.old)) (outside (W.told out.new).written (P.told peers.new)) }
     ensures running { AllRun result.0 (P.told peers.new) }
     ensures count { HasStarted result.0 (P.told peers.new) }
+    ensures memory { IsErrOf result.1 DriveFault.Memory → WasRefused ⊎ LacksMemory P.lacks_memory }
     ensures peer_cause { IsErrOf result.1 DriveFault.PeerFault → Rose (P.faults peers.old) (P.faults peers.new) }
     ensures write_cause { IsErrOf result.1 DriveFault.WriteFault → Rose (W.told out.old).write_faults (W.told out.new).write_faults }
     ensures no_peer_fault { result.1 ≢ Err DriveFault.PeerFault → P.faults peers.new ≡ P.faults peers.old }
@@ -159,6 +164,7 @@ fn run_all<P: Peers, W: Sink>(
     requires run { run_of world.old ≡ Running (first_world setup.now) }
     ensures went { PlanWent (events_plan setup.now 0 (Running (first_world setup.now)) events.now.items) result
         (outside (W.told out.old).written (P.told peers.old)) (outside (W.told out.new).written (P.told peers.new)) }
+    ensures memory { IsErrOf result DriveFault.Memory → WasRefused }
     ensures peer_cause { IsErrOf result DriveFault.PeerFault → Rose (P.faults peers.old) (P.faults peers.new) }
     ensures write_cause { IsErrOf result DriveFault.WriteFault → Rose (W.told out.old).write_faults (W.told out.new).write_faults }
     ensures no_peer_fault { result ≢ Err DriveFault.PeerFault → P.faults peers.new ≡ P.faults peers.old }

@@ -1,5 +1,6 @@
 // One event, before peers.
 ghost use Rattle.std.specs.Prelude.{◌≡◌, ◌≢◌, ◌≤◌, Err, ℕ, IsTrue, IsErrOf, OnOk, length};
+ghost use Rattle.growth.specs.Growth.{WasRefused};
 ghost use Rattle.edge_io.specs.Cause.{NoFault, Rose};
 ghost use Rattle.edge_io.specs.Used.{UsedAsSink};
 ghost use Rattle.lte_world.specs.Whole.{run_of};
@@ -21,6 +22,7 @@ use std::alloc::Global;
 pub(crate) fn fault_of(fault: Unwritten) -> DriveFault
     ensures memory { fault ≡ Unwritten.Memory → result ≡ DriveFault.Memory }
     ensures write { fault ≡ Unwritten.WriteFault → result ≡ DriveFault.WriteFault }
+    ensures memory_alone { result ≡ DriveFault.Memory → fault ≡ Unwritten.Memory }
 {
     match fault {
         Unwritten::Memory => DriveFault::Memory,
@@ -45,6 +47,7 @@ pub(crate) fn happen<P: Peers, W: Sink>(
     ensures went { PlanWent (event_plan setup.now (length world.old.journal) (told_of (run_of world.old) event.now) (replies_at (run_of world.old) event.now)) result
         (outside (W.told out.old).written (P.told peers.old)) (outside (W.told out.new).written (P.told peers.new)) }
     ensures takes { OnOk result (Takes world.old event.now world.new) }
+    ensures memory { IsErrOf result DriveFault.Memory → WasRefused }
     ensures peer_cause { IsErrOf result DriveFault.PeerFault → Rose (P.faults peers.old) (P.faults peers.new) }
     ensures write_cause { IsErrOf result DriveFault.WriteFault → Rose (W.told out.old).write_faults (W.told out.new).write_faults }
     ensures no_peer_fault { result ≢ Err DriveFault.PeerFault → P.faults peers.new ≡ P.faults peers.old }

@@ -23,6 +23,7 @@ returns g c =
       made_to_chance = chance_made plan c.drive_plan.result _ _ all.driven;
       failed = fault_named plan c.drive_plan.result _ _ all.driven;
       stopped = all_stopped all.driven.started all.driven.last _ all.driven.count all.driven.stopped (g.met.P.Peers.within c.drive_plan.new.peers);
+      memory = all.memory;
       peer_cause = all.peer_cause;
       write_cause = all.write_cause;
       no_peer_fault = all.no_peer_fault;

@@ -1,9 +1,9 @@
-use Rattle.std.proofs.Common.{◌≡◌, None, length, Result, Err, IsErrOf, OnOk, subst, sym}
+use Rattle.std.proofs.Common.{◌≡◌, inl, inr, None, length, Result, Err, IsErrOf, OnOk, subst, sym}
 use Rattle.lte_machine.specs.Run.{Running, first_world}
 use Rattle.actor_drive.proofs.Gone.{started_went, set_ups_start, started_did}
 use Rattle.actor_drive.proofs.Running.{all_run_went, all_run_did}
 use Rattle.actor_drive.specs.declared.faults.DriveFault.{DriveFault}
-use Rattle.actor_drive.specs.declared.faults.DriveFault.TheVariants.{WriteFault}
+use Rattle.actor_drive.specs.declared.faults.DriveFault.TheVariants.{Memory, WriteFault}
 use Rattle.actor_drive.specs.Acts.{calls}
 use Rattle.actor_drive.specs.Exchanges.{roles_of, starts, seeds_of, set_ups}
 use Rattle.actor_drive.specs.Outside.{Outside, outside, AllDone, AllRun}
@@ -24,6 +24,11 @@ pub returns-in-Err-clause-write_cause : goal.returns-in-Err-clause-write_cause
 returns-in-Err-clause-write_cause g c = λ is.
     let P : Result (Unit {0}) DriveFault → Type 0 = λ r. IsErrOf r WriteFault in
     absurd (c.start_all-count.ensures.no_write (subst P (sym c.in-Err.is) is))
+
+pub returns-in-Err-clause-memory : goal.returns-in-Err-clause-memory
+returns-in-Err-clause-memory g c = λ is.
+    let P : Result (Unit {0}) DriveFault → Type 0 = λ r. IsErrOf r Memory in
+    inr (c.start_all-count.ensures.memory (subst P (sym c.in-Err.is) is))
 
 pub set_up_all-requires-clause-seeds : goal.set_up_all-requires-clause-seeds
 set_up_all-requires-clause-seeds g c = seeds_good c.args.setup.now c.requires.ready.begins.can c.requires.cells
@@ -51,6 +56,9 @@ returns-in-Err-set_up_all-clause-count g c =
 pub returns-in-Err-set_up_all-clause-write_cause : goal.returns-in-Err-set_up_all-clause-write_cause
 returns-in-Err-set_up_all-clause-write_cause g c = λ is. absurd (c.in-Err-set_up_all.ensures.no_write is)
 
+pub returns-in-Err-set_up_all-clause-memory : goal.returns-in-Err-set_up_all-clause-memory
+returns-in-Err-set_up_all-clause-memory g c = λ is. absurd (c.in-Err-set_up_all.ensures.no_memory is)
+
 pub run_all-requires-clause-running : goal.run_all-requires-clause-running
 run_all-requires-clause-running g c =
     let Q : Result (Unit {0}) DriveFault → Type 0 = λ r. OnOk r (c.start_all-count.result.0 ≡ length (roles_of c.args.setup.now)) in
@@ -68,6 +76,9 @@ returns-clause-went g c =
     let P : Result (Unit {0}) DriveFault → Type 0 = λ r. Went (starts (roles_of c.args.setup.now)) r x y in
     let did : AllDone (starts (roles_of c.args.setup.now)) x y = subst P c.in-Ok.is (c.start_all-count.ensures.went written) in
     whole_went c.args.setup.now c.args.events.now.items c.run_all.result x y z o did (c.in-Ok-set_up_all.ensures.went written) c.run_all.ensures.went
+
+pub returns-clause-memory : goal.returns-clause-memory
+returns-clause-memory g c = λ is. inl (c.run_all.ensures.memory is)
 
 pub returns-clause-running : goal.returns-clause-running
 returns-clause-running g c =

@@ -1,7 +1,9 @@
-use Rattle.std.proofs.Common.{◌+◌, length, drop, Ok, subst, sym, rules}
+use Rattle.std.proofs.Common.{◌≡◌, ◌+◌, length, drop, Result, Ok, Err, ap, subst, sym, ◌∙◌, rules}
 use Rattle.std.proofs.lemmas.Option.{slice_get_within}
 use Rattle.lte_machine.specs.Run.{Running, first_world}
 use Rattle.lte_world.specs.Whole.{run_of}
+use Rattle.actor_drive.specs.declared.faults.DriveFault.{DriveFault}
+use Rattle.actor_drive.specs.declared.faults.DriveFault.TheVariants.{Memory}
 use Rattle.actor_drive.specs.Driven.{Plan}
 use Rattle.actor_drive.specs.Outside.{Outside, outside}
 use Rattle.run_report.proofs.Taking.{can_take, item_at, one_taken}
@@ -57,6 +59,13 @@ loop-number-preserved g c =
       no_fault = search rules;
       out = search rules;
     }
+
+pub returns-in-Err-write_end-clause-memory : goal.returns-in-Err-write_end-clause-memory
+returns-in-Err-write_end-clause-memory g c is =
+    let answer : Result (Unit {0}) DriveFault = Err c.fault_of.result in
+    let same : answer ≡ Err Memory = is in
+    let memory : c.fault_of.result ≡ Memory = cc in
+    c.write_end.ensures.refused (c.in-Err-write_end.is ∙ ap Err (c.fault_of.ensures.memory_alone memory))
 
 pub returns-in-Ok-write_end-clause-went : goal.returns-in-Ok-write_end-clause-went
 returns-in-Ok-write_end-clause-went g c =

@@ -1,7 +1,9 @@
-use Rattle.std.proofs.Common.{◌≡◌, List, length, true, false, Ok, sym, ap, subst, ◌∙◌, All, rules}
+use Rattle.std.proofs.Common.{◌≡◌, List, length, true, false, Result, Ok, Err, sym, ap, subst, ◌∙◌, All, rules}
 use Rattle.lte_events.specs.declared.inputs.ActorIn.{ActorIn}
 use Rattle.lte_events.specs.declared.replies.ActorOut.{ActorOut}
 use Rattle.lte_world.specs.Whole.{Whole, run_of}
+use Rattle.actor_drive.specs.declared.faults.DriveFault.{DriveFault}
+use Rattle.actor_drive.specs.declared.faults.DriveFault.TheVariants.{Memory}
 use Rattle.actor_drive.specs.Exchanges.{HasActor, replied}
 use Rattle.actor_drive.specs.Outside.{outside}
 use Rattle.actor_drive.specs.Went.{Went}
@@ -24,6 +26,13 @@ returns-in-Err-clause-went g c =
     let v : Whole = c.args.world.now in
     event_unwritten (Unit {0}) c.args.setup.now (length v.journal) (told_of (run_of v) c.args.event.now) (replies_at (run_of v) c.args.event.now) c.in-Err.fault c.fault_of.result
     (g.W.Edge.told c.args.out.now) (g.W.Edge.told c.write_event.new.out) (g.P.Peers.told c.args.peers.now) c.fault_of.ensures.memory c.fault_of.ensures.write c.in-Err.ensures.report.text.written
+
+pub returns-in-Err-clause-memory : goal.returns-in-Err-clause-memory
+returns-in-Err-clause-memory g c is =
+    let answer : Result (Unit {0}) DriveFault = Err c.fault_of.result in
+    let same : answer ≡ Err Memory = is in
+    let memory : c.fault_of.result ≡ Memory = cc in
+    c.write_event.ensures.report.text.refused (c.in-Err.is ∙ ap Err (c.fault_of.ensures.memory_alone memory))
 
 pub tell_all-requires-clause-inputs : goal.tell_all-requires-clause-inputs
 tell_all-requires-clause-inputs g c =
@@ -51,6 +60,9 @@ returns-clause-went g c =
     event_told c.args.setup.now (length v.journal) (told_of (run_of v) c.args.event.now) (replies_at (run_of v) c.args.event.now) c.tell_all.result
     (g.W.Edge.told c.args.out.now) (g.W.Edge.told c.write_event.new.out) (g.P.Peers.told c.args.peers.now) (g.P.Peers.told c.tell_all.new.peers)
     (sym plain) c.in-Ok-false.ensures.report.text.written (subst P same (search (rules, c.tell_all.ensures.went)))
+
+pub returns-clause-memory : goal.returns-clause-memory
+returns-clause-memory g c = λ is. absurd (c.tell_all.ensures.no_memory is)
 
 pub returns-clause-write_cause : goal.returns-clause-write_cause
 returns-clause-write_cause g c = λ is. absurd (c.tell_all.ensures.no_write is)
