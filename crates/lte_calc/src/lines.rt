@@ -65,7 +65,7 @@ fn read_lines<R: Source, W: Sink>(alloc: Global, input: &mut R, out: &mut W) -> 
             return Status::Memory;
         }
         let begun = match answer_whole(alloc, held.as_slice(), &mut good, out) {
-            Ok(begun) => kept(alloc, begun),
+            Ok(begun) => growth::from_slice(alloc, begun),
             Err(status) => return status,
         };
         held = match begun {
@@ -129,18 +129,6 @@ fn answer_last<W: Sink>(alloc: Global, line: &[u8], mut good: bool, out: &mut W)
     match answer_line(alloc, line, &mut good, out) {
         Status::Done => ends_of(good),
         ended => ended,
-    }
-}
-
-// A copy of octets.
-fn kept(alloc: Global, octets: &[u8]) -> Result<Vec<u8>, AllocError>
-    ensures octets { IfOk result (λ copied. copied.items ≡ octets.now) }
-    ensures refused { OnErr result WasRefused }
-{
-    let mut copied = growth::with_capacity(alloc, octets.len())?;
-    match growth::extend_from_slice(&mut copied, octets) {
-        Ok(()) => Ok(copied),
-        Err(e) => Err(e),
     }
 }
 

@@ -85,7 +85,7 @@ pieces-preserved g c =
     let came : Came piece mid now = record { gives = c.in-Ok.ensures.octets; most = c.in-Ok.ensures.most } in
     let put : after ≡ held ++ piece = search rules in
     let begun = c.in-Ok-answer_whole.begun.now in
-    let kept = c.in-Ok-begun.ensures.octets in
+    let kept = c.in-Ok-begun.ensures.items in
     let answered = subst (λ t. AnsweredUpTo t begun c.pieces.good c.answer_whole.new.good (g.W.Edge.told c.pieces.out) (g.W.Edge.told c.answer_whole.new.out)) c.as_slice-in-pieces.ensures.value c.in-Ok-answer_whole.ensures.answered in
     record {
       midway = subst (λ b. Midway b c.answer_whole.new.good (g.R.Edge.told c.args.input.now) now (g.W.Edge.told c.args.out.now) (g.W.Edge.told c.answer_whole.new.out)) (sym kept)
