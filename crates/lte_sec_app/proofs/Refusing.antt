@@ -47,14 +47,7 @@ pub read_never_refused : {B : Type 0} (ends_of : Result B ScenarioFault → Stat
 read_never_refused ends_of reading scenario coincides reads ends is =
     never_refused coincides (sym ends ∙ ap ends_of (sym reads) ∙ is)
 
--- the statuses of a ladder text that want of memory, and a refusal, have
-pub ladder_memory : (ended : Ending) → ladder_status ended ≡ Memory → ended ≡ endings.Memory
-ladder_memory endings.Done is = absurd cc
-ladder_memory endings.Memory is = refl
-ladder_memory endings.Refused is = absurd cc
-ladder_memory endings.WriteFault is = absurd cc
-ladder_memory endings.Coincidence is = absurd cc
-
+-- the ending of a ladder text that was refused
 pub ladder_refused : (ended : Ending) → ladder_status ended ≡ Refused → ended ≡ endings.Refused
 ladder_refused endings.Done is = absurd cc
 ladder_refused endings.Memory is = absurd cc

@@ -1,10 +1,11 @@
 ghost use Rattle.growth.specs.Growth.{WasRefused};
-ghost use Rattle.std.specs.Prelude.{◌≡◌, ◌≢◌, ◌↔◌, ℕ, List, false, Some, None, [], IfSome, IsTrue};
+ghost use Rattle.std.specs.Prelude.{◌≡◌, ◌≢◌, ◌↔◌, ◌⊎◌, ℕ, List, false, Some, None, [], IfSome, IsTrue};
 ghost use Rattle.edge_io.specs.Cause.{NoFault, NoCountFell, Rose};
 ghost use Rattle.edge_io.specs.Used.{UsedAsSource, UsedAsSink};
 ghost use Rattle.lte_properties.specs.Headline.{Headline};
 ghost use Rattle.scenario_file.specs.Draws.{generated_setup, generated};
 ghost use Rattle.actor_drive.specs.Driven.{AllStopped};
+ghost use Rattle.actor_drive.specs.Outside.{LacksMemory};
 ghost use Rattle.lte_sec_app.specs.Command.{named};
 ghost use Rattle.lte_sec_app.specs.Drive.{DriveAt, DriveIsComplete};
 ghost use Rattle.lte_sec_app.specs.Generated.{gen_output, WritingIsComplete};
@@ -80,12 +81,14 @@ pub fn run<R: Source, W: Sink, P: Peers, L: Port>(
     ensures peer_cause { named words.now ≡ Some Command.Drive → result ≡ Status.PeerFault → Rose (P.faults peers.old) (P.faults peers.new) }
     ensures no_peer_fault { result ≢ Status.PeerFault → P.faults peers.new ≡ P.faults peers.old }
 
-    // What `serve` reads and writes at the port, and the cause of each of its statuses. It leaves the input as it was.
+    // What `serve` reads and writes at the port, and the cause of each of its statuses. It leaves the input as it was. No
+    // piece that the port is given is empty.
     ensures serve { (role : Role) → named words.now ≡ Some (Command.Serve role) → ServeAt role result (L.told port.old) (L.told port.new) (W.told out.old) (W.told out.new) }
     ensures serve_complete { (role : Role) → named words.now ≡ Some (Command.Serve role) → ServeIsComplete role result (L.told port.old) (L.told port.new) }
     ensures serve_input { (role : Role) → named words.now ≡ Some (Command.Serve role) → input.new ≡ input.old }
     ensures no_port_fault { result ≢ Status.PeerFault → NoFault (L.told port.old) (L.told port.new) }
     ensures port_counts { NoCountFell (L.told port.old) (L.told port.new) }
+    ensures port_pieces { (L.told port.new).pieces ≡ (L.told port.old).pieces }
 
     // What `gen` writes: the summary of the written machine's run of the scenario that the seed gives; the input stays as it
     // was, and the headline holds of this scenario too.
@@ -94,8 +97,9 @@ pub fn run<R: Source, W: Sink, P: Peers, L: Port>(
     ensures generated_input { (steps seed : ℕ) → named words.now ≡ Some (Command.Gen steps seed) → input.new ≡ input.old }
     ensures generated_headline { (steps seed : ℕ) → named words.now ≡ Some (Command.Gen steps seed) → Headline generated_setup (generated steps seed) }
 
-    // Where memory is wanted std refused a list or a text room. Of `ladder`, and of the start of a peer by `drive`, this is not said.
-    ensures memory { named words.now ≢ Some (Command.Text TextCommand.Ladder) → named words.now ≢ Some Command.Drive → result ≡ Status.Memory → WasRefused }
+    // Where memory is wanted std refused a list or a text room; or, of `drive`, the peers say that a start lacked it.
+    ensures memory { named words.now ≢ Some Command.Drive → result ≡ Status.Memory → WasRefused }
+    ensures drive_memory { named words.now ≡ Some Command.Drive → result ≡ Status.Memory → WasRefused ⊎ LacksMemory P.lacks_memory }
 
     // An input that was not read within the limit has no output.
     ensures unread { result ≡ Status.ReadFault → out.new ≡ out.old }

@@ -1,9 +1,11 @@
-ghost use Rattle.std.specs.Prelude.{◌≡◌, ◌≢◌, ◌≤◌, [], ℕ, List, Some, Ok, Err, length, All, IfOk, IfSome, IsTrue};
+ghost use Rattle.growth.specs.Growth.{WasRefused};
+ghost use Rattle.std.specs.Prelude.{◌≡◌, ◌≢◌, ◌≤◌, ◌⊎◌, [], ℕ, List, Some, Ok, Err, length, All, IfOk, IfSome, IsTrue, OnErr};
 ghost use Rattle.std.specs.String.{string_bytes};
 ghost use Rattle.edge_io.specs.Cause.{NoFault, Rose};
 ghost use Rattle.edge_io.specs.Used.{UsedAsSource, UsedAsSink};
 ghost use Rattle.lte_events.specs.Conditions.{CanStart, CanHappen, SetupFits, EventFits};
 ghost use Rattle.actor_drive.specs.Driven.{AllStopped};
+ghost use Rattle.actor_drive.specs.Outside.{LacksMemory};
 ghost use Rattle.scenario_file.specs.Reading.{reading_of};
 ghost use Rattle.lte_sec_app.specs.Drive.{AllGoes, DriveAt, DriveIsComplete, LineAt, ScenarioAt, TextAt, TextGoes, difference_text, wanted_text};
 ghost use Rattle.lte_sec_app.specs.Run.{WhereRun};
@@ -35,6 +37,7 @@ pub(crate) fn drive<R: Source, P: Peers, W: Sink>(
     ensures complete { DriveIsComplete result (R.told input.old) (R.told input.new) (W.told out.old) (W.told out.new) (P.told peers.old) (P.faults peers.old) (P.faults peers.new) }
     ensures headline { HoldsOf TextCommand.Run result (R.told input.old) }
     ensures no_refusal { (octets : List ℕ) → (R.told input.old).left ≡ Some octets → result ≡ Status.Memory → (run_output octets).ends ≡ Status.Refused → out.new ≡ out.old }
+    ensures memory { result ≡ Status.Memory → WasRefused ⊎ LacksMemory P.lacks_memory }
     ensures stopped { IfSome (P.told peers.new) AllStopped }
     ensures peer_cause { result ≡ Status.PeerFault → Rose (P.faults peers.old) (P.faults peers.new) }
     ensures no_peer_fault { result ≢ Status.PeerFault → P.faults peers.new ≡ P.faults peers.old }
@@ -62,6 +65,7 @@ fn drive_text<P: Peers, W: Sink>(alloc: Global, octets: &[u8], peers: &mut P, ou
     ensures complete { TextGoes (reading_of octets.now) result (W.told out.old) (W.told out.new) (P.told peers.old) (P.faults peers.old) (P.faults peers.new) }
     ensures headline { WhereRun (HasHeadline octets.now) result }
     ensures no_refusal { result ≡ Status.Memory → (run_output octets.now).ends ≡ Status.Refused → out.new ≡ out.old }
+    ensures memory { result ≡ Status.Memory → WasRefused ⊎ LacksMemory P.lacks_memory }
     ensures stopped { IfSome (P.told peers.new) AllStopped }
     ensures peer_cause { result ≡ Status.PeerFault → Rose (P.faults peers.old) (P.faults peers.new) }
     ensures write_cause { result ≡ Status.WriteFault → Rose (W.told out.old).write_faults (W.told out.new).write_faults }
@@ -96,6 +100,7 @@ fn drive_scenario<P: Peers, W: Sink>(
     requires few { length events.now.items ≤ 200000 }
     ensures at { ScenarioAt setup.now events.now.items result (W.told out.old) (W.told out.new) (P.told peers.old) (P.told peers.new) }
     ensures complete { AllGoes setup.now events.now.items result (W.told out.old) (W.told out.new) (P.told peers.old) (P.faults peers.old) (P.faults peers.new) }
+    ensures memory { result ≡ Status.Memory → WasRefused ⊎ LacksMemory P.lacks_memory }
     ensures stopped { IfSome (P.told peers.new) AllStopped }
     ensures peer_cause { result ≡ Status.PeerFault → Rose (P.faults peers.old) (P.faults peers.new) }
     ensures write_cause { result ≡ Status.WriteFault → Rose (W.told out.old).write_faults (W.told out.new).write_faults }
@@ -126,6 +131,7 @@ fn write_difference<W: Sink>(
 ) -> Status
     requires { IsTrue (W.told out.old).ready }
     ensures line { LineAt (difference_text step wanted.now got.now) result (W.told out.old) (W.told out.new) }
+    ensures memory { result ≡ Status.Memory → WasRefused }
     ensures write_cause { result ≡ Status.WriteFault → Rose (W.told out.old).write_faults (W.told out.new).write_faults }
     ensures no_write_fault { result ≢ Status.WriteFault → NoFault (W.told out.old) (W.told out.new) }
     ensures out { UsedAsSink (W.told out.old) (W.told out.new) }
@@ -147,20 +153,22 @@ fn difference_line(
     wanted: &Frame,
     got: &Frame,
 ) -> Result<String, AllocError>
-    ensures { IfOk result (λ text. string_bytes text ≡ difference_text step wanted.now got.now) }
+    ensures text { IfOk result (λ text. string_bytes text ≡ difference_text step wanted.now got.now) }
+    ensures refused { OnErr result WasRefused }
 {
-    let place = wanted_text(alloc, step)?;
-    let wanted = hex::encode(alloc, wanted.as_slice())?;
-    let got = hex::encode(alloc, got.as_slice())?;
-    format!(in alloc; "{place} differs {wanted} {got}\n")
+    let place = place_text(alloc, step)?;
+    let wanted = growth::encode(alloc, wanted.as_slice())?;
+    let got = growth::encode(alloc, got.as_slice())?;
+    growth::format(alloc, format_args!("{place} differs {wanted} {got}\n"))
 }
 
 // Where the reply was wanted.
-fn wanted_text(alloc: Global, step: Option<u32>) -> Result<String, AllocError>
-    ensures { IfOk result (λ text. string_bytes text ≡ wanted_text step) }
+fn place_text(alloc: Global, step: Option<u32>) -> Result<String, AllocError>
+    ensures text { IfOk result (λ text. string_bytes text ≡ place_text step) }
+    ensures refused { OnErr result WasRefused }
 {
     match step {
-        Some(step) => format!(in alloc; "{step}"),
-        None => format!(in alloc; "setup"),
+        Some(step) => growth::format(alloc, format_args!("{step}")),
+        None => growth::format(alloc, format_args!("setup")),
     }
 }

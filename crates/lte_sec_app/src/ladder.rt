@@ -1,3 +1,4 @@
+ghost use Rattle.growth.specs.Growth.{WasRefused};
 ghost use Rattle.std.specs.Prelude.{◌≡◌, ◌≢◌, IsTrue};
 ghost use Rattle.edge_io.specs.Cause.{NoFault};
 ghost use Rattle.edge_io.specs.Used.{UsedAsSink};
@@ -13,6 +14,7 @@ use std::alloc::Global;
 pub(crate) fn report_ladder<W: Sink>(alloc: Global, octets: &[u8], out: &mut W) -> Status
     requires { IsTrue (W.told out.old).ready }
     ensures text { WritesAt (ladder_output octets.now) result (W.told out.old) (W.told out.new) }
+    ensures memory { result ≡ Status.Memory → WasRefused }
     ensures no_refusal { result ≡ Status.Memory → (ladder_output octets.now).ends ≡ Status.Refused → out.new ≡ out.old }
     ensures no_fault { result ≢ Status.WriteFault → NoFault (W.told out.old) (W.told out.new) }
     ensures out { UsedAsSink (W.told out.old) (W.told out.new) }
@@ -22,7 +24,8 @@ pub(crate) fn report_ladder<W: Sink>(alloc: Global, octets: &[u8], out: &mut W) 
 
 // The status of an ending.
 fn status_of(ending: Ending) -> Status
-    ensures { result ≡ status_of ending }
+    ensures value { result ≡ status_of ending }
+    ensures memory { result ≡ Status.Memory → ending ≡ Ending.Memory }
 {
     match ending {
         Ending::Done => Status::Done,

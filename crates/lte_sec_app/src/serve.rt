@@ -20,6 +20,7 @@ pub(crate) fn serve<W: Sink, L: Port>(role: Role, out: &mut W, port: &mut L) -> 
     ensures no_memory { result ≢ Status.Memory }
     ensures no_port_fault { result ≢ Status.PeerFault → NoFault (L.told port.old) (L.told port.new) }
     ensures port { NoCountFell (L.told port.old) (L.told port.new) }
+    ensures pieces { (L.told port.new).pieces ≡ (L.told port.old).pieces }
     ensures no_write_fault { result ≢ Status.WriteFault → NoFault (W.told out.old) (W.told out.new) }
     ensures out { UsedAsSink (W.told out.old) (W.told out.new) }
 {

@@ -28,7 +28,7 @@ pub(crate) fn answer_text<R: Source, W: Sink>(
     ensures at { CommandAt (text_output command) result (R.told input.old) (R.told input.new) (W.told out.old) (W.told out.new) }
     ensures complete { CommandIsComplete (text_output command) result (R.told input.old) (R.told input.new) (W.told out.old) (W.told out.new) }
     ensures holds { HoldsOf command result (R.told input.old) }
-    ensures memory { command ≢ TextCommand.Ladder → result ≡ Status.Memory → WasRefused }
+    ensures memory { result ≡ Status.Memory → WasRefused }
     ensures no_refusal { (octets : List ℕ) → (R.told input.old).left ≡ Some octets → result ≡ Status.Memory → (text_output command octets).ends ≡ Status.Refused → out.new ≡ out.old }
     ensures unread { result ≡ Status.ReadFault → out.new ≡ out.old }
     ensures too_long { result ≡ Status.TooLong → out.new ≡ out.old }
@@ -48,7 +48,7 @@ fn write_text<W: Sink>(alloc: Global, command: TextCommand, octets: &[u8], out: 
     requires { IsTrue (W.told out.old).ready }
     ensures text { WritesAt (text_output command octets.now) result (W.told out.old) (W.told out.new) }
     ensures holds { WhereRun (Holds command octets.now) result }
-    ensures memory { command ≢ TextCommand.Ladder → result ≡ Status.Memory → WasRefused }
+    ensures memory { result ≡ Status.Memory → WasRefused }
     ensures no_refusal { result ≡ Status.Memory → (text_output command octets.now).ends ≡ Status.Refused → out.new ≡ out.old }
     ensures no_fault { result ≢ Status.WriteFault → NoFault (W.told out.old) (W.told out.new) }
     ensures out { UsedAsSink (W.told out.old) (W.told out.new) }
