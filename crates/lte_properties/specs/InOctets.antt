@@ -63,7 +63,7 @@ pub record TakesFar (setup : Setup) (events : List Event) (x : Took Term ℕ) : 
 
 -- no context of the station has this air address
 abbrev pub NoContextAt : ℕ → ℕ → World (List ℕ) ℕ Kept → Type 0
-NoContextAt station air u = agreement.AtStation u station (λ s. ContextAt air s.context (λ c. ⊥))
+NoContextAt station air u = agreement.EachStation u station (λ s. ContextAt air s.context (λ c. ⊥))
 
 -- in no world of the run has a context the air address of such an order, neither before the phone obeyed it nor after it
 abbrev pub FarNeverThere : Setup → List Event → Type 0

@@ -7,7 +7,7 @@ use Rattle.std.proofs.Math.Nat.{mod-mod}
 use Rattle.key_model.specs.Least.{least}
 use Rattle.key_model.proofs.LeastFacts.{least_in_window}
 use Rattle.key_model.specs.Term.{Term}
-use Rattle.nas_guard.specs.Estimate.{estimate_of, count_limit as nas_limit}
+use Rattle.nas_guard.specs.Estimate.{estimate_of, nas_count_limit}
 use Rattle.nas_guard.specs.Seal.{first_octet}
 use Rattle.nas_guard.specs.Open.{sn_in, sent_in, first_in}
 use Rattle.pdcp_guard.specs.Counts.{count_limit, in_32_bits}
@@ -30,11 +30,11 @@ least_of next count w some h = (least_in_window next count w some h.0).1 (omega 
 -- NAS MESSAGES: EIGHT BITS (TS 24.301 4.4.3.1)
 
 -- the COUNT that is estimated of the lowest octet of a COUNT in the window
-pub estimated : (next sn count : ℕ) → InWindow next count 256 → sn ≡ count % 256 → count < nas_limit → estimate_of next sn ≡ Ok count
+pub estimated : (next sn count : ℕ) → InWindow next count 256 → sn ≡ count % 256 → count < nas_count_limit → estimate_of next sn ≡ Ok count
 unfolding estimate_of
 estimated next sn count h is below =
     let one : least next sn 256 ≡ count = ap (λ n. least next n 256) is ∙ least_of next count 256 (omega arith) h in
-    let test : nat_lt (least next sn 256) nas_limit ≡ true = grind (arith, nat_tests) in
+    let test : nat_lt (least next sn 256) nas_count_limit ≡ true = grind (arith, nat_tests) in
     rw test (ap Ok one)
 
 -- the parts of a message as it is sent: first octet, sequence number, text, and at least six octets

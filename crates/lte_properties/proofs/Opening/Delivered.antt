@@ -6,7 +6,7 @@ use Rattle.lte_events.specs.declared.addresses.Address.{Address}
 use Rattle.lte_events.specs.declared.answers.Answer.TheVariants.{Done}
 use Rattle.key_model.specs.HandoverTable.{NumberedKey}
 use Rattle.key_model.specs.Term.{Term}
-use Rattle.nas_guard.specs.Estimate.{count_limit as nas_limit}
+use Rattle.nas_guard.specs.Estimate.{nas_count_limit}
 use Rattle.nas_rec.specs.declared.records.NasRecord.TheVariants.{NasData}
 use Rattle.nas_rec.specs.Spelling.{spelling_of as nas_spelling}
 use Rattle.nas_rec.specs.Reading.{read_nas}
@@ -75,9 +75,9 @@ Fits w (SealedRrc Down station air srb u e text) sent =
 Fits w (SealedRrc Up station air srb u e text) sent =
     (length sent ≤ 200) × (u.count < count_limit) × (u.dir ≡ Up) × AtContext (station_of_id station w.stations) air (λ keys. RrcUnder keys srb u e)
 Fits w (SealedNas Down header u e text) sent =
-    (length sent ≤ 200) × (u.count < nas_limit) × (u.dir ≡ Down) × (header ≡ 2) × AtNas w.phone.context u (λ keys. NasUnder keys u e)
+    (length sent ≤ 200) × (u.count < nas_count_limit) × (u.dir ≡ Down) × (header ≡ 2) × AtNas w.phone.context u (λ keys. NasUnder keys u e)
 Fits w (SealedNas Up header u e text) sent =
-    (length sent ≤ 200) × (u.count < nas_limit) × (u.dir ≡ Up) × (header ≡ 2) × AtCore w.core.context u (λ keys. NasUnder keys u e)
+    (length sent ≤ 200) × (u.count < nas_count_limit) × (u.dir ≡ Up) × (header ≡ 2) × AtCore w.core.context u (λ keys. NasUnder keys u e)
 Fits w other sent = ⊤
 
 -- a line that is done and opens these data
