@@ -1,4 +1,4 @@
-//! Each call of the standard library by which a list or a text grows, with one clause more: where it answers want of memory, std
+//! Each call of the standard library by which a list, a text or a map grows, with one clause more: where it answers want of memory, std
 //! refused room for so many items.
 #![tactic(auto)]
 
