@@ -3,7 +3,7 @@ ghost use Rattle.std.specs.Prelude.{◌≡◌, length};
 ghost use Rattle.lte_sec_c.specs.Am.{am_after, am_found, am_opens, fate_after, is_am, next_after, number_of};
 ghost use Rattle.lte_sec_c.specs.Found.{found_after, status_after, text_after};
 
-use crate::drb::{DrbContext, is_drb, keys_in, numbers_in};
+use crate::drb::{DrbContext, is_drb, keys_in, numbers_by};
 use crate::fault::{DONE, Fault};
 use crate::found::Found;
 use crate::ranges::{dir_of, is_direction};
@@ -53,7 +53,7 @@ fn is_am(context: &DrbContext, last: u32, direction: u32) -> bool
 {
     is_drb(context)
         && context.bits != 7
-        && last < numbers_in(context.bits).values()
+        && last < numbers_by(context.bits).values()
         && is_direction(direction)
 }
 
