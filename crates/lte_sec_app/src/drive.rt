@@ -156,15 +156,15 @@ fn difference_line(
     ensures text { IfOk result (λ text. string_bytes text ≡ difference_text step wanted.now got.now) }
     ensures refused { OnErr result WasRefused }
 {
-    let place = place_text(alloc, step)?;
+    let place = wanted_text(alloc, step)?;
     let wanted = growth::encode(alloc, wanted.as_slice())?;
     let got = growth::encode(alloc, got.as_slice())?;
     growth::format(alloc, format_args!("{place} differs {wanted} {got}\n"))
 }
 
 // Where the reply was wanted.
-fn place_text(alloc: Global, step: Option<u32>) -> Result<String, AllocError>
-    ensures text { IfOk result (λ text. string_bytes text ≡ place_text step) }
+fn wanted_text(alloc: Global, step: Option<u32>) -> Result<String, AllocError>
+    ensures text { IfOk result (λ text. string_bytes text ≡ wanted_text step) }
     ensures refused { OnErr result WasRefused }
 {
     match step {
