@@ -281,7 +281,8 @@ class Answers(unittest.TestCase):
 
     def test_interrupted_it_tells_what_it_has(self) -> None:
         call = subprocess.Popen(
-            [TOP / "lte_sec", "what-if", "--faults", "2", EXAMPLES / "what-if/ten-handovers.toml"], stdout=subprocess.PIPE, stderr=subprocess.PIPE, text=True, start_new_session=True
+            [TOP / "lte_sec", "what-if", "--faults", "2", EXAMPLES / "what-if/ten-handovers.toml"], stdout=subprocess.PIPE, stderr=subprocess.PIPE, text=True, start_new_session=True,
+            preexec_fn=lambda: signal.signal(signal.SIGINT, signal.SIG_DFL),  # what a script starts in the background ignores it
         )
         time.sleep(4)
         call.send_signal(signal.SIGINT)
